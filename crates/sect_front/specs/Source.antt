@@ -1,0 +1,11 @@
+-- A source text as a tree.
+use Rattle.std.specs.Prelude.{List}
+use Rattle.sect_front.specs.declared.tree.Record.{Record}
+use Rattle.sect_front.specs.declared.tree.GlobalObject.{GlobalObject}
+use Rattle.sect_front.specs.declared.tree.Thread.{Thread}
+
+-- its declarations, each kind in text order
+pub record Source : Type 0 where
+  pub records : List Record
+  pub globals : List GlobalObject
+  pub threads : List Thread

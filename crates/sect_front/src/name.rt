@@ -1,0 +1,80 @@
+//! Names.
+
+ghost use Rattle.std.specs.Prelude.{◌≡◌, ◌≤◌, length, nat_eq};
+ghost use Rattle.std.specs.Cmp.Lexicographic.{pointwise};
+ghost use Rattle.std.specs.Cmp.Rules.{comparing, hashing};
+ghost use Rattle.std.specs.Hash as fed;
+ghost use Rattle.std.proofs.Common.{rules};
+
+use std::hash::{Hash, Hasher};
+use std::marker::Model;
+
+/// The most bytes that a name has.
+pub const MOST_NAME_BYTES: usize = 32;
+
+/// A name, which is kept inline: its bytes, and zeros behind them.
+#[derive(Clone, Copy)]
+pub struct Name {
+    bytes: [u8; 32],
+    len: usize,
+}
+
+impl Model for Name {
+    ghost use Rattle.std.specs.Prelude.{◌++◌, List, ℕ, length, take};
+    ghost use Rattle.sect_front.specs.Names.{IsPadded, zeros_from, bytes_back, length_back};
+
+    ghost Value = { List ℕ };
+
+    ghost view = { λ n. take n.len n.bytes };
+
+    ghost invariant = { λ n. IsPadded n.bytes n.len };
+
+    ghost inverse = { λ b. record { bytes = b ++ zeros_from (length b); len = length b } };
+
+    ghost inverse_ok = { λ a h i. record { bytes = bytes_back a.bytes a.len h i; len = length_back a.bytes a.len h i } };
+}
+
+impl Name {
+    /// The name of these bytes.
+    #[tactic(auto, using(crate::proofs::NamesLemmas::padded_name))]
+    pub fn new(bytes: &[u8]) -> Name
+        requires { length bytes.now ≤ MOST_NAME_BYTES }
+        ensures { result ≡ bytes.now }
+    {
+        let mut all = [0u8; MOST_NAME_BYTES];
+        let len = bytes.len();
+        all[..len].copy_from_slice(bytes);
+        Name { bytes: all, len }
+    }
+
+    /// Its bytes, at least 1 and at most 32.
+    pub fn as_bytes(&self) -> &[u8]
+        ensures { result.now ≡ self.now }
+    {
+        &self.bytes[..self.len]
+    }
+}
+
+impl PartialEq for Name {
+    ghost eq = { pointwise nat_eq };
+
+    ghost laws = { Prim.search (comparing, rules) };
+
+    fn eq(&self, other: &Name) -> bool {
+        self.as_bytes() == other.as_bytes()
+    }
+}
+
+impl Eq for Name {
+    ghost laws = { Prim.search (comparing, rules) };
+}
+
+impl Hash for Name {
+    ghost hash_input = { fed.slice fed.u8 };
+
+    ghost respects_eq = { Prim.search (hashing, rules) };
+
+    fn hash<H: Hasher>(&self, state: &mut H) {
+        self.as_bytes().hash(state);
+    }
+}

@@ -1,0 +1,45 @@
+//! Tokens.
+
+use crate::literal::Literal;
+use crate::name::Name;
+
+/// A token of a source text.
+#[derive(Clone, Copy)]
+pub enum Token {
+    Name(Name),
+    Number(Literal),
+    Record,
+    ProtectedBy,
+    Global,
+    Thread,
+    Int,
+    New,
+    Null,
+    Print,
+    If,
+    Else,
+    While,
+    Atomic,
+    Class,
+    OpenBrace,
+    CloseBrace,
+    OpenParen,
+    CloseParen,
+    Semicolon,
+    Dot,
+    Equal,
+    Plus,
+    Minus,
+    Star,
+    EqualEqual,
+    NotEqual,
+    Less,
+    LessEqual,
+}
+
+/// A token and the offset of its first byte in the text.
+#[derive(Clone, Copy)]
+pub struct Placed {
+    pub token: Token,
+    pub at: usize,
+}

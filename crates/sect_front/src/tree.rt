@@ -1,0 +1,304 @@
+//! The tree of a source text: what it declares and what its threads do.
+
+ghost use Rattle.std.specs.Prelude.{◌≡◌, OnOk, OnErr};
+ghost use Rattle.sect_front.specs.Syntax.{End};
+
+use crate::literal::Literal;
+use crate::name::Name;
+use std::alloc::{AllocError, Global};
+use std::marker::Model;
+
+/// A value that a statement or a test uses.
+#[derive(Clone, Copy)]
+pub enum Operand {
+    Number(Literal),
+    Null,
+    Name(Name),
+}
+
+/// How a test compares its two operands.
+#[derive(Clone, Copy)]
+pub enum Comparison {
+    Equal,
+    NotEqual,
+    Less,
+    LessOrEqual,
+}
+
+/// How a statement joins two integers.
+#[derive(Clone, Copy)]
+pub enum Operator {
+    Add,
+    Subtract,
+    Multiply,
+}
+
+/// The test of an `if` or a `while`.
+#[derive(Clone, Copy)]
+pub struct Test {
+    pub left: Operand,
+    pub comparison: Comparison,
+    pub right: Operand,
+}
+
+/// A statement without a block.
+#[derive(Clone, Copy)]
+pub enum Primitive {
+    /// `x = v`
+    Assign(Name, Operand),
+    /// `x = v op w`
+    Compute(Name, Operand, Operator, Operand),
+    /// `x = new R`
+    New(Name, Name),
+    /// `x = y.f`
+    Load(Name, Name, Name),
+    /// `y.f = v`
+    Store(Name, Name, Operand),
+    /// `print v`
+    Print(Operand),
+}
+
+/// Statements, one after another.
+#[cycle(tree)]
+#[derive(Drop)]
+pub struct Block {
+    statements: Vec<Statement>,
+}
+
+/// A statement.
+#[cycle(tree)]
+#[derive(Drop)]
+pub enum Statement {
+    Primitive(Primitive),
+    /// `if` without `else`, which is not the same tree as one with an empty `else`.
+    If(Test, Block),
+    IfElse(Test, Block, Block),
+    While(Test, Block),
+    Atomic(Block),
+}
+
+impl Model for Block {
+    ghost use Rattle.sect_front.specs.Syntax.{Body, body_code};
+
+    ghost Value = { Body };
+
+    ghost coded = { body_code };
+
+    ghost use Rattle.sect_front.specs.Trees.{body_of, body_size};
+
+    ghost view = { λ b. body_of b.statements.items };
+
+    ghost size = { body_size };
+
+    ghost use Rattle.std.proofs.Common.{arith};
+    ghost use Rattle.sect_front.specs.Falls.{falls};
+
+    ghost size_decreases = { λ a h. Prim.omega (arith, falls a.statements.items) };
+}
+
+impl Block {
+    ghost use Rattle.sect_front.specs.Trees.{append, form_of, body_of};
+
+    /// No statements.
+    pub fn new(alloc: Global) -> Block
+        ensures { result ≡ End }
+    {
+        Block {
+            statements: Vec::new(alloc),
+        }
+    }
+
+    /// The statements, in text order.
+    pub fn as_slice(&self) -> &[Statement]
+        ensures { body_of result.now ≡ self.now }
+    {
+        self.statements.as_slice()
+    }
+
+    /// Adds a statement at the end.
+    #[tactic(auto, using(crate::proofs::Bodies::body_of_push))]
+    pub fn push(&mut self, statement: Statement) -> Result<(), AllocError>
+        ensures ok { OnOk result (self.new ≡ append self.old (form_of statement)) }
+        ensures err { OnErr result (self.new ≡ self.old) }
+    {
+        self.statements.push(statement)?;
+        Ok(())
+    }
+}
+
+/// The type of a field or a local, as it is written.
+#[derive(Clone, Copy)]
+pub enum Kind {
+    Int,
+    /// A reference to a record of this name.
+    Record(Name),
+}
+
+/// A field or a local.
+#[derive(Clone, Copy)]
+pub struct Declaration {
+    pub kind: Kind,
+    pub name: Name,
+}
+
+/// The fields of a record or the locals of a thread, in text order.
+#[derive(Drop)]
+pub struct Declarations {
+    list: Vec<Declaration>,
+}
+
+impl Model for Declarations {
+    ghost use Rattle.std.specs.Prelude.{List};
+    ghost use Rattle.sect_front.specs.declared.tree.Declaration.{Declaration};
+
+    ghost Value = { List Declaration };
+
+    ghost view = { λ d. d.list.items };
+}
+
+impl Declarations {
+    ghost use Rattle.std.specs.Prelude.{◌++◌, ◌∷◌, []};
+
+    /// No declarations.
+    pub fn new(alloc: Global) -> Declarations
+        ensures { result ≡ [] }
+    {
+        Declarations {
+            list: Vec::new(alloc),
+        }
+    }
+
+    /// Adds a declaration at the end.
+    pub fn push(&mut self, kind: Kind, name: Name) -> Result<(), AllocError>
+        ensures { OnOk result (self.new ≡ self.old ++ record { kind = kind; name = name } ∷ []) }
+    {
+        self.list.push(Declaration { kind, name })?;
+        Ok(())
+    }
+
+    /// The declarations.
+    pub fn as_slice(&self) -> &[Declaration]
+        ensures { result.now ≡ self.now }
+    {
+        self.list.as_slice()
+    }
+}
+
+/// The globals that a record names in `protected_by`, in text order.
+#[derive(Drop)]
+pub struct Hints {
+    list: Vec<Name>,
+}
+
+impl Model for Hints {
+    ghost use Rattle.std.specs.Prelude.{List, ℕ};
+
+    ghost Value = { List (List ℕ) };
+
+    ghost view = { λ h. h.list.items };
+}
+
+impl Hints {
+    ghost use Rattle.std.specs.Prelude.{◌++◌, ◌∷◌, []};
+
+    /// No hints.
+    pub fn new(alloc: Global) -> Hints
+        ensures { result ≡ [] }
+    {
+        Hints {
+            list: Vec::new(alloc),
+        }
+    }
+
+    /// Adds a hint at the end.
+    pub fn push(&mut self, name: Name) -> Result<(), AllocError>
+        ensures { OnOk result (self.new ≡ self.old ++ name ∷ []) }
+    {
+        self.list.push(name)?;
+        Ok(())
+    }
+
+    /// The names.
+    pub fn as_slice(&self) -> &[Name]
+        ensures { result.now ≡ self.now }
+    {
+        self.list.as_slice()
+    }
+}
+
+/// A record: its name, its hints and its fields.
+#[derive(Drop)]
+pub struct Record {
+    pub name: Name,
+    pub hints: Hints,
+    pub fields: Declarations,
+}
+
+/// A global: one fixed object of a record.
+#[derive(Clone, Copy)]
+pub struct GlobalObject {
+    pub of: Name,
+    pub name: Name,
+}
+
+/// A thread: its name, its locals and its statements.
+#[derive(Drop)]
+pub struct Thread {
+    pub name: Name,
+    pub locals: Declarations,
+    pub body: Block,
+}
+
+/// A source text: its records, globals and threads, each in text order.
+#[derive(Drop)]
+pub struct Tree {
+    records: Vec<Record>,
+    globals: Vec<GlobalObject>,
+    threads: Vec<Thread>,
+}
+
+impl Model for Tree {
+    ghost use Rattle.sect_front.specs.Source.{Source};
+    ghost use Rattle.std.specs.Coded.{codes};
+    ghost use Rattle.sect_front.specs.Syntax.{body_code};
+
+    ghost Value = { Source };
+
+    ghost coded = { Prim.hlevel (codes, body_code) };
+
+    ghost view = { λ t. record { records = t.records.items; globals = t.globals.items; threads = t.threads.items } };
+}
+
+impl Tree {
+    /// The tree of these declarations.
+    pub fn new(records: Vec<Record>, globals: Vec<GlobalObject>, threads: Vec<Thread>) -> Tree
+        ensures { result ≡ record { records = records.items; globals = globals.items; threads = threads.items } }
+    {
+        Tree {
+            records,
+            globals,
+            threads,
+        }
+    }
+
+    /// The records, in text order.
+    pub fn records(&self) -> &[Record]
+        ensures { result.now ≡ self.now.records }
+    {
+        self.records.as_slice()
+    }
+
+    /// The globals, in text order.
+    pub fn globals(&self) -> &[GlobalObject]
+        ensures { result.now ≡ self.now.globals }
+    {
+        self.globals.as_slice()
+    }
+
+    /// The threads, in text order.
+    pub fn threads(&self) -> &[Thread]
+        ensures { result.now ≡ self.now.threads }
+    {
+        self.threads.as_slice()
+    }
+}

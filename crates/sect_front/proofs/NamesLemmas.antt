@@ -1,11 +1,94 @@
 -- Lemmas on names.
-use Rattle.std.proofs.Common.{◌≡◌, ℕ, ◌≤◌, List, ◌++◌, length, replicate, sym, ap, arith, length-append, length-drop}
+use Rattle.std.proofs.Common.{◌≡◌, ℕ, suc, ◌+◌, ◌<◌, ◌≤◌, eqb, Bool, true, false, not, ◌||◌, ◌&&◌, cond, List, [], ◌∷◌, ◌++◌, map, Option, Some, None, length, replicate, refl, sym, ◌∙◌, ap, arith, length-append, length-drop}
 use Rattle.std.proofs.Math.Seq.{take-append_seam}
+use Rattle.std.proofs.lemmas.Bool.{leb-true, le-leb, eq-eqb}
+use Rattle.std.proofs.lemmas.Bool.Decides.{nat_tests}
+use Rattle.std.proofs.lemmas.List.Folds.{length-prefix_len}
+use Rattle.std.proofs.Math.Dec.{leb}
+use Rattle.std.specs.List.{list_all, list_any, take_while, prefix_len}
+use Rattle.sect_front.specs.declared.token.Token.{Token}
+use Rattle.std.specs.Str.{bytes_eq}
+use Rattle.std.specs.Prelude.{is_some, is_none}
 use Rattle.sect_front.specs.Names.{IsPadded, zeros_from}
+use Rattle.sect_front.specs.Words.{is_name, is_letter, is_name_byte, is_keyword, begins}
+use Rattle.sect_front.specs.Recognition.{keyword_of, keyword_table, token_beside}
+use Rattle.sect_front.proofs.Choices.{both, not_true}
 
-pub padded_name : (b : List ℕ) (len : ℕ) → length b ≡ len → len ≤ 32 → IsPadded (b ++ zeros_from len) len
-padded_name b len e h = record {
-  fits = h;
-  room = omega (arith, length-append b (zeros_from len), length-drop {A = ℕ} len (replicate 32 0));
-  padded = rw (← e) (ap (λ x. x ++ zeros_from (length b)) (sym (take-append_seam b (zeros_from (length b)))));
-}
+-- what a name is
+pub record IsNamed (bytes : List ℕ) : Type 0 where
+  pub letter : begins is_letter bytes ≡ true
+  pub all : list_all is_name_byte bytes ≡ true
+  pub fits : length bytes ≤ 32
+  pub free : is_keyword bytes ≡ false
+
+pub named : (bytes : List ℕ) → is_name bytes ≡ true → IsNamed bytes
+named bytes h =
+    let letter : Bool = begins is_letter bytes in
+    let all : Bool = list_all is_name_byte bytes in
+    let fits : Bool = leb (length bytes) 32 in
+    let a = both (letter && all && fits) (not (is_keyword bytes)) h in
+    let b = both (letter && all) fits a.0 in
+    let c = both letter all b.0 in
+    record { letter = c.0; all = c.1; fits = leb-true (length bytes) 32 b.1; free = not_true (is_keyword bytes) a.1 }
+
+pub is_named : (bytes : List ℕ) → IsNamed bytes → is_name bytes ≡ true
+is_named bytes n = rw (n.letter, n.all, le-leb (length bytes) 32 n.fits, n.free) refl
+
+pub padded_name : (b : List ℕ) (len : ℕ) → length b ≡ len → is_name b ≡ true → IsPadded (b ++ zeros_from len) len
+padded_name b len e h =
+    let front = take-append_seam b (zeros_from (length b)) in
+    record {
+      fits = omega (arith, (named b h).fits);
+      room = omega (arith, (named b h).fits, length-append b (zeros_from len), length-drop {A = ℕ} len (replicate 32 0));
+      padded = rw (← e) (ap (λ x. x ++ zeros_from (length b)) (sym front));
+      name = rw (← e) (ap is_name front ∙ h);
+    }
+
+-- a table has a word exactly where one of its spellings is the word
+beside_known : (w : List ℕ) (rows : List (List ℕ × Token)) → is_some (token_beside w rows) ≡ list_any (bytes_eq w) (map (λ r. r.0) rows)
+beside_known w [] = refl
+beside_known w (row ∷ rows) = go (bytes_eq w row.0) (beside_known w rows)
+  where
+    go : (b : Bool) → is_some (token_beside w rows) ≡ list_any (bytes_eq w) (map (λ r. r.0) rows) →
+        is_some (cond b (Some row.1) (token_beside w rows)) ≡ (b || list_any (bytes_eq w) (map (λ r. r.0) rows))
+    go true h = refl
+    go false h = h
+
+-- the words that are looked for are the keywords
+pub keyword_known : (w : List ℕ) → is_some (keyword_of w) ≡ is_keyword w
+keyword_known w = beside_known w keyword_table
+
+pub keyword_free : (w : List ℕ) → is_none (keyword_of w) ≡ not (is_keyword w)
+keyword_free w = go (keyword_of w) (is_keyword w) (keyword_known w)
+  where
+    go : (o : Option Token) (k : Bool) → is_some o ≡ k → is_none o ≡ not k
+    go None k h = rw (← h) refl
+    go (Some t) k h = rw (← h) refl
+
+-- a short word that is no keyword is a name
+pub short_name : (w : List ℕ) → (begins is_letter w && list_all is_name_byte w) ≡ true → length w ≤ 32 → is_none (keyword_of w) ≡ is_name w
+short_name w h fits = rw (h, le-leb (length w) 32 fits) (keyword_free w)
+
+all_length : (xs : List ℕ) → list_all is_name_byte xs ≡ true → prefix_len is_name_byte xs ≡ length xs
+all_length [] h = refl
+all_length (x ∷ xs) h =
+    let e = both (is_name_byte x) (list_all is_name_byte xs) h in rw e.0 (omega (arith, all_length xs e.1))
+
+some_length : (xs : List ℕ) → list_all is_name_byte xs ≡ false → prefix_len is_name_byte xs < length xs
+some_length [] h = cc
+some_length (x ∷ xs) h = go (is_name_byte x) h (λ e. some_length xs e)
+  where
+    go : (b : Bool) → (b && list_all is_name_byte xs) ≡ false → (list_all is_name_byte xs ≡ false → prefix_len is_name_byte xs < length xs) → cond b (1 + prefix_len is_name_byte xs) 0 < suc (length xs)
+    go true h k = omega (arith, k h)
+    go false h k = omega arith
+
+-- the word at the front is all of the bytes exactly where each may stand in a name
+pub whole_word : (xs : List ℕ) → eqb (length (take_while is_name_byte xs)) (length xs) ≡ list_all is_name_byte xs
+whole_word xs = go (list_all is_name_byte xs) refl
+  where
+    same : length (take_while is_name_byte xs) ≡ prefix_len is_name_byte xs
+    same = length-prefix_len is_name_byte xs
+
+    go : (b : Bool) → list_all is_name_byte xs ≡ b → eqb (length (take_while is_name_byte xs)) (length xs) ≡ b
+    go true h = eq-eqb (length (take_while is_name_byte xs)) (length xs) (same ∙ all_length xs h)
+    go false h = let less : length (take_while is_name_byte xs) < length xs = omega (arith, same, some_length xs h) in grind (arith, nat_tests)

@@ -1,11 +1,15 @@
 //! Names.
 
-ghost use Rattle.std.specs.Prelude.{◌≡◌, ◌≤◌, length, nat_eq};
+ghost use Rattle.std.specs.Prelude.{◌≡◌, ◌++◌, OnOk, nat_eq, true};
 ghost use Rattle.std.specs.Cmp.Lexicographic.{pointwise};
 ghost use Rattle.std.specs.Cmp.Rules.{comparing, hashing};
 ghost use Rattle.std.specs.Hash as fed;
 ghost use Rattle.std.proofs.Common.{rules};
+ghost use Rattle.sect_front.specs.Words.{is_name};
 
+use std::alloc::AllocError;
+use std::fmt;
+use std::fmt::Write;
 use std::hash::{Hash, Hasher};
 use std::marker::Model;
 
@@ -38,7 +42,7 @@ impl Name {
     /// The name of these bytes.
     #[tactic(auto, using(crate::proofs::NamesLemmas::padded_name))]
     pub fn new(bytes: &[u8]) -> Name
-        requires { length bytes.now ≤ MOST_NAME_BYTES }
+        requires { is_name bytes.now ≡ true }
         ensures { result ≡ bytes.now }
     {
         let mut all = [0u8; MOST_NAME_BYTES];
@@ -52,6 +56,15 @@ impl Name {
         ensures { result.now ≡ self.now }
     {
         &self.bytes[..self.len]
+    }
+
+    /// Adds its bytes to a text.
+    pub fn append_to(&self, text: &mut Vec<u8>) -> Result<(), AllocError>
+        ensures ok { OnOk result (text.new.items ≡ text.old.items ++ self.now) }
+        // Every name is one.
+        ensures name { is_name self.now ≡ true }
+    {
+        text.extend_from_slice(&self.bytes[..self.len])
     }
 }
 
@@ -76,5 +89,14 @@ impl Hash for Name {
 
     fn hash<H: Hasher>(&self, state: &mut H) {
         self.as_bytes().hash(state);
+    }
+}
+
+impl fmt::Display for Name {
+    fn fmt<W: fmt::Write>(&self, f: &mut fmt::Formatter<W>) -> fmt::Result {
+        for byte in self.as_bytes() {
+            f.write_char(char::from(*byte))?;
+        }
+        Ok(())
     }
 }

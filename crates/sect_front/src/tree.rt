@@ -267,11 +267,20 @@ impl Model for Tree {
     ghost coded = { Prim.hlevel (codes, body_code) };
 
     ghost view = { λ t. record { records = t.records.items; globals = t.globals.items; threads = t.threads.items } };
+
+    ghost use Rattle.std.specs.Prelude.{◌≤◌};
+    ghost use Rattle.sect_front.specs.Depth.{depth};
+
+    ghost invariant = { λ t. depth (record { records = t.records.items; globals = t.globals.items; threads = t.threads.items }) ≤ 32 };
 }
 
 impl Tree {
-    /// The tree of these declarations.
+    ghost use Rattle.std.specs.Prelude.{◌≤◌, ◌↔◌, IsTrue, []};
+    ghost use Rattle.sect_front.specs.Depth.{depth};
+
+    /// The tree of these declarations, of which no block is deeper than 32, a thread's braces being depth 1.
     pub fn new(records: Vec<Record>, globals: Vec<GlobalObject>, threads: Vec<Thread>) -> Tree
+        requires { depth (record { records = records.items; globals = globals.items; threads = threads.items }) ≤ 32 }
         ensures { result ≡ record { records = records.items; globals = globals.items; threads = threads.items } }
     {
         Tree {
@@ -300,5 +309,14 @@ impl Tree {
         ensures { result.now ≡ self.now.threads }
     {
         self.threads.as_slice()
+    }
+
+    /// Whether it declares nothing.
+    pub fn is_empty(&self) -> bool
+        ensures empty { IsTrue result ↔ ((self.now.records ≡ []) × (self.now.globals ≡ []) × (self.now.threads ≡ [])) }
+        // No tree has a deeper block.
+        ensures shallow { depth self.now ≤ 32 }
+    {
+        self.records.is_empty() && self.globals.is_empty() && self.threads.is_empty()
     }
 }

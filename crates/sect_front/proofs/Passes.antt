@@ -1,0 +1,286 @@
+-- The tokens of each tree are taken, one after another, and lead to that tree.
+use Rattle.std.proofs.Common.{◌≡◌, ℕ, List, [], ◌∷◌, ◌++◌, Some, refl, sym, ◌∙◌, ap, append_assoc, append-nil}
+use Rattle.sect_front.specs.Syntax.{Form, Body, Primitive, If, IfElse, While, Atomic, End, Then}
+use Rattle.sect_front.specs.Source.{Source}
+use Rattle.sect_front.specs.Trees.{append}
+use Rattle.sect_front.specs.Grammar.{operand_token, operator_token, comparison_token, kind_token}
+use Rattle.sect_front.specs.Tokens.{primitive_tokens, test_tokens, form_tokens, body_tokens, declarations_tokens, hints_tokens, record_tokens, thread_tokens, records_tokens, globals_tokens, threads_tokens, source_tokens}
+use Rattle.sect_front.specs.Advance.{operand_of, operator_of, comparison_of}
+use Rattle.sect_front.specs.Reading.{Reading, reading}
+use Rattle.sect_front.specs.Read.{after}
+use Rattle.sect_front.specs.declared.token.Token.{Token}
+use Rattle.sect_front.specs.declared.token.Token.TheVariants as token
+use Rattle.sect_front.specs.declared.tree.Operand.{Operand}
+use Rattle.sect_front.specs.declared.tree.Operand.TheVariants as operand
+use Rattle.sect_front.specs.declared.tree.Primitive as leaf
+use Rattle.sect_front.specs.declared.tree.Primitive.TheVariants as primitive
+use Rattle.sect_front.specs.declared.tree.Test.{Test}
+use Rattle.sect_front.specs.declared.tree.Comparison.{Comparison}
+use Rattle.sect_front.specs.declared.tree.Comparison.TheVariants as comparison
+use Rattle.sect_front.specs.declared.tree.Operator.{Operator}
+use Rattle.sect_front.specs.declared.tree.Operator.TheVariants as operator
+use Rattle.sect_front.specs.declared.tree.Kind.{Kind}
+use Rattle.sect_front.specs.declared.tree.Kind.TheVariants as kind
+use Rattle.sect_front.specs.declared.tree.Declaration.{Declaration}
+use Rattle.sect_front.specs.declared.tree.Record.{Record}
+use Rattle.sect_front.specs.declared.tree.GlobalObject.{GlobalObject}
+use Rattle.sect_front.specs.declared.tree.Thread.{Thread}
+use Rattle.sect_front.specs.declared.within.Frame.{Frame}
+use Rattle.sect_front.specs.declared.within.Frame.TheVariants as frame
+use Rattle.sect_front.specs.declared.within.Place.{Place}
+use Rattle.sect_front.specs.declared.within.Place.TheVariants as place
+use Rattle.sect_front.specs.declared.reader.Part.{Part}
+use Rattle.sect_front.specs.declared.reader.Part.TheVariants as part
+use Rattle.sect_front.specs.declared.reader.RecordStage.TheVariants as in_record
+use Rattle.sect_front.specs.declared.reader.ThreadStage.TheVariants as in_thread
+use Rattle.sect_front.specs.declared.reader.Stage.TheVariants as stage
+use Rattle.sect_front.proofs.Finish.{start}
+
+operand_back : (v : Operand) → operand_of (operand_token v) ≡ Some v
+operand_back (operand.Number n) = refl
+operand_back (operand.Name n) = refl
+operand_back operand.Null = refl
+
+operator_back : (o : Operator) → operator_of (operator_token o) ≡ Some o
+operator_back operator.Add = refl
+operator_back operator.Subtract = refl
+operator_back operator.Multiply = refl
+
+comparison_back : (c : Comparison) → comparison_of (comparison_token c) ≡ Some c
+comparison_back comparison.Less = refl
+comparison_back comparison.LessOrEqual = refl
+comparison_back comparison.Equal = refl
+comparison_back comparison.NotEqual = refl
+
+-- these statements and then those
+abbrev join : Body → Body → Body
+join b End = b
+join b (Then s c) = join (append b s) c
+
+-- the same, by recursion on the first
+abbrev cat : Body → Body → Body
+cat End c = c
+cat (Then s b) c = Then s (cat b c)
+
+cat_append : (b : Body) (s : Form) (c : Body) → cat (append b s) c ≡ cat b (Then s c)
+cat_append End s c = refl
+cat_append (Then t b) s c = ap (Then t) (cat_append b s c)
+
+cat_end : (b : Body) → cat b End ≡ b
+cat_end End = refl
+cat_end (Then t b) = ap (Then t) (cat_end b)
+
+join_cat : (b c : Body) → join b c ≡ cat b c
+join_cat b End = sym (cat_end b)
+join_cat b (Then s c) = join_cat (append b s) c ∙ cat_append b s c
+
+join_end : (b : Body) → join End b ≡ b
+join_end b = join_cat End b
+
+module _ (s : Source) (n : List ℕ) (ls : List Declaration) where
+  abbrev at : List Frame → Body → Place → Reading
+  at fs b p = reading s (stage.Thread (in_thread.Inside n ls (record { frames = fs; before = b; place = p })))
+
+  -- where a statement leads
+  abbrev ended : List Frame → Body → Form → Reading
+  ended fs b (Primitive p) = at fs (append b (Primitive p)) place.Start
+  ended fs b (If t a) = at fs b (place.AfterThen t a)
+  ended fs b (While t a) = at fs (append b (While t a)) place.Start
+  ended fs b (IfElse t a c) = at fs (append b (IfElse t a c)) place.Start
+  ended fs b (Atomic a) = at fs (append b (Atomic a)) place.Start
+
+  assign_passes : (fs : List Frame) (b : Body) (x : List ℕ) (v : Operand) (w : List Token) → after (at fs b place.Start) (primitive_tokens (primitive.Assign x v) w) ≡ after (at fs (append b (Primitive (primitive.Assign x v))) place.Start) w
+  assign_passes fs b x (operand.Number n) w = refl
+  assign_passes fs b x operand.Null w = refl
+  assign_passes fs b x (operand.Name n) w = refl
+
+  compute_passes : (fs : List Frame) (b : Body) (x : List ℕ) (v : Operand) (o : Operator) (u : Operand) (w : List Token) → after (at fs b place.Start) (primitive_tokens (primitive.Compute x v o u) w) ≡ after (at fs (append b (Primitive (primitive.Compute x v o u))) place.Start) w
+  compute_passes fs b x (operand.Number n) operator.Add u w = simp operand_back
+  compute_passes fs b x (operand.Number n) operator.Subtract u w = simp operand_back
+  compute_passes fs b x (operand.Number n) operator.Multiply u w = simp operand_back
+  compute_passes fs b x operand.Null operator.Add u w = simp operand_back
+  compute_passes fs b x operand.Null operator.Subtract u w = simp operand_back
+  compute_passes fs b x operand.Null operator.Multiply u w = simp operand_back
+  compute_passes fs b x (operand.Name n) operator.Add u w = simp operand_back
+  compute_passes fs b x (operand.Name n) operator.Subtract u w = simp operand_back
+  compute_passes fs b x (operand.Name n) operator.Multiply u w = simp operand_back
+
+  primitive_passes : (fs : List Frame) (b : Body) (p : leaf.Primitive) (w : List Token) → after (at fs b place.Start) (primitive_tokens p w) ≡ after (at fs (append b (Primitive p)) place.Start) w
+  primitive_passes fs b (primitive.Assign x v) w = assign_passes fs b x v w
+  primitive_passes fs b (primitive.Compute x v o u) w = compute_passes fs b x v o u w
+  primitive_passes fs b (primitive.New x r) w = refl
+  primitive_passes fs b (primitive.Load x y f) w = refl
+  primitive_passes fs b (primitive.Store y f v) w = simp operand_back
+  primitive_passes fs b (primitive.Print v) w = simp operand_back
+
+  test_passes : (fs : List Frame) (b : Body) (t : Test) (w : List Token) →
+      after (at fs b place.Start) (token.If ∷ test_tokens t (token.OpenBrace ∷ w)) ≡ after (at (frame.Then b t ∷ fs) End place.Start) w
+  test_passes fs b t w = simp (operand_back, comparison_back)
+
+  while_passes : (fs : List Frame) (b : Body) (t : Test) (w : List Token) →
+      after (at fs b place.Start) (token.While ∷ test_tokens t (token.OpenBrace ∷ w)) ≡ after (at (frame.While b t ∷ fs) End place.Start) w
+  while_passes fs b t w = simp (operand_back, comparison_back)
+
+  -- after a choice with no else-part the next statement starts as after any other
+  settled_next : (fs : List Frame) (b : Body) (t : Test) (a : Body) (s : Form) (w : List Token) →
+      after (at fs b (place.AfterThen t a)) (form_tokens s w) ≡ after (at fs (append b (If t a)) place.Start) (form_tokens s w)
+  settled_next fs b t a (Primitive (primitive.Assign x v)) w = refl
+  settled_next fs b t a (Primitive (primitive.Compute x v o u)) w = refl
+  settled_next fs b t a (Primitive (primitive.New x r)) w = refl
+  settled_next fs b t a (Primitive (primitive.Load x y f)) w = refl
+  settled_next fs b t a (Primitive (primitive.Store y f v)) w = refl
+  settled_next fs b t a (Primitive (primitive.Print v)) w = refl
+  settled_next fs b t a (If u c) w = refl
+  settled_next fs b t a (While u c) w = refl
+  settled_next fs b t a (IfElse u c d) w = refl
+  settled_next fs b t a (Atomic c) w = refl
+
+  settled : (fs : List Frame) (b : Body) (s : Form) (r : Body) (w : List Token) →
+      after (ended fs b s) (body_tokens r (token.CloseBrace ∷ w)) ≡ after (at fs (append b s) place.Start) (body_tokens r (token.CloseBrace ∷ w))
+  settled fs b (Primitive p) r w = refl
+  settled fs b (If t a) End w = refl
+  settled fs b (If t a) (Then s r) w = settled_next fs b t a s (body_tokens r (token.CloseBrace ∷ w))
+  settled fs b (While t a) r w = refl
+  settled fs b (IfElse t a c) r w = refl
+  settled fs b (Atomic a) r w = refl
+
+  mutual
+    form_passes : (s : Form) (fs : List Frame) (b : Body) (w : List Token) → after (at fs b place.Start) (form_tokens s w) ≡ after (ended fs b s) w
+    form_passes (Primitive p) fs b w = primitive_passes fs b p w
+    form_passes (If t a) fs b w =
+        test_passes fs b t _ ∙ (body_passes a (frame.Then b t ∷ fs) End w ∙ ap (λ x. after (at fs b (place.AfterThen t x)) w) (join_end a))
+    form_passes (IfElse t a c) fs b w =
+        test_passes fs b t _ ∙ (body_passes a (frame.Then b t ∷ fs) End _ ∙
+        (ap (λ x. after (at fs b (place.AfterThen t x)) (token.Else ∷ token.OpenBrace ∷ body_tokens c (token.CloseBrace ∷ w))) (join_end a) ∙
+        (body_passes c (frame.Else b t a ∷ fs) End w ∙ ap (λ x. after (at fs (append b (IfElse t a x)) place.Start) w) (join_end c))))
+    form_passes (While t a) fs b w =
+        while_passes fs b t _ ∙ (body_passes a (frame.While b t ∷ fs) End w ∙ ap (λ x. after (at fs (append b (While t x)) place.Start) w) (join_end a))
+    form_passes (Atomic a) fs b w =
+        body_passes a (frame.Atomic b ∷ fs) End w ∙ ap (λ x. after (at fs (append b (Atomic x)) place.Start) w) (join_end a)
+
+    body_passes : (c : Body) (fs : List Frame) (b : Body) (w : List Token) →
+        after (at fs b place.Start) (body_tokens c (token.CloseBrace ∷ w)) ≡ after (at fs (join b c) place.Start) (token.CloseBrace ∷ w)
+    body_passes End fs b w = refl
+    body_passes (Then s c) fs b w = form_passes s fs b _ ∙ (settled fs b s c w ∙ body_passes c fs (append b s) w)
+
+-- so many declarations of each kind
+abbrev source : List Record → List GlobalObject → List Thread → Source
+source rs gs ts = record { records = rs; globals = gs; threads = ts }
+
+-- between declarations
+abbrev between : Source → Part → Reading
+between s p = reading s (stage.Between p)
+
+abbrev in_head : Source → List ℕ → List (List ℕ) → Reading
+in_head s n hs = reading s (stage.Record (in_record.Head n hs))
+
+abbrev in_fields : Source → List ℕ → List (List ℕ) → List Declaration → Reading
+in_fields s n hs fs = reading s (stage.Record (in_record.Fields n hs fs))
+
+abbrev in_locals : Source → List ℕ → List Declaration → Reading
+in_locals s n ls = reading s (stage.Thread (in_thread.Locals n ls))
+
+-- the first statement after the locals starts as any other
+enter : (s : Source) (n : List ℕ) (ls : List Declaration) (b : Body) (w : List Token) →
+    after (in_locals s n ls) (body_tokens b (token.CloseBrace ∷ w)) ≡ after (at s n ls [] End place.Start) (body_tokens b (token.CloseBrace ∷ w))
+enter s n ls End w = refl
+enter s n ls (Then (Primitive (primitive.Assign x v)) b) w = refl
+enter s n ls (Then (Primitive (primitive.Compute x v o u)) b) w = refl
+enter s n ls (Then (Primitive (primitive.New x r)) b) w = refl
+enter s n ls (Then (Primitive (primitive.Load x y f)) b) w = refl
+enter s n ls (Then (Primitive (primitive.Store y f v)) b) w = refl
+enter s n ls (Then (Primitive (primitive.Print v)) b) w = refl
+enter s n ls (Then (If t a) b) w = refl
+enter s n ls (Then (IfElse t a c) b) w = refl
+enter s n ls (Then (While t a) b) w = refl
+enter s n ls (Then (Atomic a) b) w = refl
+
+local_passes : (s : Source) (n : List ℕ) (ls : List Declaration) (k : Kind) (x : List ℕ) (w : List Token) →
+    after (in_locals s n ls) (kind_token k ∷ token.Name x ∷ token.Semicolon ∷ w) ≡ after (in_locals s n (ls ++ record { kind = k; name = x } ∷ [])) w
+local_passes s n ls kind.Int x w = refl
+local_passes s n ls (kind.Record r) x w = refl
+
+locals_pass : (s : Source) (n : List ℕ) (ms ls : List Declaration) (w : List Token) → after (in_locals s n ls) (declarations_tokens ms w) ≡ after (in_locals s n (ls ++ ms)) w
+locals_pass s n [] ls w = ap (λ x. after (in_locals s n x) w) (sym (append-nil ls))
+locals_pass s n (m ∷ ms) ls w =
+    local_passes s n ls m.kind m.name (declarations_tokens ms w) ∙ (locals_pass s n ms (ls ++ m ∷ []) w ∙ ap (λ x. after (in_locals s n x) w) (append_assoc ls (m ∷ []) ms))
+
+field_passes : (s : Source) (n : List ℕ) (hs : List (List ℕ)) (fs : List Declaration) (k : Kind) (x : List ℕ) (w : List Token) →
+    after (in_fields s n hs fs) (kind_token k ∷ token.Name x ∷ token.Semicolon ∷ w) ≡ after (in_fields s n hs (fs ++ record { kind = k; name = x } ∷ [])) w
+field_passes s n hs fs kind.Int x w = refl
+field_passes s n hs fs (kind.Record r) x w = refl
+
+fields_pass : (s : Source) (n : List ℕ) (hs : List (List ℕ)) (gs fs : List Declaration) (w : List Token) → after (in_fields s n hs fs) (declarations_tokens gs w) ≡ after (in_fields s n hs (fs ++ gs)) w
+fields_pass s n hs [] fs w = ap (λ x. after (in_fields s n hs x) w) (sym (append-nil fs))
+fields_pass s n hs (g ∷ gs) fs w =
+    field_passes s n hs fs g.kind g.name (declarations_tokens gs w) ∙ (fields_pass s n hs gs (fs ++ g ∷ []) w ∙ ap (λ x. after (in_fields s n hs x) w) (append_assoc fs (g ∷ []) gs))
+
+hints_pass : (s : Source) (n : List ℕ) (gs hs : List (List ℕ)) (w : List Token) → after (in_head s n hs) (hints_tokens gs w) ≡ after (in_head s n (hs ++ gs)) w
+hints_pass s n [] hs w = ap (λ x. after (in_head s n x) w) (sym (append-nil hs))
+hints_pass s n (g ∷ gs) hs w =
+    hints_pass s n gs (hs ++ g ∷ []) w ∙ ap (λ x. after (in_head s n x) w) (append_assoc hs (g ∷ []) gs)
+
+record_passes : (rs : List Record) (gs : List GlobalObject) (ts : List Thread) (r : Record) (w : List Token) →
+    after (between (source rs gs ts) part.Records) (record_tokens r w) ≡ after (between (source (rs ++ r ∷ []) gs ts) part.Records) w
+record_passes rs gs ts r w =
+    let s = source rs gs ts in
+    hints_pass s r.name r.hints [] (token.OpenBrace ∷ declarations_tokens r.fields (token.CloseBrace ∷ w)) ∙ fields_pass s r.name r.hints r.fields [] (token.CloseBrace ∷ w)
+
+records_pass : (qs rs : List Record) (w : List Token) → after (between (source rs [] []) part.Records) (records_tokens qs w) ≡ after (between (source (rs ++ qs) [] []) part.Records) w
+records_pass [] rs w = ap (λ x. after (between (source x [] []) part.Records) w) (sym (append-nil rs))
+records_pass (q ∷ qs) rs w =
+    record_passes rs [] [] q (records_tokens qs w) ∙ (records_pass qs (rs ++ q ∷ []) w ∙ ap (λ x. after (between (source x [] []) part.Records) w) (append_assoc rs (q ∷ []) qs))
+
+globals_more : (rs : List Record) (hs gs : List GlobalObject) (w : List Token) → after (between (source rs gs []) part.Globals) (globals_tokens hs w) ≡ after (between (source rs (gs ++ hs) []) part.Globals) w
+globals_more rs [] gs w = ap (λ x. after (between (source rs x []) part.Globals) w) (sym (append-nil gs))
+globals_more rs (h ∷ hs) gs w =
+    globals_more rs hs (gs ++ h ∷ []) w ∙ ap (λ x. after (between (source rs x []) part.Globals) w) (append_assoc gs (h ∷ []) hs)
+
+-- which declarations may come after globals, and after threads
+abbrev after_globals : List GlobalObject → Part
+after_globals [] = part.Records
+after_globals (g ∷ gs) = part.Globals
+
+abbrev after_threads : Part → List Thread → Part
+after_threads p [] = p
+after_threads p (t ∷ ts) = part.Threads
+
+globals_pass : (rs : List Record) (gs : List GlobalObject) (w : List Token) → after (between (source rs [] []) part.Records) (globals_tokens gs w) ≡ after (between (source rs gs []) (after_globals gs)) w
+globals_pass rs [] w = refl
+globals_pass rs (g ∷ gs) w = globals_more rs gs (g ∷ []) w
+
+-- a thread may come after each declaration
+thread_begins : (s : Source) (p : Part) (w : List Token) → after (between s p) (token.Thread ∷ w) ≡ after (reading s (stage.Thread in_thread.AfterWord)) w
+thread_begins s part.Records w = refl
+thread_begins s part.Globals w = refl
+thread_begins s part.Threads w = refl
+
+thread_passes : (rs : List Record) (gs : List GlobalObject) (ts : List Thread) (p : Part) (t : Thread) (w : List Token) →
+    after (between (source rs gs ts) p) (thread_tokens t w) ≡ after (between (source rs gs (ts ++ t ∷ [])) part.Threads) w
+thread_passes rs gs ts p t w =
+    let s = source rs gs ts in
+    let inner : List Token = body_tokens t.body (token.CloseBrace ∷ w) in
+    thread_begins s p (token.Name t.name ∷ token.OpenBrace ∷ declarations_tokens t.locals inner) ∙
+    (locals_pass s t.name t.locals [] inner ∙ (enter s t.name t.locals t.body w ∙ (body_passes s t.name t.locals t.body [] End w ∙
+    ap (λ x. after (between (source rs gs (ts ++ record { name = t.name; locals = t.locals; body = x } ∷ [])) part.Threads) w) (join_end t.body))))
+
+threads_pass : (rs : List Record) (gs : List GlobalObject) (us ts : List Thread) (p : Part) →
+    after (between (source rs gs ts) p) (threads_tokens us []) ≡ Some (between (source rs gs (ts ++ us)) (after_threads p us))
+threads_pass rs gs [] ts p = ap (λ x. Some (between (source rs gs x) p)) (sym (append-nil ts))
+threads_pass rs gs (u ∷ us) ts p =
+    thread_passes rs gs ts p u (threads_tokens us []) ∙ threads_more us (ts ++ u ∷ []) ∙ ap (λ x. Some (between (source rs gs x) part.Threads)) (append_assoc ts (u ∷ []) us)
+  where
+    threads_more : (us ts : List Thread) → after (between (source rs gs ts) part.Threads) (threads_tokens us []) ≡ Some (between (source rs gs (ts ++ us)) part.Threads)
+    threads_more [] ts = ap (λ x. Some (between (source rs gs x) part.Threads)) (sym (append-nil ts))
+    threads_more (v ∷ vs) ts =
+        thread_passes rs gs ts part.Threads v (threads_tokens vs []) ∙ (threads_more vs (ts ++ v ∷ []) ∙ ap (λ x. Some (between (source rs gs x) part.Threads)) (append_assoc ts (v ∷ []) vs))
+
+-- which declarations may come after a tree's
+abbrev pub last_part : Source → Part
+last_part s = after_threads (after_globals s.globals) s.threads
+
+-- each tree's tokens lead to it
+pub source_passes : (s : Source) → after start (source_tokens s []) ≡ Some (reading s (stage.Between (last_part s)))
+source_passes s =
+    records_pass s.records [] (globals_tokens s.globals (threads_tokens s.threads [])) ∙
+    (globals_pass s.records s.globals (threads_tokens s.threads []) ∙ threads_pass s.records s.globals s.threads [] (after_globals s.globals))

@@ -1,0 +1,147 @@
+-- The most braces that are open is the depth.
+use Rattle.std.proofs.Common.{◌≡◌, ℕ, ◌+◌, ◌-◌, ◌≤◌, List, [], ◌∷◌, ◌++◌, max, refl, sym, ◌∙◌, ap, arith, take, drop}
+use Rattle.std.proofs.lemmas.List.{take-append-drop}
+use Rattle.sect_front.specs.Syntax.{Form, Body, Primitive, If, IfElse, While, Atomic, End, Then}
+use Rattle.sect_front.specs.Source.{Source}
+use Rattle.sect_front.specs.Grammar.{operand_token, operator_token, comparison_token, kind_token, tokens_of}
+use Rattle.sect_front.specs.Tokens.{primitive_tokens, test_tokens, form_tokens, body_tokens, declarations_tokens, hints_tokens, record_tokens, records_tokens, globals_tokens, threads_tokens}
+use Rattle.sect_front.specs.Depth.{form_depth, body_depth, threads_depth, depth}
+use Rattle.sect_front.specs.Braces.{brace, open_after, IsShallow}
+use Rattle.sect_front.specs.declared.token.Token.{Token}
+use Rattle.sect_front.specs.declared.token.Token.TheVariants as token
+use Rattle.sect_front.specs.declared.tree.Operand.{Operand}
+use Rattle.sect_front.specs.declared.tree.Operand.TheVariants as operand
+use Rattle.sect_front.specs.declared.tree.Operator.{Operator}
+use Rattle.sect_front.specs.declared.tree.Operator.TheVariants as operator
+use Rattle.sect_front.specs.declared.tree.Primitive as leaf
+use Rattle.sect_front.specs.declared.tree.Primitive.TheVariants as primitive
+use Rattle.sect_front.specs.declared.tree.Test.{Test}
+use Rattle.sect_front.specs.declared.tree.Comparison.{Comparison}
+use Rattle.sect_front.specs.declared.tree.Comparison.TheVariants as comparison
+use Rattle.sect_front.specs.declared.tree.Declaration.{Declaration}
+use Rattle.sect_front.specs.declared.tree.Record.{Record}
+use Rattle.sect_front.specs.declared.tree.GlobalObject.{GlobalObject}
+use Rattle.sect_front.specs.declared.tree.Thread.{Thread}
+use Rattle.sect_front.specs.declared.tree.Kind.{Kind}
+use Rattle.sect_front.specs.declared.tree.Kind.TheVariants as kind
+use Rattle.sect_front.proofs.Listed.{tokens_same}
+
+-- the most braces that are open with a token and after it
+abbrev pub peak_with : Token → ℕ → (ℕ → ℕ) → ℕ
+peak_with token.OpenBrace n rest = rest (n + 1)
+peak_with token.CloseBrace n rest = max n (rest (n - 1))
+peak_with _ n rest = rest n
+
+-- the most braces that are open before, between and after these tokens
+abbrev pub peak : ℕ → List Token → ℕ
+peak n [] = n
+peak n (t ∷ w) = peak_with t n (λ k. peak k w)
+
+calm_operand : (v : Operand) (k : ℕ) (f : ℕ → ℕ) → peak_with (operand_token v) k f ≡ f k
+calm_operand (operand.Number n) k f = refl
+calm_operand operand.Null k f = refl
+calm_operand (operand.Name n) k f = refl
+
+calm_operator : (o : Operator) (k : ℕ) (f : ℕ → ℕ) → peak_with (operator_token o) k f ≡ f k
+calm_operator operator.Add k f = refl
+calm_operator operator.Subtract k f = refl
+calm_operator operator.Multiply k f = refl
+
+calm_comparison : (c : Comparison) (k : ℕ) (f : ℕ → ℕ) → peak_with (comparison_token c) k f ≡ f k
+calm_comparison comparison.Less k f = refl
+calm_comparison comparison.LessOrEqual k f = refl
+calm_comparison comparison.Equal k f = refl
+calm_comparison comparison.NotEqual k f = refl
+
+calm_test : (k : ℕ) (t : Test) (w : List Token) → peak k (test_tokens t w) ≡ peak k w
+calm_test k t w = simp (calm_operand, calm_comparison)
+
+calm_primitive : (k : ℕ) (p : leaf.Primitive) (w : List Token) → peak k (primitive_tokens p w) ≡ peak k w
+calm_primitive k (primitive.Assign x v) w = simp calm_operand
+calm_primitive k (primitive.Compute x v o u) w = simp (calm_operand, calm_operator)
+calm_primitive k (primitive.New x r) w = refl
+calm_primitive k (primitive.Load x y f) w = refl
+calm_primitive k (primitive.Store y f v) w = simp calm_operand
+calm_primitive k (primitive.Print v) w = simp calm_operand
+
+peak_cases : (t : Token) (k : ℕ) (f : ℕ → ℕ) → ((j : ℕ) → j ≤ f j) → max k (f (brace k t)) ≡ peak_with t k f
+peak_cases token.OpenBrace k f h = omega (arith, h (k + 1))
+peak_cases token.CloseBrace k f h = refl
+peak_cases _ k f h = omega (arith, h k)
+
+pub peak_from : (k : ℕ) (w : List Token) → k ≤ peak k w
+peak_from k [] = omega arith
+peak_from k (t ∷ w) = omega (arith, peak_cases t k (λ j. peak j w) (λ j. peak_from j w))
+
+pub peak_cons : (t : Token) (k : ℕ) (w : List Token) → peak k (t ∷ w) ≡ max k (peak (brace k t) w)
+peak_cons t k w = sym (peak_cases t k (λ j. peak j w) (λ j. peak_from j w))
+
+-- what was open earlier, and what is open later, are no more than the peak
+pub peak_append : (k : ℕ) (v w : List Token) → peak k (v ++ w) ≡ max (peak k v) (peak (open_after k v) w)
+peak_append k [] w = omega (arith, peak_from k w)
+peak_append k (t ∷ v) w = omega (arith, peak_append (brace k t) v w, peak_cons t k (v ++ w), peak_cons t k v)
+
+-- a body whose peak is known, and its closing brace
+braced : (k d p : ℕ) (w : List Token) → p ≡ max (k + 1 + d) (peak (k + 1) (token.CloseBrace ∷ w)) → p ≡ max (k + (d + 1)) (peak k w)
+braced k d p w h = let e : k + 1 - 1 ≡ k = omega arith in omega (arith, ap (λ j. peak j w) e)
+
+mutual
+  form_peak : (k : ℕ) (s : Form) (w : List Token) → peak k (form_tokens s w) ≡ max (k + form_depth s) (peak k w)
+  form_peak k (Primitive p) w = omega (arith, calm_primitive k p w, peak_from k w)
+  form_peak k (If t a) w = calm_test k t (token.OpenBrace ∷ body_tokens a (token.CloseBrace ∷ w)) ∙ braced k (body_depth a) _ w (body_peak (k + 1) a (token.CloseBrace ∷ w))
+  form_peak k (IfElse t a b) w =
+      let rest : List Token = token.Else ∷ token.OpenBrace ∷ body_tokens b (token.CloseBrace ∷ w) in
+      omega (
+        arith,
+        calm_test k t (token.OpenBrace ∷ body_tokens a (token.CloseBrace ∷ rest)),
+        braced k (body_depth a) (peak (k + 1) (body_tokens a (token.CloseBrace ∷ rest))) rest (body_peak (k + 1) a (token.CloseBrace ∷ rest)),
+        braced k (body_depth b) (peak (k + 1) (body_tokens b (token.CloseBrace ∷ w))) w (body_peak (k + 1) b (token.CloseBrace ∷ w)),
+      )
+  form_peak k (While t a) w =
+      calm_test k t (token.OpenBrace ∷ body_tokens a (token.CloseBrace ∷ w)) ∙ braced k (body_depth a) _ w (body_peak (k + 1) a (token.CloseBrace ∷ w))
+  form_peak k (Atomic a) w = braced k (body_depth a) _ w (body_peak (k + 1) a (token.CloseBrace ∷ w))
+
+  body_peak : (k : ℕ) (b : Body) (w : List Token) → peak k (body_tokens b w) ≡ max (k + body_depth b) (peak k w)
+  body_peak k End w = omega (arith, peak_from k w)
+  body_peak k (Then s b) w = omega (arith, form_peak k s (body_tokens b w), body_peak k b w)
+
+calm_kind : (t : Kind) (k : ℕ) (f : ℕ → ℕ) → peak_with (kind_token t) k f ≡ f k
+calm_kind kind.Int k f = refl
+calm_kind (kind.Record n) k f = refl
+
+calm_declarations : (k : ℕ) (ds : List Declaration) (w : List Token) → peak k (declarations_tokens ds w) ≡ peak k w
+calm_declarations k [] w = refl
+calm_declarations k (d ∷ ds) w = calm_kind d.kind k (λ j. peak j (declarations_tokens ds w)) ∙ calm_declarations k ds w
+
+calm_hints : (k : ℕ) (ns : List (List ℕ)) (w : List Token) → peak k (hints_tokens ns w) ≡ peak k w
+calm_hints k [] w = refl
+calm_hints k (n ∷ ns) w = calm_hints k ns w
+
+threads_peak : (ts : List Thread) → peak 0 (threads_tokens ts []) ≡ threads_depth ts
+threads_peak [] = refl
+threads_peak (t ∷ ts) =
+    let rest : List Token = token.CloseBrace ∷ threads_tokens ts [] in
+    omega (arith, calm_declarations 1 t.locals (body_tokens t.body rest), braced 0 (body_depth t.body) (peak 1 (body_tokens t.body rest)) (threads_tokens ts []) (body_peak 1 t.body rest), threads_peak ts)
+
+globals_peak : (gs : List GlobalObject) (w : List Token) → peak 0 (globals_tokens gs w) ≡ peak 0 w
+globals_peak [] w = refl
+globals_peak (g ∷ gs) w = globals_peak gs w
+
+-- a record's braces are one deep
+record_peak : (r : Record) (w : List Token) → peak 0 (record_tokens r w) ≡ max 1 (peak 0 w)
+record_peak r w =
+    let inner : List Token = declarations_tokens r.fields (token.CloseBrace ∷ w) in
+    calm_hints 0 r.hints (token.OpenBrace ∷ inner) ∙ calm_declarations 1 r.fields (token.CloseBrace ∷ w)
+
+records_peak : (rs : List Record) (w : List Token) → max 1 (peak 0 (records_tokens rs w)) ≡ max 1 (peak 0 w)
+records_peak [] w = refl
+records_peak (r ∷ rs) w = omega (arith, record_peak r (records_tokens rs w), records_peak rs w)
+
+pub depth_peak : (s : Source) → max 1 (peak 0 (tokens_of s)) ≡ max 1 (depth s)
+depth_peak s =
+    omega (arith, ap (peak 0) (tokens_same s), records_peak s.records (globals_tokens s.globals (threads_tokens s.threads [])), globals_peak s.globals (threads_tokens s.threads []), threads_peak s.threads)
+
+-- where the peak is low, every count is
+pub shallow_from : (list : List Token) → peak 0 list ≤ 32 → IsShallow list
+shallow_from list h j lt =
+    omega (arith, h, ap (peak 0) (take-append-drop j list), peak_append 0 (take j list) (drop j list), peak_from (open_after 0 (take j list)) (drop j list))

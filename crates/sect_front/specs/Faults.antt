@@ -1,0 +1,50 @@
+-- Where tokens stop to be those of a tree.
+use Rattle.std.specs.Prelude.{◌≡◌, ◌≢◌, ℕ, ◌+◌, ◌<◌, ◌≤◌, List, ◌++◌, take, length, map, Result, Ok, Err, ⊤}
+use Rattle.sect_front.specs.Grammar.{tokens_of}
+use Rattle.sect_front.specs.Source.{Source}
+use Rattle.sect_front.specs.Depth.{depth}
+use Rattle.sect_front.specs.Braces.{open_after, IsShallow}
+use Rattle.sect_front.specs.declared.token.Token.{Token}
+use Rattle.sect_front.specs.declared.token.Placed.{Placed}
+use Rattle.sect_front.specs.declared.reading.TokenFault.{TokenFault}
+use Rattle.sect_front.specs.declared.reading.TokenFault.TheVariants as fault
+
+-- the tokens without their places
+abbrev pub tokens_in : List Placed → List Token
+tokens_in places = map (λ p. p.token) places
+
+-- the tokens of some tree, of any depth, begin so
+abbrev pub IsViable : List Token → Type 0
+IsViable front = (tree : Source) × (rest : List Token) × (tokens_of tree ≡ front ++ rest)
+
+-- these are the tokens of the tree, and no block is deeper than 32
+pub record IsTree (list : List Token) (tree : Source) : Type 0 where
+  pub tokens : tokens_of tree ≡ list
+  pub shallow : depth tree ≤ 32
+
+-- up to this token the list is viable and with it it isn't, and no token before it opened the 33rd brace
+pub record IsUnexpectedAt (list : List Token) (i : ℕ) : Type 0 where
+  pub within : i < length list
+  pub before : IsViable (take i list)
+  pub here : IsViable (take (i + 1) list) → ⊥
+  pub shallow : IsShallow (take i list)
+
+-- this token opens the 33rd brace, in a list that is viable with it, and no token before it did
+pub record IsTooDeepAt (list : List Token) (i : ℕ) : Type 0 where
+  pub within : i < length list
+  pub here : IsViable (take (i + 1) list)
+  pub deep : open_after 0 (take (i + 1) list) ≡ 33
+  pub shallow : IsShallow (take i list)
+
+-- the list is viable and no tree's, and no token opened the 33rd brace
+pub record IsUnfinished (list : List Token) : Type 0 where
+  pub viable : IsViable list
+  pub none : (tree : Source) → tokens_of tree ≢ list
+  pub shallow : IsShallow list
+
+abbrev pub JudgesTokens : List Token → Result Source TokenFault → Type 0
+JudgesTokens list (Ok tree) = IsTree list tree
+JudgesTokens list (Err (fault.Unexpected i)) = IsUnexpectedAt list i
+JudgesTokens list (Err (fault.TooDeep i)) = IsTooDeepAt list i
+JudgesTokens list (Err fault.Unfinished) = IsUnfinished list
+JudgesTokens list (Err fault.Memory) = ⊤

@@ -1,0 +1,109 @@
+-- The tokens of a tree, rule by rule as the grammar has them.
+use Rattle.std.specs.Prelude.{List, [], ◌∷◌, ◌++◌, ℕ}
+use Rattle.std.specs.List.{flat_map}
+use Rattle.sect_front.specs.Syntax.{Form, Body, Primitive, If, IfElse, While, Atomic, End, Then}
+use Rattle.sect_front.specs.Source.{Source}
+use Rattle.sect_front.specs.declared.token.Token.{Token}
+use Rattle.sect_front.specs.declared.token.Token.TheVariants as token
+use Rattle.sect_front.specs.declared.tree.Operand.{Operand}
+use Rattle.sect_front.specs.declared.tree.Operand.TheVariants as operand
+use Rattle.sect_front.specs.declared.tree.Primitive as leaf
+use Rattle.sect_front.specs.declared.tree.Primitive.TheVariants as primitive
+use Rattle.sect_front.specs.declared.tree.Comparison.{Comparison}
+use Rattle.sect_front.specs.declared.tree.Comparison.TheVariants as comparison
+use Rattle.sect_front.specs.declared.tree.Operator.{Operator}
+use Rattle.sect_front.specs.declared.tree.Operator.TheVariants as operator
+use Rattle.sect_front.specs.declared.tree.Test.{Test}
+use Rattle.sect_front.specs.declared.tree.Kind.{Kind}
+use Rattle.sect_front.specs.declared.tree.Kind.TheVariants as kind
+use Rattle.sect_front.specs.declared.tree.Declaration.{Declaration}
+use Rattle.sect_front.specs.declared.tree.Record.{Record}
+use Rattle.sect_front.specs.declared.tree.GlobalObject.{GlobalObject}
+use Rattle.sect_front.specs.declared.tree.Thread.{Thread}
+
+-- operand = integer | "null" | name
+abbrev pub operand_token : Operand → Token
+operand_token (operand.Number n) = token.Number n
+operand_token operand.Null = token.Null
+operand_token (operand.Name n) = token.Name n
+
+-- op = "+" | "-" | "*"
+abbrev pub operator_token : Operator → Token
+operator_token operator.Add = token.Plus
+operator_token operator.Subtract = token.Minus
+operator_token operator.Multiply = token.Star
+
+-- cmp = "==" | "!=" | "<" | "<="
+abbrev pub comparison_token : Comparison → Token
+comparison_token comparison.Equal = token.EqualEqual
+comparison_token comparison.NotEqual = token.NotEqual
+comparison_token comparison.Less = token.Less
+comparison_token comparison.LessOrEqual = token.LessEqual
+
+-- a statement without a block:
+-- name "=" operand ";" | name "=" operand op operand ";" | name "=" "new" name ";" | name "=" name "." name ";" | name "." name "=" operand ";" | "print" operand ";"
+abbrev pub primitive_list : leaf.Primitive → List Token
+primitive_list (primitive.Assign x v) = token.Name x ∷ token.Equal ∷ operand_token v ∷ token.Semicolon ∷ []
+primitive_list (primitive.Compute x v o w) =
+    token.Name x ∷ token.Equal ∷ operand_token v ∷ operator_token o ∷ operand_token w ∷ token.Semicolon ∷ []
+primitive_list (primitive.New x r) = token.Name x ∷ token.Equal ∷ token.New ∷ token.Name r ∷ token.Semicolon ∷ []
+primitive_list (primitive.Load x y f) =
+    token.Name x ∷ token.Equal ∷ token.Name y ∷ token.Dot ∷ token.Name f ∷ token.Semicolon ∷ []
+primitive_list (primitive.Store y f v) =
+    token.Name y ∷ token.Dot ∷ token.Name f ∷ token.Equal ∷ operand_token v ∷ token.Semicolon ∷ []
+primitive_list (primitive.Print v) = token.Print ∷ operand_token v ∷ token.Semicolon ∷ []
+
+-- "(" operand cmp operand ")"
+abbrev pub test_list : Test → List Token
+test_list t =
+    token.OpenParen ∷ operand_token t.left ∷ comparison_token t.comparison ∷ operand_token t.right ∷ token.CloseParen ∷ []
+
+-- "{" .. "}"
+abbrev pub in_braces : List Token → List Token
+in_braces inner = token.OpenBrace ∷ inner ++ token.CloseBrace ∷ []
+
+abbrev mutual
+  -- stmt: one without a block | "if" test block | "if" test block "else" block | "while" test block | "atomic" block
+  pub statement_list : Form → List Token
+  statement_list (Primitive p) = primitive_list p
+  statement_list (If t a) = token.If ∷ test_list t ++ in_braces (statements_list a)
+  statement_list (IfElse t a b) =
+      token.If ∷ test_list t ++ in_braces (statements_list a) ++ token.Else ∷ in_braces (statements_list b)
+  statement_list (While t a) = token.While ∷ test_list t ++ in_braces (statements_list a)
+  statement_list (Atomic a) = token.Atomic ∷ in_braces (statements_list a)
+
+  -- {stmt}
+  pub statements_list : Body → List Token
+  statements_list End = []
+  statements_list (Then s b) = statement_list s ++ statements_list b
+
+-- type = "int" | name
+abbrev pub kind_token : Kind → Token
+kind_token kind.Int = token.Int
+kind_token (kind.Record n) = token.Name n
+
+-- type name ";"
+abbrev pub declaration_list : Declaration → List Token
+declaration_list d = kind_token d.kind ∷ token.Name d.name ∷ token.Semicolon ∷ []
+
+-- "protected_by" name
+abbrev pub hint_list : List ℕ → List Token
+hint_list n = token.ProtectedBy ∷ token.Name n ∷ []
+
+-- record = "record" name {"protected_by" name} "{" {type name ";"} "}"
+abbrev pub record_list : Record → List Token
+record_list r =
+    token.Record ∷ token.Name r.name ∷ flat_map hint_list r.hints ++ in_braces (flat_map declaration_list r.fields)
+
+-- global = "global" name name ";"
+abbrev pub global_list : GlobalObject → List Token
+global_list g = token.Global ∷ token.Name g.of ∷ token.Name g.name ∷ token.Semicolon ∷ []
+
+-- thread = "thread" name "{" {type name ";"} {stmt} "}"
+abbrev pub thread_list : Thread → List Token
+thread_list t =
+    token.Thread ∷ token.Name t.name ∷ in_braces (flat_map declaration_list t.locals ++ statements_list t.body)
+
+-- program = {record} {global} {thread}
+abbrev pub tokens_of : Source → List Token
+tokens_of s = flat_map record_list s.records ++ flat_map global_list s.globals ++ flat_map thread_list s.threads

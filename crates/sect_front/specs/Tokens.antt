@@ -1,0 +1,77 @@
+-- The tokens of a part of a tree, before those of what follows it.
+use Rattle.std.specs.Prelude.{List, [], ◌∷◌, ℕ}
+use Rattle.sect_front.specs.Syntax.{Form, Body, Primitive, If, IfElse, While, Atomic, End, Then}
+use Rattle.sect_front.specs.Source.{Source}
+use Rattle.sect_front.specs.Grammar.{operand_token, operator_token, comparison_token, kind_token}
+use Rattle.sect_front.specs.declared.token.Token.{Token}
+use Rattle.sect_front.specs.declared.token.Token.TheVariants as token
+use Rattle.sect_front.specs.declared.tree.Primitive as leaf
+use Rattle.sect_front.specs.declared.tree.Primitive.TheVariants as primitive
+use Rattle.sect_front.specs.declared.tree.Test.{Test}
+use Rattle.sect_front.specs.declared.tree.Declaration.{Declaration}
+use Rattle.sect_front.specs.declared.tree.Record.{Record}
+use Rattle.sect_front.specs.declared.tree.GlobalObject.{GlobalObject}
+use Rattle.sect_front.specs.declared.tree.Thread.{Thread}
+
+abbrev pub primitive_tokens : leaf.Primitive → List Token → List Token
+primitive_tokens (primitive.Assign x v) w = token.Name x ∷ token.Equal ∷ operand_token v ∷ token.Semicolon ∷ w
+primitive_tokens (primitive.Compute x v o u) w =
+    token.Name x ∷ token.Equal ∷ operand_token v ∷ operator_token o ∷ operand_token u ∷ token.Semicolon ∷ w
+primitive_tokens (primitive.New x r) w = token.Name x ∷ token.Equal ∷ token.New ∷ token.Name r ∷ token.Semicolon ∷ w
+primitive_tokens (primitive.Load x y f) w =
+    token.Name x ∷ token.Equal ∷ token.Name y ∷ token.Dot ∷ token.Name f ∷ token.Semicolon ∷ w
+primitive_tokens (primitive.Store y f v) w =
+    token.Name y ∷ token.Dot ∷ token.Name f ∷ token.Equal ∷ operand_token v ∷ token.Semicolon ∷ w
+primitive_tokens (primitive.Print v) w = token.Print ∷ operand_token v ∷ token.Semicolon ∷ w
+
+abbrev pub test_tokens : Test → List Token → List Token
+test_tokens t w =
+    token.OpenParen ∷ operand_token t.left ∷ comparison_token t.comparison ∷ operand_token t.right ∷ token.CloseParen ∷ w
+
+abbrev mutual
+  pub form_tokens : Form → List Token → List Token
+  form_tokens (Primitive p) w = primitive_tokens p w
+  form_tokens (If t a) w = token.If ∷ test_tokens t (token.OpenBrace ∷ body_tokens a (token.CloseBrace ∷ w))
+  form_tokens (IfElse t a b) w =
+      token.If ∷ test_tokens t (token.OpenBrace ∷ body_tokens a (token.CloseBrace ∷ token.Else ∷ token.OpenBrace ∷ body_tokens b (token.CloseBrace ∷ w)))
+  form_tokens (While t a) w = token.While ∷ test_tokens t (token.OpenBrace ∷ body_tokens a (token.CloseBrace ∷ w))
+  form_tokens (Atomic a) w = token.Atomic ∷ token.OpenBrace ∷ body_tokens a (token.CloseBrace ∷ w)
+
+  pub body_tokens : Body → List Token → List Token
+  body_tokens End w = w
+  body_tokens (Then s b) w = form_tokens s (body_tokens b w)
+
+abbrev pub declarations_tokens : List Declaration → List Token → List Token
+declarations_tokens [] w = w
+declarations_tokens (d ∷ ds) w =
+    kind_token d.kind ∷ token.Name d.name ∷ token.Semicolon ∷ declarations_tokens ds w
+
+abbrev pub hints_tokens : List (List ℕ) → List Token → List Token
+hints_tokens [] w = w
+hints_tokens (n ∷ ns) w = token.ProtectedBy ∷ token.Name n ∷ hints_tokens ns w
+
+abbrev pub record_tokens : Record → List Token → List Token
+record_tokens r w =
+    token.Record ∷ token.Name r.name ∷ hints_tokens r.hints (token.OpenBrace ∷ declarations_tokens r.fields (token.CloseBrace ∷ w))
+
+abbrev pub global_tokens : GlobalObject → List Token → List Token
+global_tokens g w = token.Global ∷ token.Name g.of ∷ token.Name g.name ∷ token.Semicolon ∷ w
+
+abbrev pub thread_tokens : Thread → List Token → List Token
+thread_tokens t w =
+    token.Thread ∷ token.Name t.name ∷ token.OpenBrace ∷ declarations_tokens t.locals (body_tokens t.body (token.CloseBrace ∷ w))
+
+abbrev pub records_tokens : List Record → List Token → List Token
+records_tokens [] w = w
+records_tokens (r ∷ rs) w = record_tokens r (records_tokens rs w)
+
+abbrev pub globals_tokens : List GlobalObject → List Token → List Token
+globals_tokens [] w = w
+globals_tokens (g ∷ gs) w = global_tokens g (globals_tokens gs w)
+
+abbrev pub threads_tokens : List Thread → List Token → List Token
+threads_tokens [] w = w
+threads_tokens (t ∷ ts) w = thread_tokens t (threads_tokens ts w)
+
+abbrev pub source_tokens : Source → List Token → List Token
+source_tokens s w = records_tokens s.records (globals_tokens s.globals (threads_tokens s.threads w))

@@ -1,0 +1,254 @@
+//! The tokens of a tree.
+
+ghost use Rattle.std.specs.Prelude.{◌≡◌, ◌∷◌, OnOk, IfOk};
+ghost use Rattle.sect_front.specs.Grammar.{tokens_of as grammar_tokens, operand_token, operator_token, comparison_token, kind_token};
+ghost use Rattle.sect_front.specs.Tokens.{primitive_tokens, test_tokens, form_tokens, body_tokens, declarations_tokens, hints_tokens, record_tokens, global_tokens, thread_tokens, records_tokens, globals_tokens, threads_tokens};
+ghost use Rattle.sect_front.specs.Trees.{form_of};
+ghost use Rattle.sect_front.specs.Writes.{Writes};
+
+use crate::token::Token;
+use crate::tree::{
+    Block, Comparison, Declarations, GlobalObject, Hints, Kind, Operand, Operator, Primitive,
+    Record, Statement, Test, Thread, Tree,
+};
+use std::alloc::{AllocError, Global};
+
+fn put(out: &mut Vec<Token>, token: Token) -> Result<(), AllocError>
+    ensures { OnOk result (Writes out.old.items out.new.items (λ w. token ∷ w)) }
+{
+    out.push(token)?;
+    Ok(())
+}
+
+fn operand(v: Operand) -> Token
+    ensures { result ≡ operand_token v }
+{
+    match v {
+        Operand::Number(n) => Token::Number(n),
+        Operand::Null => Token::Null,
+        Operand::Name(n) => Token::Name(n),
+    }
+}
+
+fn comparison(c: Comparison) -> Token
+    ensures { result ≡ comparison_token c }
+{
+    match c {
+        Comparison::Equal => Token::EqualEqual,
+        Comparison::NotEqual => Token::NotEqual,
+        Comparison::Less => Token::Less,
+        Comparison::LessOrEqual => Token::LessEqual,
+    }
+}
+
+fn operator(o: Operator) -> Token
+    ensures { result ≡ operator_token o }
+{
+    match o {
+        Operator::Add => Token::Plus,
+        Operator::Subtract => Token::Minus,
+        Operator::Multiply => Token::Star,
+    }
+}
+
+fn kind(k: Kind) -> Token
+    ensures { result ≡ kind_token k }
+{
+    match k {
+        Kind::Int => Token::Int,
+        Kind::Record(name) => Token::Name(name),
+    }
+}
+
+fn put_primitive(out: &mut Vec<Token>, p: Primitive) -> Result<(), AllocError>
+    ensures { OnOk result (Writes out.old.items out.new.items (primitive_tokens p)) }
+{
+    match p {
+        Primitive::Assign(x, v) => {
+            put(out, Token::Name(x))?;
+            put(out, Token::Equal)?;
+            put(out, operand(v))?;
+        }
+        Primitive::Compute(x, v, o, w) => {
+            put(out, Token::Name(x))?;
+            put(out, Token::Equal)?;
+            put(out, operand(v))?;
+            put(out, operator(o))?;
+            put(out, operand(w))?;
+        }
+        Primitive::New(x, r) => {
+            put(out, Token::Name(x))?;
+            put(out, Token::Equal)?;
+            put(out, Token::New)?;
+            put(out, Token::Name(r))?;
+        }
+        Primitive::Load(x, y, f) => {
+            put(out, Token::Name(x))?;
+            put(out, Token::Equal)?;
+            put(out, Token::Name(y))?;
+            put(out, Token::Dot)?;
+            put(out, Token::Name(f))?;
+        }
+        Primitive::Store(y, f, v) => {
+            put(out, Token::Name(y))?;
+            put(out, Token::Dot)?;
+            put(out, Token::Name(f))?;
+            put(out, Token::Equal)?;
+            put(out, operand(v))?;
+        }
+        Primitive::Print(v) => {
+            put(out, Token::Print)?;
+            put(out, operand(v))?;
+        }
+    }
+    put(out, Token::Semicolon)
+}
+
+fn put_test(out: &mut Vec<Token>, t: Test) -> Result<(), AllocError>
+    ensures { OnOk result (Writes out.old.items out.new.items (test_tokens t)) }
+{
+    put(out, Token::OpenParen)?;
+    put(out, operand(t.left))?;
+    put(out, comparison(t.comparison))?;
+    put(out, operand(t.right))?;
+    put(out, Token::CloseParen)
+}
+
+#[cycle(put)]
+fn put_statement(out: &mut Vec<Token>, s: &Statement) -> Result<(), AllocError>
+    ensures { OnOk result (Writes out.old.items out.new.items (form_tokens (form_of s.now))) }
+{
+    match s {
+        Statement::Primitive(p) => put_primitive(out, *p),
+        Statement::If(t, a) => {
+            put(out, Token::If)?;
+            put_test(out, *t)?;
+            put_braced(out, a)
+        }
+        Statement::IfElse(t, a, b) => {
+            put(out, Token::If)?;
+            put_test(out, *t)?;
+            put_braced(out, a)?;
+            put(out, Token::Else)?;
+            put_braced(out, b)
+        }
+        Statement::While(t, a) => {
+            put(out, Token::While)?;
+            put_test(out, *t)?;
+            put_braced(out, a)
+        }
+        Statement::Atomic(a) => {
+            put(out, Token::Atomic)?;
+            put_braced(out, a)
+        }
+    }
+}
+
+#[cycle(put)]
+fn put_braced(out: &mut Vec<Token>, b: &Block) -> Result<(), AllocError>
+    ensures { OnOk result (Writes out.old.items out.new.items (λ w. Token.OpenBrace ∷ body_tokens b.now (Token.CloseBrace ∷ w))) }
+{
+    put(out, Token::OpenBrace)?;
+    put_block(out, b)?;
+    put(out, Token::CloseBrace)
+}
+
+#[cycle(put)]
+fn put_block(out: &mut Vec<Token>, b: &Block) -> Result<(), AllocError>
+    ensures { OnOk result (Writes out.old.items out.new.items (body_tokens b.now)) }
+{
+    for s in b.as_slice() {
+        put_statement(out, s)?;
+    }
+    Ok(())
+}
+
+fn put_declarations(out: &mut Vec<Token>, list: &Declarations) -> Result<(), AllocError>
+    ensures { OnOk result (Writes out.old.items out.new.items (declarations_tokens list.now)) }
+{
+    for declaration in list.as_slice() {
+        put(out, kind(declaration.kind))?;
+        put(out, Token::Name(declaration.name))?;
+        put(out, Token::Semicolon)?;
+    }
+    Ok(())
+}
+
+fn put_hints(out: &mut Vec<Token>, hints: &Hints) -> Result<(), AllocError>
+    ensures { OnOk result (Writes out.old.items out.new.items (hints_tokens hints.now)) }
+{
+    for hint in hints.as_slice() {
+        put(out, Token::ProtectedBy)?;
+        put(out, Token::Name(*hint))?;
+    }
+    Ok(())
+}
+
+fn put_record(out: &mut Vec<Token>, record: &Record) -> Result<(), AllocError>
+    ensures { OnOk result (Writes out.old.items out.new.items (record_tokens record.now)) }
+{
+    put(out, Token::Record)?;
+    put(out, Token::Name(record.name))?;
+    put_hints(out, &record.hints)?;
+    put(out, Token::OpenBrace)?;
+    put_declarations(out, &record.fields)?;
+    put(out, Token::CloseBrace)
+}
+
+fn put_global(out: &mut Vec<Token>, global: GlobalObject) -> Result<(), AllocError>
+    ensures { OnOk result (Writes out.old.items out.new.items (global_tokens global)) }
+{
+    put(out, Token::Global)?;
+    put(out, Token::Name(global.of))?;
+    put(out, Token::Name(global.name))?;
+    put(out, Token::Semicolon)
+}
+
+fn put_thread(out: &mut Vec<Token>, thread: &Thread) -> Result<(), AllocError>
+    ensures { OnOk result (Writes out.old.items out.new.items (thread_tokens thread.now)) }
+{
+    put(out, Token::Thread)?;
+    put(out, Token::Name(thread.name))?;
+    put(out, Token::OpenBrace)?;
+    put_declarations(out, &thread.locals)?;
+    put_block(out, &thread.body)?;
+    put(out, Token::CloseBrace)
+}
+
+fn put_records(out: &mut Vec<Token>, records: &[Record]) -> Result<(), AllocError>
+    ensures { OnOk result (Writes out.old.items out.new.items (records_tokens records.now)) }
+{
+    for record in records {
+        put_record(out, record)?;
+    }
+    Ok(())
+}
+
+fn put_globals(out: &mut Vec<Token>, globals: &[GlobalObject]) -> Result<(), AllocError>
+    ensures { OnOk result (Writes out.old.items out.new.items (globals_tokens globals.now)) }
+{
+    for global in globals {
+        put_global(out, *global)?;
+    }
+    Ok(())
+}
+
+fn put_threads(out: &mut Vec<Token>, threads: &[Thread]) -> Result<(), AllocError>
+    ensures { OnOk result (Writes out.old.items out.new.items (threads_tokens threads.now)) }
+{
+    for thread in threads {
+        put_thread(out, thread)?;
+    }
+    Ok(())
+}
+
+/// The tokens of a tree, in the order in which a text has them.
+pub fn tokens_of(alloc: Global, tree: &Tree) -> Result<Vec<Token>, AllocError>
+    ensures { IfOk result (λ tokens. tokens.items ≡ grammar_tokens tree.now) }
+{
+    let mut out = Vec::new(alloc);
+    put_records(&mut out, tree.records())?;
+    put_globals(&mut out, tree.globals())?;
+    put_threads(&mut out, tree.threads())?;
+    Ok(out)
+}

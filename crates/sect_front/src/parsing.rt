@@ -1,0 +1,112 @@
+//! A source text as a tree.
+
+ghost use Rattle.std.specs.Prelude.{◌≡◌, ◌≤◌, length};
+ghost use Rattle.sect_front.specs.Front.{IsSpelled, IsFault, Judges, Gives, line_of as line};
+ghost use Rattle.sect_front.specs.Lexing.{IsBadAt};
+ghost use Rattle.sect_front.specs.Source.{Source};
+
+use crate::lexing::{LexFault, lex};
+use crate::reading::{TokenFault, read_tokens};
+use crate::tree::Tree;
+use crate::words::{is_digit, is_letter};
+use std::alloc::Global;
+use thiserror::Error;
+
+/// Why a text is refused. Lines are counted from 1.
+#[derive(Debug, Drop, Error)]
+pub enum FrontFault {
+    /// Want of memory.
+    #[error("out of memory")]
+    Memory,
+    /// A byte with which no token begins.
+    #[error("1 BadByte line {line}")]
+    BadByte { line: usize },
+    /// An integer with a leading zero, above 9223372036854775807, or with a letter or `_` behind it.
+    #[error("2 BadNumber line {line}")]
+    BadNumber { line: usize },
+    /// A name above 32 bytes.
+    #[error("3 LongName line {line}")]
+    LongName { line: usize },
+    /// A token with which no text goes on.
+    #[error("4 Unexpected line {line}")]
+    Unexpected { line: usize },
+    /// The text ends before a declaration does; the line is that of its last byte.
+    #[error("5 UnexpectedEnd line {line}")]
+    UnexpectedEnd { line: usize },
+    /// A block of depth 33.
+    #[error("6 TooDeep line {line}")]
+    TooDeep { line: usize },
+    /// More than 1,048,576 bytes.
+    #[error("7 TooLarge line 1")]
+    TooLarge,
+}
+
+/// The most bytes of a text.
+pub const MOST_BYTES: usize = 1048576;
+
+// The line of a place.
+fn line_of(bytes: &[u8], at: usize) -> usize
+    requires at_in { at ≤ length bytes.now }
+    requires fits { length bytes.now ≤ MOST_BYTES }
+    ensures { result ≡ line bytes.now at }
+{
+    bytes[..at].iter().filter(|byte| **byte == b'\n').count() + 1
+}
+
+// The fault of a bad lexeme.
+fn bad(bytes: &[u8], at: usize) -> FrontFault
+    requires bad { IsBadAt bytes.now at }
+    requires fits { length bytes.now ≤ MOST_BYTES }
+    ensures { IsFault bytes.now result }
+{
+    let line = line_of(bytes, at);
+    if is_letter(bytes[at]) {
+        FrontFault::LongName { line }
+    } else if is_digit(bytes[at]) {
+        FrontFault::BadNumber { line }
+    } else {
+        FrontFault::BadByte { line }
+    }
+}
+
+/// The tree that a text spells, or the first fault of the text.
+pub fn parse(alloc: Global, bytes: &[u8]) -> Result<Tree, FrontFault>
+    // A tree that is given is spelled so, and a fault is the first one, on its line.
+    ensures judges { Judges bytes.now result }
+    // A tree that is spelled so is given, unless memory runs out.
+    ensures only { (tree : Source) → IsSpelled bytes.now tree → Gives tree result }
+{
+    judge(alloc, bytes)
+}
+
+fn judge(alloc: Global, bytes: &[u8]) -> Result<Tree, FrontFault>
+    ensures { Judges bytes.now result }
+{
+    if bytes.len() > MOST_BYTES {
+        return Err(FrontFault::TooLarge);
+    }
+    let tokens = match lex(alloc, bytes) {
+        Ok(tokens) => tokens,
+        Err(LexFault::Memory) => return Err(FrontFault::Memory),
+        Err(LexFault::Bad(at)) => return Err(bad(bytes, at)),
+    };
+    match read_tokens(alloc, tokens.as_slice()) {
+        Ok(tree) => Ok(tree),
+        Err(TokenFault::Memory) => Err(FrontFault::Memory),
+        Err(TokenFault::Unexpected(i)) => {
+            let line = line_of(bytes, tokens[i].at);
+            Err(FrontFault::Unexpected { line })
+        }
+        Err(TokenFault::TooDeep(i)) => {
+            let line = line_of(bytes, tokens[i].at);
+            Err(FrontFault::TooDeep { line })
+        }
+        Err(TokenFault::Unfinished) => {
+            let line = line_of(bytes, bytes.len().saturating_sub(1));
+            Err(FrontFault::UnexpectedEnd { line })
+        }
+    }
+}
+
+#[cfg(test)]
+mod tests;

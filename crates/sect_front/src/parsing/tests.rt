@@ -1,0 +1,230 @@
+use super::*;
+use crate::{print, tokens_of};
+use std::alloc::AllocError;
+use std::test::Fail;
+
+// Programs of all forms, named by what they show.
+const PROGRAMS: [(&str, &[u8]); 12] = [
+    ("an empty section", b"thread e { atomic { } }"),
+    (
+        "one object",
+        b"record Acct { int bal; }\nglobal Acct a;\nthread p { int t; atomic { t = a.bal; t = t + 1; a.bal = t; } }",
+    ),
+    (
+        "two threads at one object",
+        b"record Acct { int bal; }\nglobal Acct a;\nthread p { int t; atomic { t = a.bal; t = t + 1; a.bal = t; } }\nthread q { int t; atomic { t = a.bal; t = t + 1; a.bal = t; } }",
+    ),
+    (
+        "a list",
+        b"record Node { int val; Node next; }\nglobal Node head;\nthread sum { Node p; int v; int s;\n  atomic { p = head.next;\n    while (p != null) { v = p.val; s = s + v; p = p.next; }\n    print s; } }\nthread push { Node n; Node p; int v; v = 5;\n  atomic { n = new Node; n.val = v; p = head.next; n.next = p; head.next = n; } }",
+    ),
+    (
+        "classes",
+        b"record Node { int val; Node next; }\nglobal Node a; global Node b; global Node c;\nthread t { Node x; Node y; Node z; Node w;\n  x = a; y = b; z = c;\n  if (1 == 2) { y = a; }\n  atomic { x.next = z; w = y.next; w.val = 1; } }",
+    ),
+    (
+        "two names of one object",
+        b"record Cell { int val; }\nglobal Cell a;\nthread t { Cell x; Cell y; int v; x = a; y = a;\n  atomic { v = x.val; y.val = 3; } }",
+    ),
+    (
+        "a reader and a writer",
+        b"record Node { int val; Node next; }\nglobal Node head; global Node two;\nthread r { Node p; int v; atomic { p = head.next; v = p.val; print v; } }\nthread w { atomic { head.next = two; two.val = 7; } }",
+    ),
+    (
+        "a path without a class",
+        b"record Node { int val; Node next; }\nglobal Node head; global Node b;\nthread s { Node p; int v; atomic { b.val = 4; p = head.next; v = p.val; } }\nthread r { int v; atomic { v = b.val; print v; } }",
+    ),
+    (
+        "two sections of a thread",
+        b"record Node { int val; Node next; }\nglobal Node a; global Node b;\nthread s { Node p; int v;\n  atomic { a.next = b; }\n  p = a;\n  atomic { while (p != null) { v = p.val; p = p.next; } a.val = 1; } }\nthread r { Node q; int v; q = b; atomic { v = q.val; print v; } }",
+    ),
+    (
+        "a hint",
+        b"record Lock { int n; }\nrecord Cell protected_by g { int val; Cell next; }\nglobal Lock g; global Cell c; global Cell d;\nthread t { int v; atomic { c.val = 1; v = d.val; } }",
+    ),
+    (
+        "one class of two objects",
+        b"record Acct { int bal; }\nglobal Acct a; global Acct b;\nthread p { Acct x; x = b; x = a; atomic { x.bal = 1; } }\nthread q { atomic { b.bal = 2; } }",
+    ),
+    ("no section", b"thread f { int x; x = 1; x = 2; }"),
+];
+
+#[test]
+fn accepts_every_form(rt: HostRuntime) -> Result<(), Fail> {
+    for (name, text) in PROGRAMS {
+        assert!(rt; parse(rt.alloc(), text).is_ok(), "{name}");
+    }
+    for text in [
+        b"".as_slice(),
+        b" \t\r\n// a comment of any bytes: \xff#!".as_slice(),
+        b"record R protected_by a protected_by b protected_by a { } global R a;".as_slice(),
+        b"thread t { int x; x=1+2;x=x*x;x=x-3;if(x<=3){}else{}while(x<null){}if(x!=1){print x;}}".as_slice(),
+        b"thread aaaaaaaaaaaaaaaaaaaaaaaaaaaaaaaa { _9.A_z = 9223372036854775807; x = 0; }".as_slice(),
+    ] {
+        assert!(rt; parse(rt.alloc(), text).is_ok());
+    }
+    Ok(())
+}
+
+#[test]
+fn every_beginning_of_a_program(rt: HostRuntime) -> Result<(), Fail> {
+    for (name, text) in PROGRAMS {
+        for end in 0..text.len() {
+            let answer = parse(rt.alloc(), &text[..end]);
+            assert!(rt;
+                matches!(
+                    answer,
+                    Ok(_)
+                        | Err(
+                            FrontFault::BadByte { .. }
+                                | FrontFault::Unexpected { .. }
+                                | FrontFault::UnexpectedEnd { .. }
+                        )
+                ),
+                "{name} {end}"
+            );
+        }
+    }
+    Ok(())
+}
+
+#[test]
+fn refuses_with_number_and_line(rt: HostRuntime) -> Result<(), Fail> {
+    let refusals: [(&[u8], &str); 27] = [
+        (b"thread t } $", "1 BadByte line 1"),
+        (b"thread\n\n #", "1 BadByte line 3"),
+        (b"thread t {\n x = 1 ! = 2; }", "1 BadByte line 2"),
+        (b"/ comment", "1 BadByte line 1"),
+        (b"\n\x00", "1 BadByte line 2"),
+        (b"thread t { int x; x = 01; }", "2 BadNumber line 1"),
+        (
+            b"thread t { int x; x = 9223372036854775808; }",
+            "2 BadNumber line 1",
+        ),
+        (b"// one\nthread t { x = 1y; }", "2 BadNumber line 2"),
+        (
+            b"} 99999999999999999999999999999999999999999",
+            "2 BadNumber line 1",
+        ),
+        (
+            b"thread aaaaaaaaaaaaaaaaaaaaaaaaaaaaaaaaa { }",
+            "3 LongName line 1",
+        ),
+        (b"thread t { x = y.f.g; }", "4 Unexpected line 1"),
+        (b"thread t {\n x = y z; }", "4 Unexpected line 2"),
+        (b"class", "4 Unexpected line 1"),
+        (b"global R g; record R { }", "4 Unexpected line 1"),
+        (b"thread t { }\nglobal R g;", "4 Unexpected line 2"),
+        (b"thread t { x = 1; int y; }", "4 Unexpected line 1"),
+        (b"thread if { }", "4 Unexpected line 1"),
+        (
+            b"thread t { if (1 < 2) { } else\n if (1 < 2) { } }",
+            "4 Unexpected line 2",
+        ),
+        (b"thread t { new = 1; }", "4 Unexpected line 1"),
+        (b"thread e { atomic all { } }\n", "4 Unexpected line 1"),
+        (b"thread t { } }", "4 Unexpected line 1"),
+        (b"thread t { atomic {", "5 UnexpectedEnd line 1"),
+        (b"thread t {\n\n", "5 UnexpectedEnd line 2"),
+        (b"thread t { // }\n }\nrecord", "4 Unexpected line 3"),
+        (b"thread t { x = 1", "5 UnexpectedEnd line 1"),
+        (b"record R {\n", "5 UnexpectedEnd line 1"),
+        (b"record R {\n ", "5 UnexpectedEnd line 2"),
+    ];
+    for (text, wanted) in refusals {
+        match parse(rt.alloc(), text) {
+            Ok(_) => assert!(rt; false, "accepted, wanted {wanted}"),
+            Err(fault) => {
+                let line = format!(in rt.alloc(); "{fault}")?;
+                assert!(rt; line.as_str() == wanted, "{line}, wanted {wanted}");
+            }
+        }
+    }
+    Ok(())
+}
+
+// A thread with so many blocks in one another, its own braces counted, and a line for each.
+fn nested(alloc: Global, depth: usize) -> Result<Vec<u8>, AllocError> {
+    let mut text = Vec::new(alloc);
+    text.extend_from_slice(b"thread t {")?;
+    for _ in 1..depth {
+        text.extend_from_slice(b"\nif (1 == 1) {")?;
+    }
+    for _ in 0..depth {
+        text.push(b'}')?;
+    }
+    Ok(text)
+}
+
+#[test]
+fn blocks_of_depth_33(rt: HostRuntime) -> Result<(), Fail> {
+    assert!(rt; parse(rt.alloc(), nested(rt.alloc(), 32)?.as_slice()).is_ok());
+    assert!(rt;
+        matches!(
+            parse(rt.alloc(), nested(rt.alloc(), 33)?.as_slice()),
+            Err(FrontFault::TooDeep { line: 33 })
+        )
+    );
+    Ok(())
+}
+
+#[test]
+fn texts_above_the_size(rt: HostRuntime) -> Result<(), Fail> {
+    let text = vec![in rt.alloc(); b' '; 1048577]?;
+    assert!(rt; parse(rt.alloc(), &text[..1048576]).is_ok());
+    assert!(rt;
+        matches!(
+            parse(rt.alloc(), text.as_slice()),
+            Err(FrontFault::TooLarge)
+        )
+    );
+    Ok(())
+}
+
+#[test]
+fn prints_what_reads_back(rt: HostRuntime) -> Result<(), Fail> {
+    for (name, text) in PROGRAMS {
+        let tree = parse(rt.alloc(), text)?;
+        let printed = print(rt.alloc(), &tree)?;
+        let again = parse(rt.alloc(), printed.as_slice())?;
+        assert!(rt;
+            print(rt.alloc(), &again)?.as_slice() == printed.as_slice(),
+            "{name}"
+        );
+    }
+    let tree = parse(rt.alloc(), b"thread f { int x; x = 1; x = 2; }")?;
+    assert!(rt; tokens_of(rt.alloc(), &tree)?.len() == 15);
+    assert!(rt;
+        print(rt.alloc(), &tree)?.as_slice()
+            == b"thread f {\nint x ;\nx = 1 ;\nx = 2 ;\n}\n".as_slice()
+    );
+    let nothing = parse(rt.alloc(), b"// nothing")?;
+    assert!(rt; print(rt.alloc(), &nothing)?.is_empty());
+    Ok(())
+}
+
+#[test]
+fn names(rt: HostRuntime) {
+    use crate::is_name;
+    for name in [
+        b"a".as_slice(),
+        b"_".as_slice(),
+        b"Z9_".as_slice(),
+        b"threads".as_slice(),
+        b"aaaaaaaaaaaaaaaaaaaaaaaaaaaaaaaa".as_slice(),
+    ] {
+        assert!(rt; is_name(name));
+    }
+    for other in [
+        b"".as_slice(),
+        b"9".as_slice(),
+        b"a b".as_slice(),
+        b"a.b".as_slice(),
+        b"thread".as_slice(),
+        b"class".as_slice(),
+        b"protected_by".as_slice(),
+        b"aaaaaaaaaaaaaaaaaaaaaaaaaaaaaaaaa".as_slice(),
+    ] {
+        assert!(rt; !is_name(other));
+    }
+}

@@ -1,0 +1,101 @@
+//! A tree as text.
+
+ghost use Rattle.std.specs.Prelude.{◌≡◌, ◌++◌, ◌≤◌, ◌<◌, ◌^◌, true, OnOk, IfOk, length};
+ghost use Rattle.std.specs.Fmt.{decimal};
+ghost use Rattle.sect_front.specs.Spelling.{spelling_of, is_proper};
+ghost use Rattle.sect_front.specs.Layout.{separator as separator_of, layout_of, IsTextOf};
+ghost use Rattle.sect_front.specs.Grammar.{tokens_of as grammar_tokens};
+ghost use Rattle.sect_front.specs.Front.{IsSpelled};
+ghost use Rattle.sect_front.specs.Spread.{spread};
+ghost use Rattle.std.specs.List.{list_all};
+
+use crate::listing::tokens_of;
+use crate::literal::Literal;
+use crate::token::Token;
+use crate::tree::Tree;
+use std::alloc::{AllocError, Global};
+
+fn put_decimal(alloc: Global, text: &mut Vec<u8>, value: Literal) -> Result<(), AllocError>
+    ensures ok { OnOk result (text.new.items ≡ text.old.items ++ decimal value) }
+    ensures low { value < 2 ^ 63 }
+{
+    let digits = format!(in alloc; "{}", value.value())?;
+    text.extend_from_slice(digits.as_bytes())
+}
+
+// Adds the spelling of a token.
+fn put_spelling(alloc: Global, text: &mut Vec<u8>, token: Token) -> Result<(), AllocError>
+    ensures ok { OnOk result (text.new.items ≡ text.old.items ++ spelling_of token) }
+    ensures proper { is_proper token ≡ true }
+{
+    match token {
+        Token::Name(name) => name.append_to(text),
+        Token::Number(value) => put_decimal(alloc, text, value),
+        Token::Record => text.extend_from_slice(b"record"),
+        Token::ProtectedBy => text.extend_from_slice(b"protected_by"),
+        Token::Global => text.extend_from_slice(b"global"),
+        Token::Thread => text.extend_from_slice(b"thread"),
+        Token::Int => text.extend_from_slice(b"int"),
+        Token::New => text.extend_from_slice(b"new"),
+        Token::Null => text.extend_from_slice(b"null"),
+        Token::Print => text.extend_from_slice(b"print"),
+        Token::If => text.extend_from_slice(b"if"),
+        Token::Else => text.extend_from_slice(b"else"),
+        Token::While => text.extend_from_slice(b"while"),
+        Token::Atomic => text.extend_from_slice(b"atomic"),
+        Token::Class => text.extend_from_slice(b"class"),
+        Token::OpenBrace => text.extend_from_slice(b"{"),
+        Token::CloseBrace => text.extend_from_slice(b"}"),
+        Token::OpenParen => text.extend_from_slice(b"("),
+        Token::CloseParen => text.extend_from_slice(b")"),
+        Token::Semicolon => text.extend_from_slice(b";"),
+        Token::Dot => text.extend_from_slice(b"."),
+        Token::Equal => text.extend_from_slice(b"="),
+        Token::Plus => text.extend_from_slice(b"+"),
+        Token::Minus => text.extend_from_slice(b"-"),
+        Token::Star => text.extend_from_slice(b"*"),
+        Token::EqualEqual => text.extend_from_slice(b"=="),
+        Token::NotEqual => text.extend_from_slice(b"!="),
+        Token::Less => text.extend_from_slice(b"<"),
+        Token::LessEqual => text.extend_from_slice(b"<="),
+    }
+}
+
+// What stands behind a token: a line feed after `;`, `{` and `}`, and a blank after any other.
+fn separator(token: Token) -> u8
+    ensures { result ≡ separator_of token }
+{
+    match token {
+        Token::Semicolon | Token::OpenBrace | Token::CloseBrace => b'\n',
+        _ => b' ',
+    }
+}
+
+// The tokens, each with what stands behind it.
+fn put_tokens(alloc: Global, text: &mut Vec<u8>, tokens: &[Token]) -> Result<(), AllocError>
+    ensures ok { OnOk result (text.new.items ≡ text.old.items ++ spread tokens.now) }
+    ensures proper { OnOk result (list_all is_proper tokens.now ≡ true) }
+{
+    for token in tokens {
+        put_spelling(alloc, text, *token)?;
+        text.push(separator(*token))?;
+    }
+    Ok(())
+}
+
+/// The text of a tree: its tokens with one blank between two, but a line feed in place of the blank after `;`, `{` and
+/// `}`, and a line feed at the end of a text that isn't empty.
+pub fn print(alloc: Global, tree: &Tree) -> Result<Vec<u8>, AllocError>
+    ensures layout { IfOk result (λ text. text.items ≡ layout_of (grammar_tokens tree.now)) }
+    ensures spells { IfOk result (λ text. IsTextOf text.items tree.now) }
+    // Where the text is within the size, it reads back as the same tree.
+    ensures reads_back { IfOk result (λ text. length text.items ≤ 1048576 → IsSpelled text.items tree.now) }
+{
+    let mut text = Vec::new(alloc);
+    if tree.is_empty() {
+        return Ok(text);
+    }
+    let tokens = tokens_of(alloc, tree)?;
+    put_tokens(alloc, &mut text, tokens.as_slice())?;
+    Ok(text)
+}

@@ -1,0 +1,314 @@
+//! The declarations of a text, token by token.
+
+ghost use Rattle.std.specs.Prelude.{◌≡◌, ◌≤◌, []};
+ghost use Rattle.std.specs.Option.{ForSome};
+
+use crate::line::Line;
+use crate::name::Name;
+use crate::token::Token;
+use crate::tree::{Declarations, GlobalObject, Hints, Kind, Record, Thread, Tree};
+use crate::within::{StepError, Within};
+use std::alloc::Global;
+use std::marker::Model;
+use std::mem;
+
+/// Which declarations may still come: a text has its records first, then its globals, then its threads.
+#[derive(Clone, Copy)]
+pub enum Part {
+    Records,
+    Globals,
+    Threads,
+}
+
+/// What has been read of a record.
+#[derive(Drop)]
+pub enum RecordStage {
+    AfterWord,
+    Head(Name, Hints),
+    AfterProtectedBy(Name, Hints),
+    Fields(Name, Hints, Declarations),
+    AfterKind(Name, Hints, Declarations, Kind),
+    AfterField(Name, Hints, Declarations, Kind, Name),
+}
+
+/// What has been read of a global.
+#[derive(Clone, Copy)]
+pub enum GlobalStage {
+    AfterWord,
+    AfterRecord(Name),
+    AfterName(Name, Name),
+}
+
+/// What has been read of a thread.
+#[derive(Drop)]
+pub enum ThreadStage {
+    AfterWord,
+    AfterName(Name),
+    Locals(Name, Declarations),
+    AfterKind(Name, Declarations, Kind),
+    AfterLocal(Name, Declarations, Kind, Name),
+    Inside(Name, Declarations, Within),
+}
+
+/// Where in a text the next token stands.
+#[derive(Drop)]
+pub enum Stage {
+    Between(Part),
+    Record(RecordStage),
+    Global(GlobalStage),
+    Thread(ThreadStage),
+}
+
+/// A text that is being read.
+#[derive(Drop)]
+pub struct Reader {
+    records: Vec<Record>,
+    globals: Vec<GlobalObject>,
+    threads: Vec<Thread>,
+    stage: Stage,
+}
+
+impl Model for Reader {
+    ghost use Rattle.std.specs.Coded.{codes};
+    ghost use Rattle.sect_front.specs.Syntax.{body_code};
+    ghost use Rattle.sect_front.specs.Reading.{Reading};
+
+    ghost Value = { Reading };
+
+    ghost coded = { Prim.hlevel (codes, body_code) };
+
+    ghost view = { λ r. record { source = record { records = r.records.items; globals = r.globals.items; threads = r.threads.items }; stage = r.stage } };
+}
+
+impl Reader {
+    ghost use Rattle.sect_front.specs.Reading.{reading, empty};
+    ghost use Rattle.sect_front.specs.Read.{Reads, read_one, begin_step, record_step, end_record_step, global_step, thread_step, after_kind_step, goes_on, finish_of};
+    ghost use Rattle.sect_front.specs.Step.{step_of};
+    ghost use Rattle.sect_front.specs.Depth.{depth};
+
+    /// Nothing has been read.
+    pub fn new(alloc: Global) -> Reader
+        ensures { result ≡ reading empty (Stage.Between Part.Records) }
+    {
+        Reader {
+            records: Vec::new(alloc),
+            globals: Vec::new(alloc),
+            threads: Vec::new(alloc),
+            stage: Stage::Between(Part::Records),
+        }
+    }
+
+    /// Takes one more token.
+    pub fn step(&mut self, alloc: Global, token: Token) -> Result<(), StepError>
+        ensures { Reads result self.new (read_one self.old token) }
+    {
+        match mem::replace(&mut self.stage, Stage::Between(Part::Threads)) {
+            Stage::Between(part) => self.begin(part, token),
+            Stage::Record(record) => self.record(alloc, record, token),
+            Stage::Global(global) => self.global(global, token),
+            Stage::Thread(thread) => self.thread(alloc, thread, token),
+        }
+    }
+
+    // A token where a declaration may begin.
+    fn begin(&mut self, part: Part, token: Token) -> Result<(), StepError>
+        ensures { Reads result self.new (begin_step self.old.source part token) }
+    {
+        self.stage = match token {
+            Token::Record => match part {
+                Part::Records => Stage::Record(RecordStage::AfterWord),
+                _ => return Err(StepError::Unexpected),
+            },
+            Token::Global => match part {
+                Part::Threads => return Err(StepError::Unexpected),
+                _ => Stage::Global(GlobalStage::AfterWord),
+            },
+            Token::Thread => Stage::Thread(ThreadStage::AfterWord),
+            _ => return Err(StepError::Unexpected),
+        };
+        Ok(())
+    }
+
+    // A token of a record.
+    fn record(&mut self, alloc: Global, stage: RecordStage, token: Token) -> Result<(), StepError>
+        ensures { Reads result self.new (record_step self.old.source stage token) }
+    {
+        let next = match stage {
+            RecordStage::AfterWord => match token {
+                Token::Name(name) => RecordStage::Head(name, Hints::new(alloc)),
+                _ => return Err(StepError::Unexpected),
+            },
+            RecordStage::Head(name, hints) => match token {
+                Token::ProtectedBy => RecordStage::AfterProtectedBy(name, hints),
+                Token::OpenBrace => RecordStage::Fields(name, hints, Declarations::new(alloc)),
+                _ => return Err(StepError::Unexpected),
+            },
+            RecordStage::AfterProtectedBy(name, mut hints) => match token {
+                Token::Name(hint) => {
+                    hints.push(hint)?;
+                    RecordStage::Head(name, hints)
+                }
+                _ => return Err(StepError::Unexpected),
+            },
+            RecordStage::Fields(name, hints, fields) => match token {
+                Token::Int => RecordStage::AfterKind(name, hints, fields, Kind::Int),
+                Token::Name(of) => RecordStage::AfterKind(name, hints, fields, Kind::Record(of)),
+                Token::CloseBrace => return self.end_record(name, hints, fields),
+                _ => return Err(StepError::Unexpected),
+            },
+            RecordStage::AfterKind(name, hints, fields, kind) => match token {
+                Token::Name(field) => RecordStage::AfterField(name, hints, fields, kind, field),
+                _ => return Err(StepError::Unexpected),
+            },
+            RecordStage::AfterField(name, hints, mut fields, kind, field) => match token {
+                Token::Semicolon => {
+                    fields.push(kind, field)?;
+                    RecordStage::Fields(name, hints, fields)
+                }
+                _ => return Err(StepError::Unexpected),
+            },
+        };
+        self.stage = Stage::Record(next);
+        Ok(())
+    }
+
+    // The closing brace of a record.
+    fn end_record(
+        &mut self,
+        name: Name,
+        hints: Hints,
+        fields: Declarations,
+    ) -> Result<(), StepError>
+        ensures { Reads result self.new (end_record_step self.old.source name hints fields) }
+    {
+        self.records.push(Record {
+            name,
+            hints,
+            fields,
+        })?;
+        self.stage = Stage::Between(Part::Records);
+        Ok(())
+    }
+
+    // A token of a global.
+    fn global(&mut self, stage: GlobalStage, token: Token) -> Result<(), StepError>
+        ensures { Reads result self.new (global_step self.old.source stage token) }
+    {
+        self.stage = match stage {
+            GlobalStage::AfterWord => match token {
+                Token::Name(of) => Stage::Global(GlobalStage::AfterRecord(of)),
+                _ => return Err(StepError::Unexpected),
+            },
+            GlobalStage::AfterRecord(of) => match token {
+                Token::Name(name) => Stage::Global(GlobalStage::AfterName(of, name)),
+                _ => return Err(StepError::Unexpected),
+            },
+            GlobalStage::AfterName(of, name) => match token {
+                Token::Semicolon => {
+                    self.globals.push(GlobalObject { of, name })?;
+                    Stage::Between(Part::Globals)
+                }
+                _ => return Err(StepError::Unexpected),
+            },
+        };
+        Ok(())
+    }
+
+    // A token of a thread.
+    fn thread(&mut self, alloc: Global, stage: ThreadStage, token: Token) -> Result<(), StepError>
+        ensures { Reads result self.new (thread_step self.old.source stage token) }
+    {
+        let next = match stage {
+            ThreadStage::AfterWord => match token {
+                Token::Name(name) => ThreadStage::AfterName(name),
+                _ => return Err(StepError::Unexpected),
+            },
+            ThreadStage::AfterName(name) => match token {
+                Token::OpenBrace => ThreadStage::Locals(name, Declarations::new(alloc)),
+                _ => return Err(StepError::Unexpected),
+            },
+            ThreadStage::Locals(name, locals) => match token {
+                Token::Int => ThreadStage::AfterKind(name, locals, Kind::Int),
+                Token::Name(of) => ThreadStage::AfterKind(name, locals, Kind::Record(of)),
+                _ => return self.inside(alloc, name, locals, Within::new(alloc), token),
+            },
+            ThreadStage::AfterKind(name, locals, kind) => match token {
+                Token::Name(local) => ThreadStage::AfterLocal(name, locals, kind, local),
+                _ => return self.after_kind(alloc, name, locals, kind, token),
+            },
+            ThreadStage::AfterLocal(name, mut locals, kind, local) => match token {
+                Token::Semicolon => {
+                    locals.push(kind, local)?;
+                    ThreadStage::Locals(name, locals)
+                }
+                _ => return Err(StepError::Unexpected),
+            },
+            ThreadStage::Inside(name, locals, within) => {
+                return self.inside(alloc, name, locals, within, token);
+            }
+        };
+        self.stage = Stage::Thread(next);
+        Ok(())
+    }
+
+    // A token that is no name behind what may be a local's type: a name there began the first statement.
+    fn after_kind(
+        &mut self,
+        alloc: Global,
+        name: Name,
+        locals: Declarations,
+        kind: Kind,
+        token: Token,
+    ) -> Result<(), StepError>
+        ensures { Reads result self.new (after_kind_step self.old.source name locals kind token) }
+    {
+        match kind {
+            Kind::Int => Err(StepError::Unexpected),
+            Kind::Record(x) => {
+                let within = Within::begun(alloc, Line::AfterName(x));
+                self.inside(alloc, name, locals, within, token)
+            }
+        }
+    }
+
+    // A token of a thread's statements.
+    fn inside(
+        &mut self,
+        alloc: Global,
+        name: Name,
+        locals: Declarations,
+        mut within: Within,
+        token: Token,
+    ) -> Result<(), StepError>
+        ensures { Reads result self.new (goes_on self.old.source name locals (step_of within token)) }
+    {
+        match within.step(alloc, token)? {
+            None => {
+                self.stage = Stage::Thread(ThreadStage::Inside(name, locals, within));
+                Ok(())
+            }
+            Some(body) => {
+                self.threads.push(Thread { name, locals, body })?;
+                self.stage = Stage::Between(Part::Threads);
+                Ok(())
+            }
+        }
+    }
+
+    /// The tree, unless a declaration is begun and not ended.
+    pub fn finish(self) -> Option<Tree>
+        requires { ForSome (finish_of self) (λ tree. depth tree ≤ 32) }
+        ensures { result ≡ finish_of self }
+    {
+        let Reader {
+            records,
+            globals,
+            threads,
+            stage,
+        } = self;
+        match stage {
+            Stage::Between(_) => Some(Tree::new(records, globals, threads)),
+            _ => None,
+        }
+    }
+}

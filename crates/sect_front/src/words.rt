@@ -1,0 +1,100 @@
+//! Names, keywords and the bytes that they are made of.
+
+ghost use Rattle.std.specs.Prelude.{◌≡◌, ◌&&◌, length, take_while};
+ghost use Rattle.std.specs.List.{list_all};
+ghost use Rattle.sect_front.specs.Words.{is_letter as letter_of, is_digit as digit_of, is_name_byte as name_byte, is_name as name_of, begins};
+ghost use Rattle.sect_front.specs.Recognition.{keyword_of};
+
+use crate::name::MOST_NAME_BYTES;
+use crate::token::Token;
+
+/// Whether a name may begin with this byte: a letter or `_`.
+pub fn is_letter(byte: u8) -> bool
+    ensures { result ≡ letter_of byte }
+{
+    byte.is_ascii_alphabetic() || byte == b'_'
+}
+
+/// Whether this byte is a digit.
+pub fn is_digit(byte: u8) -> bool
+    ensures { result ≡ digit_of byte }
+{
+    byte.is_ascii_digit()
+}
+
+/// Whether this byte may stand in a name: a letter, `_` or a digit.
+pub fn is_name_byte(byte: u8) -> bool
+    ensures { result ≡ name_byte byte }
+{
+    is_letter(byte) || is_digit(byte)
+}
+
+/// How many bytes at the front may stand in a name.
+pub fn word_length(bytes: &[u8]) -> usize
+    ensures { result ≡ length (take_while name_byte bytes.now) }
+{
+    bytes.iter().take_while(|byte| is_name_byte(**byte)).count()
+}
+
+/// The keyword that these bytes are.
+pub fn keyword(word: &[u8]) -> Option<Token>
+    ensures { result ≡ keyword_of word.now }
+{
+    if word == b"record".as_slice() {
+        Some(Token::Record)
+    } else if word == b"protected_by".as_slice() {
+        Some(Token::ProtectedBy)
+    } else if word == b"global".as_slice() {
+        Some(Token::Global)
+    } else if word == b"thread".as_slice() {
+        Some(Token::Thread)
+    } else if word == b"int".as_slice() {
+        Some(Token::Int)
+    } else if word == b"null".as_slice() {
+        Some(Token::Null)
+    } else if word == b"new".as_slice() {
+        Some(Token::New)
+    } else if word == b"print".as_slice() {
+        Some(Token::Print)
+    } else if word == b"if".as_slice() {
+        Some(Token::If)
+    } else if word == b"else".as_slice() {
+        Some(Token::Else)
+    } else if word == b"while".as_slice() {
+        Some(Token::While)
+    } else if word == b"atomic".as_slice() {
+        Some(Token::Atomic)
+    } else if word == b"class".as_slice() {
+        Some(Token::Class)
+    } else {
+        None
+    }
+}
+
+fn begins_letter(bytes: &[u8]) -> bool
+    ensures { result ≡ begins letter_of bytes.now }
+{
+    match bytes {
+        [] => false,
+        [first, ..] => is_letter(*first),
+    }
+}
+
+// Whether a letter or `_` stands first, and then letters, `_` and digits alone.
+#[tactic(auto, using(crate::proofs::NamesLemmas::whole_word))]
+fn is_word(bytes: &[u8]) -> bool
+    ensures { result ≡ (begins letter_of bytes.now && list_all name_byte bytes.now) }
+{
+    begins_letter(bytes) && word_length(bytes) == bytes.len()
+}
+
+/// Whether these bytes are one name: a letter or `_`, then letters, `_` and digits, at most 32 bytes, and no keyword.
+#[tactic(auto, using(crate::proofs::NamesLemmas::short_name))]
+pub fn is_name(bytes: &[u8]) -> bool
+    ensures { result ≡ name_of bytes.now }
+{
+    if !is_word(bytes) {
+        return false;
+    }
+    bytes.len() <= MOST_NAME_BYTES && keyword(bytes).is_none()
+}

@@ -1,0 +1,16 @@
+pub mod Lists
+pub mod TextLemmas
+pub mod Heads
+pub mod Passing
+pub mod FirstLemmas
+pub mod Known
+pub mod Records
+pub mod Keeps
+pub mod ThreadLemmas
+pub mod SoundLemmas
+pub mod CountLemmas
+pub mod ProgramLemmas
+pub mod FindLemmas
+pub mod SectionLemmas
+pub mod Membership
+pub mod SectionSound

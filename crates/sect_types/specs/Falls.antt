@@ -1,0 +1,16 @@
+-- A text that stands in another is smaller.
+use Rattle.std.specs.Prelude.{◌≤◌, List, [], ◌∷◌}
+use Rattle.std.proofs.Common.{arith}
+use denote.Param.Weighed.{most}
+use Rattle.sect_types.specs.Statements.{weight}
+use Rattle.sect_types.specs.Texts.{statements_of}
+use Rattle.sect_types.specs.declared.text.Step.{Step}
+use Rattle.sect_types.specs.declared.text.Step.TheVariants as step
+use Rattle.sect_types.specs.declared.text.Text.TheDeep.{deep-Step}
+
+pub falls : (ss : List Step) → most deep-Step ss ≤ weight (statements_of ss)
+falls [] = omega arith
+falls (step.Do a ∷ ss) = omega (arith, falls ss)
+falls (step.If t p q ∷ ss) = omega (arith, falls ss)
+falls (step.While t p ∷ ss) = omega (arith, falls ss)
+falls (step.Section i p ∷ ss) = omega (arith, falls ss)

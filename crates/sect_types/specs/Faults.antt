@@ -1,0 +1,16 @@
+-- The refusals.
+use Rattle.sect_types.specs.declared.rule.Rule.TheVariants as rule
+use Rattle.sect_types.specs.declared.rule.Fault.{Fault}
+use Rattle.sect_types.specs.declared.rule.Fault.TheVariants as fault
+use Rattle.sect_types.specs.declared.rule.TypeFault.{TypeFault}
+use Rattle.sect_types.specs.declared.rule.TypeFault.TheVariants.{Memory, Unknown, Twice, WrongType, SharedOutside, Nested, TooMany}
+
+-- the refusal that a walk's fault becomes
+abbrev pub type_fault : Fault → TypeFault
+type_fault fault.Memory = Memory
+type_fault (fault.Broken i rule.Unknown) = Unknown i
+type_fault (fault.Broken i rule.Twice) = Twice i
+type_fault (fault.Broken i rule.WrongType) = WrongType i
+type_fault (fault.Broken i rule.SharedOutside) = SharedOutside i
+type_fault (fault.Broken i rule.Nested) = Nested i
+type_fault (fault.Broken i rule.TooMany) = TooMany i

@@ -1,0 +1,57 @@
+-- Typed trees, and the first item at fault.
+use Rattle.std.specs.Prelude.{◌≡◌, ℕ, zero, suc, ◌≤◌, true, List, [], ◌∷◌, Result, Ok, Err, ⊤}
+use Rattle.sect_front.specs.declared.tree.Record.{Record}
+use Rattle.sect_front.specs.declared.tree.GlobalObject.{GlobalObject}
+use Rattle.sect_front.specs.Source.{Source}
+use Rattle.sect_types.specs.declared.rule.Rule.{Rule}
+use Rattle.sect_types.specs.declared.rule.Rule.TheVariants.{Unknown, Twice, WrongType, SharedOutside, Nested, TooMany}
+use Rattle.sect_types.specs.declared.rule.TypeFault.{TypeFault}
+use Rattle.sect_types.specs.declared.rule.TypeFault.TheVariants as fault
+use Rattle.sect_types.specs.Items.{Item, items}
+use Rattle.sect_types.specs.Rules.{Counts, breaks, after}
+
+-- the rule r is broken at item i of the list, before which the counts are c
+abbrev pub BreaksFrom : List Record → List GlobalObject → Counts → List Item → ℕ → Rule → Type 0
+BreaksFrom rs gs c [] i r = ⊥
+BreaksFrom rs gs c (item ∷ more) zero r = breaks rs gs c item r ≡ true
+BreaksFrom rs gs c (item ∷ more) (suc i) r = BreaksFrom rs gs (after c item) more i r
+
+abbrev pub none_yet : Counts
+none_yet = record { declared = 0; statements = 0; sites = 0; sections = 0 }
+
+-- the rule is broken at the item of that number
+abbrev pub Breaks : Source → ℕ → Rule → Type 0
+Breaks t i r = BreaksFrom t.records t.globals none_yet (items t) i r
+
+-- no rule is broken at any item
+abbrev pub IsTyped : Source → Type 0
+IsTyped t = (i : ℕ) (r : Rule) → Breaks t i r → ⊥
+
+-- the number of a rule
+abbrev pub number_of_rule : Rule → ℕ
+number_of_rule Unknown = 10
+number_of_rule Twice = 11
+number_of_rule WrongType = 12
+number_of_rule SharedOutside = 13
+number_of_rule Nested = 14
+number_of_rule TooMany = 15
+
+-- the item is the first at which a rule is broken, and the rule the least that is broken there
+pub record IsFirstFrom (rs : List Record) (gs : List GlobalObject) (c : Counts) (list : List Item) (i : ℕ) (r : Rule) : Type 0 where
+  pub broken : BreaksFrom rs gs c list i r
+  pub first : (j : ℕ) (q : Rule) → BreaksFrom rs gs c list j q → i ≤ j
+  pub least : (q : Rule) → BreaksFrom rs gs c list i q → number_of_rule r ≤ number_of_rule q
+
+abbrev pub IsFirstFault : Source → ℕ → Rule → Type 0
+IsFirstFault t i r = IsFirstFrom t.records t.globals none_yet (items t) i r
+
+-- a program is given for a typed tree alone, and a refusal names the first item at fault and its least rule
+abbrev pub Judges : {A : Type 0} → Source → Result A TypeFault → Type 0
+Judges t (Ok a) = IsTyped t
+Judges t (Err fault.Memory) = ⊤
+Judges t (Err (fault.Unknown i)) = IsFirstFault t i Unknown
+Judges t (Err (fault.Twice i)) = IsFirstFault t i Twice
+Judges t (Err (fault.WrongType i)) = IsFirstFault t i WrongType
+Judges t (Err (fault.SharedOutside i)) = IsFirstFault t i SharedOutside
+Judges t (Err (fault.Nested i)) = IsFirstFault t i Nested
+Judges t (Err (fault.TooMany i)) = IsFirstFault t i TooMany

@@ -1,0 +1,29 @@
+-- What a walk says of the items that it has passed.
+use Rattle.std.specs.Prelude.{◌≡◌, Bool, if◌then◌else◌, List, Result, Ok, Err, ⊤, Option, Some, None}
+use Rattle.sect_types.specs.declared.rule.Rule.{Rule}
+use Rattle.sect_types.specs.declared.rule.Rule.TheVariants.{Unknown, Twice, SharedOutside, TooMany}
+use Rattle.sect_types.specs.declared.rule.Fault.{Fault}
+use Rattle.sect_types.specs.declared.rule.Fault.TheVariants as fault
+use Rattle.sect_types.specs.Sight.{Sight}
+use Rattle.sect_types.specs.Items.{Item}
+use Rattle.sect_types.specs.Rules.{Counts, judge, Faulty}
+
+-- these items, given before those of what follows, lead from the old counts to the new ones, or to the fault
+abbrev pub Walks : {A : Type 0} → Sight → (List Item → List Item) → Counts → Counts → Result A Fault → Type 0
+Walks s items old new (Ok a) = (w : List Item) → judge s.records s.globals old (items w) ≡ judge s.records s.globals new w
+Walks s items old new (Err fault.Memory) = ⊤
+Walks s items old new (Err (fault.Broken i r)) = (w : List Item) → judge s.records s.globals old (items w) ≡ Faulty i r
+
+-- the rule that was answered
+abbrev pub rule_in : {A : Type 0} → Result A Rule → Option Rule
+rule_in (Ok a) = None
+rule_in (Err r) = Some r
+
+-- what is tried after the types
+abbrev pub then_rest : Option Rule → Bool → Bool → Option Rule
+then_rest (Some r) o m = Some r
+then_rest None o m = if o then Some SharedOutside else (if m then Some TooMany else None)
+
+-- the rule that a declaration breaks
+abbrev pub declared_rule : Bool → Bool → Bool → Option Rule
+declared_rule u t m = if u then Some Unknown else (if t then Some Twice else (if m then Some TooMany else None))

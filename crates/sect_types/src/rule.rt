@@ -1,0 +1,109 @@
+//! The rules that a typed program obeys, and the faults that name them.
+
+use std::alloc::{AllocError, AllocFailed};
+use thiserror::Error;
+
+/// A rule that an item may break, the least first.
+#[derive(Clone, Copy)]
+pub enum Rule {
+    /// A name that nothing has.
+    Unknown,
+    /// A name that an earlier declaration has.
+    Twice,
+    /// Types that don't agree.
+    WrongType,
+    /// A load, a store, a `new` or a `print` outside a section.
+    SharedOutside,
+    /// A section in a section.
+    Nested,
+    /// An item that passes a limit.
+    TooMany,
+}
+
+/// Why a walk through the items ends early.
+#[derive(Clone, Copy)]
+pub enum Fault {
+    Memory,
+    /// The item of this number, and the least rule that it breaks.
+    Broken(u16, Rule),
+}
+
+/// Why a tree has no program. An item is a record, a field, a global, a thread, a local or a statement; items are
+/// numbered from 0 in text order.
+#[derive(Debug, Drop, Error)]
+pub enum TypeFault {
+    #[error("out of memory")]
+    Memory,
+    /// The item uses a name that nothing has.
+    #[error("10 Unknown item {item}")]
+    Unknown { item: u16 },
+    /// An earlier declaration has the item's name.
+    #[error("11 Twice item {item}")]
+    Twice { item: u16 },
+    /// All names in the item are known, and their types don't agree.
+    #[error("12 WrongType item {item}")]
+    WrongType { item: u16 },
+    /// The item is a load, a store, a `new` or a `print` and stands outside `atomic`.
+    #[error("13 SharedOutside item {item}")]
+    SharedOutside { item: u16 },
+    /// The item is an `atomic` inside `atomic`.
+    #[error("14 Nested item {item}")]
+    Nested { item: u16 },
+    /// The item is the first of its kind past a limit.
+    #[error("15 TooMany item {item}")]
+    TooMany { item: u16 },
+}
+
+impl From<AllocError> for Fault {
+    ghost use Rattle.std.specs.Prelude.{◌≡◌};
+    ghost use Rattle.sect_types.specs.declared.rule.Fault.TheVariants.{Memory};
+
+    ghost from_gives = { λ _ e. e ≡ Memory };
+
+    fn from(_refused: AllocError) -> Fault {
+        Fault::Memory
+    }
+}
+
+impl<T: Drop> From<AllocFailed<T>> for Fault {
+    ghost use Rattle.std.specs.Prelude.{◌≡◌};
+    ghost use Rattle.sect_types.specs.declared.rule.Fault.TheVariants.{Memory};
+
+    ghost from_gives = { λ _ e. e ≡ Memory };
+
+    fn from(_refused: AllocFailed<T>) -> Fault {
+        Fault::Memory
+    }
+}
+
+impl From<AllocError> for TypeFault {
+    ghost use Rattle.std.specs.Prelude.{◌≡◌};
+    ghost use Rattle.sect_types.specs.declared.rule.TypeFault.TheVariants.{Memory};
+
+    ghost from_gives = { λ _ e. e ≡ Memory };
+
+    fn from(_refused: AllocError) -> TypeFault {
+        TypeFault::Memory
+    }
+}
+
+impl From<Fault> for TypeFault {
+    ghost use Rattle.std.specs.Prelude.{◌≡◌};
+    ghost use Rattle.sect_types.specs.Faults.{type_fault};
+
+    ghost from_gives = { λ fault e. e ≡ type_fault fault };
+
+    fn from(fault: Fault) -> TypeFault {
+        match fault {
+            Fault::Memory => TypeFault::Memory,
+            Fault::Broken(item, rule) => match rule {
+                Rule::Unknown => TypeFault::Unknown { item },
+                Rule::Twice => TypeFault::Twice { item },
+                Rule::WrongType => TypeFault::WrongType { item },
+                Rule::SharedOutside => TypeFault::SharedOutside { item },
+                Rule::Nested => TypeFault::Nested { item },
+                Rule::TooMany => TypeFault::TooMany { item },
+            },
+        }
+    }
+}

@@ -1,0 +1,29 @@
+//! Sections.
+
+ghost use Rattle.std.specs.Prelude.{◌≡◌, ◌≤◌, length};
+ghost use Rattle.sect_types.specs.Sections.{section_from};
+ghost use Rattle.sect_types.specs.Found.{section_in};
+
+use crate::text::Text;
+
+/// A section: the number of its thread, and its body.
+#[derive(Clone, Copy)]
+pub struct Section<'a> {
+    pub thread: u16,
+    pub body: &'a Text,
+}
+
+/// The section of this number in the texts of the threads.
+pub fn find<'a>(texts: &'a [Text], number: u16) -> Option<Section<'a>>
+    requires { length texts.now ≤ 64 }
+    ensures { section_in result ≡ section_from number 0 texts.now }
+{
+    let mut thread = 0;
+    for text in texts {
+        if let Some(body) = text.section(number) {
+            return Some(Section { thread, body });
+        }
+        thread += 1;
+    }
+    None
+}

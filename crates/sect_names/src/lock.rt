@@ -1,0 +1,43 @@
+//! Locks.
+
+ghost use Rattle.std.specs.Prelude.{ℕ, IfOk};
+ghost use Rattle.sect_types.specs.Programs.{Numbered};
+ghost use Rattle.sect_names.specs.Locks.{IsLockOf};
+
+use crate::path::Path;
+use std::alloc::AllocError;
+
+/// What a path lock allows of its object. Writing allows reading.
+#[derive(Clone, Copy, Debug, PartialEq, Eq, PartialOrd, Ord, Hash)]
+pub enum Effect {
+    Read,
+    Write,
+}
+
+/// What a class lock allows of all objects of its class. Writing allows reading and making.
+#[derive(Clone, Copy, Debug, PartialEq, Eq, PartialOrd, Ord, Hash)]
+pub enum Right {
+    Read,
+    Write,
+    Make,
+}
+
+/// A lock: a coarse one on a class, or a fine one on the object of a path. The derived order is the canonical one:
+/// class locks by class, then by right; then path locks by path, then `R` before `W`.
+#[derive(Debug, Drop, PartialEq, Eq, PartialOrd, Ord, Hash)]
+pub enum Lock {
+    Class(u16, Right),
+    Path(Path, Effect),
+}
+
+impl Lock {
+    /// A lock equal to this one.
+    pub fn try_clone(&self) -> Result<Lock, AllocError>
+        ensures { (program : Numbered) (thread : ℕ) → IsLockOf program thread self.now → IfOk result (IsLockOf program thread) }
+    {
+        match self {
+            Lock::Class(class, right) => Ok(Lock::Class(*class, *right)),
+            Lock::Path(path, effect) => Ok(Lock::Path(path.try_clone()?, *effect)),
+        }
+    }
+}

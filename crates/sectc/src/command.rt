@@ -1,0 +1,124 @@
+//! One run of the program, over any reader and writer.
+
+use crate::locks::locks;
+use crate::options::{Request, UsageFault, request_of};
+use crate::refusal::Refusal;
+use std::alloc::{AllocError, Global};
+use std::io;
+use std::io::{ErrorKind, Read, Write};
+use thiserror::Error;
+
+/// The status of a run that did what was asked.
+pub const DONE: u8 = 0;
+
+/// The status of a run whose input was refused.
+pub const REFUSED: u8 = 1;
+
+/// The status of a run whose command line is wrong.
+pub const WRONG_WORDS: u8 = 2;
+
+/// The status of a run that lacked memory, or whose input or output failed.
+pub const FAILED: u8 = 3;
+
+/// What a run writes, and its exit status.
+#[derive(Debug, Drop)]
+struct Answer {
+    status: u8,
+    text: String,
+}
+
+/// Why a run has no answer.
+#[derive(Clone, Copy, Debug, Error)]
+enum Failure {
+    #[error("out of memory")]
+    Memory,
+    #[error("input or output failed")]
+    Streams,
+}
+
+impl From<AllocError> for Failure {
+    fn from(_refused: AllocError) -> Failure {
+        Failure::Memory
+    }
+}
+
+impl From<io::Error> for Failure {
+    fn from(failed: io::Error) -> Failure {
+        if failed.kind() == ErrorKind::OutOfMemory {
+            Failure::Memory
+        } else {
+            Failure::Streams
+        }
+    }
+}
+
+/// Judges the words (the program's name first), reads the whole input, works, and writes the answer. It gives the
+/// exit status: 0 done, 1 refused, 2 the words are wrong, 3 want of memory, or the input or the output failed.
+pub fn command<R: AllocGlobal, I: Read, O: Write>(
+    rt: &R,
+    words: &[String],
+    input: I,
+    output: O,
+) -> u8
+where
+    I: Drop,
+    O: Drop,
+{
+    let alloc = rt.alloc();
+    match answer_to(alloc, words, input) {
+        Ok(answer) => told(output, answer.status, answer.text.as_bytes()),
+        Err(Failure::Memory) => told(output, FAILED, b"out of memory\n"),
+        Err(Failure::Streams) => told(output, FAILED, b"input or output failed\n"),
+    }
+}
+
+/// Writes a text, and gives the status, or `FAILED` where the writer failed.
+fn told<O: Write + Drop>(mut output: O, status: u8, text: &[u8]) -> u8 {
+    match output.write_all(text) {
+        Ok(()) => match output.flush() {
+            Ok(()) => status,
+            Err(_) => FAILED,
+        },
+        Err(_) => FAILED,
+    }
+}
+
+/// What the words ask of the input. Words that are wrong are answered before the input is read.
+fn answer_to<I: Read + Drop>(
+    alloc: Global,
+    words: &[String],
+    mut input: I,
+) -> Result<Answer, Failure> {
+    let request = match request_of(alloc, words) {
+        Ok(request) => request,
+        Err(UsageFault::Memory) => return Err(Failure::Memory),
+        Err(fault) => {
+            let text = format!(in alloc; "{fault}")?;
+            return Ok(Answer {
+                status: WRONG_WORDS,
+                text,
+            });
+        }
+    };
+    let mut source = Vec::new(alloc);
+    input.read_to_end(&mut source)?;
+    worked(alloc, &request, source.as_slice())
+}
+
+/// What a command answers to its input.
+fn worked(alloc: Global, request: &Request, source: &[u8]) -> Result<Answer, Failure> {
+    let done = match request {
+        Request::Locks { k } => locks(alloc, source, *k),
+    };
+    match done {
+        Ok(text) => Ok(Answer { status: DONE, text }),
+        Err(Refusal::Memory) => Err(Failure::Memory),
+        Err(refusal) => Ok(Answer {
+            status: REFUSED,
+            text: format!(in alloc; "{refusal}\n")?,
+        }),
+    }
+}
+
+#[cfg(test)]
+mod tests;

@@ -1,0 +1,266 @@
+//! The program over memory.
+
+use super::command;
+use std::alloc::{AllocError, Global};
+use std::io;
+use std::io::{ErrorKind, Read, Write};
+use std::process::Abort;
+use std::test::Fail;
+
+const EMPTY_SECTION: &str = "thread e { atomic { } }\n";
+
+const ACCOUNT: &str = "record Acct { int bal; }
+global Acct a;
+thread p { int t; atomic { t = a.bal; t = t + 1; a.bal = t; } }
+";
+
+const TWO_THREADS: &str = "record Acct { int bal; }
+global Acct a;
+thread p { int t; atomic { t = a.bal; t = t + 1; a.bal = t; } }
+thread q { int t; atomic { t = a.bal; t = t + 1; a.bal = t; } }
+";
+
+const LOCAL_ONLY: &str = "thread f { int x; x = 1; x = 2; }\n";
+
+/// The words of a line, the program's name first.
+fn words_of(alloc: Global, line: &str) -> Result<Vec<String>, AllocError> {
+    let mut words = Vec::new(alloc);
+    words.push(String::from_str(alloc, "sectc")?)?;
+    for word in line.split_whitespace() {
+        words.push(String::from_str(alloc, word)?)?;
+    }
+    Ok(words)
+}
+
+/// Runs a command line on a source, and compares the status and the text.
+fn expect_bytes(
+    rt: &(impl AllocGlobal + Abort),
+    line: &str,
+    source: &[u8],
+    status: u8,
+    text: &str,
+) -> Result<(), Fail> {
+    let words = words_of(rt.alloc(), line)?;
+    let mut out = Vec::new(rt.alloc());
+    let got = command(rt, words.as_slice(), source, &mut out);
+    let shown = String::from_utf8_lossy(rt.alloc(), out.as_slice())?;
+    assert_eq!(rt; got, status, "{line}: {shown}");
+    assert_eq!(rt; shown.as_str(), text, "{line}");
+    Ok(())
+}
+
+#[test]
+fn prints_lock_sets(rt: HostRuntime) -> Result<(), Fail> {
+    for (source, text) in [
+        (EMPTY_SECTION, "section 0: none\n"),
+        ("", ""),
+        (TWO_THREADS, "section 0: W a\nsection 1: W a\n"),
+        (LOCAL_ONLY, ""),
+        (
+            "record A { int f; } global A a; global A b; thread t { int x; atomic { x = a.f; b.f = x; } }",
+            "section 0: R a, W b\n",
+        ),
+        ("thread t { atomic { print 1; } }", "section 0: none\n"),
+    ] {
+        expect_bytes(&rt, "locks", source.as_bytes(), 0, text)?;
+    }
+    Ok(())
+}
+
+#[test]
+fn refuses_texts(rt: HostRuntime) -> Result<(), Fail> {
+    for (source, text) in [
+        ("thread t } $", "refused 1 BadByte line 1\n"),
+        (
+            "thread t { int x; x = 01; }",
+            "refused 2 BadNumber line 1\n",
+        ),
+        (
+            "thread t { int x; x = 9223372036854775808; }",
+            "refused 2 BadNumber line 1\n",
+        ),
+        (
+            "thread aaaaaaaaaaaaaaaaaaaaaaaaaaaaaaaaa { }",
+            "refused 3 LongName line 1\n",
+        ),
+        ("thread t { x = y.f.g; }", "refused 4 Unexpected line 1\n"),
+        (
+            "thread e { atomic all { } }\n",
+            "refused 4 Unexpected line 1\n",
+        ),
+        ("thread t { atomic {", "refused 5 UnexpectedEnd line 1\n"),
+        ("thread t {\n\n", "refused 5 UnexpectedEnd line 2\n"),
+        (
+            "record A { int f; } global A a; thread t { a.f = 1; }",
+            "refused 13 SharedOutside item 4\n",
+        ),
+        (
+            "record A { int f; } thread t { print 1; }",
+            "refused 13 SharedOutside item 3\n",
+        ),
+    ] {
+        expect_bytes(&rt, "locks", source.as_bytes(), 1, text)?;
+    }
+    Ok(())
+}
+
+#[test]
+fn a_comment_holds_any_bytes(rt: HostRuntime) -> Result<(), Fail> {
+    let source = b"thread e { atomic { } }\n//\xff";
+    expect_bytes(&rt, "locks", source, 0, "section 0: none\n")
+}
+
+#[test]
+fn the_sixty_fifth_thread_is_refused(rt: HostRuntime) -> Result<(), Fail> {
+    let mut source = String::new(rt.alloc());
+    for thread in 0..65u8 {
+        let text = format!(in rt.alloc(); "thread t{thread} {{ }} ")?;
+        source.push_str(&text)?;
+    }
+    expect_bytes(
+        &rt,
+        "locks",
+        source.as_bytes(),
+        1,
+        "refused 15 TooMany item 64\n",
+    )
+}
+
+#[test]
+fn a_text_has_a_mebibyte_at_most(rt: HostRuntime) -> Result<(), Fail> {
+    let mut source: Vec<u8> = Vec::new(rt.alloc());
+    for _ in 0..1_048_576 {
+        source.push(b' ')?;
+    }
+    expect_bytes(&rt, "locks", source.as_slice(), 0, "")?;
+    source.push(b' ')?;
+    expect_bytes(
+        &rt,
+        "locks",
+        source.as_slice(),
+        1,
+        "refused 7 TooLarge line 1\n",
+    )
+}
+
+#[test]
+fn k_is_judged_before_the_source(rt: HostRuntime) -> Result<(), Fail> {
+    for line in ["locks --k 4", "locks --k=65535"] {
+        expect_bytes(&rt, line, ACCOUNT.as_bytes(), 1, "refused 60 BadK\n")?;
+        expect_bytes(&rt, line, b"$", 1, "refused 60 BadK\n")?;
+    }
+    for line in ["locks --k 0", "locks --k=3", "locks --k 0003"] {
+        expect_bytes(&rt, line, ACCOUNT.as_bytes(), 0, "section 0: W a\n")?;
+    }
+    Ok(())
+}
+
+#[test]
+fn what_is_read_and_not_inferred_yet(rt: HostRuntime) -> Result<(), Fail> {
+    for source in [
+        "record N { int v; N next; } global N a; thread t { N p; atomic { p = a.next; } }",
+        "thread t { int x; while (x < 3) { x = x + 1; } }",
+        "record L { int n; } record C protected_by g { int v; } global L g;",
+    ] {
+        expect_bytes(&rt, "locks", source.as_bytes(), 1, "not inferred yet\n")?;
+    }
+    Ok(())
+}
+
+#[test]
+fn refuses_words(rt: HostRuntime) -> Result<(), Fail> {
+    for line in [
+        "",
+        "help",
+        "--help",
+        "locks --help",
+        "locks -h",
+        "help locks",
+        "--version",
+        "lock",
+        "locks 0",
+        "locks --k",
+        "locks --k -1",
+        "locks --k +1",
+        "locks --k 1x",
+        "locks --k 65536",
+        "locks --k 4294967296",
+        "locks --k 1 --k 1",
+        "locks --fuel 3",
+        "locks --workers 1",
+        "locks --cert",
+    ] {
+        let words = words_of(rt.alloc(), line)?;
+        let mut out: Vec<u8> = Vec::new(rt.alloc());
+        let got = command(&rt, words.as_slice(), b"$".as_slice(), &mut out);
+        assert_eq!(rt; got, 2, "{line}");
+        assert!(rt; !out.is_empty(), "{line}");
+    }
+    Ok(())
+}
+
+/// Gives a text a byte at a time, and then fails.
+#[derive(Drop)]
+struct FailingReader<'a> {
+    left: &'a [u8],
+}
+
+impl<'a> Read for FailingReader<'a> {
+    fn read(&mut self, buf: &mut [u8]) -> io::Result<usize> {
+        let Some((first, rest)) = self.left.split_first() else {
+            return Err(io::Error::from(ErrorKind::TimedOut));
+        };
+        if buf.is_empty() {
+            return Ok(0);
+        }
+        buf[0] = *first;
+        self.left = rest;
+        Ok(1)
+    }
+}
+
+/// Takes some bytes, one at a time, and then fails.
+#[derive(Drop)]
+struct FailingWriter {
+    room: usize,
+}
+
+impl Write for FailingWriter {
+    fn write(&mut self, buf: &[u8]) -> io::Result<usize> {
+        if self.room == 0 {
+            return Err(io::Error::from(ErrorKind::BrokenPipe));
+        }
+        if buf.is_empty() {
+            return Ok(0);
+        }
+        self.room -= 1;
+        Ok(1)
+    }
+
+    fn flush(&mut self) -> io::Result<()> {
+        Ok(())
+    }
+}
+
+#[test]
+fn a_reader_fails_in_the_middle(rt: HostRuntime) -> Result<(), Fail> {
+    let words = words_of(rt.alloc(), "locks")?;
+    let mut out: Vec<u8> = Vec::new(rt.alloc());
+    let reader = FailingReader {
+        left: EMPTY_SECTION.as_bytes(),
+    };
+    assert_eq!(rt; command(&rt, words.as_slice(), reader, &mut out), 3);
+    assert!(rt; out.as_slice() == b"input or output failed\n".as_slice());
+    Ok(())
+}
+
+#[test]
+fn a_writer_fails_in_the_middle(rt: HostRuntime) -> Result<(), Fail> {
+    let words = words_of(rt.alloc(), "locks")?;
+    for room in 0..17usize {
+        let source = EMPTY_SECTION.as_bytes();
+        let got = command(&rt, words.as_slice(), source, FailingWriter { room });
+        assert_eq!(rt; got, if room < 16 { 3 } else { 0 }, "{room}");
+    }
+    Ok(())
+}

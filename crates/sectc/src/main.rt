@@ -1,0 +1,26 @@
+//! `sectc COMMAND [OPTIONS]`: reads a source text on standard input and answers on standard output.
+#![tactic(auto)]
+
+mod command;
+mod locks;
+mod options;
+mod refusal;
+
+use command::{FAILED, WRONG_WORDS, command};
+use std::process::ExitCode;
+use std::{env, io};
+
+fn main(rt: HostRuntime) -> ExitCode {
+    let status = match arguments(&rt) {
+        Ok(words) => command(&rt, words.as_slice(), rt.stdin(), rt.stdout()),
+        Err(refused) if refused.kind() == io::ErrorKind::OutOfMemory => FAILED,
+        Err(_) => WRONG_WORDS,
+    };
+    ExitCode::from(status)
+}
+
+/// The words of the command line, the program's name first. An argument that is no text fails.
+fn arguments(rt: &(impl std::rt::Env + AllocGlobal)) -> io::Result<Vec<String>> {
+    let words: Vec<String> = env::args(rt)?.collect(rt.alloc())?;
+    Ok(words)
+}

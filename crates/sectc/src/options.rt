@@ -1,0 +1,115 @@
+//! What the words of a command line ask for.
+
+ghost use Rattle.std.specs.Prelude.{◌≡◌, ◌≤◌, true, false, IfOk, IfSome};
+ghost use Rattle.clap.specs.declared.builder.command.Command.TheViews.{out-Command as fields_of};
+
+use clap::error::ErrorKind;
+use clap::{Arg, ArgAction, ArgMatches, Command};
+use std::alloc::{AllocError, AllocFailed, Global};
+use thiserror::Error;
+
+/// The greatest number that the command line takes.
+pub const MOST: u32 = 65535;
+
+/// The most fields of a path where the command line doesn't say.
+pub const DEFAULT_K: u16 = 2;
+
+/// What a command line asks for.
+#[derive(Debug, Drop)]
+pub enum Request {
+    /// The lock set of each section, whose paths have at most k fields.
+    Locks { k: u16 },
+}
+
+/// Why a command line is wrong. `Display` is what the program prints of it.
+#[derive(Debug, Drop, Error)]
+pub enum UsageFault {
+    /// What `clap` refuses: an unknown command or option, an option given twice, a call for help.
+    #[error("{0}")]
+    Words(clap::Error),
+    /// A value that isn't decimal digits alone or is too great, and its option.
+    #[error("error: invalid value '{0}' for '--{1}'\n")]
+    Number(String, &'static str),
+    #[error("out of memory\n")]
+    Memory,
+}
+
+impl From<AllocError> for UsageFault {
+    fn from(_refused: AllocError) -> UsageFault {
+        UsageFault::Memory
+    }
+}
+
+impl From<clap::Error> for UsageFault {
+    fn from(refused: clap::Error) -> UsageFault {
+        if refused.kind() == ErrorKind::OutOfMemory {
+            UsageFault::Memory
+        } else {
+            UsageFault::Words(refused)
+        }
+    }
+}
+
+/// The option `--name N`.
+fn numeral<'a>(alloc: Global, name: &'a str, help: &'a str) -> Arg<'a>
+    ensures { result.global ≡ false }
+{
+    Arg::new(alloc, name)
+        .long(name)
+        .value_name("N")
+        .help(help)
+        .action(ArgAction::Set)
+}
+
+/// The commands and what each takes.
+fn grammar<'a>(alloc: Global) -> Result<Command<'a>, AllocError>
+    ensures required { IfOk result (λ c. (fields_of c).subcommand_required ≡ true) }
+    ensures local { IfOk result (λ c. (fields_of c).has_globals ≡ false) }
+{
+    let k = numeral(alloc, "k", "the most fields of a path, 0 to 3 (default 2)");
+    let locks = Command::new(alloc, "locks")
+        .about("prints the lock set of each section")
+        .arg(k)?;
+    let sectc = Command::new(alloc, "sectc")
+        .about("infers the locks of atomic sections")
+        .subcommand(locks)?;
+    Ok(sectc.subcommand_required(true))
+}
+
+/// The number that a text spells, where it is decimal digits alone and at most `most`.
+fn number(text: &str, most: u32) -> Option<u32>
+    ensures { IfSome result (λ n. n ≤ most) }
+{
+    if !text.bytes().all(|byte| byte.is_ascii_digit()) {
+        return None;
+    }
+    let n = text.parse::<u32>().ok()?;
+    if n <= most { Some(n) } else { None }
+}
+
+/// The number that an option gives, or the default.
+fn number_of(
+    alloc: Global,
+    matches: &ArgMatches<'_>,
+    name: &'static str,
+    default: u16,
+) -> Result<u16, UsageFault> {
+    let Some(text) = matches.get_str(name) else {
+        return Ok(default);
+    };
+    match number(text, MOST) {
+        Some(n) => Ok(n as u16),
+        None => Err(UsageFault::Number(String::from_str(alloc, text)?, name)),
+    }
+}
+
+/// What the words ask for, the program's name first.
+pub fn request_of(alloc: Global, words: &[String]) -> Result<Request, UsageFault> {
+    let matches = grammar(alloc)?.try_get_matches_from(words)?;
+    match matches.subcommand() {
+        Some((_locks, options)) => Ok(Request::Locks {
+            k: number_of(alloc, options, "k", DEFAULT_K)?,
+        }),
+        None => unreachable!(),
+    }
+}

@@ -17,3 +17,4 @@ pub mod Found
 pub mod Threads
 pub mod Programs
 pub mod Lists
+pub mod Traces

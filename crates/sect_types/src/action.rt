@@ -53,3 +53,14 @@ pub enum Action {
     /// `print value`
     Print(Value),
 }
+
+/// What a node of a control-flow graph does.
+#[derive(Clone, Copy)]
+pub enum Label {
+    /// A statement without a block.
+    Act(Action),
+    /// The test of an `if` or a `while`. Which way it goes isn't looked at.
+    Test(Condition),
+    /// A whole section, by its number.
+    Section(u16),
+}

@@ -1,0 +1,4 @@
+pub mod Paths
+pub mod Layout
+pub mod Rests
+pub mod Graphs

@@ -1,0 +1,12 @@
+//! Control-flow graphs: the nodes of a text, and where control goes on from each.
+#![tactic(auto)]
+
+mod emit;
+pub mod flow;
+pub mod graph;
+
+pub use flow::{Flow, Node, Successors};
+pub use graph::{Graph, graph_of};
+
+#[cfg(test)]
+mod tests;

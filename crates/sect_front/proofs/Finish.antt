@@ -42,7 +42,7 @@ use Rattle.sect_front.specs.declared.reader.Stage.TheVariants as stage
 use Rattle.sect_front.proofs.Keeps.{line_tokens, place_tokens, frames_tokens, stage_tokens, record_stage_tokens, global_stage_tokens, thread_stage_tokens, body_tokens_append, after_law, declarations_append, hints_append, opened, headed, one_record, one_global, one_thread, Fits, part_in, IsOrdered, IsKept}
 
 -- a statement that a line can become, by these tokens
-record Line_end (l : Line) : Type 0 where
+record LineEnd (l : Line) : Type 0 where
   form : Form
   more : List Token → List Token
   is : (w : List Token) → form_tokens form w ≡ line_tokens l (more w)
@@ -60,7 +60,7 @@ zero_test = test_of zero_operand comparison.Less zero_operand
 abbrev no_block : List Token → List Token
 no_block w = token.OpenBrace ∷ token.CloseBrace ∷ w
 
-assign_end : (x : List ℕ) (a : AssignLine) → Line_end (line.Assign x a)
+assign_end : (x : List ℕ) (a : AssignLine) → LineEnd (line.Assign x a)
 assign_end x assign.AfterEqual = record { form = Primitive (primitive.Assign x zero_operand); more = λ w. token.Number 0 ∷ token.Semicolon ∷ w; is = λ w. refl }
 assign_end x (assign.AfterFirstName y) = record { form = Primitive (primitive.Assign x (operand.Name y)); more = λ w. token.Semicolon ∷ w; is = λ w. refl }
 assign_end x (assign.AfterFirst v) = record { form = Primitive (primitive.Assign x v); more = λ w. token.Semicolon ∷ w; is = λ w. refl }
@@ -71,7 +71,7 @@ assign_end x (assign.AfterRecord r) = record { form = Primitive (primitive.New x
 assign_end x (assign.AfterDot y) = record { form = Primitive (primitive.Load x y y); more = λ w. token.Name y ∷ token.Semicolon ∷ w; is = λ w. refl }
 assign_end x (assign.AfterField y f) = record { form = Primitive (primitive.Load x y f); more = λ w. token.Semicolon ∷ w; is = λ w. refl }
 
-store_end : (y : List ℕ) (s : StoreLine) → Line_end (line.Store y s)
+store_end : (y : List ℕ) (s : StoreLine) → LineEnd (line.Store y s)
 store_end y store.AfterDot = record { form = Primitive (primitive.Store y y zero_operand); more = λ w. token.Name y ∷ token.Equal ∷ token.Number 0 ∷ token.Semicolon ∷ w; is = λ w. refl }
 store_end y (store.AfterField f) = record { form = Primitive (primitive.Store y f zero_operand); more = λ w. token.Equal ∷ token.Number 0 ∷ token.Semicolon ∷ w; is = λ w. refl }
 store_end y (store.AfterEqual f) = record { form = Primitive (primitive.Store y f zero_operand); more = λ w. token.Number 0 ∷ token.Semicolon ∷ w; is = λ w. refl }
@@ -86,7 +86,7 @@ branch_is : (b : Branch) (t : Test) (w : List Token) → form_tokens (branch_for
 branch_is branch.If t w = refl
 branch_is branch.While t w = refl
 
-branch_end : (b : Branch) (h : BranchLine) → Line_end (line.Branch b h)
+branch_end : (b : Branch) (h : BranchLine) → LineEnd (line.Branch b h)
 branch_end b head.AfterWord = record { form = branch_form b zero_test; more = λ w. test_tokens zero_test (no_block w); is = branch_is b zero_test }
 branch_end b head.AfterOpen = record { form = branch_form b zero_test; more = λ w. token.Number 0 ∷ token.Less ∷ token.Number 0 ∷ token.CloseParen ∷ no_block w; is = branch_is b zero_test }
 branch_end b (head.AfterLeft v) = let t = test_of v comparison.Less zero_operand in
@@ -96,7 +96,7 @@ branch_end b (head.AfterComparison v o) = let t = test_of v o zero_operand in
 branch_end b (head.AfterRight t) = record { form = branch_form b t; more = λ w. token.CloseParen ∷ no_block w; is = branch_is b t }
 branch_end b (head.AfterClose t) = record { form = branch_form b t; more = no_block; is = branch_is b t }
 
-line_end : (l : Line) → Line_end l
+line_end : (l : Line) → LineEnd l
 line_end (line.AfterName x) = record { form = Primitive (primitive.Assign x zero_operand); more = λ w. token.Equal ∷ token.Number 0 ∷ token.Semicolon ∷ w; is = λ w. refl }
 line_end (line.Assign x a) = assign_end x a
 line_end (line.Store y s) = store_end y s
@@ -106,12 +106,12 @@ line_end (line.Branch b h) = branch_end b h
 line_end line.AfterAtomic = record { form = Atomic End; more = no_block; is = λ w. refl }
 
 -- a body that what has been read can become, by these tokens
-record Body_end (kept : List Token → List Token) : Type 0 where
+record BodyEnd (kept : List Token → List Token) : Type 0 where
   body : Body
   more : List Token → List Token
   is : (w : List Token) → body_tokens body w ≡ kept (more w)
 
-place_end : (b : Body) (p : Place) → Body_end (λ w. body_tokens b (place_tokens p w))
+place_end : (b : Body) (p : Place) → BodyEnd (λ w. body_tokens b (place_tokens p w))
 place_end b place.Start = record { body = b; more = λ w. w; is = λ w. refl }
 place_end b (place.Inside l) = let e = line_end l in
     record { body = append b e.form; more = e.more; is = λ w. body_tokens_append b e.form w ∙ ap (body_tokens b) (e.is w) }
@@ -121,11 +121,11 @@ place_end b (place.AfterElse t a) =
 
 -- the innermost block becomes a statement of the one around it
 closed : (fs : List Frame) (b : Body) (s : Form) (kept : List Token → List Token) → ((w : List Token) → form_tokens s w ≡ kept (token.CloseBrace ∷ w)) →
-    Body_end (λ w. frames_tokens fs (body_tokens (append b s) w)) → Body_end (λ w. frames_tokens fs (body_tokens b (kept w)))
+    BodyEnd (λ w. frames_tokens fs (body_tokens (append b s) w)) → BodyEnd (λ w. frames_tokens fs (body_tokens b (kept w)))
 closed fs b s kept h e =
     record { body = e.body; more = λ w. token.CloseBrace ∷ e.more w; is = λ w. e.is w ∙ ap (frames_tokens fs) (body_tokens_append b s (e.more w) ∙ ap (body_tokens b) (h (e.more w))) }
 
-frames_end : (fs : List Frame) (b : Body) → Body_end (λ w. frames_tokens fs (body_tokens b w))
+frames_end : (fs : List Frame) (b : Body) → BodyEnd (λ w. frames_tokens fs (body_tokens b w))
 frames_end [] b = record { body = b; more = λ w. w; is = λ w. refl }
 frames_end (frame.Atomic c ∷ fs) b = closed fs c (Atomic b) (λ w. token.Atomic ∷ token.OpenBrace ∷ body_tokens b w) (λ w. refl) (frames_end fs (append c (Atomic b)))
 frames_end (frame.While c t ∷ fs) b = closed fs c (While t b) (λ w. token.While ∷ test_tokens t (token.OpenBrace ∷ body_tokens b w)) (λ w. refl) (frames_end fs (append c (While t b)))
@@ -133,18 +133,18 @@ frames_end (frame.Then c t ∷ fs) b = closed fs c (If t b) (λ w. token.If ∷ 
 frames_end (frame.Else c t a ∷ fs) b =
     closed fs c (IfElse t a b) (λ w. form_tokens (If t a) (token.Else ∷ token.OpenBrace ∷ body_tokens b w)) (λ w. refl) (frames_end fs (append c (IfElse t a b)))
 
-stand_end : (fs : List Frame) (b : Body) (p : Place) → Body_end (λ w. frames_tokens fs (body_tokens b (place_tokens p w)))
+stand_end : (fs : List Frame) (b : Body) (p : Place) → BodyEnd (λ w. frames_tokens fs (body_tokens b (place_tokens p w)))
 stand_end fs b p = let e = place_end b p in let f = frames_end fs e.body in
     record { body = f.body; more = λ w. e.more (f.more w); is = λ w. f.is w ∙ ap (frames_tokens fs) (e.is (f.more w)) }
 
 -- a tree that what has been read can become
-record Source_end (kept : List Token → List Token) : Type 0 where
+record SourceEnd (kept : List Token → List Token) : Type 0 where
   source : Source
   rest : List Token
   is : source_tokens source [] ≡ kept rest
 
 record_end : (s : Source) (n : List ℕ) (hs : List (List ℕ)) (fs : List Declaration) (kept : List Token → List Token) (rest : List Token) → Fits part.Records s →
-    record_tokens (record { name = n; hints = hs; fields = fs }) [] ≡ kept rest → Source_end (λ w. source_tokens s (kept w))
+    record_tokens (record { name = n; hints = hs; fields = fs }) [] ≡ kept rest → SourceEnd (λ w. source_tokens s (kept w))
 record_end s n hs fs kept rest h e = record {
   source = with_record s (record { name = n; hints = hs; fields = fs });
   rest = rest;
@@ -156,7 +156,7 @@ one_field : (n : List ℕ) (hs : List (List ℕ)) (fs : List Declaration) (d : D
     headed n hs (token.OpenBrace ∷ declarations_tokens fs (kind_token d.kind ∷ token.Name d.name ∷ token.Semicolon ∷ token.CloseBrace ∷ []))
 one_field n hs fs d = ap (λ x. headed n hs (token.OpenBrace ∷ x)) (declarations_append fs d (token.CloseBrace ∷ []))
 
-record_stage_end : (s : Source) (r : RecordStage) → Fits part.Records s → Source_end (λ w. source_tokens s (record_stage_tokens r w))
+record_stage_end : (s : Source) (r : RecordStage) → Fits part.Records s → SourceEnd (λ w. source_tokens s (record_stage_tokens r w))
 record_stage_end s in_record.AfterWord h = record_end s (120 ∷ []) [] [] (record_stage_tokens in_record.AfterWord) (token.Name (120 ∷ []) ∷ no_block []) h refl
 record_stage_end s (in_record.Head n hs) h = record_end s n hs [] (record_stage_tokens (in_record.Head n hs)) (no_block []) h refl
 record_stage_end s (in_record.AfterProtectedBy n hs) h =
@@ -168,21 +168,21 @@ record_stage_end s (in_record.AfterField n hs fs k f) h = let d : Declaration = 
     record_end s n hs (fs ++ d ∷ []) (record_stage_tokens (in_record.AfterField n hs fs k f)) (token.Semicolon ∷ token.CloseBrace ∷ []) h (one_field n hs fs d)
 
 global_end : (s : Source) (r g : List ℕ) (kept : List Token → List Token) (rest : List Token) → Fits part.Globals s →
-    global_tokens (record { of = r; name = g }) [] ≡ kept rest → Source_end (λ w. source_tokens s (kept w))
+    global_tokens (record { of = r; name = g }) [] ≡ kept rest → SourceEnd (λ w. source_tokens s (kept w))
 global_end s r g kept rest h e = record {
   source = with_global s (record { of = r; name = g });
   rest = rest;
   is = sym (one_global s (record { of = r; name = g }) [] h) ∙ ap (source_tokens s) e;
 }
 
-global_stage_end : (s : Source) (g : GlobalStage) → Fits part.Globals s → Source_end (λ w. source_tokens s (global_stage_tokens g w))
+global_stage_end : (s : Source) (g : GlobalStage) → Fits part.Globals s → SourceEnd (λ w. source_tokens s (global_stage_tokens g w))
 global_stage_end s in_global.AfterWord h =
     global_end s (120 ∷ []) (120 ∷ []) (global_stage_tokens in_global.AfterWord) (token.Name (120 ∷ []) ∷ token.Name (120 ∷ []) ∷ token.Semicolon ∷ []) h refl
 global_stage_end s (in_global.AfterRecord r) h = global_end s r r (global_stage_tokens (in_global.AfterRecord r)) (token.Name r ∷ token.Semicolon ∷ []) h refl
 global_stage_end s (in_global.AfterName r g) h = global_end s r g (global_stage_tokens (in_global.AfterName r g)) (token.Semicolon ∷ []) h refl
 
 thread_end : (s : Source) (n : List ℕ) (ls : List Declaration) (b : Body) (kept : List Token → List Token) (rest : List Token) →
-    thread_tokens (record { name = n; locals = ls; body = b }) [] ≡ kept rest → Source_end (λ w. source_tokens s (kept w))
+    thread_tokens (record { name = n; locals = ls; body = b }) [] ≡ kept rest → SourceEnd (λ w. source_tokens s (kept w))
 thread_end s n ls b kept rest e = record {
   source = with_thread s (record { name = n; locals = ls; body = b });
   rest = rest;
@@ -194,7 +194,7 @@ one_local : (n : List ℕ) (ls : List Declaration) (d : Declaration) → thread_
     opened n ls (kind_token d.kind ∷ token.Name d.name ∷ token.Semicolon ∷ token.CloseBrace ∷ [])
 one_local n ls d = ap (λ x. token.Thread ∷ token.Name n ∷ token.OpenBrace ∷ x) (declarations_append ls d (token.CloseBrace ∷ []))
 
-thread_stage_end : (s : Source) (t : ThreadStage) → Source_end (λ w. source_tokens s (thread_stage_tokens t w))
+thread_stage_end : (s : Source) (t : ThreadStage) → SourceEnd (λ w. source_tokens s (thread_stage_tokens t w))
 thread_stage_end s in_thread.AfterWord = thread_end s (120 ∷ []) [] End (thread_stage_tokens in_thread.AfterWord) (token.Name (120 ∷ []) ∷ no_block []) refl
 thread_stage_end s (in_thread.AfterName n) = thread_end s n [] End (thread_stage_tokens (in_thread.AfterName n)) (no_block []) refl
 thread_stage_end s (in_thread.Locals n ls) = thread_end s n ls End (thread_stage_tokens (in_thread.Locals n ls)) (token.CloseBrace ∷ []) refl
@@ -205,7 +205,7 @@ thread_stage_end s (in_thread.AfterLocal n ls k x) = let d : Declaration = recor
 thread_stage_end s (in_thread.Inside n ls x) = let e = stand_end x.frames x.before x.place in
     thread_end s n ls e.body (thread_stage_tokens (in_thread.Inside n ls x)) (e.more (token.CloseBrace ∷ [])) (ap (opened n ls) (e.is (token.CloseBrace ∷ [])))
 
-source_end : (s : Source) (g : Stage) → Fits (part_in g) s → Source_end (λ w. source_tokens s (stage_tokens g w))
+source_end : (s : Source) (g : Stage) → Fits (part_in g) s → SourceEnd (λ w. source_tokens s (stage_tokens g w))
 source_end s (stage.Between p) h = record { source = s; rest = []; is = refl }
 source_end s (stage.Record r) h = record_stage_end s r h
 source_end s (stage.Global g) h = global_stage_end s g h

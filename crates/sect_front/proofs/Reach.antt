@@ -1,5 +1,7 @@
 -- How the tokens of a text follow one another.
 use Rattle.std.proofs.Common.{◌≡◌, ◌≢◌, ℕ, zero, suc, ◌+◌, ◌<◌, ◌≤◌, Bool, true, false, not, ◌&&◌, cond, eqb, List, [], ◌∷◌, ◌++◌, Some, None, length, drop, get_or, refl, sym, ◌∙◌, ap, subst, arith, length-drop}
+use Rattle.std.specs.List.{slice_get}
+use Rattle.std.proofs.lemmas.Option.{slice_get-get_or}
 use Rattle.sect_front.specs.Gaps.{begins_with, after_gap, skip, is_blank}
 use Rattle.sect_front.specs.Lexeme.{lexeme_of}
 use Rattle.sect_front.specs.Lexing.{IsFirst, IsBad, Reaches, Spells, IsBadAt}
@@ -85,6 +87,12 @@ bad_or_lexed bytes at qs h k =
     let e = (same_reach (length bytes) bytes h.before qs h.rest k.0 h.reaches k.1 h.bad (nothing_bad _ k.2)).1 in
     h.some (ap after_gap e ∙ k.2)
 
+-- a text has one first bad lexeme at most
+pub one_bad : (bytes : List ℕ) (at at' : ℕ) → IsBadAt bytes at → IsBadAt bytes at' → at ≡ at'
+one_bad bytes at at' h k =
+    let e = (same_reach (length bytes) bytes h.before k.before h.rest k.rest h.reaches k.reaches h.bad k.bad).1 in
+    omega (arith, h.place, k.place, ap (λ r. length (after_gap r)) e)
+
 -- each place is in the text
 places_fit : (total : ℕ) (bytes : List ℕ) (ps : List Placed) (rest : List ℕ) → Reaches total bytes ps rest → (i : ℕ) (d : Placed) → i < length ps → (get_or ps i d).at ≤ total
 places_fit total bytes [] rest h i d lt = absurd (omega arith)
@@ -93,3 +101,7 @@ places_fit total bytes (p ∷ ps) rest h (suc i) d lt = places_fit total (drop h
 
 pub place_fits : (bytes : List ℕ) (ps : List Placed) → Spells bytes ps → (i : ℕ) (p : Placed) → i < length ps → p ≡ get_or ps i p → p.at ≤ length bytes
 place_fits bytes ps h i p lt e = omega (arith, places_fit (length bytes) bytes ps h.0 h.1 i p lt, ap (λ q. q.at) e)
+
+-- a place that is read is found
+pub found_at : (ps : List Placed) (i : ℕ) (p : Placed) → i < length ps → p ≡ get_or ps i p → slice_get ps i ≡ Some p
+found_at ps i p lt e = slice_get-get_or ps i p lt ∙ ap Some (sym e)

@@ -9,7 +9,8 @@ use Rattle.sect_front.specs.Tokens.{source_tokens}
 use Rattle.sect_front.specs.Braces.{brace, open_after}
 use Rattle.sect_front.specs.Reading.{Reading, reading, empty}
 use Rattle.sect_front.specs.Read.{read_one, after, finish_of, finish_at}
-use Rattle.sect_front.specs.Faults.{IsViable, IsTree, IsUnexpectedAt, IsTooDeepAt, IsUnfinished, JudgesTokens, tokens_in}
+use Rattle.sect_front.specs.Faults.{IsViable, IsTree, IsUnexpectedAt, IsTooDeepAt, IsUnfinished, tokens_in}
+use Rattle.sect_front.specs.Verdicts.{JudgesTokens}
 use Rattle.sect_front.specs.declared.token.Token.{Token}
 use Rattle.sect_front.specs.declared.token.Token.TheVariants as token
 use Rattle.sect_front.specs.declared.token.Placed.{Placed}

@@ -1,19 +1,18 @@
 -- Where tokens stop to be those of a tree.
-use Rattle.std.specs.Prelude.{◌≡◌, ◌≢◌, ℕ, ◌+◌, ◌<◌, ◌≤◌, List, ◌++◌, take, length, map, Result, Ok, Err, ⊤}
+use Rattle.std.specs.Prelude.{◌≡◌, ◌≢◌, ℕ, ◌+◌, ◌<◌, ◌≤◌, List, ◌++◌, take, length, map}
 use Rattle.sect_front.specs.Grammar.{tokens_of}
 use Rattle.sect_front.specs.Source.{Source}
 use Rattle.sect_front.specs.Depth.{depth}
 use Rattle.sect_front.specs.Braces.{open_after, IsShallow}
 use Rattle.sect_front.specs.declared.token.Token.{Token}
 use Rattle.sect_front.specs.declared.token.Placed.{Placed}
-use Rattle.sect_front.specs.declared.reading.TokenFault.{TokenFault}
-use Rattle.sect_front.specs.declared.reading.TokenFault.TheVariants as fault
 
 -- the tokens without their places
 abbrev pub tokens_in : List Placed → List Token
 tokens_in places = map (λ p. p.token) places
 
--- the tokens of some tree, of any depth, begin so
+-- the tokens of some tree, of any depth, begin so; it makes no difference that a tree here may have any bytes as a name
+-- and any number as an integer, since what follows may be finished with others
 abbrev pub IsViable : List Token → Type 0
 IsViable front = (tree : Source) × (rest : List Token) × (tokens_of tree ≡ front ++ rest)
 
@@ -41,10 +40,3 @@ pub record IsUnfinished (list : List Token) : Type 0 where
   pub viable : IsViable list
   pub none : (tree : Source) → tokens_of tree ≢ list
   pub shallow : IsShallow list
-
-abbrev pub JudgesTokens : List Token → Result Source TokenFault → Type 0
-JudgesTokens list (Ok tree) = IsTree list tree
-JudgesTokens list (Err (fault.Unexpected i)) = IsUnexpectedAt list i
-JudgesTokens list (Err (fault.TooDeep i)) = IsTooDeepAt list i
-JudgesTokens list (Err fault.Unfinished) = IsUnfinished list
-JudgesTokens list (Err fault.Memory) = ⊤

@@ -1,6 +1,7 @@
 -- What a source text is, and where it stops to be one.
-use Rattle.std.specs.Prelude.{◌≡◌, ℕ, ◌+◌, ◌-◌, ◌<◌, ◌≤◌, ◌==◌, Bool, true, false, List, Result, Ok, Err, ⊤, length, take, drop, count_by, slice_index_or}
+use Rattle.std.specs.Prelude.{◌≡◌, ℕ, ◌+◌, ◌-◌, ◌<◌, ◌≤◌, ◌==◌, Bool, true, false, List, Result, Ok, Err, ⊤, length, take, drop, count_by, slice_get, Some}
 use Rattle.sect_front.specs.Words.{is_letter, is_digit, begins}
+use Rattle.sect_front.specs.Gaps.{line_feed}
 use Rattle.sect_front.specs.Lexing.{Spells, IsBadAt}
 use Rattle.sect_front.specs.Source.{Source}
 use Rattle.sect_front.specs.Faults.{tokens_in, IsTree, IsUnexpectedAt, IsTooDeepAt, IsUnfinished}
@@ -17,7 +18,7 @@ pub record IsSpelled (bytes : List ℕ) (tree : Source) : Type 0 where
 
 -- the line of a place: one plus the line feeds before it
 abbrev pub line_of : List ℕ → ℕ → ℕ
-line_of bytes at = count_by (λ b. b == 10) (take at bytes) + 1
+line_of bytes at = count_by (λ b. b == line_feed) (take at bytes) + 1
 
 -- there is a first bad lexeme, it begins so, and it stands on this line
 pub record IsBadOn (bytes : List ℕ) (line : ℕ) (letter digit : Bool) : Type 0 where
@@ -35,8 +36,7 @@ pub record IsTokenOn (holds : List Placed → ℕ → Type 0) (bytes : List ℕ)
   pub spells : Spells bytes places
   pub index : ℕ
   pub token : Placed
-  pub within : index < length places
-  pub found : token ≡ slice_index_or places index token
+  pub found : slice_get places index ≡ Some token
   pub fault : holds places index
   pub place : line ≡ line_of bytes token.at
 
@@ -48,6 +48,7 @@ pub record IsEndOn (bytes : List ℕ) (line : ℕ) : Type 0 where
   pub fault : IsUnfinished (tokens_in places)
   pub place : line ≡ line_of bytes (length bytes - 1)
 
+-- the fault is the text's first, and it stands on its line
 abbrev pub IsFault : List ℕ → FrontFault → Type 0
 IsFault bytes fault.TooLarge = 1048576 < length bytes
 IsFault bytes (fault.BadByte line) = IsBadOn bytes line false false
@@ -68,3 +69,9 @@ abbrev pub Gives : Source → Result Source FrontFault → Type 0
 Gives tree (Ok given) = given ≡ tree
 Gives tree (Err fault.Memory) = ⊤
 Gives tree (Err _) = ⊥
+
+-- this fault is the answer, unless memory ran out
+abbrev pub Refuses : FrontFault → Result Source FrontFault → Type 0
+Refuses e (Ok tree) = ⊥
+Refuses e (Err fault.Memory) = ⊤
+Refuses e (Err given) = given ≡ e

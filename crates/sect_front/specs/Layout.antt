@@ -1,6 +1,7 @@
 -- How the tokens of a tree are printed.
 use Rattle.std.specs.Prelude.{◌≡◌, ℕ, List, [], ◌∷◌, ◌++◌}
 use Rattle.sect_front.specs.Source.{Source}
+use Rattle.sect_front.specs.Gaps.{line_feed}
 use Rattle.sect_front.specs.Grammar.{tokens_of}
 use Rattle.sect_front.specs.Spelling.{spelling_of}
 use Rattle.sect_front.specs.Lexing.{Spells}
@@ -11,15 +12,15 @@ use Rattle.sect_front.specs.declared.token.Placed.{Placed}
 
 -- what stands between a token and the next: a line feed after `;`, `{` and `}`, and else a blank
 abbrev pub separator : Token → ℕ
-separator token.Semicolon = 10
-separator token.OpenBrace = 10
-separator token.CloseBrace = 10
+separator token.Semicolon = line_feed
+separator token.OpenBrace = line_feed
+separator token.CloseBrace = line_feed
 separator _ = 32
 
 -- the tokens with what stands between them, and a line feed at the end of a text that isn't empty
 abbrev pub layout_of : List Token → List ℕ
 layout_of [] = []
-layout_of (t ∷ []) = spelling_of t ++ 10 ∷ []
+layout_of (t ∷ []) = spelling_of t ++ line_feed ∷ []
 layout_of (t ∷ u ∷ w) = spelling_of t ++ separator t ∷ layout_of (u ∷ w)
 
 -- the text spells the tokens of the tree

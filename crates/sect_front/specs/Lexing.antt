@@ -1,15 +1,14 @@
 -- The tokens that a text spells, and the first place at which none stands.
-use Rattle.std.specs.Prelude.{◌≡◌, ◌≢◌, ℕ, ◌+◌, ◌<◌, ◌≤◌, Bool, true, not, List, [], ◌∷◌, length, take, drop, Result, Ok, Err, ⊤}
+use Rattle.std.specs.Prelude.{◌≡◌, ◌≢◌, ℕ, ◌+◌, ◌<◌, ◌≤◌, Bool, true, not, List, [], ◌∷◌, length, take, drop}
 use Rattle.sect_front.specs.Words.{is_name_byte, begins}
-use Rattle.sect_front.specs.Gaps.{begins_with, after_gap}
+use Rattle.sect_front.specs.Gaps.{equals_sign, begins_with, after_gap}
 use Rattle.sect_front.specs.Spelling.{IsSpelling}
 use Rattle.sect_front.specs.declared.token.Token.{Token}
 use Rattle.sect_front.specs.declared.token.Token.TheVariants as token
 use Rattle.sect_front.specs.declared.token.Placed.{Placed}
-use Rattle.sect_front.specs.declared.lexing.LexFault.{LexFault}
-use Rattle.sect_front.specs.declared.lexing.LexFault.TheVariants as fault
 
--- whether a token may stand directly before these bytes: `=` and `<` not before `=`, a name, a keyword and an integer not before a name byte
+-- whether a token may stand directly before these bytes: `=` and `<` not before `=`, and a name, a keyword or an integer
+-- not before a byte of names
 abbrev pub stands : Token → List ℕ → Bool
 stands token.OpenBrace rest = true
 stands token.CloseBrace rest = true
@@ -23,8 +22,8 @@ stands token.Star rest = true
 stands token.EqualEqual rest = true
 stands token.NotEqual rest = true
 stands token.LessEqual rest = true
-stands token.Equal rest = not (begins_with 61 rest)
-stands token.Less rest = not (begins_with 61 rest)
+stands token.Equal rest = not (begins_with equals_sign rest)
+stands token.Less rest = not (begins_with equals_sign rest)
 stands _ rest = not (begins is_name_byte rest)
 
 -- the token stands at the front, in the first n bytes
@@ -38,13 +37,14 @@ pub record IsFirst (t : Token) (n : ℕ) (bytes : List ℕ) : Type 0 where
 abbrev pub IsBad : List ℕ → Type 0
 IsBad bytes = (t : Token) (n : ℕ) → IsFirst t n bytes → ⊥
 
--- these tokens stand at the front of the bytes, the last ones of a text of so many, and the rest follows
+-- these tokens stand at the front, each after a gap of blanks and comments, and the rest follows; the bytes are the last
+-- ones of a text of so many, and each token's place is the offset of its first byte in that text
 abbrev pub Reaches : ℕ → List ℕ → List Placed → List ℕ → Type 0
 Reaches total bytes [] rest = bytes ≡ rest
 Reaches total bytes (p ∷ ps) rest =
     (n : ℕ) × (p.at + length (after_gap bytes) ≡ total) × IsFirst p.token n (after_gap bytes) × Reaches total (drop n (after_gap bytes)) ps rest
 
--- the text spells these tokens, at these places
+-- the text spells these tokens, at these places, with gaps before, between and after them
 abbrev pub Spells : List ℕ → List Placed → Type 0
 Spells bytes places = (rest : List ℕ) × Reaches (length bytes) bytes places rest × (after_gap rest ≡ [])
 
@@ -56,8 +56,3 @@ pub record IsBadAt (bytes : List ℕ) (at : ℕ) : Type 0 where
   pub some : after_gap rest ≢ []
   pub bad : IsBad (after_gap rest)
   pub place : at + length (after_gap rest) ≡ length bytes
-
-abbrev pub Lexes : List ℕ → Result (List Placed) LexFault → Type 0
-Lexes bytes (Ok places) = Spells bytes places
-Lexes bytes (Err (fault.Bad at)) = IsBadAt bytes at
-Lexes bytes (Err fault.Memory) = ⊤

@@ -18,6 +18,7 @@ pub mod Lexing
 pub mod Braces
 pub mod Faults
 pub mod Front
+pub mod Verdicts
 pub mod Advance
 pub mod Stand
 pub mod Step

@@ -55,7 +55,7 @@ abbrev pub as_number : Option ℕ → Option Token
 as_number None = None
 as_number (Some n) = Some (token.Number n)
 
--- the sign that a byte is alone
+-- the sign that a byte is alone: one of { } ( ) ; . = + - * <
 abbrev pub single_sign : ℕ → Option Token
 single_sign b =
     if b == 123 then Some token.OpenBrace else (
@@ -70,7 +70,7 @@ single_sign b =
     if b == 42 then Some token.Star else (
     if b == 60 then Some token.Less else None))))))))))
 
--- the sign that a byte and `=` are
+-- the sign that a byte and `=` are: == != <=
 abbrev pub double_sign : ℕ → Option Token
 double_sign b =
     if b == 61 then Some token.EqualEqual else (

@@ -1,7 +1,7 @@
 //! The tokens of a whole text.
 
 ghost use Rattle.std.specs.Prelude.{◌≡◌, IfOk, IfErr, Ok, Err};
-ghost use Rattle.sect_front.specs.Lexing.{Lexes};
+ghost use Rattle.sect_front.specs.Verdicts.{Lexes};
 
 use crate::lexer::{after_gap, lexeme};
 use crate::token::Placed;

@@ -6,6 +6,7 @@ ghost use Rattle.sect_front.specs.Tokens.{primitive_tokens, test_tokens, form_to
 ghost use Rattle.sect_front.specs.Trees.{form_of};
 ghost use Rattle.sect_front.specs.Writes.{Writes};
 
+use crate::name::Name;
 use crate::token::Token;
 use crate::tree::{
     Block, Comparison, Declarations, GlobalObject, Hints, Kind, Operand, Operator, Primitive,
@@ -60,31 +61,35 @@ fn kind(k: Kind) -> Token
     }
 }
 
+// `x =`
+fn put_assigned(out: &mut Vec<Token>, x: Name) -> Result<(), AllocError>
+    ensures { OnOk result (Writes out.old.items out.new.items (λ w. Token.Name x ∷ Token.Equal ∷ w)) }
+{
+    put(out, Token::Name(x))?;
+    put(out, Token::Equal)
+}
+
 fn put_primitive(out: &mut Vec<Token>, p: Primitive) -> Result<(), AllocError>
     ensures { OnOk result (Writes out.old.items out.new.items (primitive_tokens p)) }
 {
     match p {
         Primitive::Assign(x, v) => {
-            put(out, Token::Name(x))?;
-            put(out, Token::Equal)?;
+            put_assigned(out, x)?;
             put(out, operand(v))?;
         }
         Primitive::Compute(x, v, o, w) => {
-            put(out, Token::Name(x))?;
-            put(out, Token::Equal)?;
+            put_assigned(out, x)?;
             put(out, operand(v))?;
             put(out, operator(o))?;
             put(out, operand(w))?;
         }
         Primitive::New(x, r) => {
-            put(out, Token::Name(x))?;
-            put(out, Token::Equal)?;
+            put_assigned(out, x)?;
             put(out, Token::New)?;
             put(out, Token::Name(r))?;
         }
         Primitive::Load(x, y, f) => {
-            put(out, Token::Name(x))?;
-            put(out, Token::Equal)?;
+            put_assigned(out, x)?;
             put(out, Token::Name(y))?;
             put(out, Token::Dot)?;
             put(out, Token::Name(f))?;
@@ -184,14 +189,14 @@ fn put_hints(out: &mut Vec<Token>, hints: &Hints) -> Result<(), AllocError>
     Ok(())
 }
 
-fn put_record(out: &mut Vec<Token>, record: &Record) -> Result<(), AllocError>
-    ensures { OnOk result (Writes out.old.items out.new.items (record_tokens record.now)) }
+fn put_record(out: &mut Vec<Token>, declared: &Record) -> Result<(), AllocError>
+    ensures { OnOk result (Writes out.old.items out.new.items (record_tokens declared.now)) }
 {
     put(out, Token::Record)?;
-    put(out, Token::Name(record.name))?;
-    put_hints(out, &record.hints)?;
+    put(out, Token::Name(declared.name))?;
+    put_hints(out, &declared.hints)?;
     put(out, Token::OpenBrace)?;
-    put_declarations(out, &record.fields)?;
+    put_declarations(out, &declared.fields)?;
     put(out, Token::CloseBrace)
 }
 

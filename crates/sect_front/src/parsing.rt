@@ -1,7 +1,7 @@
 //! A source text as a tree.
 
-ghost use Rattle.std.specs.Prelude.{◌≡◌, ◌≤◌, length};
-ghost use Rattle.sect_front.specs.Front.{IsSpelled, IsFault, Judges, Gives, line_of as line};
+ghost use Rattle.std.specs.Prelude.{◌≡◌, ◌≢◌, ◌≤◌, length};
+ghost use Rattle.sect_front.specs.Front.{IsSpelled, IsFault, Judges, Gives, Refuses, line_of as line};
 ghost use Rattle.sect_front.specs.Lexing.{IsBadAt};
 ghost use Rattle.sect_front.specs.Source.{Source};
 
@@ -69,16 +69,21 @@ fn bad(bytes: &[u8], at: usize) -> FrontFault
     }
 }
 
-/// The tree that a text spells, or the first fault of the text.
+/// The tree that a text spells, or why it spells none: `TooLarge` first, then the first bad lexeme of the whole text, then
+/// the first token with which the text is no beginning of any or opens a block of depth 33, then its early end. `Memory`
+/// is answered only where a growth was refused.
 pub fn parse(alloc: Global, bytes: &[u8]) -> Result<Tree, FrontFault>
     // A tree that is given is spelled so, and a fault is the first one, on its line.
     ensures judges { Judges bytes.now result }
     // A tree that is spelled so is given, unless memory runs out.
     ensures only { (tree : Source) → IsSpelled bytes.now tree → Gives tree result }
+    // A text that has a fault is refused with it, unless memory runs out.
+    ensures refuses { (fault : FrontFault) → fault ≢ FrontFault.Memory → IsFault bytes.now fault → Refuses fault result }
 {
     judge(alloc, bytes)
 }
 
+// The same, by its answer alone.
 fn judge(alloc: Global, bytes: &[u8]) -> Result<Tree, FrontFault>
     ensures { Judges bytes.now result }
 {

@@ -2,7 +2,8 @@
 
 ghost use Rattle.std.specs.Prelude.{◌≡◌, ◌<◌};
 ghost use Rattle.sect_front.specs.Braces.{brace};
-ghost use Rattle.sect_front.specs.Faults.{JudgesTokens, tokens_in};
+ghost use Rattle.sect_front.specs.Faults.{tokens_in};
+ghost use Rattle.sect_front.specs.Verdicts.{JudgesTokens};
 
 use crate::reader::Reader;
 use crate::token::{Placed, Token};

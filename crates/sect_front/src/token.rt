@@ -3,7 +3,7 @@
 use crate::literal::Literal;
 use crate::name::Name;
 
-/// A token of a source text.
+/// A token of a source text. `class` is a keyword that stands in no rule of the grammar.
 #[derive(Clone, Copy)]
 pub enum Token {
     Name(Name),

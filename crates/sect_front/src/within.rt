@@ -10,7 +10,7 @@ use std::alloc::{AllocError, AllocFailed, Global};
 use std::marker::Model;
 use std::mem;
 
-/// A block that stands open, with the statements before it.
+/// A block that stands open: the statements before the one that it belongs to, and what has been read of that one.
 #[derive(Drop)]
 pub enum Frame {
     Atomic(Block),
@@ -81,6 +81,7 @@ impl Model for Within {
 impl Within {
     ghost use Rattle.sect_front.specs.Step.{Steps, start_step, close_step, moved, step_of};
 
+    /// No statements.
     pub fn new(alloc: Global) -> Within
         ensures { result ≡ record { frames = []; before = End; place = Place.Start } }
     {
@@ -91,7 +92,7 @@ impl Within {
         }
     }
 
-    /// The statements of a thread whose first has begun so.
+    /// The statements of a thread of which the first has begun so.
     pub fn begun(alloc: Global, line: Line) -> Within
         ensures { result ≡ record { frames = []; before = End; place = Place.Inside line } }
     {
@@ -102,7 +103,7 @@ impl Within {
         }
     }
 
-    /// Takes one more token. The body comes with the thread's last brace.
+    /// Takes one more token. The thread's body comes with its last brace.
     pub fn step(&mut self, alloc: Global, token: Token) -> Result<Option<Block>, StepError>
         ensures { Steps result self.new (step_of self.old token) }
     {

@@ -1,13 +1,21 @@
 -- The verdict on a list names its first fault.
-use Rattle.std.proofs.Common.{◌≡◌, ℕ, zero, suc, ◌+◌, ◌≤◌, Bool, true, false, List, [], ◌∷◌, Option, Some, None, if◌then◌else◌, refl, sym, ◌∙◌, true≢false, arith, subst}
+use Rattle.std.proofs.Common.{◌≡◌, ℕ, zero, suc, ◌+◌, ◌≤◌, Bool, true, false, List, [], ◌∷◌, Option, Some, None, Result, Ok, Err, if◌then◌else◌, refl, sym, ◌∙◌, true≢false, arith, subst}
 use Rattle.sect_front.specs.declared.tree.Primitive.TheVariants as primitive
 use Rattle.sect_front.specs.declared.tree.Record.{Record}
 use Rattle.sect_front.specs.declared.tree.GlobalObject.{GlobalObject}
 use Rattle.sect_types.specs.declared.rule.Rule.{Rule}
 use Rattle.sect_types.specs.declared.rule.Rule.TheVariants.{Unknown, Twice, WrongType, SharedOutside, Nested, TooMany}
-use Rattle.sect_types.specs.Items.{Item, ARecord, AField, AGlobal, AThread, ALocal, AStatement, PrimitiveHead, TestHead, AtomicHead}
-use Rattle.sect_types.specs.Rules.{Counts, breaks, after, least, rule_of, place_of, judge, unless, Verdict, Fine, Faulty}
-use Rattle.sect_types.specs.First.{BreaksFrom, number_of_rule, IsFirstFrom, none_yet}
+use Rattle.sect_front.specs.Source.{Source}
+use Rattle.std.specs.Result.{IsErrAnd, IsOkUnless}
+use Rattle.sect_types.specs.declared.rule.TypeFault.{TypeFault}
+use Rattle.sect_types.specs.declared.rule.TypeFault.TheVariants.{Memory}
+use Rattle.sect_types.specs.Faults.{type_fault}
+use Rattle.sect_types.specs.Items.{items, record_items, global_items, thread_items, Item, ARecord, AField, AGlobal, AThread, ALocal, AStatement, PrimitiveHead, TestHead, AtomicHead}
+use Rattle.sect_types.specs.Rules.{Counts, breaks, after, least, rule_of, place_of, judge, unless, Verdict, Fine, Faulty, sight}
+use Rattle.sect_types.specs.First.{BreaksFrom, number_of_rule, IsFirstFrom, none_yet, IsTyped}
+use Rattle.sect_types.specs.Walks.{Walks}
+use Rattle.sect_types.specs.declared.rule.Fault.{Fault}
+use Rattle.sect_types.specs.declared.rule.Fault.TheVariants as fault
 
 -- what the least rule says of the tests
 abbrev Least : (Rule → Bool) → Option Rule → Type 0
@@ -162,3 +170,17 @@ fault_says rs gs list n r e = by (subst (Says rs gs none_yet list) e (judge_says
   where
     by : Says rs gs none_yet list (Faulty n r) → IsFirstFrom rs gs none_yet list n r
     by (i, at, is) = let same : i ≡ n = omega arith in subst (λ k. IsFirstFrom rs gs none_yet list k r) same is
+
+-- a typed tree is refused for memory alone
+pub refused_typed : (t : Source) (new : Counts) (f : Fault)
+    → Walks {A = ℕ} (sight t.records t.globals []) (λ w. record_items [] t.records (global_items [] t.globals (thread_items [] t.threads w))) none_yet new (Err f) → IsTyped t
+    → type_fault f ≡ Memory
+refused_typed t new fault.Memory walks typed = refl
+refused_typed t new (fault.Broken i r) walks typed = absurd (typed i r (fault_says t.records t.globals (items t) i r (walks [])).broken)
+
+pub only_memory : {A : Type 0} (t : Source) (start new : Counts) (f : Fault) (r : Result A TypeFault) → start ≡ none_yet
+    → Walks {A = ℕ} (sight t.records t.globals []) (λ w. record_items [] t.records (global_items [] t.globals (thread_items [] t.threads w))) start new (Err f)
+    → IsErrAnd r (λ e. e ≡ type_fault f) → IsTyped t → IsOkUnless r Memory
+only_memory t start new f (Ok a) e walks h typed = absurd h
+only_memory t start new f (Err x) e walks h typed =
+    h ∙ refused_typed t new f (subst (λ c. Walks {A = ℕ} (sight t.records t.globals []) (λ w. record_items [] t.records (global_items [] t.globals (thread_items [] t.threads w))) c new (Err f)) e walks) typed

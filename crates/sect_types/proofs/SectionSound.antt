@@ -1,4 +1,4 @@
--- A section of a sound program is sound.
+-- The texts and the sections of a sound program are sound.
 use Rattle.std.proofs.Common.{◌≡◌, ℕ, zero, suc, ◌+◌, ◌<◌, List, [], ◌∷◌, ◌++◌, map, length, get_or, sym, ap, ◌∙◌, subst, inl, inr, arith, true, false, Some}
 use Rattle.std.specs.Prelude.{slice_get}
 use Rattle.sect_types.specs.Lists.{Has}
@@ -54,3 +54,12 @@ section_sound records globals locals texts n s sound at =
     let r = sections_sound records globals locals texts 0 s sound (Has-slice_get (sections_of texts) n s at) in
     let is : r.0 ≡ s.thread = omega (arith, r.1) in
     (omega (arith, r.1, r.2), subst (λ j. IsSound (with_locals records globals (get_or locals j [])) true s.body) is r.3)
+
+pub text_sound : (records : List (List ValueType)) (globals : List ℕ) (locals : List (List ValueType)) (texts : List Statements) (t : ℕ) (p : Statements)
+    → AreSound records globals locals texts → slice_get texts t ≡ Some p → IsSound (with_locals records globals (get_or locals t [])) false p
+text_sound records globals locals [] t p sound at = absurd cc
+text_sound records globals [] (q ∷ texts) t p sound at = absurd sound
+text_sound records globals (ls ∷ locals) (q ∷ texts) zero p sound at =
+    let same : q ≡ p = cc in
+    subst (λ (x : Statements). IsSound (with_locals records globals ls) false x) same sound.0
+text_sound records globals (ls ∷ locals) (q ∷ texts) (suc t) p sound at = text_sound records globals locals texts t p sound.1 at

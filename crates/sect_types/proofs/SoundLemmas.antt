@@ -213,7 +213,7 @@ within : (b : Bool) (n len k : ℕ) → nat_lt n len ≡ b → cond b (Some n) N
 within true n len k e h = let same : n ≡ k = cc in omega (arith, ltb-true n len e, same)
 within false n len k e h = absurd (cc)
 
-place_within : (x : List ℕ) (names : List (List ℕ)) (k : ℕ) → place x names ≡ Some k → k < length names
+pub place_within : (x : List ℕ) (names : List (List ℕ)) (k : ℕ) → place x names ≡ Some k → k < length names
 place_within x names k h = within (nat_lt (prefix_len (λ y. not (pointwise nat_eq x y)) names) (length names)) _ (length names) k refl h
 
 new_sound : (s : Sight) (x : Option Denoted) (r : List ℕ) (n : Option ℕ) (site : ℕ) → place r (names_of_records s.records) ≡ n → IfSome x (IsThere s)

@@ -1,5 +1,5 @@
 -- Declarations by number.
-use Rattle.std.specs.Prelude.{ℕ, List, map, unwrap_or}
+use Rattle.std.specs.Prelude.{ℕ, ⊤, ◌<◌, List, map, unwrap_or}
 use Rattle.sect_front.specs.declared.tree.Record.{Record}
 use Rattle.sect_front.specs.declared.tree.GlobalObject.{GlobalObject}
 use Rattle.sect_front.specs.declared.tree.Declaration.{Declaration}
@@ -45,3 +45,8 @@ environment s = record {
   globals = global_records (names_of_records s.records) s.globals;
   locals = types_of (names_of_records s.records) s.locals;
 }
+
+-- the record of a reference is one of n records
+abbrev pub IsInRange : ℕ → ValueType → Type 0
+IsInRange n Int = ⊤
+IsInRange n (Refers r) = r < n

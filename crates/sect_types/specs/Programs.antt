@@ -1,13 +1,13 @@
 -- Programs.
-use Rattle.std.specs.Prelude.{◌≡◌, ◌≤◌, ℕ, ◌+◌, List, [], ◌∷◌, ◌++◌, true, length, All, slice_index_or}
+use Rattle.std.specs.Prelude.{◌≡◌, ◌≤◌, ◌<◌, ℕ, ◌+◌, List, [], ◌∷◌, ◌++◌, true, length, All, slice_index_or}
 use Rattle.sect_front.specs.Source.{Source}
 use Rattle.sect_types.specs.declared.types.ValueType.{ValueType}
 use Rattle.sect_types.specs.Sight.{names_of_records}
 use Rattle.sect_types.specs.Rules.{Counts}
 use Rattle.sect_types.specs.Statements.{Statements, statement_count, made_in}
 use Rattle.sect_types.specs.Numbered.{numbered_threads, after_threads}
-use Rattle.sect_types.specs.Listing.{after_records, fields_fine, locals_fine}
-use Rattle.sect_types.specs.Environments.{Environment, field_types, global_records, local_types}
+use Rattle.sect_types.specs.Listing.{after_records, fields_fine, globals_known, locals_fine}
+use Rattle.sect_types.specs.Environments.{Environment, field_types, global_records, local_types, IsInRange}
 use Rattle.sect_types.specs.Sound.{AreSound}
 use Rattle.sect_types.specs.Threads.{AreThreadsSound}
 use Rattle.sect_types.specs.Sections.{sections_of, AllNumbered, AllSited}
@@ -62,6 +62,12 @@ pub record IsWithinLimits (p : Numbered) : Type 0 where
   pub few_sections : length (sections_of p.texts) ≤ 256
   pub few_sites : length (sites_of p.globals p.texts) ≤ 1024
 
+-- each reference has its record
+pub record AreRecordsThere (p : Numbered) : Type 0 where
+  pub of_fields : All (λ (ts : List ValueType). All (IsInRange (length p.records)) ts) p.records
+  pub of_globals : All (λ (r : ℕ). r < length p.records) p.globals
+  pub of_locals : All (λ (ts : List ValueType). All (IsInRange (length p.records)) ts) p.locals
+
 -- the numbers are those of the tree
 pub record IsOfTree (p : Numbered) : Type 0 where
   pub records_are : p.records ≡ field_types (names_of_records p.source.records) p.source.records
@@ -73,6 +79,7 @@ pub record IsOfTree (p : Numbered) : Type 0 where
 pub record IsWellNumbered (p : Numbered) (sections sites statements : ℕ) : Type 0 where
   pub of_tree : IsOfTree p
   pub sound : AreSound p.records p.globals p.locals p.texts
+  pub records_there : AreRecordsThere p
   pub limits : IsWithinLimits p
   pub numbered : AllNumbered 0 p.texts
   pub sited : AllSited (length p.globals) p.texts
@@ -96,5 +103,6 @@ pub record IsCounted (t : Source) (texts : List Statements) (end : Counts) : Typ
   pub few_records : length t.records ≤ 64
   pub fine_fields : fields_fine (names_of_records t.records) t.records ≡ true
   pub few_globals : length t.globals ≤ 256
+  pub known_globals : globals_known (names_of_records t.records) t.globals ≡ true
   pub few_threads : length t.threads ≤ 64
   pub fine_locals : locals_fine (names_of_records t.records) t.threads ≡ true

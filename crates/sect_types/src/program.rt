@@ -1,6 +1,6 @@
 //! Typed programs.
 
-ghost use Rattle.std.specs.Prelude.{◌≡◌, ◌≤◌, ◌<◌, ◌+◌, ◌++◌, ◌∷◌, [], true, false, IfOk, OnOk, Some, length, slice_get};
+ghost use Rattle.std.specs.Prelude.{List, IsOkUnless, ◌≡◌, ◌≤◌, ◌<◌, ◌+◌, ◌++◌, ◌∷◌, [], true, false, IfOk, OnOk, Some, length, slice_get};
 ghost use Rattle.sect_types.specs.Sight.{names_of_records, names_of_globals, all_fields};
 ghost use Rattle.sect_types.specs.Items.{AThread, items, record_items, global_items, local_items, body_items, thread_items};
 ghost use Rattle.sect_types.specs.Rules.{sight};
@@ -8,12 +8,14 @@ ghost use Rattle.sect_types.specs.Walks.{Walks};
 ghost use Rattle.sect_types.specs.Listing.{Knows, all_known, fields_fine, globals_known, locals_fine};
 ghost use Rattle.sect_types.specs.Environments.{environment};
 ghost use Rattle.sect_types.specs.Sound.{IsSound, AreSound};
-ghost use Rattle.sect_types.specs.Sections.{sections_of};
+ghost use Rattle.sect_types.specs.declared.types.ValueType.{ValueType};
+ghost use Rattle.sect_types.specs.declared.rule.TypeFault.TheVariants.{Memory};
+ghost use Rattle.sect_types.specs.Sections.{sections_of, AllNumbered, AllSited};
 ghost use Rattle.sect_types.specs.Found.{section_shown};
 ghost use Rattle.sect_types.specs.Numbered.{numbered_body, within_thread, after_thread, after_threads, numbered_threads};
 ghost use Rattle.sect_types.specs.First.{Judges, none_yet, IsTyped};
 ghost use Rattle.sect_types.specs.Threads.{AreThreadsSound};
-ghost use Rattle.sect_types.specs.Programs.{IsWellNumbered, IsWithinLimits, IsOfTree, IsCounted, environment_at, numbered_by, sites_of, total_statements};
+ghost use Rattle.sect_types.specs.Programs.{IsWellNumbered, IsWithinLimits, AreRecordsThere, IsOfTree, IsCounted, environment_at, numbered_by, sites_of, total_statements};
 
 use crate::declare::{globals, known_records, locals, pass_thread, records};
 use crate::names::{NameSet, Names};
@@ -207,11 +209,15 @@ impl Program {
         &self.tree
     }
 
-    /// What typing means for the numbers, in the clauses: each statement is sound, loads, stores, `new` and `print`
-    /// stand inside sections alone, no section stands in a section, and all counts are within the limits.
+    /// What typing means for the numbers, which the clauses say: each name is the number of something that is there,
+    /// and types agree; loads, stores, `new` and `print` stand inside sections alone, and no section in a section; all
+    /// counts are within the limits; sections and sites are numbered in text order.
     pub fn typing(&self)
         ensures sound { AreSound self.now.records self.now.globals self.now.locals self.now.texts }
+        ensures records_there { AreRecordsThere self.now }
         ensures limits { IsWithinLimits self.now }
+        ensures sections { AllNumbered 0 self.now.texts }
+        ensures sites { AllSited (length self.now.globals) self.now.texts }
     {
         let _ = &self.texts;
     }
@@ -248,7 +254,8 @@ impl Program {
     /// The text of a thread.
     pub fn text(&self, thread: u16) -> &Text
         requires { thread < length self.now.texts }
-        ensures { slice_get self.now.texts thread ≡ Some result.now }
+        ensures text { slice_get self.now.texts thread ≡ Some result.now }
+        ensures sound { IsSound (environment_at self.now thread) false result.now }
     {
         &self.texts[thread as usize]
     }
@@ -292,6 +299,7 @@ impl Program {
 #[tactic(auto, using(crate::proofs::FirstLemmas::fine_says, crate::proofs::FirstLemmas::fault_says))]
 pub fn check_types(alloc: Global, tree: Tree) -> Result<Program, TypeFault>
     ensures judges { Judges tree result }
+    ensures only { IsTyped tree → IsOkUnless result Memory }
     ensures same { IfOk result (λ p. p.source ≡ tree) }
 {
     let mut spot = Spot::start();

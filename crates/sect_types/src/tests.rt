@@ -1,72 +1,633 @@
-//! Small programs, made by hand.
+//! Small texts with the answer that each has, the items counted by hand.
 
-use crate::program::check_types;
+use crate::action::{Action, Base, Value};
+use crate::program::{Program, check_types};
 use crate::rule::TypeFault;
-use sect_front::literal::Literal;
-use sect_front::name::Name;
-use sect_front::tree::{
-    Block, Declarations, GlobalObject, Hints, Kind, Operand, Primitive, Record, Statement, Thread,
-    Tree,
-};
+use crate::text::{Step, Text};
+use crate::types::ValueType;
+use sect_front::parse;
 use std::alloc::Global;
 use std::test::Fail;
 
-fn name(text: &str) -> Name {
-    Name::new(text.as_bytes())
+/// Texts without a fault.
+const ACCEPTED: [&str; 20] = [
+    "",
+    "thread e { atomic { } }",
+    // A record is known in every record, also before its own text.
+    "record A { B next; A own; } record B { A back; int f; }",
+    // One name among records, fields, globals and threads is no repetition.
+    "record A { int A; } global A A; thread A { }",
+    "record A { int f; } record B { int f; } global A a; global B b; thread t { int f; int t; } thread u { int f; }",
+    // A hint is no use of a name here.
+    "record A protected_by nowhere protected_by nowhere { int f; }",
+    // Assignments.
+    "record A { } global A a; thread t { int i; int j; A x; A y; i = 5; i = j; x = null; x = a; x = y; i = i; }",
+    "thread t { int i; i = i + 1; i = 2 - i; i = i * i; i = 9223372036854775807 * 0; }",
+    // Loads, stores, `new` and `print`, of locals and of globals.
+    "record A { int f; A g; } global A a; thread t { A x; int i; atomic { x = new A; i = a.f; i = x.f; x = a.g; x = x.g; } }",
+    "record A { int f; A g; } global A a; thread t { A x; int i; atomic { a.f = 1; a.f = i; x.f = 2; a.g = null; a.g = x; x.g = a; } }",
+    "thread t { int i; atomic { print 0; print i; } }",
+    // Tests.
+    "thread t { int i; if (i == 1) { } if (1 != i) { } while (1 < i) { } while (i <= 2) { } }",
+    "record A { } global A a; thread t { A x; if (null == null) { } if (x == null) { } if (null != x) { } if (x == a) { } if (a != a) { } if (null == a) { } }",
+    // Sections stand in branches and loops, and one after another.
+    "thread t { if (1 == 1) { atomic { print 1; } } else { atomic { print 2; } } while (1 < 2) { atomic { } } atomic { } }",
+    // What stands in a section may be nested in tests.
+    "record A { int f; } global A a; thread t { atomic { if (1 == 1) { while (1 == 2) { a.f = 1; } } else { print 1; } } }",
+    // A text may use a global declared after nothing else, and a field has the name of its record.
+    "record R { R R; } global R r; thread t { R x; atomic { x = r.R; x.R = r; r.R = null; } }",
+    // The greatest numbers of fields and threads stand below in tests of their own.
+    "thread t { } thread u { }",
+    "record A { } thread t { A x; A y; x = y; }",
+    "record A { } global A a; global A b; thread t { A x; x = a; if (a == b) { x = b; } }",
+    "thread t { int i; i = 0; } thread u { int i; i = 1; }",
+];
+
+/// Texts with a fault, and the fault.
+const REFUSED: [(&str, &str); 76] = [
+    // An unknown name.
+    ("record A { B f; }", "10 Unknown item 1"),
+    ("record A { int f; A g; B h; }", "10 Unknown item 3"),
+    ("global A a;", "10 Unknown item 0"),
+    ("record A { } global A a; global B b;", "10 Unknown item 2"),
+    ("thread t { A x; }", "10 Unknown item 1"),
+    ("thread t { x = 1; }", "10 Unknown item 1"),
+    ("thread t { int x; x = y; }", "10 Unknown item 2"),
+    ("thread t { int x; x = 1 + y; }", "10 Unknown item 2"),
+    ("thread t { int x; x = y + 1; }", "10 Unknown item 2"),
+    ("thread t { y = 1 + 1; }", "10 Unknown item 1"),
+    (
+        "thread t { int x; atomic { x = new A; } }",
+        "10 Unknown item 3",
+    ),
+    (
+        "record A { } thread t { atomic { x = new A; } }",
+        "10 Unknown item 3",
+    ),
+    (
+        "record A { int f; } global A a; thread t { int i; atomic { i = a.g; } }",
+        "10 Unknown item 6",
+    ),
+    (
+        "record A { int f; } thread t { int i; atomic { i = a.f; } }",
+        "10 Unknown item 5",
+    ),
+    (
+        "record A { int f; } global A a; thread t { atomic { i = a.f; } }",
+        "10 Unknown item 5",
+    ),
+    (
+        "record A { int f; } global A a; thread t { atomic { a.g = 1; } }",
+        "10 Unknown item 5",
+    ),
+    (
+        "record A { int f; } global A a; thread t { atomic { b.f = 1; } }",
+        "10 Unknown item 5",
+    ),
+    (
+        "record A { int f; } global A a; thread t { atomic { a.f = v; } }",
+        "10 Unknown item 5",
+    ),
+    ("thread t { atomic { print x; } }", "10 Unknown item 2"),
+    ("thread t { if (x == 1) { } }", "10 Unknown item 1"),
+    ("thread t { int i; while (i < x) { } }", "10 Unknown item 2"),
+    // A local of another thread isn't known, nor is a thread or a record a value.
+    (
+        "thread t { int x; } thread u { x = 1; }",
+        "10 Unknown item 3",
+    ),
+    ("thread t { int x; x = t; }", "10 Unknown item 2"),
+    ("record A { } thread t { A x; x = A; }", "10 Unknown item 3"),
+    // With an unknown target a field of an integer base is known, and the target is not.
+    (
+        "record A { int f; } thread t { int i; atomic { x = i.f; } }",
+        "10 Unknown item 5",
+    ),
+    // A name twice.
+    ("record A { } record B { } record A { }", "11 Twice item 2"),
+    ("record A { int f; int f; }", "11 Twice item 2"),
+    (
+        "record A { int f; } record B { A f; int g; B f; }",
+        "11 Twice item 5",
+    ),
+    (
+        "record A { } record B { } global A a; global B a;",
+        "11 Twice item 3",
+    ),
+    ("thread t { } thread t { }", "11 Twice item 1"),
+    ("thread t { int x; int x; }", "11 Twice item 2"),
+    (
+        "thread t { int x; } thread u { int x; int y; int x; }",
+        "11 Twice item 5",
+    ),
+    (
+        "record A { } global A a; thread t { int a; }",
+        "11 Twice item 3",
+    ),
+    // The unknown type comes before the repeated name.
+    ("record A { int f; B f; }", "10 Unknown item 2"),
+    // Types that don't agree.
+    (
+        "record A { } thread t { A x; x = 1; }",
+        "12 WrongType item 3",
+    ),
+    ("thread t { int x; x = null; }", "12 WrongType item 2"),
+    (
+        "record A { } record B { } thread t { A x; B y; x = y; }",
+        "12 WrongType item 5",
+    ),
+    (
+        "record A { } record B { } global B b; thread t { A x; x = b; }",
+        "12 WrongType item 5",
+    ),
+    (
+        "record A { } thread t { A x; int i; i = x; }",
+        "12 WrongType item 4",
+    ),
+    (
+        "record A { } global A a; thread t { int i; a = i; }",
+        "12 WrongType item 4",
+    ),
+    (
+        "record A { } global A a; thread t { a = null; }",
+        "12 WrongType item 3",
+    ),
+    (
+        "record A { } global A a; thread t { a = a; }",
+        "12 WrongType item 3",
+    ),
+    (
+        "record A { } thread t { A x; int i; i = x + 1; }",
+        "12 WrongType item 4",
+    ),
+    ("thread t { int i; i = 1 * null; }", "12 WrongType item 2"),
+    (
+        "record A { } thread t { A x; x = 1 - 1; }",
+        "12 WrongType item 3",
+    ),
+    (
+        "record A { } record B { } thread t { A x; atomic { x = new B; } }",
+        "12 WrongType item 5",
+    ),
+    (
+        "record A { } thread t { int i; atomic { i = new A; } }",
+        "12 WrongType item 4",
+    ),
+    (
+        "record A { } global A a; thread t { atomic { a = new A; } }",
+        "12 WrongType item 4",
+    ),
+    (
+        "record A { int f; } global A a; thread t { A x; atomic { x = a.f; } }",
+        "12 WrongType item 6",
+    ),
+    (
+        "record A { A g; } global A a; thread t { int i; atomic { i = a.g; } }",
+        "12 WrongType item 6",
+    ),
+    (
+        "record A { int f; } global A a; thread t { atomic { a = a.f; } }",
+        "12 WrongType item 5",
+    ),
+    (
+        "thread t { int i; atomic { i = i.f; } }",
+        "12 WrongType item 3",
+    ),
+    (
+        "thread t { int i; atomic { i.f = 1; } }",
+        "12 WrongType item 3",
+    ),
+    (
+        "record A { int f; } global A a; thread t { atomic { a.f = null; } }",
+        "12 WrongType item 5",
+    ),
+    (
+        "record A { A g; } global A a; thread t { atomic { a.g = 1; } }",
+        "12 WrongType item 5",
+    ),
+    (
+        "record A { A g; } record B { } global A a; global B b; thread t { atomic { a.g = b; } }",
+        "12 WrongType item 7",
+    ),
+    ("thread t { atomic { print null; } }", "12 WrongType item 2"),
+    (
+        "record A { } global A a; thread t { atomic { print a; } }",
+        "12 WrongType item 4",
+    ),
+    (
+        "thread t { int i; if (i == null) { } }",
+        "12 WrongType item 2",
+    ),
+    (
+        "record A { } thread t { A x; while (x < x) { } }",
+        "12 WrongType item 3",
+    ),
+    (
+        "record A { } thread t { A x; if (x <= null) { } }",
+        "12 WrongType item 3",
+    ),
+    ("thread t { if (null < null) { } }", "12 WrongType item 1"),
+    (
+        "record A { } record B { } global A a; global B b; thread t { if (a == b) { } }",
+        "12 WrongType item 5",
+    ),
+    (
+        "record A { } record B { } thread t { A x; B y; while (x != y) { } }",
+        "12 WrongType item 5",
+    ),
+    // Shared things outside a section.
+    (
+        "record A { int f; } global A a; thread t { a.f = 1; }",
+        "13 SharedOutside item 4",
+    ),
+    (
+        "record A { int f; } global A a; thread t { int i; i = a.f; }",
+        "13 SharedOutside item 5",
+    ),
+    (
+        "record A { int f; } thread t { print 1; }",
+        "13 SharedOutside item 3",
+    ),
+    (
+        "record A { } thread t { A x; x = new A; }",
+        "13 SharedOutside item 3",
+    ),
+    (
+        "thread t { atomic { } while (1 == 2) { print 1; } }",
+        "13 SharedOutside item 3",
+    ),
+    // The type comes before the place.
+    ("thread t { print null; }", "12 WrongType item 1"),
+    // A section in a section.
+    ("thread t { atomic { atomic { } } }", "14 Nested item 2"),
+    (
+        "thread t { atomic { if (1 == 1) { } else { while (1 < 2) { atomic { } } } } }",
+        "14 Nested item 4",
+    ),
+    (
+        "thread t { atomic { print 1; atomic { print null; } } }",
+        "14 Nested item 3",
+    ),
+    // The first item at fault is named, whatever comes after it.
+    ("record A { B f; B g; } record A { }", "10 Unknown item 1"),
+    ("thread t { int x; int x; y = 1; }", "11 Twice item 2"),
+    (
+        "thread t { atomic { } print 1; atomic { atomic { } } }",
+        "13 SharedOutside item 2",
+    ),
+];
+
+/// What is answered for a text: its fault, or nothing.
+fn answer(alloc: Global, text: &str) -> Result<String, Fail> {
+    let tree = parse(alloc, text.as_bytes())?;
+    match check_types(alloc, tree) {
+        Ok(_) => Ok(String::new(alloc)),
+        Err(fault) => Ok(format!(in alloc; "{fault}")?),
+    }
 }
 
-/// `record A { int f; } global A a; thread t { a.f = 1; }`, in a section or not.
-fn storing(alloc: Global, inside: bool) -> Result<Tree, Fail> {
-    let mut fields = Declarations::new(alloc);
-    fields.push(Kind::Int, name("f"))?;
-    let mut records = Vec::new(alloc);
-    records.push(Record {
-        name: name("A"),
-        hints: Hints::new(alloc),
-        fields,
-    })?;
-    let mut globals = Vec::new(alloc);
-    globals.push(GlobalObject {
-        of: name("A"),
-        name: name("a"),
-    })?;
-    let store = Statement::Primitive(Primitive::Store(
-        name("a"),
-        name("f"),
-        Operand::Number(Literal::new(1)),
-    ));
-    let mut body = Block::new(alloc);
-    if inside {
-        let mut section = Block::new(alloc);
-        section.push(store)?;
-        body.push(Statement::Atomic(section))?;
-    } else {
-        body.push(store)?;
-    }
-    let mut threads = Vec::new(alloc);
-    threads.push(Thread {
-        name: name("t"),
-        locals: Declarations::new(alloc),
-        body,
-    })?;
-    Ok(Tree::new(records, globals, threads))
+fn program_of(alloc: Global, text: &str) -> Result<Program, Fail> {
+    let tree = parse(alloc, text.as_bytes())?;
+    Ok(check_types(alloc, tree)?)
 }
 
 #[test]
-fn a_store_stands_inside(rt: HostRuntime) -> Result<(), Fail> {
-    let program = check_types(rt.alloc(), storing(rt.alloc(), true)?)?;
-    assert_eq!(rt; program.thread_count(), 1);
-    assert_eq!(rt; program.section_count(), 1);
-    assert_eq!(rt; program.site_count(), 1);
-    let section = program.section(0);
-    assert_eq!(rt; section.thread, 0);
-    assert_eq!(rt; section.body.as_slice().len(), 1);
+fn accepts_typed_texts(rt: HostRuntime) -> Result<(), Fail> {
+    for text in ACCEPTED {
+        assert_eq!(rt; answer(rt.alloc(), text)?.as_str(), "", "at {text}");
+    }
     Ok(())
 }
 
 #[test]
-fn a_store_outside_is_refused(rt: HostRuntime) -> Result<(), Fail> {
-    let fault = check_types(rt.alloc(), storing(rt.alloc(), false)?);
-    assert!(rt; matches!(fault, Err(TypeFault::SharedOutside { item: 4 })));
+fn names_the_first_item_at_fault(rt: HostRuntime) -> Result<(), Fail> {
+    for (text, want) in REFUSED {
+        assert_eq!(rt; answer(rt.alloc(), text)?.as_str(), want, "at {text}");
+    }
+    Ok(())
+}
+
+/// Adds numbered copies of a text, in which `#` stands for the number.
+fn copies(all: &mut String, text: &str, count: usize) -> Result<(), Fail> {
+    for number in 0..count {
+        for part in text.split_inclusive('#') {
+            match part.strip_suffix('#') {
+                Some(before) => {
+                    all.push_str(before)?;
+                    write!(all, "{number}")?;
+                }
+                None => all.push_str(part)?,
+            }
+        }
+    }
+    Ok(())
+}
+
+/// A text of three parts, of which the middle one stands there so often.
+fn repeated(
+    alloc: Global,
+    before: &str,
+    text: &str,
+    count: usize,
+    after: &str,
+) -> Result<String, Fail> {
+    let mut all = String::new(alloc);
+    all.push_str(before)?;
+    copies(&mut all, text, count)?;
+    all.push_str(after)?;
+    Ok(all)
+}
+
+/// What stands before, what is repeated, how often it may be, what stands after, and the answer to one more.
+const LIMITS: [(&str, &str, u16, &str, &str); 15] = [
+    ("", "record r# { }", 64, "", "15 TooMany item 64"),
+    (
+        "record a { int f; } record r { ",
+        "r f#; ",
+        16,
+        "}",
+        "15 TooMany item 19",
+    ),
+    (
+        "record r { } ",
+        "global r g#; ",
+        256,
+        "",
+        "15 TooMany item 257",
+    ),
+    ("", "thread t# { }", 64, "", "15 TooMany item 64"),
+    (
+        "thread s { int x; } thread t { ",
+        "int x#; ",
+        64,
+        "}",
+        "15 TooMany item 67",
+    ),
+    (
+        "thread t { ",
+        "atomic { } ",
+        256,
+        "}",
+        "15 TooMany item 257",
+    ),
+    (
+        "thread s { int i; while (i < 1) { ",
+        "atomic { } ",
+        256,
+        "} }",
+        "15 TooMany item 259",
+    ),
+    (
+        "record r { } thread t { r x; atomic { ",
+        "x = new r; ",
+        1024,
+        "} }",
+        "15 TooMany item 1028",
+    ),
+    (
+        "record r { } global r a; global r b; thread t { r x; atomic { ",
+        "x = new r; ",
+        1022,
+        "} }",
+        "15 TooMany item 1028",
+    ),
+    (
+        "thread t { int x; ",
+        "x = 1; ",
+        4096,
+        "}",
+        "15 TooMany item 4098",
+    ),
+    (
+        "thread t { int x; if (1 == 1) { ",
+        "x = x + 1; ",
+        4095,
+        "}}",
+        "15 TooMany item 4098",
+    ),
+    (
+        "thread t { ",
+        "while (1 < 2) { } ",
+        4096,
+        "}",
+        "15 TooMany item 4097",
+    ),
+    (
+        "thread s { atomic { } } thread t { ",
+        "if (1 == 1) { } else { } ",
+        4095,
+        "}",
+        "15 TooMany item 4098",
+    ),
+    (
+        "thread t { atomic { ",
+        "print 1; ",
+        4095,
+        "}}",
+        "15 TooMany item 4097",
+    ),
+    (
+        "thread s { int x; x = 1; } thread t { int x; ",
+        "x = 1; ",
+        4095,
+        "}",
+        "15 TooMany item 4100",
+    ),
+];
+
+#[test]
+fn limits_are_exact(rt: HostRuntime) -> Result<(), Fail> {
+    for (before, text, most, after, want) in LIMITS {
+        let full = repeated(rt.alloc(), before, text, most as usize, after)?;
+        assert_eq!(rt;
+            answer(rt.alloc(), &full)?.as_str(),
+            "",
+            "at {most} of {text}"
+        );
+        let more = repeated(rt.alloc(), before, text, most as usize + 1, after)?;
+        assert_eq!(rt; answer(rt.alloc(), &more)?.as_str(), want, "at {text}");
+    }
+    Ok(())
+}
+
+/// Where several rules are broken at the item that passes a limit, the least is named.
+const PAST_LIMITS: [(&str, &str, usize, &str, &str); 5] = [
+    ("", "record r# { }", 64, "record r0 { }", "11 Twice item 64"),
+    (
+        "record r { ",
+        "int f#; ",
+        16,
+        "s f0; }",
+        "10 Unknown item 17",
+    ),
+    (
+        "record r { } thread t { r x; atomic { ",
+        "x = new r; ",
+        1024,
+        "} x = new r; }",
+        "13 SharedOutside item 1028",
+    ),
+    (
+        "thread t { ",
+        "atomic { } ",
+        255,
+        "atomic { atomic { } } }",
+        "14 Nested item 257",
+    ),
+    (
+        "thread t { int x; ",
+        "x = 1; ",
+        4096,
+        "x = null; }",
+        "12 WrongType item 4098",
+    ),
+];
+
+#[test]
+fn the_least_rule_at_a_limit(rt: HostRuntime) -> Result<(), Fail> {
+    for (before, text, count, after, want) in PAST_LIMITS {
+        let source = repeated(rt.alloc(), before, text, count, after)?;
+        assert_eq!(rt; answer(rt.alloc(), &source)?.as_str(), want, "at {after}");
+    }
+    Ok(())
+}
+
+/// A list with two threads: one adds an element, the other sums up.
+const LIST: &str =
+    "record Pad { } record Node { int val; Node next; Pad pad; } global Node head; global Pad end;
+thread push { Node n; int v; v = 5; atomic { n = new Node; n.val = v; head.next = n; } }
+thread sum { int s; Node p; int v;
+  if (s == 0) { atomic { p = head.next; } } else { atomic { p = new Node; } }
+  while (p != null) { p = null; atomic { print s; } } }";
+
+#[test]
+fn declarations_by_number(rt: HostRuntime) -> Result<(), Fail> {
+    let program = program_of(rt.alloc(), LIST)?;
+    let records = program.records();
+    assert!(rt; records.len() == 2);
+    assert_eq!(rt; records[0].as_slice().len(), 0);
+    assert_eq!(rt;
+        records[1].as_slice(),
+        [ValueType::Int, ValueType::Refers(1), ValueType::Refers(0)].as_slice()
+    );
+    assert_eq!(rt; program.globals(), [1, 0].as_slice());
+    let locals = program.locals();
+    assert!(rt; locals.len() == 2);
+    assert_eq!(rt;
+        locals[0].as_slice(),
+        [ValueType::Refers(1), ValueType::Int].as_slice()
+    );
+    assert_eq!(rt;
+        locals[1].as_slice(),
+        [ValueType::Int, ValueType::Refers(1), ValueType::Int].as_slice()
+    );
+    assert_eq!(rt; program.tree().threads().len(), 2);
+    Ok(())
+}
+
+#[test]
+fn counts_of_a_program(rt: HostRuntime) -> Result<(), Fail> {
+    let program = program_of(rt.alloc(), LIST)?;
+    assert_eq!(rt; program.thread_count(), 2);
+    assert_eq!(rt; program.section_count(), 4);
+    assert_eq!(rt; program.site_count(), 4);
+    assert_eq!(rt; program.statement_count(), 14);
+    let empty = program_of(rt.alloc(), "")?;
+    assert_eq!(rt; empty.thread_count(), 0);
+    assert_eq!(rt; empty.section_count(), 0);
+    assert_eq!(rt; empty.site_count(), 0);
+    assert_eq!(rt; empty.statement_count(), 0);
+    Ok(())
+}
+
+#[test]
+fn statements_by_number(rt: HostRuntime) -> Result<(), Fail> {
+    let program = program_of(rt.alloc(), LIST)?;
+    program.typing();
+    assert!(rt; program.thread_count() == 2);
+    let push = program.text(0).as_slice();
+    assert!(rt; push.len() == 2);
+    assert!(rt;
+        matches!(&push[0], Step::Do(Action::Assign(1, Value::Number(n))) if n.value() == 5)
+    );
+    let sum = program.text(1).as_slice();
+    assert!(rt; sum.len() == 2);
+    assert!(rt; matches!(&sum[0], Step::If(_, _, _)));
+    assert!(rt; matches!(&sum[1], Step::While(_, _)));
+    Ok(())
+}
+
+#[test]
+fn sections_by_number(rt: HostRuntime) -> Result<(), Fail> {
+    let program = program_of(rt.alloc(), LIST)?;
+    assert!(rt; program.section_count() == 4);
+    for number in 0..4u16 {
+        let section = program.section(number);
+        assert_eq!(rt;
+            section.thread,
+            if number == 0 { 0 } else { 1 },
+            "of section {number}"
+        );
+        assert_eq!(rt;
+            section.body.as_slice().len(),
+            if number == 0 { 3 } else { 1 },
+            "of section {number}"
+        );
+    }
+    Ok(())
+}
+
+/// The target, the record and the site of the last `new` of a text that stands in no block.
+fn last_new(text: &Text) -> Option<(u16, u16, u16)> {
+    let mut last = None;
+    for step in text.as_slice() {
+        if let Step::Do(Action::New(target, of, site)) = step {
+            last = Some((*target, *of, *site));
+        }
+    }
+    last
+}
+
+#[test]
+fn sites_by_number(rt: HostRuntime) -> Result<(), Fail> {
+    let program = program_of(rt.alloc(), LIST)?;
+    assert!(rt; program.section_count() == 4);
+    assert_eq!(rt; last_new(program.section(0).body), Some((0, 1, 2)));
+    assert_eq!(rt; last_new(program.section(1).body), None);
+    assert_eq!(rt; last_new(program.section(2).body), Some((1, 1, 3)));
+    assert_eq!(rt; last_new(program.section(3).body), None);
+    Ok(())
+}
+
+#[test]
+fn fields_by_number(rt: HostRuntime) -> Result<(), Fail> {
+    let program = program_of(rt.alloc(), LIST)?;
+    assert!(rt; program.section_count() == 4);
+    for step in program.section(0).body.as_slice() {
+        match step {
+            Step::Do(Action::Store(Base::Local(base), field, value)) => {
+                assert_eq!(rt; (*base, field.of, field.number), (0, 1, 0));
+                assert!(rt; matches!(value, Value::Local(1)));
+            }
+            Step::Do(Action::Store(Base::Global(base), field, value)) => {
+                assert_eq!(rt; (*base, field.of, field.number), (0, 1, 1));
+                assert!(rt; matches!(value, Value::Local(0)));
+            }
+            _ => {}
+        }
+    }
+    Ok(())
+}
+
+#[test]
+fn refusals_are_printed(rt: HostRuntime) -> Result<(), Fail> {
+    assert_eq!(rt;
+        format!(in rt.alloc(); "{}", TypeFault::Memory)?.as_str(),
+        "out of memory"
+    );
+    assert_eq!(rt;
+        format!(in rt.alloc(); "{}", TypeFault::TooMany { item: 9600 })?.as_str(),
+        "15 TooMany item 9600"
+    );
     Ok(())
 }

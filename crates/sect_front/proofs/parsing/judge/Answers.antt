@@ -1,6 +1,6 @@
 use Rattle.std.proofs.Common.{arith}
 use Rattle.sect_front.specs.Faults.{tokens_in, IsUnexpectedAt, IsTooDeepAt}
-use Rattle.sect_front.proofs.Reach.{place_fits}
+use Rattle.sect_front.proofs.Reach.{place_fits, found_at}
 use Rattle.sect_front.proofs.Verdict.{length_tokens}
 use Rattle.sect_front.proofs.parsing.judge.Goals as goal
 
@@ -18,8 +18,7 @@ returns-in-Err-Unexpected c =
       spells = c.in-Ok.ensures.ok;
       index = c.in-Err-Unexpected.i;
       token = c.index.result.now;
-      within = omega (arith, fault.within, length_tokens c.in-Ok.tokens.items);
-      found = c.index.ensures;
+      found = found_at c.in-Ok.tokens.items c.in-Err-Unexpected.i c.index.result.now (omega (arith, fault.within, length_tokens c.in-Ok.tokens.items)) c.index.ensures;
       fault = fault;
       place = c.line_of-line.ensures;
     }
@@ -38,8 +37,7 @@ returns-in-Err-TooDeep c =
       spells = c.in-Ok.ensures.ok;
       index = c.in-Err-TooDeep.i;
       token = c.index-in-Err-TooDeep.result.now;
-      within = omega (arith, fault.within, length_tokens c.in-Ok.tokens.items);
-      found = c.index-in-Err-TooDeep.ensures;
+      found = found_at c.in-Ok.tokens.items c.in-Err-TooDeep.i c.index-in-Err-TooDeep.result.now (omega (arith, fault.within, length_tokens c.in-Ok.tokens.items)) c.index-in-Err-TooDeep.ensures;
       fault = fault;
       place = c.line_of-line-in-Err-TooDeep.ensures;
     }

@@ -21,6 +21,7 @@ number_tree-requires-clause-counted c =
       few_records = c.in_ok-record_names.ensures.few;
       fine_fields = c.in_ok-record_names.ensures.fine;
       few_globals = c.in_ok-global_names.ensures.few;
+      known_globals = c.in_ok-global_names.ensures.known;
       few_threads = c.in_ok-texts.ensures.few;
       fine_locals = c.in_ok-texts.ensures.fine;
     }

@@ -1,0 +1,14 @@
+pub mod Claiming
+pub mod Entries
+pub mod Growing
+pub mod Keeping
+pub mod Moving
+pub mod Numbers
+pub mod Passing
+pub mod Releasing
+pub mod Roles
+pub mod Runs
+pub mod Shown
+pub mod Sounding
+pub mod Walking
+pub mod Whole

@@ -1,0 +1,40 @@
+use Rattle.std.proofs.Common.{rules, arith, ◌≡◌, ◌+◌, length, sym, ◌∙◌, ap, vec_len}
+use Rattle.std.proofs.lemmas.List.{get_or_read}
+use Rattle.sect_table.specs.Links.{list_at}
+use Rattle.sect_table.specs.Contents.{Entry, first_of}
+use Rattle.sect_table.specs.Arena.{no_node}
+use Rattle.sect_table.proofs.Shown.{seen, queues-seen, first_claim, no_claim}
+use Rattle.sect_table.proofs.arena.Arena.first_waiter.Goals as goal
+
+pub overflow_add-at : goal.overflow_add-at
+overflow_add-at c =
+    let s = seen _ _ _ _ _ _ c.self.invariant c.self.view_is in
+    let n = s.queues in let few = s.few in let lt = c.requires.known in
+    omega arith
+
+pub overflow_add-at-2 : goal.overflow_add-at-2
+overflow_add-at-2 c =
+    let s = seen _ _ _ _ _ _ c.self.invariant c.self.view_is in
+    let n = s.queues in let few = s.few in let lt = c.requires.known in
+    omega arith
+
+pub first-requires : goal.first-requires
+first-requires c =
+    let s = seen _ _ _ _ _ _ c.self.invariant c.self.view_is in
+    let n = s.queues in let lt = c.requires.known in
+    omega arith
+
+pub returns-in_err-node : goal.returns-in_err-node
+returns-in_err-node c =
+    c.from_residual.ensures
+    ∙ (no_claim c.self.inside.nodes.items (list_at c.self.inside.queues.lists (c.args.at + c.args.at + 2)) (sym c.first.ensures.first ∙ c.in_err-node.was)
+    ∙ sym (ap (λ (e : Entry). first_of e.waiters) (queues-seen _ _ _ _ _ _ c.args.key c.args.at c.self.invariant c.self.view_is c.requires.number c.requires.known)))
+
+pub returns : goal.returns
+returns c =
+    let n : length c.self.inside.nodes.items ≡ vec_len c.self.inside.nodes = search rules in
+    let sizes = c.self.invariant.sizes in
+    let within = c.in_ok-node.ensures.within in
+    first_claim c.self.inside.nodes.items (list_at c.self.inside.queues.lists (c.args.at + c.args.at + 2)) c.in_ok-node.node c.index-request.result.now
+    (sym c.in_ok-node.ensures.first) (get_or_read c.self.inside.nodes.items c.in_ok-node.node c.index-request.result.now (omega arith) c.index-request.ensures no_node)
+    ∙ sym (ap (λ (e : Entry). first_of e.waiters) (queues-seen _ _ _ _ _ _ c.args.key c.args.at c.self.invariant c.self.view_is c.requires.number c.requires.known))

@@ -1,0 +1,10 @@
+use Rattle.std.proofs.Common.{◌≡◌, ◌<◌, drop, IfSome, None}
+use Rattle.sect_table.specs.Links.{list_at, head_or}
+use Rattle.sect_table.specs.Contents.{mode_for}
+use Rattle.sect_table.specs.Arena.{claims}
+use Rattle.sect_table.proofs.arena.mode_among.Given as goal
+
+abbrev pub invariant-loop-step : goal.invariant-loop-step
+invariant-loop-step l = (l.at ≡ head_or (drop l.step (list_at l.queues.lists l.list)) None)
+    × IfSome l.at (λ x. x < l.queues.size)
+    × (mode_for l.thread (claims l.nodes (drop l.step (list_at l.queues.lists l.list))) ≡ mode_for l.thread (claims l.nodes (list_at l.queues.lists l.list)))

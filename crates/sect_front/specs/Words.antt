@@ -3,10 +3,11 @@ use Rattle.std.specs.Prelude.{ℕ, Bool, false, not, ◌||◌, ◌&&◌, ◌==�
 use Rattle.std.specs.List.{list_all, list_any}
 use Rattle.std.specs.Str.{bytes_eq}
 
--- a letter or `_`
+-- a to z, A to Z or `_`
 abbrev pub is_letter : ℕ → Bool
 is_letter b = (nat_le 97 b && nat_le b 122) || (nat_le 65 b && nat_le b 90) || b == 95
 
+-- 0 to 9
 abbrev pub is_digit : ℕ → Bool
 is_digit b = nat_le 48 b && nat_le b 57
 
@@ -27,7 +28,7 @@ keywords =
 abbrev pub is_keyword : List ℕ → Bool
 is_keyword bytes = list_any (bytes_eq bytes) keywords
 
--- a letter or `_`, then letters, `_` and digits, at most 32 bytes, and no keyword
+-- one name: a letter or `_`, then letters, `_` and digits, at most 32 bytes, and no keyword
 abbrev pub is_name : List ℕ → Bool
 is_name bytes =
     begins is_letter bytes && list_all is_name_byte bytes && nat_le (length bytes) 32 && not (is_keyword bytes)

@@ -1,4 +1,8 @@
 //! A source text as a tree.
+//!
+//! The tokens are found first, and then read by a machine that takes one at a time and keeps the open blocks in a `Vec`:
+//! it calls nothing by recursion on the text, so no text makes it use more stack. What walks over a tree, as its `Drop`
+//! and `print` do, goes as deep as its blocks stand in one another, at most 32.
 
 ghost use Rattle.std.specs.Prelude.{◌≡◌, ◌≢◌, ◌≤◌, length};
 ghost use Rattle.sect_front.specs.Front.{IsSpelled, IsFault, Judges, Gives, Refuses, line_of as line};

@@ -9,6 +9,7 @@ use Rattle.sect_front.specs.declared.tree.Comparison.{Comparison}
 use Rattle.sect_front.specs.declared.tree.Record.{Record}
 use Rattle.sect_front.specs.declared.tree.GlobalObject.{GlobalObject}
 use Rattle.sect_front.specs.declared.tree.Declaration.{Declaration}
+use Rattle.sect_front.specs.Source.{Source}
 use Rattle.sect_types.specs.declared.rule.Rule.{Rule}
 use Rattle.sect_types.specs.declared.rule.Rule.TheVariants.{Unknown, Twice, WrongType, SharedOutside, Nested, TooMany}
 use Rattle.sect_types.specs.declared.resolve.Denoted.{Denoted}
@@ -70,6 +71,10 @@ knows_head s AtomicHead = true
 
 abbrev pub sight : List Record → List GlobalObject → List Declaration → Sight
 sight rs gs ls = record { records = rs; globals = gs; locals = ls }
+
+-- what is declared, before any locals
+abbrev pub declared_in : Source → Sight
+declared_in t = sight t.records t.globals []
 
 abbrev pub unknown : List Record → List GlobalObject → Item → Bool
 unknown rs gs (ARecord x before) = false

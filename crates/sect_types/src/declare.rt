@@ -3,7 +3,7 @@
 ghost use Rattle.std.specs.Prelude.{◌≡◌, ◌≤◌, ◌<◌, ◌+◌, ◌++◌, ◌∷◌, [], ◌||◌, not, true, IfOk, OnOk, nat_le, length};
 ghost use Rattle.sect_types.specs.Sight.{has_name, names_of_records, names_of_globals, names_of_declared, all_fields};
 ghost use Rattle.sect_types.specs.Items.{ARecord, AField, AGlobal, AThread, ALocal, record_items, field_items, global_items, local_items};
-ghost use Rattle.sect_types.specs.Rules.{knows_kind as knows, sight};
+ghost use Rattle.sect_types.specs.Rules.{knows_kind as knows, sight, declared_in};
 ghost use Rattle.sect_types.specs.Walks.{Walks, rule_in, declared_rule};
 ghost use Rattle.sect_types.specs.Listing.{Knows, after_records, all_known, fields_fine, globals_known};
 
@@ -32,7 +32,9 @@ fn judge_declared(
     most: usize,
 ) -> Result<(), Rule>
     ensures known { OnOk result (known ≡ true) }
-    ensures rule { rule_in result ≡ declared_rule (not known) (has_name name.now names.now || taken) (nat_le most (length names.now)) }
+    ensures rule { rule_in result
+        ≡ declared_rule (not known) (has_name name.now names.now || taken)
+        (nat_le most (length names.now)) }
 {
     if !known {
         return Err(Rule::Unknown);
@@ -65,7 +67,8 @@ fn pass_field(
 ) -> Result<(), Fault>
     requires known { Knows known.now tree.now.records }
     requires room { spot.old.declared < 6000 }
-    ensures walks { Walks (sight tree.now.records tree.now.globals []) (λ w. AField field.now.kind field.now.name names.old ∷ w) spot.old spot.new result }
+    ensures walks { Walks (declared_in tree.now)
+        (λ w. AField field.now.kind field.now.name names.old ∷ w) spot.old spot.new result }
     ensures names { OnOk result (names.new ≡ names.old ++ field.now.name ∷ []) }
     ensures spot { OnOk result (spot.new ≡ record spot.old { declared = spot.old.declared + 1 }) }
     ensures few { OnOk result (length names.old < 16) }
@@ -92,9 +95,11 @@ pub fn fields(
 ) -> Result<Names, Fault>
     requires known { Knows known.now tree.now.records }
     requires room { spot.old.declared + 16 < 6000 }
-    ensures walks { Walks (sight tree.now.records tree.now.globals []) (field_items [] list.now) spot.old spot.new result }
+    ensures walks { Walks (declared_in tree.now) (field_items [] list.now)
+        spot.old spot.new result }
     ensures names { IfOk result (λ names. names ≡ names_of_declared list.now) }
-    ensures spot { OnOk result (spot.new ≡ record spot.old { declared = spot.old.declared + length list.now }) }
+    ensures spot { OnOk result (spot.new
+        ≡ record spot.old { declared = spot.old.declared + length list.now }) }
     ensures few { OnOk result (length list.now ≤ 16) }
     ensures known { OnOk result (all_known (names_of_records tree.now.records) list.now ≡ true) }
 {
@@ -118,7 +123,8 @@ pub fn known_records(alloc: Global, tree: &Tree) -> Result<NameSet, AllocError>
 
 fn pass_record(tree: &Tree, names: &mut Names, spot: &mut Spot, of: &Record) -> Result<(), Fault>
     requires room { spot.old.declared < 6000 }
-    ensures walks { Walks (sight tree.now.records tree.now.globals []) (λ w. ARecord of.now.name names.old ∷ w) spot.old spot.new result }
+    ensures walks { Walks (declared_in tree.now) (λ w. ARecord of.now.name names.old ∷ w)
+        spot.old spot.new result }
     ensures names { OnOk result (names.new ≡ names.old ++ of.now.name ∷ []) }
     ensures spot { OnOk result (spot.new ≡ record spot.old { declared = spot.old.declared + 1 }) }
     ensures few { OnOk result (length names.old < 64) }
@@ -143,13 +149,16 @@ fn whole_record(
 ) -> Result<Names, Fault>
     requires known { Knows known.now tree.now.records }
     requires room { spot.old.declared + 17 < 6000 }
-    ensures walks { Walks (sight tree.now.records tree.now.globals []) (λ w. ARecord of.now.name names.old ∷ field_items [] of.now.fields w) spot.old spot.new result }
+    ensures walks { Walks (declared_in tree.now) (λ w. ARecord of.now.name names.old
+        ∷ field_items [] of.now.fields w) spot.old spot.new result }
     ensures names { OnOk result (names.new ≡ names.old ++ of.now.name ∷ []) }
     ensures fields { IfOk result (λ inner. inner ≡ names_of_declared of.now.fields) }
-    ensures spot { OnOk result (spot.new ≡ record spot.old { declared = spot.old.declared + 1 + length of.now.fields }) }
+    ensures spot { OnOk result (spot.new
+        ≡ record spot.old { declared = spot.old.declared + 1 + length of.now.fields }) }
     ensures few { OnOk result (length names.old < 64) }
     ensures few_fields { OnOk result (length of.now.fields ≤ 16) }
-    ensures known_fields { OnOk result (all_known (names_of_records tree.now.records) of.now.fields ≡ true) }
+    ensures known_fields { OnOk result (all_known (names_of_records tree.now.records)
+        of.now.fields ≡ true) }
 {
     pass_record(tree, names, spot, of)?;
     fields(alloc, tree, known, spot, of.fields.as_slice())
@@ -164,13 +173,15 @@ pub fn records(
 ) -> Result<(Names, Vec<Names>), Fault>
     requires known { Knows known.now tree.now.records }
     requires start { spot.old.declared ≡ 0 }
-    ensures walks { Walks (sight tree.now.records tree.now.globals []) (record_items [] tree.now.records) spot.old spot.new result }
+    ensures walks { Walks (declared_in tree.now) (record_items [] tree.now.records)
+        spot.old spot.new result }
     ensures names { IfOk result (λ r. r.0 ≡ names_of_records tree.now.records) }
     ensures fields { IfOk result (λ r. r.1.items ≡ all_fields tree.now.records) }
     ensures spot { OnOk result (spot.new ≡ after_records spot.old tree.now.records) }
     ensures room { OnOk result (spot.new.declared ≤ 1088) }
     ensures few { OnOk result (length tree.now.records ≤ 64) }
-    ensures fine { OnOk result (fields_fine (names_of_records tree.now.records) tree.now.records ≡ true) }
+    ensures fine { OnOk result (fields_fine (names_of_records tree.now.records) tree.now.records
+        ≡ true) }
 {
     let mut names = Names::new(alloc);
     let mut field_names = Vec::new(alloc);
@@ -193,11 +204,14 @@ fn pass_global(
     requires known { Knows known.now tree.now.records }
     requires room { spot.old.declared < 6000 }
     requires sites { spot.old.sites < 1024 }
-    ensures walks { Walks (sight tree.now.records tree.now.globals []) (λ w. AGlobal global.now.of global.now.name names.old ∷ w) spot.old spot.new result }
+    ensures walks { Walks (declared_in tree.now)
+        (λ w. AGlobal global.now.of global.now.name names.old ∷ w) spot.old spot.new result }
     ensures names { OnOk result (names.new ≡ names.old ++ global.now.name ∷ []) }
-    ensures spot { OnOk result (spot.new ≡ record spot.old { declared = spot.old.declared + 1; sites = spot.old.sites + 1 }) }
+    ensures spot { OnOk result (spot.new
+        ≡ record spot.old { declared = spot.old.declared + 1; sites = spot.old.sites + 1 }) }
     ensures few { OnOk result (length names.old < 256) }
-    ensures known { OnOk result (has_name global.now.of (names_of_records tree.now.records) ≡ true) }
+    ensures known { OnOk result (has_name global.now.of (names_of_records tree.now.records)
+        ≡ true) }
 {
     match judge_declared(
         names,
@@ -220,11 +234,18 @@ pub fn globals(alloc: Global, tree: &Tree, known: &NameSet, spot: &mut Spot) -> 
     requires known { Knows known.now tree.now.records }
     requires room { spot.old.declared ≤ 1088 }
     requires start { spot.old.sites ≡ 0 }
-    ensures walks { Walks (sight tree.now.records tree.now.globals []) (global_items [] tree.now.globals) spot.old spot.new result }
+    ensures walks { Walks (declared_in tree.now) (global_items [] tree.now.globals)
+        spot.old spot.new result }
     ensures names { IfOk result (λ names. names ≡ names_of_globals tree.now.globals) }
-    ensures spot { OnOk result (spot.new ≡ record spot.old { declared = spot.old.declared + length tree.now.globals; sites = spot.old.sites + length tree.now.globals }) }
+    ensures spot { OnOk result (spot.new
+        ≡ record spot.old {
+          declared = spot.old.declared + length tree.now.globals;
+          sites =
+              spot.old.sites + length tree.now.globals;
+        }) }
     ensures few { OnOk result (length tree.now.globals ≤ 256) }
-    ensures known { OnOk result (globals_known (names_of_records tree.now.records) tree.now.globals ≡ true) }
+    ensures known { OnOk result (globals_known (names_of_records tree.now.records)
+        tree.now.globals ≡ true) }
 {
     let mut names = Names::new(alloc);
     for global in tree.globals() {
@@ -244,7 +265,8 @@ fn pass_local(
     requires known { Knows known.now tree.now.records }
     requires globals { global_names.now ≡ names_of_globals tree.now.globals }
     requires room { spot.old.declared < 6000 }
-    ensures walks { Walks (sight tree.now.records tree.now.globals []) (λ w. ALocal local.now.kind local.now.name names.old ∷ w) spot.old spot.new result }
+    ensures walks { Walks (declared_in tree.now)
+        (λ w. ALocal local.now.kind local.now.name names.old ∷ w) spot.old spot.new result }
     ensures names { OnOk result (names.new ≡ names.old ++ local.now.name ∷ []) }
     ensures spot { OnOk result (spot.new ≡ record spot.old { declared = spot.old.declared + 1 }) }
     ensures few { OnOk result (length names.old < 64) }
@@ -279,9 +301,11 @@ pub fn locals(
     requires known { Knows known.now tree.now.records }
     requires globals { global_names.now ≡ names_of_globals tree.now.globals }
     requires room { spot.old.declared + 64 < 6000 }
-    ensures walks { Walks (sight tree.now.records tree.now.globals []) (local_items [] list.now) spot.old spot.new result }
+    ensures walks { Walks (declared_in tree.now) (local_items [] list.now)
+        spot.old spot.new result }
     ensures names { IfOk result (λ names. names ≡ names_of_declared list.now) }
-    ensures spot { OnOk result (spot.new ≡ record spot.old { declared = spot.old.declared + length list.now }) }
+    ensures spot { OnOk result (spot.new
+        ≡ record spot.old { declared = spot.old.declared + length list.now }) }
     ensures few { OnOk result (length list.now ≤ 64) }
     ensures known { OnOk result (all_known (names_of_records tree.now.records) list.now ≡ true) }
 {
@@ -299,7 +323,8 @@ pub fn pass_thread(
     thread: &Thread,
 ) -> Result<(), Fault>
     requires room { spot.old.declared < 6000 }
-    ensures walks { Walks (sight tree.now.records tree.now.globals []) (λ w. AThread thread.now.name names.old ∷ w) spot.old spot.new result }
+    ensures walks { Walks (declared_in tree.now) (λ w. AThread thread.now.name names.old ∷ w)
+        spot.old spot.new result }
     ensures names { OnOk result (names.new ≡ names.old ++ thread.now.name ∷ []) }
     ensures spot { OnOk result (spot.new ≡ record spot.old { declared = spot.old.declared + 1 }) }
     ensures few { OnOk result (length names.old < 64) }

@@ -3,7 +3,7 @@
 ghost use Rattle.std.specs.Prelude.{List, IsOkUnless, ◌≡◌, ◌≤◌, ◌<◌, ◌+◌, ◌++◌, ◌∷◌, [], true, false, IfOk, OnOk, Some, length, slice_get};
 ghost use Rattle.sect_types.specs.Sight.{names_of_records, names_of_globals, all_fields};
 ghost use Rattle.sect_types.specs.Items.{AThread, items, record_items, global_items, local_items, body_items, thread_items};
-ghost use Rattle.sect_types.specs.Rules.{sight};
+ghost use Rattle.sect_types.specs.Rules.{sight, declared_in};
 ghost use Rattle.sect_types.specs.Walks.{Walks};
 ghost use Rattle.sect_types.specs.Listing.{Knows, all_known, fields_fine, globals_known, locals_fine};
 ghost use Rattle.sect_types.specs.Environments.{environment};
@@ -53,14 +53,20 @@ fn whole_thread(
     requires fields { shown.now.field_names.now ≡ all_fields tree.now.records }
     requires globals { shown.now.global_names.now ≡ names_of_globals tree.now.globals }
     requires room { spot.old.declared + 65 < 6000 }
-    ensures walks { Walks (sight tree.now.records tree.now.globals []) (λ w. AThread thread.now.name names.old ∷ local_items [] thread.now.locals (body_items thread.now.locals false thread.now.body w)) spot.old spot.new result }
+    ensures walks { Walks (declared_in tree.now) (λ w. AThread thread.now.name names.old
+        ∷ local_items [] thread.now.locals (body_items thread.now.locals false
+        thread.now.body w)) spot.old spot.new result }
     ensures names { OnOk result (names.new ≡ names.old ++ thread.now.name ∷ []) }
-    ensures text { IfOk result (λ text. text ≡ numbered_body (sight tree.now.records tree.now.globals thread.now.locals) (within_thread spot.old thread.now) thread.now.body) }
+    ensures text { IfOk result (λ text. text ≡ numbered_body
+        (sight tree.now.records tree.now.globals thread.now.locals) (within_thread spot.old
+        thread.now) thread.now.body) }
     ensures spot { OnOk result (spot.new ≡ after_thread spot.old thread.now) }
     ensures few { OnOk result (length names.old < 64) }
     ensures few_locals { OnOk result (length thread.now.locals ≤ 64) }
-    ensures known_locals { OnOk result (all_known (names_of_records tree.now.records) thread.now.locals ≡ true) }
-    ensures sound { IfOk result (λ text. IsSound (environment (sight tree.now.records tree.now.globals thread.now.locals)) false text) }
+    ensures known_locals { OnOk result (all_known (names_of_records tree.now.records)
+        thread.now.locals ≡ true) }
+    ensures sound { IfOk result (λ text. IsSound (environment
+        (sight tree.now.records tree.now.globals thread.now.locals)) false text) }
 {
     pass_thread(tree, names, spot, thread)?;
     let list = thread.locals.as_slice();
@@ -89,12 +95,17 @@ fn threads(
     requires fields { shown.now.field_names.now ≡ all_fields tree.now.records }
     requires globals { shown.now.global_names.now ≡ names_of_globals tree.now.globals }
     requires room { spot.old.declared ≤ 1344 }
-    ensures walks { Walks (sight tree.now.records tree.now.globals []) (thread_items [] tree.now.threads) spot.old spot.new result }
-    ensures texts { IfOk result (λ texts. texts.items ≡ numbered_threads tree.now.records tree.now.globals spot.old tree.now.threads) }
+    ensures walks { Walks (declared_in tree.now) (thread_items [] tree.now.threads)
+        spot.old spot.new result }
+    ensures texts { IfOk result (λ texts. texts.items
+        ≡ numbered_threads tree.now.records tree.now.globals spot.old tree.now.threads) }
     ensures spot { OnOk result (spot.new ≡ after_threads spot.old tree.now.threads) }
     ensures few { OnOk result (length tree.now.threads ≤ 64) }
-    ensures fine { OnOk result (locals_fine (names_of_records tree.now.records) tree.now.threads ≡ true) }
-    ensures sound { IfOk result (λ texts. AreThreadsSound tree.now.records tree.now.globals tree.now.threads texts.items) }
+    ensures fine { OnOk result (locals_fine (names_of_records tree.now.records) tree.now.threads
+        ≡ true) }
+    ensures sound { IfOk result
+        (λ texts. AreThreadsSound tree.now.records tree.now.globals tree.now.threads
+        texts.items) }
 {
     let mut names = Names::new(alloc);
     let mut texts = Vec::new(alloc);
@@ -132,7 +143,9 @@ fn number_tree(
     requires globals { globals_known (names_of_records tree.now.records) tree.now.globals ≡ true }
     requires locals { locals_fine (names_of_records tree.now.records) tree.now.threads ≡ true }
     requires counted { IsCounted tree.now texts.items spot.now }
-    ensures { IfOk result (λ p. IsWellNumbered (numbered_by tree.now p.records.items p.globals.items p.locals.items p.texts.items) p.section_count p.site_count p.statement_count) }
+    ensures { IfOk result (λ p. IsWellNumbered (numbered_by tree.now
+        p.records.items p.globals.items p.locals.items p.texts.items)
+        p.section_count p.site_count p.statement_count) }
 {
     let records = field_types(alloc, record_names, tree.records())?;
     let globals = global_records(alloc, record_names, tree.globals())?;
@@ -151,8 +164,12 @@ fn number_tree(
 /// Judges all items of a tree and numbers its names.
 fn judge_tree(alloc: Global, tree: &Tree, spot: &mut Spot) -> Result<Parts, Fault>
     requires { spot.old ≡ none_yet }
-    ensures walks { Walks (sight tree.now.records tree.now.globals []) (λ w. record_items [] tree.now.records (global_items [] tree.now.globals (thread_items [] tree.now.threads w))) spot.old spot.new result }
-    ensures parts { IfOk result (λ p. IsWellNumbered (numbered_by tree.now p.records.items p.globals.items p.locals.items p.texts.items) p.section_count p.site_count p.statement_count) }
+    ensures walks { Walks (declared_in tree.now)
+        (λ w. record_items [] tree.now.records (global_items [] tree.now.globals
+        (thread_items [] tree.now.threads w))) spot.old spot.new result }
+    ensures parts { IfOk result (λ p. IsWellNumbered (numbered_by tree.now
+        p.records.items p.globals.items p.locals.items p.texts.items)
+        p.section_count p.site_count p.statement_count) }
 {
     let known = known_records(alloc, tree)?;
     let (record_names, field_names) = records(alloc, tree, &known, spot)?;

@@ -32,6 +32,7 @@ pub enum Fault {
 /// numbered from 0 in text order.
 #[derive(Debug, Drop, Error)]
 pub enum TypeFault {
+    /// Want of memory.
     #[error("out of memory")]
     Memory,
     /// The item uses a name that nothing has.
@@ -73,17 +74,6 @@ impl<T: Drop> From<AllocFailed<T>> for Fault {
 
     fn from(_refused: AllocFailed<T>) -> Fault {
         Fault::Memory
-    }
-}
-
-impl From<AllocError> for TypeFault {
-    ghost use Rattle.std.specs.Prelude.{◌≡◌};
-    ghost use Rattle.sect_types.specs.declared.rule.TypeFault.TheVariants.{Memory};
-
-    ghost from_gives = { λ _ e. e ≡ Memory };
-
-    fn from(_refused: AllocError) -> TypeFault {
-        TypeFault::Memory
     }
 }
 

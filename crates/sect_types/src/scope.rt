@@ -51,7 +51,12 @@ impl<'a> Scope<'a> {
         requires fields { field_names.now ≡ all_fields records.now }
         requires globals { global_names.now ≡ names_of_globals globals.now }
         requires locals { local_names.now ≡ names_of_declared locals.now }
-        ensures { result ≡ record { records = records.now; globals = globals.now; locals = locals.now } }
+        ensures { result ≡ record {
+          records = records.now;
+          globals = globals.now;
+          locals =
+              locals.now;
+        } }
     {
         Scope {
             records,

@@ -14,7 +14,7 @@ pub struct Section<'a> {
 }
 
 /// The section of this number in the texts of the threads.
-pub fn find<'a>(texts: &'a [Text], number: u16) -> Option<Section<'a>>
+pub(crate) fn find<'a>(texts: &'a [Text], number: u16) -> Option<Section<'a>>
     requires { length texts.now ≤ 64 }
     ensures { section_in result ≡ section_from number 0 texts.now }
 {

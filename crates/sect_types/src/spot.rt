@@ -112,7 +112,11 @@ impl Spot {
     pub fn pass_global(&mut self)
         requires room { self.old.declared < 6000 }
         requires sites { self.old.sites < 1024 }
-        ensures { self.new ≡ record self.old { declared = self.old.declared + 1; sites = self.old.sites + 1 } }
+        ensures { self.new ≡ record self.old {
+          declared = self.old.declared + 1;
+          sites =
+              self.old.sites + 1;
+        } }
     {
         self.declared += 1;
         self.sites += 1;

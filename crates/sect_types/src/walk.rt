@@ -41,9 +41,13 @@ fn judge_primitive(
     inside: bool,
     primitive: &Primitive,
 ) -> Result<Action, Rule>
-    ensures rule { rule_in result ≡ then_rest (rule_in (primitive_of scope.now spot.now.sites primitive.now)) (shares (PrimitiveHead primitive.now) && not inside) (full spot.now (PrimitiveHead primitive.now)) }
+    ensures rule { rule_in result
+        ≡ then_rest (rule_in (primitive_of scope.now spot.now.sites primitive.now))
+        (shares (PrimitiveHead primitive.now) && not inside)
+        (full spot.now (PrimitiveHead primitive.now)) }
     ensures room { OnOk result (full spot.now (PrimitiveHead primitive.now) ≡ false) }
-    ensures action { IfOk result (λ a. a ≡ action_in (primitive_of scope.now spot.now.sites primitive.now)) }
+    ensures action { IfOk result (λ a. a
+        ≡ action_in (primitive_of scope.now spot.now.sites primitive.now)) }
     ensures sound { IfOk result (λ a. IsSound (environment scope.now) inside (Do a Stop)) }
 {
     let action = scope.primitive(spot.sites(), primitive)?;
@@ -59,7 +63,8 @@ fn judge_primitive(
 /// The test by numbers, or the least rule that its `if` or `while` breaks.
 #[tactic(auto, using(crate::proofs::SoundLemmas::test_stands))]
 fn judge_test(scope: &Scope<'_>, spot: &Spot, test: &Test) -> Result<Condition, Rule>
-    ensures rule { rule_in result ≡ then_rest (rule_in (test_of scope.now test.now)) false (full spot.now (TestHead test.now)) }
+    ensures rule { rule_in result ≡ then_rest (rule_in (test_of scope.now test.now)) false
+        (full spot.now (TestHead test.now)) }
     ensures room { OnOk result (full spot.now (TestHead test.now) ≡ false) }
     ensures condition { IfOk result (λ c. c ≡ condition_in (test_of scope.now test.now)) }
     ensures sound { IfOk result (λ c. IsSoundCondition (environment scope.now) c) }
@@ -75,7 +80,8 @@ fn judge_test(scope: &Scope<'_>, spot: &Spot, test: &Test) -> Result<Condition, 
 fn judge_atomic(spot: &Spot, inside: bool) -> Result<(), Rule>
     ensures room { OnOk result (full spot.now AtomicHead ≡ false) }
     ensures outside { OnOk result (inside ≡ false) }
-    ensures rule { (s : Sight) → rule_of s.records s.globals spot.now (AStatement AtomicHead s.locals inside) ≡ rule_in result }
+    ensures rule { (s : Sight) → rule_of s.records s.globals spot.now (AStatement AtomicHead
+        s.locals inside) ≡ rule_in result }
 {
     if inside {
         return Err(Rule::Nested);
@@ -93,8 +99,11 @@ fn pass_primitive(
     inside: bool,
     primitive: &Primitive,
 ) -> Result<Action, Fault>
-    ensures walks { Walks scope.now (λ w. AStatement (PrimitiveHead primitive.now) scope.now.locals inside ∷ w) spot.old spot.new result }
-    ensures action { IfOk result (λ a. a ≡ action_in (primitive_of scope.now spot.old.sites primitive.now)) }
+    ensures walks { Walks scope.now
+        (λ w. AStatement (PrimitiveHead primitive.now) scope.now.locals inside ∷ w)
+        spot.old spot.new result }
+    ensures action { IfOk result (λ a. a
+        ≡ action_in (primitive_of scope.now spot.old.sites primitive.now)) }
     ensures spot { OnOk result (spot.new ≡ after_primitive spot.old primitive.now) }
     ensures sound { IfOk result (λ a. IsSound (environment scope.now) inside (Do a Stop)) }
 {
@@ -114,7 +123,8 @@ fn pass_test(
     inside: bool,
     test: &Test,
 ) -> Result<Condition, Fault>
-    ensures walks { Walks scope.now (λ w. AStatement (TestHead test.now) scope.now.locals inside ∷ w) spot.old spot.new result }
+    ensures walks { Walks scope.now (λ w. AStatement (TestHead test.now) scope.now.locals inside
+        ∷ w) spot.old spot.new result }
     ensures condition { IfOk result (λ c. c ≡ condition_in (test_of scope.now test.now)) }
     ensures spot { OnOk result (spot.new ≡ after_head spot.old (TestHead test.now)) }
     ensures sound { IfOk result (λ c. IsSoundCondition (environment scope.now) c) }
@@ -130,7 +140,8 @@ fn pass_test(
 
 /// Passes an `atomic`, and gives the number of its section.
 fn pass_atomic(scope: &Scope<'_>, spot: &mut Spot, inside: bool) -> Result<u16, Fault>
-    ensures walks { Walks scope.now (λ w. AStatement AtomicHead scope.now.locals inside ∷ w) spot.old spot.new result }
+    ensures walks { Walks scope.now (λ w. AStatement AtomicHead scope.now.locals inside ∷ w)
+        spot.old spot.new result }
     ensures number { IfOk result (λ n. n ≡ spot.old.sections) }
     ensures spot { OnOk result (spot.new ≡ after_head spot.old AtomicHead) }
     ensures outside { OnOk result (inside ≡ false) }
@@ -150,10 +161,13 @@ fn walk_statement(
     inside: bool,
     statement: &Statement,
 ) -> Result<Step, Fault>
-    ensures walks { Walks scope.now (form_items scope.now.locals inside (form_of statement.now)) spot.old spot.new result }
-    ensures step { IfOk result (λ step. (k : Statements) → step_then step k ≡ numbered_form scope.now spot.old (form_of statement.now) k) }
+    ensures walks { Walks scope.now (form_items scope.now.locals inside (form_of statement.now))
+        spot.old spot.new result }
+    ensures step { IfOk result (λ step. (k : Statements) → step_then step k
+        ≡ numbered_form scope.now spot.old (form_of statement.now) k) }
     ensures spot { OnOk result (spot.new ≡ after_form spot.old (form_of statement.now)) }
-    ensures sound { IfOk result (λ step. IsSound (environment scope.now) inside (step_then step Stop)) }
+    ensures sound { IfOk result
+        (λ step. IsSound (environment scope.now) inside (step_then step Stop)) }
 {
     match statement {
         Statement::Primitive(primitive) => {
@@ -193,7 +207,8 @@ pub fn walk_block(
     inside: bool,
     block: &Block,
 ) -> Result<Text, Fault>
-    ensures walks { Walks scope.now (body_items scope.now.locals inside block.now) spot.old spot.new result }
+    ensures walks { Walks scope.now (body_items scope.now.locals inside block.now)
+        spot.old spot.new result }
     ensures text { IfOk result (λ text. text ≡ numbered_body scope.now spot.old block.now) }
     ensures spot { OnOk result (spot.new ≡ after_body spot.old block.now) }
     ensures sound { IfOk result (λ text. IsSound (environment scope.now) inside text) }

@@ -1,0 +1,4 @@
+pub mod SiteLaws
+pub mod SetLaws
+pub mod SolvingLaws
+pub mod StatementLaws

@@ -1,0 +1,142 @@
+-- Laws of sets of sites.
+use Rattle.std.proofs.Common.{◌≡◌, ℕ, ◌+◌, ◌-◌, ◌*◌, ◌/◌, ◌%◌, ◌^◌, ◌<◌, ◌≤◌, ◌⊎◌, ◌↔◌, Bool, true, false, true≢false, List, length, max, min, get_or, refl, sym, ap, ◌∙◌, inl, inr, arith, slice_set, w64}
+use Rattle.std.specs.Prelude.{bit_or, bit_and}
+use Rattle.std.specs.Int.{bit_at, bit_not, trailing_zeros}
+use Rattle.std.proofs.lemmas.List.{get_or-set_same, get_or-set_other, length-set, get_or_past}
+use Rattle.std.proofs.lemmas.Bool.{cases_eq, cases_lt}
+use Rattle.std.proofs.lemmas.Nat.Bits.{bit_at_set_same, bit_at_set_other, bit_at_or, bit_at_and, bit_at_not, bit_at-lt, bit_at-zero, bit_at-trailing_zeros}
+use Rattle.std.proofs.lemmas.Nat.{le_or_l}
+use Rattle.std.proofs.lemmas.List.Sums.{sum_by-set}
+use Rattle.sect_points.specs.Sites.{HasSite, room}
+
+-- one more bit
+pub insert_site : (words : List ℕ) (site : ℕ) → site / 64 < length words → (other : ℕ)
+    → HasSite (slice_set words (site / 64) (bit_or (get_or words (site / 64) 0) (1 * 2 ^ (site % 64) % 18446744073709551616))) other
+    ↔ (HasSite words other ⊎ (other ≡ site))
+insert_site words site within other = elim (cases_eq (other / 64) (site / 64)) [
+  | inl same ↦ elim (cases_eq (other % 64) (site % 64)) [
+    | inl bit ↦
+        let is : other ≡ site = omega (arith, same, bit) in
+        (λ h. inr is, λ h. rw (same, bit, get_or-set_same words (site / 64) (bit_or (get_or words (site / 64) 0) (1 * 2 ^ (site % 64) % 18446744073709551616)) 0 within) (bit_at_set_same w64 (get_or words (site / 64) 0) (site % 64) (omega arith)))
+    | inr apart ↦
+        let old : bit_at (get_or (slice_set words (site / 64) (bit_or (get_or words (site / 64) 0) (1 * 2 ^ (site % 64) % 18446744073709551616))) (other / 64) 0) (other % 64) ≡ bit_at (get_or words (other / 64) 0) (other % 64) =
+        rw (same, get_or-set_same words (site / 64) (bit_or (get_or words (site / 64) 0) (1 * 2 ^ (site % 64) % 18446744073709551616)) 0 within) (bit_at_set_other w64 (get_or words (site / 64) 0) (site % 64) (omega arith) (other % 64) apart) in
+        (λ h. inl (sym old ∙ h), λ h. elim h [ inl k ↦ old ∙ k | inr e ↦ absurd (apart (ap (λ n. n % 64) e)) ])
+  ]
+  | inr apart ↦
+      let old : get_or (slice_set words (site / 64) (bit_or (get_or words (site / 64) 0) (1 * 2 ^ (site % 64) % 18446744073709551616))) (other / 64) 0 ≡ get_or words (other / 64) 0 =
+      get_or-set_other words (site / 64) (other / 64) _ 0 apart in
+      (λ h. inl (ap (λ w. bit_at w (other % 64)) (sym old) ∙ h), λ h. elim h [ inl k ↦ ap (λ w. bit_at w (other % 64)) old ∙ k | inr e ↦ absurd (apart (ap (λ n. n / 64) e)) ])
+]
+
+-- the first n words are joined
+pub record IsJoined (n : ℕ) (old other new : List ℕ) (grew : Bool) : Type 0 where
+  pub done : (k : ℕ) → k < n → get_or new k 0 ≡ bit_or (get_or old k 0) (get_or other k 0)
+  pub left : (k : ℕ) → n ≤ k → get_or new k 0 ≡ get_or old k 0
+  pub long : length new ≡ length old
+  pub same : grew ≡ false → new ≡ old
+  pub less : grew ≡ true → room new < room old
+  pub most : room new ≤ room old
+
+pub none_joined : (old other : List ℕ) → IsJoined 0 old other old false
+none_joined old other = record {
+  done = λ k h. absurd (omega arith);
+  left = λ k h. refl;
+  long = refl;
+  same = λ e. refl;
+  less = λ e. absurd (true≢false (sym e));
+  most = omega arith;
+}
+
+-- the next word has nothing new
+pub joined_same : (n : ℕ) (old other new : List ℕ) (grew : Bool) → IsJoined n old other new grew → bit_or (get_or new n 0) (get_or other n 0) ≡ get_or new n 0
+    → IsJoined (n + 1) old other new grew
+joined_same n old other new grew h e = record {
+  done = λ k lt. elim (cases_eq k n) [
+    | inl is ↦ rw is (sym e ∙ ap (λ w. bit_or w (get_or other n 0)) (h.left n (omega arith)))
+    | inr apart ↦ h.done k (omega arith)
+  ];
+  left = λ k le. h.left k (omega arith);
+  long = h.long;
+  same = h.same;
+  less = h.less;
+  most = h.most;
+}
+
+-- the next word grows
+pub joined_more : (n w : ℕ) (old other new : List ℕ) (grew : Bool) → IsJoined n old other new grew → n < length new → w ≡ bit_or (get_or new n 0) (get_or other n 0)
+    → (w ≡ get_or new n 0 → ⊥) → w < 2 ^ 64 → IsJoined (n + 1) old other (slice_set new n w) true
+joined_more n w old other new grew h within is apart fits =
+    let at : get_or (slice_set new n w) n 0 ≡ w = get_or-set_same new n w 0 within in
+    let more : get_or new n 0 ≤ w = omega (arith, le_or_l (get_or new n 0) (get_or other n 0), is) in
+    let sums = sum_by-set (λ x. 2 ^ 64 - x) new n w 0 within in
+    let shrinks : room (slice_set new n w) < room new = omega (arith, sums, more, apart, fits) in
+    record {
+      done = λ k lt. elim (cases_eq k n) [
+        | inl same ↦ rw same (at ∙ is ∙ ap (λ x. bit_or x (get_or other n 0)) (h.left n (omega arith)))
+        | inr other ↦ get_or-set_other new n k w 0 other ∙ h.done k (omega arith)
+      ];
+      left = λ k le. get_or-set_other new n k w 0 (omega arith) ∙ h.left k (omega arith);
+      long = length-set new n w ∙ h.long;
+      same = λ e. absurd (true≢false e);
+      less = λ e. omega (arith, shrinks, h.most);
+      most = omega (arith, shrinks, h.most);
+    }
+
+-- all words are joined
+pub all_joined : (n : ℕ) (old other new : List ℕ) (grew : Bool) → IsJoined n old other new grew → length old ≤ n → length other ≤ n
+    → (site : ℕ) → HasSite new site ↔ (HasSite old site ⊎ HasSite other site)
+all_joined n old other new grew h lo lt site =
+    let i = site / 64 in
+    let b = site % 64 in
+    let is : get_or new i 0 ≡ bit_or (get_or old i 0) (get_or other i 0) = elim (cases_lt i n) [
+      | inl lt ↦ h.done i lt
+      | inr ge ↦ rw (get_or_past new i 0 (omega (arith, h.long)), get_or_past old i 0 (omega arith), get_or_past other i 0 (omega arith)) refl
+    ] in
+    let bits : bit_at (get_or new i 0) b ≡ max (bit_at (get_or old i 0) b) (bit_at (get_or other i 0) b) =
+    ap (λ w. bit_at w b) is ∙ bit_at_or (get_or old i 0) (get_or other i 0) b in (
+      λ k. elim (cases_eq (bit_at (get_or old i 0) b) 1) [
+        | inl one ↦ inl one
+        | inr zero ↦ inr (omega (arith, bits, k, zero, bit_at-lt (get_or old i 0) b, bit_at-lt (get_or other i 0) b))
+      ],
+      λ k. elim k [
+        | inl one ↦ omega (arith, bits, one, bit_at-lt (get_or other i 0) b)
+        | inr one ↦ omega (arith, bits, one, bit_at-lt (get_or old i 0) b)
+      ],
+    )
+
+-- a word that the other lacks nothing of
+pub lacks_none : (w o b : ℕ) → o < 2 ^ 64 → bit_and w (bit_not w64 o) ≡ 0 → b < 64 → bit_at w b ≡ 1 → bit_at o b ≡ 1
+lacks_none w o b fits e lt one =
+    let none : min (bit_at w b) (1 - bit_at o b) ≡ 0 =
+    ap (min (bit_at w b)) (sym (bit_at_not w64 o b fits lt)) ∙ sym (bit_at_and w (bit_not w64 o) b) ∙ ap (λ x. bit_at x b) e ∙ bit_at-zero b in
+    omega (arith, none, one, bit_at-lt o b)
+
+-- a site that the other lacks
+pub lacks_some : (words others : List ℕ) (i x t : ℕ) → x ≡ bit_and (get_or words i 0) (bit_not w64 (get_or others i 0)) → t ≡ trailing_zeros w64 x → get_or others i 0 < 2 ^ 64 → x < 2 ^ 64 → (x ≡ 0 → ⊥)
+    → i < 16 → (i * 64 + t < 1024) × HasSite words (i * 64 + t) × (HasSite others (i * 64 + t) → ⊥)
+lacks_some words others i x t is at fits small some lt =
+    let w = get_or words i 0 in
+    let o = get_or others i 0 in
+    let more : 0 < x = elim (cases_eq x 0) [ inl e ↦ absurd (some e) | inr n ↦ omega arith ] in
+    let facts = bit_at-trailing_zeros w64 x more small in
+    let below : t < 64 = omega (arith, at, facts.0) in
+    let bit : min (bit_at w t) (1 - bit_at o t) ≡ 1 =
+    ap (min (bit_at w t)) (sym (bit_at_not w64 o t fits below)) ∙ sym (bit_at_and w (bit_not w64 o) t) ∙ ap (λ y. bit_at y t) (sym is) ∙ ap (bit_at x) at ∙ facts.1 in
+    let div : (i * 64 + t) / 64 ≡ i = omega arith in
+    let rem : (i * 64 + t) % 64 ≡ t = omega arith in (
+      omega arith,
+      rw (div, rem) (omega (arith, bit, bit_at-lt w t)),
+      λ h. let one : bit_at o t ≡ 1 = ap (bit_at o) (sym rem) ∙ ap (λ k. bit_at (get_or others k 0) ((i * 64 + t) % 64)) (sym div) ∙ h in omega (arith, bit, one),
+    )
+
+-- one word more of which nothing is lacking
+pub none_more : (words others : List ℕ) (i : ℕ) → get_or others i 0 < 2 ^ 64 → bit_and (get_or words i 0) (bit_not w64 (get_or others i 0)) ≡ 0
+    → ((site : ℕ) → site / 64 < i → HasSite words site → HasSite others site)
+    → (site : ℕ) → site / 64 < i + 1 → HasSite words site → HasSite others site
+none_more words others i fits e before site lt h = elim (cases_eq (site / 64) i) [
+  | inl is ↦ (let w = get_or words i 0 in
+      let one : bit_at (get_or words i 0) (site % 64) ≡ 1 = ap (λ k. bit_at (get_or words k 0) (site % 64)) (sym is) ∙ h in
+      ap (λ k. bit_at (get_or others k 0) (site % 64)) is ∙ lacks_none (get_or words i 0) (get_or others i 0) (site % 64) fits e (omega arith) one)
+  | inr apart ↦ before site (omega arith) h
+]

@@ -1,0 +1,37 @@
+//! The points-to sets of a program.
+
+ghost use Rattle.std.specs.Prelude.{IfOk};
+ghost use Rattle.sect_points.specs.Flow.{IsLeastFlow};
+ghost use Rattle.sect_points.specs.Sets.{InSets, IsEmpty};
+ghost use Rattle.sect_points.specs.Solving.{AreBelow};
+ghost use Rattle.sect_points.specs.Statements.{statements_of, IsRoomFor};
+
+use crate::sets::PointsTo;
+use crate::solving::close;
+use crate::statements::placed_statements;
+use sect_types::program::Program;
+use std::alloc::{AllocError, Global};
+
+/// The least sets that are closed under the program's statements, whatever their order: Andersen's inclusions.
+pub fn points_to(alloc: Global, program: &Program) -> Result<PointsTo, AllocError>
+    ensures least { IfOk result (λ sets. IsLeastFlow (InSets sets) (statements_of program.now)) }
+    ensures below { IfOk result AreBelow }
+{
+    let statements = placed_statements(alloc, program)?;
+    let mut sets = empty_sets(alloc, program)?;
+    program.typing();
+    close(&mut sets, statements.as_slice());
+    Ok(sets)
+}
+
+/// An empty set for each local and for each field of each site.
+fn empty_sets(alloc: Global, program: &Program) -> Result<PointsTo, AllocError>
+    ensures room { IfOk result (IsRoomFor program.now) }
+    ensures empty { IfOk result IsEmpty }
+{
+    let mut sets = PointsTo::new(alloc, program.site_count())?;
+    for locals in program.locals() {
+        sets.add_thread(alloc, locals.as_slice().len())?;
+    }
+    Ok(sets)
+}

@@ -28,6 +28,20 @@ impl Model for Graph {
 }
 
 impl Graph {
+    /// How many threads there are.
+    pub fn thread_count(&self) -> usize
+        ensures { result ≡ length self.now.threads }
+    {
+        self.threads.len()
+    }
+
+    /// How many sections there are.
+    pub fn section_count(&self) -> usize
+        ensures { result ≡ length self.now.sections }
+    {
+        self.sections.len()
+    }
+
     /// The graph of a thread.
     pub fn thread(&self, number: u16) -> &Flow
         requires { number < length self.now.threads }

@@ -1,11 +1,11 @@
 -- How nodes are added, statement by statement.
-use Rattle.std.proofs.Common.{◌≡◌, ℕ, zero, suc, ◌+◌, List, [], ◌∷◌, ◌++◌, refl, sym, ap, ◌∙◌, ◌<◌, ◌≤◌, append_assoc, length-append, length-drop, length, get_or, drop, arith}
+use Rattle.std.proofs.Common.{◌≡◌, ℕ, ◌+◌, List, [], ◌∷◌, ◌++◌, refl, sym, ap, ◌∙◌, ◌<◌, ◌≤◌, append_assoc, length-append, length-drop, length, get_or, drop, arith}
 use Rattle.std.proofs.lemmas.List.{at_drop_more, at_drop_all, append-nil}
 use Rattle.sect_types.specs.declared.action.Label.TheVariants.{Test}
 use Rattle.sect_types.specs.declared.action.Condition.{Condition}
 use Rattle.sect_types.specs.declared.text.Step.{Step}
 use Rattle.sect_types.specs.declared.text.Step.TheVariants as step
-use Rattle.sect_types.specs.Statements.{Statements, Stop, Choose, Loop, weight}
+use Rattle.sect_types.specs.Statements.{Statements, Stop, Choose, Loop}
 use Rattle.sect_types.specs.Texts.{step_then, statements_of}
 use Rattle.sect_types.specs.Traces.{node_count}
 use Rattle.sect_graph.specs.declared.flow.Node.{Node}
@@ -67,18 +67,6 @@ after_more xs i n next h = entry_of_text (drop i xs) n next (omega (arith, lengt
 
 pub after_last : (xs : List Step) (i n next : ℕ) → length xs ≤ i → entry_of (statements_of (drop i xs)) n next ≡ next
 after_last xs i n next h = at_drop_all (λ l. entry_of (statements_of l) n next) xs i h
-
-blocks_front : (s : Step) (rest : Statements) → weight (step_then s rest) ≡ weight (step_then s Stop) + weight rest
-blocks_front (step.Do a) rest = omega arith
-blocks_front (step.If t p q) rest = omega arith
-blocks_front (step.While t p) rest = omega arith
-blocks_front (step.Section i p) rest = omega arith
-
--- a statement's blocks are no more than those of its text
-pub blocks_at : (xs : List Step) (i : ℕ) (d : Step) → i < length xs → weight (step_then (get_or xs i d) Stop) ≤ weight (statements_of xs)
-blocks_at [] i d h = absurd (omega arith)
-blocks_at (s ∷ xs) zero d h = omega (arith, blocks_front s (statements_of xs))
-blocks_at (s ∷ xs) (suc i) d h = omega (arith, blocks_front s (statements_of xs), blocks_at xs i d (omega arith))
 
 -- one statement more
 pub emit_more : (xs : List Step) (i : ℕ) (s : Step) (old new init : List Node) (next after : ℕ) → i < length xs → s ≡ get_or xs i s

@@ -2,6 +2,8 @@
 use Rattle.std.proofs.Common.{◌≡◌, ℕ, zero, suc, ◌+◌, ◌<◌, ◌≤◌, List, [], ◌∷◌, ◌++◌, map, drop, length, get_or, refl, sym, ap, ◌∙◌, subst, arith, Some, append_assoc}
 use Rattle.std.specs.Prelude.{slice_get}
 use Rattle.std.proofs.lemmas.List.{at_drop_more, append-nil, map-append, length-map, drop_all}
+use Rattle.std.proofs.lemmas.Option.{slice_get_within, get_or_from_slice_get}
+use Rattle.sect_types.proofs.Lists.{drop_next}
 use Rattle.sect_types.specs.Programs.{total_statements}
 use Rattle.sect_types.specs.Texts.{step_then, statements_of}
 use Rattle.sect_types.specs.declared.text.Step.{Step}
@@ -104,12 +106,9 @@ are_graphs texts g is_threads is_sections =
     map_map f g [] = refl
     map_map f g (x ∷ xs) = ap (λ l. g (f x) ∷ l) (map_map f g xs)
 
-drop_at : {X : Type 0} (xs : List X) (i : ℕ) (x : X) → slice_get xs i ≡ Some x → drop i xs ≡ x ∷ drop (i + 1) xs
-drop_at [] i x e = absurd cc
-drop_at (y ∷ xs) zero x e = let h : y ≡ x = cc in ap (λ z. z ∷ xs) h
-drop_at (y ∷ xs) (suc i) x e =
-    let k : suc (i + 1) ≡ suc i + 1 = omega arith in
-    drop_at xs i x e ∙ ap (λ n. x ∷ drop n (y ∷ xs)) k
+-- the text of a thread comes first of those that are left
+text_next : (texts : List Statements) (t : ℕ) (text : Statements) → slice_get texts t ≡ Some text → drop t texts ≡ text ∷ drop (t + 1) texts
+text_next texts t text at = drop_next texts t text (slice_get_within texts t text at) (sym (get_or_from_slice_get texts t text text at))
 
 pub count_at : (texts : List Statements) (t : ℕ) (text : Statements) → slice_get texts t ≡ Some text → statement_count text ≤ total_statements texts
 count_at [] t text e = absurd cc
@@ -120,14 +119,14 @@ count_at (p ∷ ps) (suc t) text e = omega (arith, count_at ps t text e)
 pub thread_more : (texts : List Statements) (t : ℕ) (text : Statements) (old new init : List (List Node)) → slice_get texts t ≡ Some text → new ≡ old ++ flow_nodes text ∷ []
     → old ++ map flow_nodes (drop t texts) ≡ init → new ++ map flow_nodes (drop (t + 1) texts) ≡ init
 thread_more texts t text old new init at is before =
-    let e : drop t texts ≡ text ∷ drop (t + 1) texts = drop_at texts t text at in
+    let e : drop t texts ≡ text ∷ drop (t + 1) texts = text_next texts t text at in
     ap (λ l. l ++ map flow_nodes (drop (t + 1) texts)) is ∙ append_assoc old (flow_nodes text ∷ []) (map flow_nodes (drop (t + 1) texts)) ∙ ap (λ l. old ++ map flow_nodes l) (sym e) ∙ before
 
 pub sections_more : (texts : List Statements) (t : ℕ) (text : Statements) (old new init : List (List Node)) → slice_get texts t ≡ Some text → new ≡ old ++ map flow_nodes (section_bodies text)
     → old ++ map flow_nodes (all_bodies (drop t texts)) ≡ init → new ++ map flow_nodes (all_bodies (drop (t + 1) texts)) ≡ init
 sections_more texts t text old new init at is before =
     let rest = all_bodies (drop (t + 1) texts) in
-    let e : all_bodies (drop t texts) ≡ section_bodies text ++ rest = ap all_bodies (drop_at texts t text at) in
+    let e : all_bodies (drop t texts) ≡ section_bodies text ++ rest = ap all_bodies (text_next texts t text at) in
     let split : map flow_nodes (all_bodies (drop t texts)) ≡ map flow_nodes (section_bodies text) ++ map flow_nodes rest = ap (map flow_nodes) e ∙ map-append flow_nodes (section_bodies text) rest in
     ap (λ l. l ++ map flow_nodes rest) is ∙ append_assoc old (map flow_nodes (section_bodies text)) (map flow_nodes rest) ∙ ap (λ l. old ++ l) (sym split) ∙ before
 

@@ -43,7 +43,7 @@ pub enum TableFault {
     /// The thread holds this key already.
     #[error("51 AlreadyHeld")]
     AlreadyHeld,
-    /// There is no memory for the request.
+    /// A growth was refused.
     #[error("out of memory")]
     Memory,
 }

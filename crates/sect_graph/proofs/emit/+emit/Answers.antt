@@ -3,7 +3,8 @@ use Rattle.sect_types.specs.Statements.{Stop, weight}
 use Rattle.sect_types.specs.Texts.{step_then, statements_of}
 use Rattle.sect_types.specs.Traces.{node_count}
 use Rattle.sect_graph.specs.Layout.{entry_of}
-use Rattle.sect_graph.proofs.Emitting.{blocks_at, count_more, emit_more, room_more, nodes_if, after_more, after_last, room_if}
+use Rattle.sect_types.proofs.FindLemmas.{weight_at}
+use Rattle.sect_graph.proofs.Emitting.{count_more, emit_more, room_more, nodes_if, after_more, after_last, room_if}
 use Rattle.sect_graph.proofs.emit.+emit.Goals as goal
 use Rattle.sect_graph.proofs.emit.+emit.Goals.{emit_text-then-i-steps, emit_text-else-i-steps}
 
@@ -26,7 +27,7 @@ emit_text-emit_step-requires t c =
     let xs = c.as_slice-steps.result.now in
     let i = c.loop-i.i in
     let s = c.index-steps-i.result in (
-      omega (arith, blocks_at xs i s (omega arith), ap (λ x. weight (step_then x Stop)) c.index-steps-i.is, ap weight c.loop-i.invariant.whole, c.decreases),
+      omega (arith, weight_at xs i s (omega arith), ap (λ x. weight (step_then x Stop)) c.index-steps-i.is, ap weight c.loop-i.invariant.whole, c.decreases),
       omega (arith, count_more xs i s (omega arith), ap (λ x. node_count (step_then x Stop)) c.index-steps-i.is, c.loop-i.invariant.size, c.requires),
     )
 

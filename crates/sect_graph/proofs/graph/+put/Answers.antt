@@ -2,7 +2,7 @@ use Rattle.std.proofs.Common.{arith, ap}
 use Rattle.sect_types.specs.Statements.{Stop, weight, statement_count}
 use Rattle.sect_types.specs.Texts.{step_then}
 use Rattle.sect_types.specs.declared.text.Step.{Step}
-use Rattle.sect_graph.proofs.Emitting.{blocks_at}
+use Rattle.sect_types.proofs.FindLemmas.{weight_at}
 use Rattle.sect_graph.proofs.Graphs.{nodes_few, statements_at}
 use Rattle.sect_graph.proofs.graph.+put.Goals as goal
 
@@ -15,6 +15,6 @@ put_text-put_step-requires t c =
     let xs = c.as_slice-step-items.result.now in
     let i = c.loop-step.step-index in
     let s = c.step-item.result in (
-      omega (arith, blocks_at xs i s (omega arith), ap (λ (x : Step). weight (step_then x Stop)) c.step-item.is, ap weight c.loop-step.invariant.whole, c.decreases),
+      omega (arith, weight_at xs i s (omega arith), ap (λ (x : Step). weight (step_then x Stop)) c.step-item.is, ap weight c.loop-step.invariant.whole, c.decreases),
       omega (arith, statements_at xs i s (omega arith), ap (λ (x : Step). statement_count (step_then x Stop)) c.step-item.is, ap statement_count c.loop-step.invariant.whole, c.requires),
     )

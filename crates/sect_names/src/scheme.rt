@@ -1,6 +1,6 @@
 //! The locks of a program, and which of them its statements need.
 
-ghost use Rattle.std.specs.Prelude.{◌≡◌, ◌≤◌, ℕ, OnOk, IfOk, IfSome};
+ghost use Rattle.std.specs.Prelude.{◌≡◌, ◌<◌, ◌≤◌, ℕ, OnErr, OnOk, IfOk, IfSome};
 ghost use Rattle.sect_types.specs.Programs.{environment_at};
 ghost use Rattle.sect_types.specs.Sound.{IsSoundAction};
 ghost use Rattle.sect_names.specs.Locks.{IsLockOf};
@@ -37,7 +37,8 @@ impl From<AllocError> for SchemeFault {
 
 /// Tests how many fields a path may have.
 pub fn check_k(k: u16) -> Result<(), SchemeFault>
-    ensures { OnOk result (k ≤ 3) }
+    ensures ok { OnOk result (k ≤ 3) }
+    ensures err { OnErr result (3 < k) }
 {
     if k > MOST_FIELDS {
         return Err(SchemeFault::BadK);

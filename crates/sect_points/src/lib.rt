@@ -1,4 +1,4 @@
-//! Points-to sets and classes of sites.
+//! Points-to sets: which sites' objects each local and each field of a site may refer to.
 #![tactic(auto)]
 
 pub mod flow;

@@ -4,3 +4,6 @@ pub mod Flow
 pub mod Sets
 pub mod Solving
 pub mod Statements
+pub mod Places
+pub mod Partitions
+pub mod PathClasses

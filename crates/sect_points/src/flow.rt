@@ -4,6 +4,14 @@ ghost use Rattle.std.specs.Prelude.{◌≡◌, ◌<◌, length, IfOk, map};
 
 use sect_types::action::Action;
 
+/// What a path begins with.
+#[derive(Clone, Copy, Debug, PartialEq, Eq, PartialOrd, Ord, Hash)]
+pub enum Variable {
+    Global(u16),
+    /// A local of a thread.
+    Local(u16, u16),
+}
+
 /// What may hold a reference.
 #[derive(Clone, Copy)]
 pub enum Holder {

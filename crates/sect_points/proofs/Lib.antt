@@ -2,3 +2,8 @@ pub mod SiteLaws
 pub mod SetLaws
 pub mod SolvingLaws
 pub mod StatementLaws
+pub mod ClassLaws
+pub mod LabelLaws
+pub mod PartitionLaws
+pub mod UnionLaws
+pub mod ClashLaws

@@ -9,6 +9,7 @@ use Rattle.sect_points.specs.Sites.{HasSite}
 use Rattle.sect_points.specs.Rows.{RowHas, rows_room, no_sites}
 use Rattle.sect_points.specs.Flow.{Family}
 use Rattle.sect_points.specs.Sets.{Sets, InSets, IsEmpty, Adds, sites_for, spread_to, sets_room}
+use Rattle.sect_points.specs.Partitions.{AreSlotsOfSites}
 use Rattle.sect_points.specs.declared.sites.SiteSet.{SiteSet}
 use Rattle.sect_points.specs.declared.flow.Holder.{Holder}
 use Rattle.sect_points.specs.declared.flow.Holder.TheVariants.{Local, Slot}
@@ -146,10 +147,14 @@ gathered_same n sets bases f all not before s = (
 )
 
 -- past the last row there is nothing
-row_past : (rows : List SiteSet) (row s : ℕ) → length rows ≤ row → RowHas rows row s → ⊥
+pub row_past : (rows : List SiteSet) (row s : ℕ) → length rows ≤ row → RowHas rows row s → ⊥
 row_past rows row s past h =
     let none : bit_at 0 (s % 64) ≡ 1 = subst (λ (r : SiteSet). HasSite r.words s) (get_or_past rows row no_sites past) h in
     omega (arith, none, bit_at-zero (s % 64))
+
+-- only sites have fields that hold something
+pub slots_of_sites : (sets : Sets) → length sets.slots ≡ sets.sites * 16 → AreSlotsOfSites sets
+slots_of_sites sets long o f s (lt, h) = elim (cases_lt o sets.sites) [ inl below ↦ below | inr past ↦ absurd (row_past sets.slots (o * 16 + f) s (omega arith) h) ]
 
 pub gathered_all : (sets : Sets) (bases : List ℕ) (f : ℕ) (all : List ℕ) (n : ℕ) → length sets.slots ≤ n * 16 → ((s : ℕ) → HasSite all s ↔ gathered_below n sets bases f s)
     → (s : ℕ) → HasSite all s ↔ ((o : ℕ) × HasSite bases o × InSets sets (Slot o f) s)

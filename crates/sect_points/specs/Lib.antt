@@ -6,4 +6,5 @@ pub mod Solving
 pub mod Statements
 pub mod Places
 pub mod Partitions
+pub mod Labels
 pub mod PathClasses

@@ -1,7 +1,12 @@
-//! Points-to sets: which sites' objects each local and each field of a site may refer to.
+//! Points-to sets: which sites' objects each local and each field of a site may refer to; and the classes of sites and
+//! of paths.
 #![tactic(auto)]
 
+mod clashes;
+pub mod classes;
 pub mod flow;
+mod labels;
+pub mod partition;
 mod points;
 pub mod rows;
 pub mod sets;
@@ -11,5 +16,7 @@ mod statements;
 
 pub use points::points_to;
 
+#[cfg(test)]
+mod class_tests;
 #[cfg(test)]
 mod tests;

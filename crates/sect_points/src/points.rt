@@ -1,6 +1,7 @@
 //! The points-to sets of a program.
 
-ghost use Rattle.std.specs.Prelude.{IfOk};
+ghost use Rattle.std.specs.Prelude.{◌≡◌, length, IfOk};
+ghost use Rattle.sect_types.specs.Programs.{sites_of};
 ghost use Rattle.sect_points.specs.Flow.{IsLeastFlow};
 ghost use Rattle.sect_points.specs.Sets.{InSets, IsEmpty};
 ghost use Rattle.sect_points.specs.Solving.{AreBelow};
@@ -16,6 +17,7 @@ use std::alloc::{AllocError, Global};
 pub fn points_to(alloc: Global, program: &Program) -> Result<PointsTo, AllocError>
     ensures least { IfOk result (λ sets. IsLeastFlow (InSets sets) (statements_of program.now)) }
     ensures below { IfOk result AreBelow }
+    ensures sites { IfOk result (λ sets. sets.sites ≡ length (sites_of program.now.globals program.now.texts)) }
 {
     let statements = placed_statements(alloc, program)?;
     let mut sets = empty_sets(alloc, program)?;

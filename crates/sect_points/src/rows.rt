@@ -33,12 +33,29 @@ impl Rows {
         Ok(Rows { rows })
     }
 
+    /// How many sets there are.
+    pub fn len(&self) -> usize
+        ensures { result ≡ length self.now }
+    {
+        self.rows.len()
+    }
+
     /// A set.
     pub fn get(&self, row: usize) -> SiteSet
         requires { row < length self.now }
         ensures { (site : ℕ) → HasSite result.words site ↔ RowHas self.now row site }
     {
         self.rows[row]
+    }
+
+    /// A set, or no site where there is no such set.
+    pub fn get_or_none(&self, row: usize) -> SiteSet
+        ensures { (site : ℕ) → HasSite result.words site ↔ RowHas self.now row site }
+    {
+        match self.rows.get(row) {
+            Some(set) => *set,
+            None => SiteSet::new(),
+        }
     }
 
     /// Whether a set has a site. Where there is no such set it hasn't.

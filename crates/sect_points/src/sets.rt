@@ -3,6 +3,7 @@
 ghost use Rattle.std.specs.Prelude.{◌≡◌, ◌↔◌, ◌⊎◌, ◌<◌, ◌+◌, ◌*◌, ℕ, [], ◌∷◌, ◌++◌, ◌≤◌, length, map, true, false, IsTrue, IfOk, OnOk};
 ghost use Rattle.sect_points.specs.Sites.{HasSite};
 ghost use Rattle.sect_points.specs.Sets.{InSets, IsPlace, IsEmpty, Adds, sites_for, spread_to};
+ghost use Rattle.sect_points.specs.Partitions.{AreSlotsOfSites};
 ghost use Rattle.sect_points.specs.declared.flow.Holder.TheVariants.{Local, Slot};
 ghost use Rattle.sect_points.specs.declared.flow.Holder.{Holder};
 
@@ -61,6 +62,38 @@ impl PointsTo {
         Ok(())
     }
 
+    /// What holds of the sets, which the clauses say: there are at most 1,024 sites, 16 sets of fields for each, and only
+    /// they have fields that hold something.
+    pub fn bounds(&self)
+        ensures few { self.now.sites ≤ MOST_SITES }
+        ensures rows { length self.now.slots ≡ self.now.sites * 16 }
+        ensures slots { AreSlotsOfSites self.now }
+    {
+        let _ = &self.slots;
+    }
+
+    /// How many sites there are, at most 1,024.
+    pub fn sites(&self) -> u16
+        ensures count { result ≡ self.now.sites }
+        ensures few { result ≤ MOST_SITES }
+    {
+        self.sites
+    }
+
+    /// The sets of the fields of the sites: 16 for each site.
+    pub fn slots(&self) -> &Rows
+        ensures { result.now ≡ self.now.slots }
+    {
+        &self.slots
+    }
+
+    /// The sets of the locals, for each thread.
+    pub fn locals(&self) -> &[Rows]
+        ensures { result.now ≡ self.now.locals }
+    {
+        self.locals.as_slice()
+    }
+
     /// Whether a holder may hold a reference to an object of a site. A holder that isn't there holds none.
     pub fn has(&self, holder: Holder, site: u16) -> bool
         requires { site < MOST_SITES }
@@ -83,6 +116,16 @@ impl PointsTo {
         ensures { (site : ℕ) → HasSite result.words site ↔ InSets self.now (Local thread local) site }
     {
         self.locals[thread as usize].get(local as usize)
+    }
+
+    /// The set of a local, or no site where there is no such local.
+    pub fn local_or_none(&self, thread: u16, local: u16) -> SiteSet
+        ensures { (site : ℕ) → HasSite result.words site ↔ InSets self.now (Local thread local) site }
+    {
+        match self.locals.get(thread as usize) {
+            Some(rows) => rows.get_or_none(local as usize),
+            None => SiteSet::new(),
+        }
     }
 
     /// The set of a field of a site's objects.

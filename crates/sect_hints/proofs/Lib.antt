@@ -1,0 +1,4 @@
+pub mod GlobalLaws
+pub mod HintLaws
+pub mod GuardLaws
+pub mod FaultLaws

@@ -1,0 +1,4 @@
+pub mod Hints
+pub mod Faults
+pub mod Names
+pub mod Verdicts

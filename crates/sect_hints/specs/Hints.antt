@@ -19,15 +19,15 @@ IsHinted p r = 0 < length (hints_of p r)
 abbrev pub global_of : Numbered → List ℕ → Option ℕ
 global_of p name = place name (names_of_globals p.source.globals)
 
--- the name is that of an object of this record
-abbrev pub Names : Numbered → List ℕ → ℕ → Type 0
-Names p name own = (g : ℕ) × (global_of p name ≡ Some g) × (slice_get p.globals g ≡ Some own)
+-- the name is that of a global, an object of this record
+abbrev pub NamesObjectOf : Numbered → List ℕ → ℕ → Type 0
+NamesObjectOf p name own = (g : ℕ) × (global_of p name ≡ Some g) × (slice_get p.globals g ≡ Some own)
 
 -- a record with these hints breaks the rule
 abbrev pub IsBrokenBy : Numbered → List (List ℕ) → Rule → Type 0
 IsBrokenBy p hints HintTwice = 1 < length hints
 IsBrokenBy p hints NoSuchGlobal = (name : List ℕ) × Has hints name × (global_of p name ≡ None)
-IsBrokenBy p hints GuardIsGuarded = (name : List ℕ) × (own : ℕ) × Has hints name × Names p name own × IsHinted p own
+IsBrokenBy p hints GuardIsGuarded = (name : List ℕ) × (own : ℕ) × Has hints name × NamesObjectOf p name own × IsHinted p own
 
 -- the rule is broken at the record of that number
 abbrev pub IsBroken : Numbered → ℕ → Rule → Type 0
@@ -56,16 +56,16 @@ IsGuardOf p r g = (name : List ℕ) × (hints_of p r ≡ name ∷ []) × (global
 -- the list has the guard of each record, and none where the record carries no hint
 pub record AreGuards (p : Numbered) (list : List (Option ℕ)) : Type 0 where
   pub as_many : length list ≡ length p.records
-  pub guarded : (r g : ℕ) → (slice_get list r ≡ Some (Some g)) ↔ IsGuardOf p r g
-  pub unguarded : (r : ℕ) → r < length p.records → (slice_get list r ≡ Some None) ↔ (hints_of p r ≡ [])
+  pub guarded : (r g : ℕ) → (slice_index_or list r None ≡ Some g) ↔ IsGuardOf p r g
+  pub unguarded : (r : ℕ) → (slice_index_or list r None ≡ None) ↔ (hints_of p r ≡ [])
 
--- a global is an object of a record for which the list has no guard
+-- the number is that of a global, an object of a record that has no guard in the list
 pub record IsUnguarded (p : Numbered) (list : List (Option ℕ)) (g : ℕ) : Type 0 where
   pub declared : g < length p.globals
   pub own : ℕ
   pub of_own : slice_get p.globals g ≡ Some own
-  pub none : slice_get list own ≡ Some None
+  pub none : slice_index_or list own None ≡ None
 
 -- no guard is guarded itself
 abbrev pub AreUnguarded : Numbered → List (Option ℕ) → Type 0
-AreUnguarded p list = (r g : ℕ) → slice_get list r ≡ Some (Some g) → IsUnguarded p list g
+AreUnguarded p list = (r g : ℕ) → slice_index_or list r None ≡ Some g → IsUnguarded p list g

@@ -56,7 +56,8 @@ pub fn guards(alloc: Global, program: &Program) -> Result<Guards, HintFault>
     // Where no rule is broken guards are given, unless memory runs out.
     ensures only { ObeysHints program.now → IsOkUnless result Memory }
     // The first fault is the answer, unless memory runs out.
-    ensures refuses { (r : ℕ) (rule : Rule) → IsFirstFault program.now r rule → Refuses (hint_fault rule r) result }
+    ensures refuses { (r : ℕ) (rule : Rule) → IsFirstFault program.now r rule
+        → Refuses (hint_fault rule r) result }
     ensures guards { IfOk result (AreGuards program.now) }
     // What guards a record is an object of a record that nothing guards.
     ensures unguarded { IfOk result (AreUnguarded program.now) }

@@ -1,4 +1,4 @@
-use Rattle.std.proofs.Common.{◌≡◌, ◌<◌, length, arith, ap, subst}
+use Rattle.std.proofs.Common.{◌≡◌, arith, subst}
 use Rattle.sect_types.specs.Sight.{names_of_globals}
 use Rattle.sect_hints.specs.Names.{AreDifferent}
 use Rattle.sect_hints.proofs.GlobalLaws.{different}
@@ -12,28 +12,19 @@ names_of-requires c =
 
 pub loop-number-preserved : goal.loop-number-preserved
 loop-number-preserved c =
-    let there : c.loop-number.number < length c.args.program.now.source.records = (
-    let same : c.records-of-items.result.now ≡ c.args.program.now.source.records = cc in omega (arith, ap length same)) in
-    one_passed c.args.program.now c.loop-number.number c.of-item.result c.as_slice.result.now c.in-Ok.guard c.loop-number.list.items c.push.new.self.items there (cc) c.in-Ok.ensures c.in_ok-push-in-Ok.ensures.items c.loop-number.invariant
+    one_passed c.args.program.now c.loop-number.number c.of-item.result c.as_slice.result.now c.in-Ok.guard c.records-of-items.result.now c.loop-number.list.items c.push.new.self.items (cc) (omega arith) (cc) c.in-Ok.ensures c.in_ok-push-in-Ok.ensures.items c.loop-number.invariant
 
 pub returns-in-Err-clause-judges : goal.returns-in-Err-clause-judges
 returns-in-Err-clause-judges c =
-    let there : c.loop-number.number < length c.args.program.now.source.records = (
-    let same : c.records-of-items.result.now ≡ c.args.program.now.source.records = cc in omega (arith, ap length same)) in
     judged c.args.program.now c.loop-number.number c.in-Err.rule c.at.result c.at.ensures
-    (first_fault c.args.program.now c.loop-number.number c.of-item.result c.as_slice.result.now c.in-Err.rule c.loop-number.list.items there (cc) c.in-Err.ensures c.loop-number.invariant)
+    (first_fault c.args.program.now c.loop-number.number c.of-item.result c.as_slice.result.now c.in-Err.rule c.records-of-items.result.now c.loop-number.list.items (cc) (omega arith) (cc) c.in-Err.ensures c.loop-number.invariant)
 
-pub returns-clause-judges : goal.returns-clause-judges
-returns-clause-judges c =
-    all_obey c.args.program.now c.of.result
-    (all_passed c.args.program.now c.loop-number.number c.records-of-items.result.now c.loop-number.list.items c.of.result (cc) (omega arith) (omega arith) c.of.ensures c.loop-number.invariant)
-
-pub returns-clause-guards : goal.returns-clause-guards
-returns-clause-guards c =
-    all_guards c.args.program.now c.of.result c.tree-tree.ensures.numbers
-    (all_passed c.args.program.now c.loop-number.number c.records-of-items.result.now c.loop-number.list.items c.of.result (cc) (omega arith) (omega arith) c.of.ensures c.loop-number.invariant)
-
-pub returns-clause-unguarded : goal.returns-clause-unguarded
-returns-clause-unguarded c =
-    all_unguarded c.args.program.now c.of.result c.tree-tree.ensures.numbers c.typing.ensures.records_there
-    (all_passed c.args.program.now c.loop-number.number c.records-of-items.result.now c.loop-number.list.items c.of.result (cc) (omega arith) (omega arith) c.of.ensures c.loop-number.invariant)
+pub returns : goal.returns
+returns c =
+    let p = c.args.program.now in
+    let passed = all_passed p c.loop-number.number c.records-of-items.result.now c.loop-number.list.items c.of.result (cc) (omega arith) (omega arith) c.of.ensures c.loop-number.invariant in
+    record {
+      judges = all_obey p c.of.result passed;
+      guards = all_guards p c.of.result c.tree-tree.ensures.numbers passed;
+      unguarded = all_unguarded p c.of.result passed;
+    }

@@ -27,6 +27,7 @@ same_fault p i j q s one other =
     let ranked : rank q ≡ rank s = omega (arith, one.least s moved.broken, moved.least q one.broken) in
     ap (λ n. hint_fault q n) here ∙ ap (λ r. hint_fault r j) (same_rank q s ranked)
 
+-- so a program that breaks no rule isn't refused, and one that does is refused with its first fault
 pub only : (A : Type 0) (p : Numbered) (answer : Result A HintFault) → Judges p answer → ObeysHints p → IsOkUnless answer Memory
 only A p (Ok a) judges obeys = search rules
 only A p (Err Memory) judges obeys = search rules

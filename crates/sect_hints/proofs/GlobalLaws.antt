@@ -23,6 +23,7 @@ later : (rs : List Record) (gs : List GlobalObject) (item : Item) (list : List I
 unfolding HasTwice
 later rs gs item list h c = let r = h (after c item) in (suc r.0, r.1)
 
+-- what stands behind the fields of a record, or behind all records, counts as well
 past_fields : (rs : List Record) (gs : List GlobalObject) (before : List (List ℕ)) (ds : List Declaration) (w : List Item) → HasTwice rs gs w → HasTwice rs gs (field_items before ds w)
 past_fields rs gs before [] w h = h
 past_fields rs gs before (d ∷ ds) w h = later rs gs _ _ (past_fields rs gs (before ++ d.name ∷ []) ds w h)
@@ -44,6 +45,7 @@ repeated rs gs before (g ∷ list) w (suc i) name e h =
     later rs gs (AGlobal g.of g.name before) (global_items (before ++ g.name ∷ []) list w)
     (repeated rs gs (before ++ g.name ∷ []) list w i name e (ap (has_name name) (append_assoc before (g.name ∷ []) (take i (names_of_globals list))) ∙ h))
 
+-- so the globals of a typed tree have different names
 pub different : (t : Source) → IsTyped t → AreDifferent (names_of_globals t.globals)
 unfolding HasTwice
 different t typed i name e = by (has_name name (take i (names_of_globals t.globals))) refl

@@ -19,12 +19,11 @@ pub record ArePassed (p : Numbered) (i : ℕ) (list : List (Option ℕ)) : Type 
   pub as_many : length list ≡ i
   pub each : (r : ℕ) → r < i → Finds p (hints_of p r) (Ok (get_or list r None))
 
-pub none_passed : (p : Numbered) (list : List (Option ℕ)) → list ≡ [] → ArePassed p 0 list
-none_passed p list e = record { as_many = ap length e; each = λ r h. absurd (omega arith) }
-
+-- the hints that were looked at are the record's
 at_hints : (p : Numbered) (i : ℕ) (d : Record) (hints : List (List ℕ)) (rs : List Record) → rs ≡ p.source.records → i < length rs → hints ≡ (get_or rs i d).hints → hints ≡ hints_of p i
 at_hints p i d hints rs same h e = e ∙ (sym (hints_at rs i d h) ∙ ap (λ l. slice_index_or (map (λ (x : Record). x.hints) l) i []) same)
 
+-- one record more has been passed
 pub one_passed : (p : Numbered) (i : ℕ) (d : Record) (hints : List (List ℕ)) (guard : Option ℕ) (rs : List Record) (list more : List (Option ℕ)) → rs ≡ p.source.records
     → i < length rs → hints ≡ (get_or rs i d).hints → Finds p hints (Ok guard) → more ≡ list ++ guard ∷ [] → ArePassed p i list → ArePassed p (i + 1) more
 one_passed p i d hints guard rs list more same h e found grown so_far = record {
@@ -59,11 +58,13 @@ first_fault p i d hints rule rs list same h e found so_far =
       | inr after ↦ after
     ]
 
+-- the refusal says so
 pub judged : (p : Numbered) (i : ℕ) (rule : Rule) (fault : HintFault) → fault ≡ hint_fault rule i → IsFirstFault p i rule → Judges {A = ℕ} p (Err fault)
 judged p i HintTwice fault e h = subst (λ f. Judges {A = ℕ} p (Err f)) (sym e) h
 judged p i NoSuchGlobal fault e h = subst (λ f. Judges {A = ℕ} p (Err f)) (sym e) h
 judged p i GuardIsGuarded fault e h = subst (λ f. Judges {A = ℕ} p (Err f)) (sym e) h
 
+-- past the last record there are no hints
 past : (rs : List Record) (r : ℕ) → length rs ≤ r → slice_index_or (map (λ (x : Record). x.hints) rs) r [] ≡ []
 past [] r h = refl
 past (x ∷ rs) zero h = absurd (omega arith)
@@ -87,6 +88,7 @@ found_at p list passed r = elim (cases_lt r (length p.source.records)) [
 pub all_obey : (p : Numbered) (list : List (Option ℕ)) → ArePassed p (length p.source.records) list → ObeysHints p
 all_obey p list passed r q broken = unbroken p (hints_of p r) (get_or list r None) (found_at p list passed r) q broken
 
+-- a lone hint that is a global's name gives that global, and no hint gives none
 some_found : (p : Numbered) (hints : List (List ℕ)) (name : List ℕ) (g : ℕ) (guard : Option ℕ) → hints ≡ name ∷ [] → global_of p name ≡ Some g → Finds p hints (Ok guard) → guard ≡ Some g
 some_found p hints name g None e named none = let clash : [] ≡ name ∷ [] = sym none ∙ e in absurd cc
 some_found p hints name g (Some other) e named (its_name, is, its) =

@@ -2,7 +2,7 @@
 use Rattle.std.proofs.Common.{◌≡◌, ℕ, ◌+◌, ◌<◌, ◌↔◌, List, length, get_or, take, Some, refl, sym, ap, ◌∙◌, subst, arith}
 use Rattle.std.specs.Prelude.{slice_get, slice_index}
 use Rattle.std.proofs.lemmas.List.{take_more}
-use Rattle.std.proofs.lemmas.Option.{slice_get-get_or, get_or_from_slice_get}
+use Rattle.std.proofs.lemmas.Option.{slice_get-get_or, slice_get_within, get_or_from_slice_get}
 use Rattle.sect_types.specs.Lists.{Has}
 use Rattle.sect_types.specs.declared.action.Action.{Action}
 use Rattle.sect_types.specs.declared.action.Action.TheVariants as action
@@ -53,6 +53,10 @@ same_number numbers a b m n h k e = sym (get_or_from_slice_get numbers a m 0 h) 
 -- a path whose set has a site has a class
 pub class_there : (c : Parted) → IsParted c → (p : Place) (s : ℕ) → s < c.sets.sites → PathHas (InSets c.sets) p s → (n : ℕ) × HasClass c p n
 class_there c parted p s lt h = (get_or c.numbers s 0, (s, h, slice_get-get_or c.numbers s 0 (omega (arith, parted.sites))))
+
+-- and a path without one has none
+pub class_not_there : (c : Parted) → IsParted c → (p : Place) → ((s : ℕ) → s < c.sets.sites → PathHas (InSets c.sets) p s → ⊥) → (n : ℕ) → HasClass c p n → ⊥
+class_not_there c parted p none n (s, h, i) = none s (omega (arith, slice_get_within c.numbers s n i, parted.sites)) h
 
 pub one_class : (c : Parted) → IsParted c → (p : Place) → Agree c p p
 one_class c parted p m n (s, h, i) (r, k, j) = same_number c.numbers s r m n i j (path_together (InSets c.sets) c.numbers parted.finest.respects p s r h k)

@@ -27,20 +27,19 @@ pub struct Classes {
 }
 
 impl Model for Classes {
+    ghost use Rattle.std.specs.Prelude.{◌≤◌};
     ghost use Rattle.sect_points.specs.Partitions.{Parted, IsParted};
 
     ghost Value = { Parted };
 
     ghost view = { λ c. record { sets = c.points; numbers = c.numbers.items } };
 
-    ghost use Rattle.std.specs.Prelude.{◌≤◌};
-
     ghost invariant = { λ c. (c.points.sites ≤ 1024) × ∥ IsParted (record { sets = c.points; numbers = c.numbers.items }) ∥₁ };
 }
 
 impl Classes {
     /// These sets, with the number of each site's class.
-    pub fn of(points: PointsTo, numbers: Vec<u16>) -> Classes
+    pub(crate) fn of(points: PointsTo, numbers: Vec<u16>) -> Classes
         requires { IsParted (record { sets = points; numbers = numbers.items }) }
         ensures same { result ≡ record { sets = points; numbers = numbers.items } }
         ensures parted { IsParted result }

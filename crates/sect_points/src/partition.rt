@@ -36,7 +36,7 @@ fn numbered(alloc: Global, labels: &[u16]) -> Result<Vec<u16>, AllocError>
     ensures { IfOk result (λ numbers. IsNumbering labels.now numbers.items) }
 {
     let mut numbers = Vec::new(alloc);
-    let mut count = 0;
+    let mut count: u16 = 0;
     for (site, label) in labels.iter().enumerate() {
         let least = *label as usize;
         if least == site {

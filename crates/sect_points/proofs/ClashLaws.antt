@@ -1,15 +1,15 @@
 -- Laws of sites that are to be together.
-use Rattle.std.proofs.Common.{◌≡◌, ℕ, ◌+◌, ◌<◌, ◌≤◌, List, length, get_or, slice_set, Option, Some, None, refl, sym, ap, ◌∙◌, subst, inl, inr, arith}
+use Rattle.std.proofs.Common.{◌≡◌, ℕ, ◌+◌, ◌<◌, ◌≤◌, List, length, get_or, slice_set, Option, Some, None, refl, sym, ap, ◌∙◌, subst, inl, inr, arith, Bool, true, true≢false, ◌||◌}
 use Rattle.std.specs.Prelude.{slice_index, unwrap_or, replicate}
 use Rattle.std.proofs.lemmas.Bool.{cases_eq, cases_lt}
 use Rattle.std.proofs.lemmas.List.{get_or-set_same, get_or-set_other, length-set, get_or-replicate, get_or_past, length-replicate}
-use Rattle.sect_points.specs.declared.flow.Holder.{Holder}
 use Rattle.sect_points.specs.declared.flow.Holder.TheVariants.{Local, Slot}
 use Rattle.sect_points.specs.Flow.{Family}
 use Rattle.sect_points.specs.Sets.{Sets, InSets}
 use Rattle.sect_points.specs.Solving.{AreBelow}
 use Rattle.sect_points.specs.Partitions.{Together, Respects, IsFinest, AreSlotsOfSites}
-use Rattle.sect_points.specs.Labels.{IsWithin, Joins, pair, InOne, Meet, Clash}
+use Rattle.sect_points.specs.Labels.{IsWithin, Joins, label_sum, pair, InOne, Meet, Clash, IsOnTheWay, AreSettled, Settles}
+use Rattle.sect_points.proofs.SetLaws.{both_false, one_true}
 
 -- of the first n sites: for each label, a site that the field of one of them may hold, if any
 pub record HasSeen (F : Family) (labels : List ℕ) (f n : ℕ) (seen : List (Option ℕ)) : Type 0 where
@@ -81,28 +81,9 @@ linked_coarser : (sets : Sets) (labels others : List ℕ) → AreSlotsOfSites se
 linked_coarser sets labels others slots long within f a b (o, p, i, j, e) respects =
     respects (Slot o f) (Slot p f) a b i j (refl, within o p (omega (arith, slots o f a i)) (omega (arith, slots p f b j)) e)
 
--- each partition that respects the sets keeps together what the labels do, and the labels the sites of each set
-pub record IsOnTheWay (sets : Sets) (labels : List ℕ) : Type 0 where
-  pub long : length labels ≡ sets.sites
-  pub whole : (a b : ℕ) → InOne (InSets sets) a b → Together labels a b
-  pub finest : (others : List ℕ) → Respects (InSets sets) others → IsWithin labels others
-
-pub way_begun : (sets : Sets) (old new : List ℕ) → length old ≡ sets.sites → ((a : ℕ) → a < sets.sites → slice_index old a ≡ a) → Joins old new (InOne (InSets sets)) → IsOnTheWay sets new
-way_begun sets old new long own j = record {
-  long = j.long ∙ long;
-  whole = j.joined;
-  finest = λ others respects.
-      j.finest others
-      (λ a b la lb e. ap (slice_index others) (sym (own a (omega arith)) ∙ e ∙ own b (omega arith)))
-      (λ a b (h, i, k). one others respects a b h i k);
-}
-  where
-    one : (others : List ℕ) → Respects (InSets sets) others → (a b : ℕ) (h : Holder) → InSets sets h a → InSets sets h b → Together others a b
-    one others respects a b (Local t x) i k = respects (Local t x) (Local t x) a b i k (refl, refl)
-    one others respects a b (Slot o f) i k = respects (Slot o f) (Slot o f) a b i k (refl, refl)
-
 pub way_on : (sets : Sets) (old new : List ℕ) (f a b : ℕ) → AreSlotsOfSites sets → AreBelow sets → IsOnTheWay sets old → Clash (InSets sets) old f a b → Joins old new (pair a b) → IsOnTheWay sets new
 way_on sets old new f a b slots below h clash j = record {
+  least = j.least h.least;
   long = j.long ∙ h.long;
   whole = λ x y (k, i, l). j.keeps x y (omega (arith, below k x i, h.long)) (omega (arith, below k y l, h.long)) (h.whole x y (k, i, l));
   finest = λ others respects.
@@ -110,7 +91,7 @@ way_on sets old new f a b slots below h clash j = record {
       (λ x y p. ap (slice_index others) p.0 ∙ linked_coarser sets old others slots h.long (h.finest others respects) f a b clash.0 respects ∙ ap (slice_index others) (sym p.1));
 }
 
-pub way_done : (sets : Sets) (labels : List ℕ) → IsOnTheWay sets labels → ((f a b : ℕ) → f < 16 → Meet (InSets sets) labels f a b → Together labels a b) → IsFinest (InSets sets) labels
+pub way_done : (sets : Sets) (labels : List ℕ) → IsOnTheWay sets labels → AreSettled sets (λ f. f < 16) labels → IsFinest (InSets sets) labels
 way_done sets labels h none = record {
   respects = respects;
   finest = λ others r. h.finest others r;
@@ -121,6 +102,54 @@ way_done sets labels h none = record {
     respects (Slot o f) (Slot p g) a b i k l = none f a b i.0 (o, p, i, subst (λ v. InSets sets (Slot p v) b) (sym l.0) k, l.1)
     respects (Local t x) (Slot o f) a b i k l = absurd l
     respects (Slot o f) (Local t x) a b i k l = absurd l
+
+-- two sites that clash are put together
+pub settles_more : (sets : Sets) (old mid new : List ℕ) (f a b : ℕ) (merged : Bool) → AreSlotsOfSites sets → AreBelow sets → Settles sets (λ f. ⊥) old mid merged → Clash (InSets sets) mid f a b
+    → Joins mid new (pair a b) → label_sum new < label_sum mid → Settles sets (λ f. ⊥) old new true
+settles_more sets old mid new f a b merged slots below h clash j less = record {
+  way = way_on sets mid new f a b slots below h.way clash j;
+  same = λ e. absurd (true≢false e);
+  less = λ e. omega (arith, less, h.most);
+  most = omega (arith, less, h.most);
+}
+
+-- none clash
+pub settles_done : (sets : Sets) (old new : List ℕ) (field : ℕ) (merged : Bool) → Settles sets (λ f. ⊥) old new merged → ((a b : ℕ) → Meet (InSets sets) new field a b → Together new a b)
+    → Settles sets (λ f. f ≡ field) old new merged
+settles_done sets old new field merged h none = record {
+  way = h.way;
+  same = λ e. (let s = h.same e in (s.0, subst (AreSettled sets (λ f. f ≡ field)) s.0 (λ f a b is. subst (λ g. Meet (InSets sets) new g a b → Together new a b) (sym is) (none a b))));
+  less = h.less;
+  most = h.most;
+}
+
+-- one field more
+pub settles_then : (sets : Sets) (old mid new : List ℕ) (n : ℕ) (first second merged : Bool) → Settles sets (λ f. f < n) old mid first → Settles sets (λ f. f ≡ n) mid new second
+    → merged ≡ (second || first) → Settles sets (λ f. f < n + 1) old new merged
+settles_then sets old mid new n first second merged h k is = record {
+  way = k.way;
+  same = λ e.
+      (let both = both_false first second (sym is ∙ e) in
+      let a = h.same both.0 in
+      let b = k.same both.1 in (
+        b.0 ∙ a.0,
+        λ f x y lt. elim (cases_eq f n) [
+          | inl same ↦ subst (AreSettled sets (λ f. f ≡ n)) a.0 b.1 f x y same
+          | inr apart ↦ a.1 f x y (omega arith)
+        ],
+      ));
+  less = λ e. elim (one_true first second (sym is ∙ e)) [ inl t ↦ omega (arith, h.less t, k.most) | inr t ↦ omega (arith, h.most, k.less t) ];
+  most = omega (arith, h.most, k.most);
+}
+
+-- all fields
+pub settles_all : (sets : Sets) (old new : List ℕ) (n : ℕ) (merged : Bool) → 16 ≤ n → Settles sets (λ f. f < n) old new merged → Settles sets (λ f. f < 16) old new merged
+settles_all sets old new n merged all h = record {
+  way = h.way;
+  same = λ e. (let s = h.same e in (s.0, λ f a b lt. s.1 f a b (omega arith)));
+  less = h.less;
+  most = h.most;
+}
 
 -- sites that clash are there
 pub clash_there : (sets : Sets) (labels : List ℕ) (f a b : ℕ) → AreBelow sets → Clash (InSets sets) labels f a b → (a < sets.sites) × (b < sets.sites)

@@ -166,6 +166,14 @@ gathered_all sets bases f all n long before s = (
   ]),
 )
 
+pub both_false : (a b : Bool) → (b || a) ≡ false → (a ≡ false) × (b ≡ false)
+both_false a false e = (e, refl)
+both_false a true e = absurd (true≢false e)
+
+pub one_true : (a b : Bool) → (b || a) ≡ true → (a ≡ true) ⊎ (b ≡ true)
+one_true a false e = inl e
+one_true a true e = inr refl
+
 -- the sites below n of the base set get theirs
 abbrev pub spread_below : ℕ → List ℕ → ℕ → List ℕ → Family
 spread_below n bases f sites k s = (o : ℕ) × (o < n) × HasSite bases o × (k ≡ Slot o f) × HasSite sites s
@@ -186,14 +194,6 @@ spread_more n old mid new bases f sites first second grew here a b is_grew =
       ],
     ))
     (λ e. both_false first second (sym is_grew ∙ e)) (λ e. one_true first second (sym is_grew ∙ e))
-  where
-    both_false : (a b : Bool) → (b || a) ≡ false → (a ≡ false) × (b ≡ false)
-    both_false a false e = (e, refl)
-    both_false a true e = absurd (true≢false e)
-
-    one_true : (a b : Bool) → (b || a) ≡ true → (a ≡ true) ⊎ (b ≡ true)
-    one_true a false e = inl e
-    one_true a true e = inr refl
 
 pub spread_same : (n : ℕ) (old new : Sets) (bases : List ℕ) (f : ℕ) (sites : List ℕ) (grew : Bool) → (HasSite bases n → ⊥)
     → Adds old new (spread_below n bases f sites) grew → Adds old new (spread_below (n + 1) bases f sites) grew

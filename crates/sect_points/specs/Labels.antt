@@ -1,5 +1,5 @@
 -- Labels of sites, on the way to their classes.
-use Rattle.std.specs.Prelude.{◌≡◌, ℕ, ◌<◌, ◌≤◌, ◌↔◌, ◌==◌, List, length, slice_index, if◌then◌else◌}
+use Rattle.std.specs.Prelude.{◌≡◌, ℕ, ◌<◌, ◌≤◌, ◌↔◌, ◌==◌, Bool, true, false, List, length, slice_index, if◌then◌else◌}
 use Rattle.std.specs.List.{sum_by}
 use Rattle.sect_points.specs.declared.flow.Holder.{Holder}
 use Rattle.sect_points.specs.declared.flow.Holder.TheVariants.{Slot}
@@ -7,7 +7,8 @@ use Rattle.sect_points.specs.declared.sites.SiteSet.{SiteSet}
 use Rattle.sect_points.specs.Sites.{HasSite}
 use Rattle.sect_points.specs.Rows.{RowHas}
 use Rattle.sect_points.specs.Flow.{Family}
-use Rattle.sect_points.specs.Partitions.{Together, IsByLeast}
+use Rattle.sect_points.specs.Sets.{Sets, InSets}
+use Rattle.sect_points.specs.Partitions.{Together, Respects, IsByLeast}
 
 -- one label in place of another
 abbrev pub with_label : ℕ → ℕ → ℕ → ℕ
@@ -57,6 +58,24 @@ Meet F labels f a b = (o : ℕ) × (p : ℕ) × F (Slot o f) a × F (Slot p f) b
 -- they are to be together, and aren't
 abbrev pub Clash : Family → List ℕ → ℕ → ℕ → ℕ → Type 0
 Clash F labels f a b = Meet F labels f a b × (Together labels a b → ⊥)
+
+-- the labels keep the sites of each set together, and each partition that respects the sets keeps together what they do
+pub record IsOnTheWay (sets : Sets) (labels : List ℕ) : Type 0 where
+  pub long : length labels ≡ sets.sites
+  pub whole : (a b : ℕ) → InOne (InSets sets) a b → Together labels a b
+  pub finest : (others : List ℕ) → Respects (InSets sets) others → IsWithin labels others
+  pub least : AreLeast labels
+
+-- what fields of these numbers bring together is together
+abbrev pub AreSettled : Sets → (ℕ → Type 0) → List ℕ → Type 0
+AreSettled sets Fields labels = (f a b : ℕ) → Fields f → Meet (InSets sets) labels f a b → Together labels a b
+
+-- some sites that were apart have been put together, or none of those fields brings such together
+pub record Settles (sets : Sets) (Fields : ℕ → Type 0) (old new : List ℕ) (merged : Bool) : Type 0 where
+  pub way : IsOnTheWay sets new
+  pub same : merged ≡ false → (new ≡ old) × AreSettled sets Fields old
+  pub less : merged ≡ true → label_sum new < label_sum old
+  pub most : label_sum new ≤ label_sum old
 
 -- the numbers tell apart what the labels do, and go by least sites
 pub record IsNumbering (labels numbers : List ℕ) : Type 0 where

@@ -6,9 +6,9 @@ ghost use Rattle.sect_points.specs.Solving.{AreBelow};
 ghost use Rattle.sect_points.specs.Partitions.{IsParted, IsFinest};
 ghost use Rattle.sect_points.specs.Labels.{AreLeast, IsNumbering};
 
-use crate::clashes::clash;
+use crate::clashes::round;
 use crate::classes::Classes;
-use crate::labels::{alone, merge, unite_sets};
+use crate::labels::{alone, unite_sets};
 use crate::sets::PointsTo;
 use crate::sites::MOST_SITES;
 use std::alloc::{AllocError, Global};
@@ -23,9 +23,7 @@ fn least_sites(alloc: Global, points: &PointsTo) -> Result<Vec<u16>, AllocError>
     points.bounds();
     let mut labels = alone(alloc, points.sites())?;
     unite_sets(&mut labels, points);
-    while let Some((a, b)) = clash(points, &labels) {
-        merge(&mut labels, a, b);
-    }
+    while round(points, &mut labels) {}
     Ok(labels)
 }
 

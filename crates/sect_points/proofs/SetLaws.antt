@@ -166,10 +166,12 @@ gathered_all sets bases f all n long before s = (
   ]),
 )
 
+-- neither of two tests holds
 pub both_false : (a b : Bool) → (b || a) ≡ false → (a ≡ false) × (b ≡ false)
 both_false a false e = (e, refl)
 both_false a true e = absurd (true≢false e)
 
+-- one of two tests holds
 pub one_true : (a b : Bool) → (b || a) ≡ true → (a ≡ true) ⊎ (b ≡ true)
 one_true a false e = inl e
 one_true a true e = inr refl

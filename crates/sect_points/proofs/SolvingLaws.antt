@@ -1,5 +1,5 @@
 -- Laws of the rounds.
-use Rattle.std.proofs.Common.{◌≡◌, ℕ, ◌+◌, ◌<◌, ◌≤◌, ◌⊎◌, ◌↔◌, ◌||◌, Bool, true, false, true≢false, List, [], ◌∷◌, ◌++◌, length, take, get_or, refl, sym, ap, ◌∙◌, subst, inl, inr, arith}
+use Rattle.std.proofs.Common.{◌≡◌, ℕ, ◌+◌, ◌<◌, ◌≤◌, ◌↔◌, ◌||◌, Bool, true, false, true≢false, List, [], ◌∷◌, ◌++◌, length, take, get_or, refl, sym, ap, ◌∙◌, subst, inl, inr, arith}
 use Rattle.std.proofs.lemmas.List.{take_more, take_all}
 use Rattle.sect_types.specs.declared.action.Value.{Value}
 use Rattle.sect_types.specs.declared.action.Value.TheVariants as value
@@ -16,7 +16,7 @@ use Rattle.sect_types.proofs.Membership.{Has-cases, Has-left, Has-right, Has-get
 use Rattle.sect_points.specs.Flow.{Family, ValueHas, BaseHas, Moved, Within, IsClosed, family_of, IsLeastFlow}
 use Rattle.sect_points.specs.Sets.{Sets, InSets, IsPlace, IsEmpty, SamePlaces, Adds, sets_room, sites_for}
 use Rattle.sect_points.specs.Sites.{HasSite}
-use Rattle.sect_points.proofs.SetLaws.{adds_as}
+use Rattle.sect_points.proofs.SetLaws.{adds_as, both_false, one_true}
 use Rattle.sect_points.specs.Solving.{FitsValue, FitsBase, FitsAction, AllFit, AreBelow, IsRound}
 
 -- more there, more is moved
@@ -125,12 +125,12 @@ round_more front p old now new grew second r fits a = record {
     | inr m ↦ omega (arith, moved_below now p.thread p.action h s r.below fits m, a.places.sites)
   ];
   same = λ e.
-      let still = both_false second grew e in
-      let now_is = (r.same still.1).0 in
-      let new_is = a.same still.0 in (
+      let still = both_false grew second e in
+      let now_is = (r.same still.0).0 in
+      let new_is = a.same still.1 in (
         new_is ∙ now_is,
         λ q h. elim (Has-cases front (p ∷ []) q h) [
-          | inl k ↦ (r.same still.1).1 q k
+          | inl k ↦ (r.same still.0).1 q k
           | inr k ↦ elim k [
             | inl is ↦
                 let here : Within (Moved (InSets now) p.thread p.action) (InSets now) = λ h s m. subst (λ x. InSets x h s) new_is ((a.has h s).1 (inr m)) in
@@ -140,9 +140,9 @@ round_more front p old now new grew second r fits a = record {
           ]
         ],
       );
-  less = λ e. elim (either_true second grew e) [
-    | inl g ↦ omega (arith, a.less g, r.most)
-    | inr g ↦ omega (arith, r.less g, weaker now new _ second a)
+  less = λ e. elim (one_true grew second e) [
+    | inl g ↦ omega (arith, r.less g, weaker now new _ second a)
+    | inr g ↦ omega (arith, a.less g, r.most)
   ];
   most = omega (arith, r.most, weaker now new _ second a);
   places = record {
@@ -153,14 +153,6 @@ round_more front p old now new grew second r fits a = record {
   };
 }
   where
-    both_false : (a b : Bool) → (a || b) ≡ false → (a ≡ false) × (b ≡ false)
-    both_false false b e = (refl, e)
-    both_false true b e = absurd (true≢false e)
-
-    either_true : (a b : Bool) → (a || b) ≡ true → (a ≡ true) ⊎ (b ≡ true)
-    either_true false b e = inr e
-    either_true true b e = inl refl
-
     weaker : (old new : Sets) (T : Family) (g : Bool) → Adds old new T g → sets_room new ≤ sets_room old
     weaker old new T true a = omega (arith, a.less refl)
     weaker old new T false a = omega (arith, ap sets_room (a.same refl))

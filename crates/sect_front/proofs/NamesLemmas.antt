@@ -1,9 +1,9 @@
 -- Lemmas on names.
-use Rattle.std.proofs.Common.{◌≡◌, ℕ, suc, ◌+◌, ◌<◌, ◌≤◌, eqb, Bool, true, false, not, ◌||◌, ◌&&◌, cond, List, [], ◌∷◌, ◌++◌, map, Option, Some, None, length, replicate, refl, sym, ◌∙◌, ap, arith, length-append, length-drop}
+use Rattle.std.proofs.Common.{◌≡◌, ℕ, suc, ◌+◌, ◌<◌, ◌≤◌, get_or, eqb, Bool, true, false, not, ◌||◌, ◌&&◌, cond, List, [], ◌∷◌, ◌++◌, map, Option, Some, None, length, replicate, refl, sym, ◌∙◌, ap, arith, length-append, length-drop}
 use Rattle.std.proofs.Math.Seq.{take-append_seam}
 use Rattle.std.proofs.lemmas.Bool.{leb-true, le-leb, eq-eqb}
 use Rattle.std.proofs.lemmas.Bool.Decides.{nat_tests}
-use Rattle.std.proofs.lemmas.List.Folds.{length-prefix_len}
+use Rattle.std.proofs.lemmas.List.Folds.{length-prefix_len, list_all_at}
 use Rattle.std.proofs.Math.Dec.{leb}
 use Rattle.std.specs.List.{list_all, list_any, take_while, prefix_len}
 use Rattle.sect_front.specs.declared.token.Token.{Token}
@@ -92,3 +92,14 @@ whole_word xs = go (list_all is_name_byte xs) refl
     go : (b : Bool) → list_all is_name_byte xs ≡ b → eqb (length (take_while is_name_byte xs)) (length xs) ≡ b
     go true h = eq-eqb (length (take_while is_name_byte xs)) (length xs) (same ∙ all_length xs h)
     go false h = let less : length (take_while is_name_byte xs) < length xs = omega (arith, same, some_length xs h) in grind (arith, nat_tests)
+
+small_letter : (b : ℕ) → is_name_byte b ≡ true → b < 128
+small_letter b h = grind (arith, nat_tests)
+
+-- a name is ASCII
+pub name_small : (bytes : List ℕ) → is_name bytes ≡ true → (i : ℕ) → i < length bytes → get_or bytes i 0 < 128
+name_small bytes h i lt = go (is_name_byte (get_or bytes i 0)) refl
+  where
+    go : (b : Bool) → is_name_byte (get_or bytes i 0) ≡ b → get_or bytes i 0 < 128
+    go true e = small_letter (get_or bytes i 0) e
+    go false e = let none = list_all_at is_name_byte bytes i 0 lt e in let all = (named bytes h).all in absurd cc

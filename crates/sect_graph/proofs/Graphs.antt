@@ -15,6 +15,7 @@ use Rattle.sect_graph.specs.declared.flow.Node.{Node}
 use Rattle.sect_graph.specs.Layout.{flow_nodes}
 use Rattle.sect_graph.specs.Graphs.{IsGraphOf, Graphs, AreGraphs}
 use Rattle.sect_graph.proofs.Paths.{length-nodes_of, paths_from_zero, is_connected}
+use Rattle.sect_graph.proofs.Bounds.{leads_within}
 use Rattle.sect_graph.proofs.Rests.{paths_are_rests}
 use Rattle.sect_graph.proofs.Running.{runs_rests}
 
@@ -25,6 +26,7 @@ is_graph text g is = record {
   connected = is_connected text g is;
   running = runs_rests text g is;
   count = ap length is ∙ length-nodes_of text 0 (node_count text);
+  within = leads_within text g is;
 }
 
 -- a statement is a node at least

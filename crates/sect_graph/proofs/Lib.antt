@@ -1,4 +1,5 @@
 pub mod Paths
+pub mod Bounds
 pub mod Rests
 pub mod Emitting
 pub mod Running

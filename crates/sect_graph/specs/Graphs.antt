@@ -1,19 +1,21 @@
 -- The control-flow graphs of a program.
-use Rattle.std.specs.Prelude.{◌≡◌, ℕ, List, Some, slice_get, length}
+use Rattle.std.specs.Prelude.{◌≡◌, ℕ, ◌≤◌, List, Some, slice_get, length}
 use Rattle.sect_types.specs.Statements.{Statements}
 use Rattle.sect_types.specs.Sections.{SectionOf, sections_of}
 use Rattle.sect_types.specs.Traces.{node_count}
 use Rattle.sect_graph.specs.declared.flow.Node.{Node}
-use Rattle.sect_graph.specs.Paths.{PathsAreTraces, PathsAreRests, IsConnected}
+use Rattle.sect_graph.specs.Paths.{LeadsTo, PathsAreTraces, PathsAreRests, IsConnected}
 use Rattle.sect_graph.specs.Rests.{RunsRests}
 
--- the nodes are the graph of the text: its paths are the traces, and each node runs the first step of what is left there
+-- the nodes are the graph of the text: its paths are the traces, each node runs the first step of what is left there, and
+-- control goes on to a node or to the exit
 pub record IsGraphOf (text : Statements) (g : List Node) : Type 0 where
   pub paths : PathsAreTraces text g
   pub rests : PathsAreRests text g
   pub connected : IsConnected g
   pub running : RunsRests text g
   pub count : length g ≡ node_count text
+  pub within : (i j : ℕ) (x : Node) → slice_get g i ≡ Some x → LeadsTo x j → j ≤ length g
 
 -- a graph for each thread, and one for each section
 pub record Graphs : Type 0 where

@@ -62,6 +62,13 @@ impl Classes {
         &self.points
     }
 
+    /// The number of each site's class.
+    pub fn numbers(&self) -> &[u16]
+        ensures { result.now ≡ self.now.numbers }
+    {
+        self.numbers.as_slice()
+    }
+
     /// How many classes there are, at most 1,024: their numbers are those below it.
     pub fn class_count(&self) -> u16
         ensures below { (site : ℕ) → site < length self.now.numbers → slice_index self.now.numbers site < result }

@@ -1,0 +1,5 @@
+use Rattle.sect_cert.proofs.WriteLaws.{path_written}
+use Rattle.sect_cert.proofs.writing.put_path.Goals as goal
+
+pub returns : goal.returns
+returns c = path_written c.args.path.now c.loop-field.field-index _ _ c.put_word.new.out.items (rw c.as_bytes.ensures at c.in_ok-put_word.ensures) (rw c.as_slice-field-items.ensures at c.loop-field-test.false) (rw c.as_slice-field-items.ensures at c.loop-field.invariant)

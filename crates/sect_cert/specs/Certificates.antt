@@ -1,0 +1,31 @@
+-- The parts of a certificate.
+use Rattle.std.specs.Prelude.{ℕ, ◌-◌, Bool, true, nat_lt, List, length, slice_get, Option, Some, None}
+use Rattle.sect_cert.specs.declared.lock.Path.{Path}
+use Rattle.sect_cert.specs.declared.lock.Lock.{Lock}
+use Rattle.sect_cert.specs.declared.certificate.Step.{Step}
+use Rattle.sect_cert.specs.declared.certificate.Chain.{Chain}
+use Rattle.sect_cert.specs.declared.certificate.Section.{Section}
+use Rattle.sect_cert.specs.declared.certificate.Cert.{Cert}
+
+abbrev pub path_with : List ℕ → List (List ℕ) → Path
+path_with base fields = record { base = base; fields = fields }
+
+abbrev pub step_with : ℕ → Lock → Step
+step_with node lock = record { node = node; lock = lock }
+
+abbrev pub chain_with : ℕ → List Step → Chain
+chain_with lock steps = record { lock = lock; steps = steps }
+
+abbrev pub section_with : List (List Lock) → List Lock → List Chain → Section
+section_with nodes entry chains = record { nodes = nodes; entry = entry; chains = chains }
+
+abbrev pub cert_with : ℕ → List Section → Cert
+cert_with k sections = record { k = k; sections = sections }
+
+abbrev pub is_past : Option Chain → ℕ → Bool
+is_past None number = true
+is_past (Some c) number = nat_lt c.lock number
+
+-- a chain of this number may come after these
+abbrev pub is_rising : List Chain → ℕ → Bool
+is_rising chains number = is_past (slice_get chains (length chains - 1)) number

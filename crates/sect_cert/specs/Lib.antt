@@ -1,0 +1,17 @@
+pub mod Parts
+pub mod Numbers
+pub mod Zeros
+pub mod Readers
+pub mod Spelling
+pub mod Certificates
+pub mod Lines
+pub mod Forms
+pub mod Texts
+pub mod Writes
+pub mod Subjects
+pub mod Lists
+pub mod Chains
+pub mod Reading
+pub mod Stages
+pub mod Closing
+pub mod Verdicts

@@ -1,0 +1,10 @@
+-- What a reader of words answers.
+use Rattle.std.specs.Prelude.{◌≡◌, Option, Some, None, Result, Ok, Err, ⊤}
+use Rattle.sect_cert.specs.declared.fault.LineFault.{LineFault}
+use Rattle.sect_cert.specs.declared.fault.LineFault.TheVariants as fault
+
+abbrev pub ReadsAs : {A : Type 0} → Result A LineFault → Option A → Type 0
+ReadsAs (Ok x) read = read ≡ Some x
+ReadsAs (Err fault.Memory) read = ⊤
+ReadsAs (Err fault.Bad) read = read ≡ None
+ReadsAs (Err fault.Odd) read = ⊥

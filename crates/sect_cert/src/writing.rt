@@ -1,0 +1,242 @@
+//! A certificate as text.
+
+ghost use Rattle.std.specs.Prelude.{◌≡◌, ◌++◌, ◌∷◌, [], Result, OnOk, IfOk, length, codes};
+ghost use Rattle.std.specs.Fmt.{decimal};
+ghost use Rattle.std.specs.List.{flat_map};
+ghost use Rattle.sect_cert.specs.Spelling.{path_text, list_words, chain_words};
+ghost use Rattle.sect_cert.specs.Texts.{HasText, certificate_text};
+ghost use Rattle.sect_cert.specs.Verdicts.{Judges, Gives};
+ghost use Rattle.sect_cert.specs.Writes.{spaced, field_text, lock_text, next_lock, step_text, next_step, fed_line, chain_text, nodes_text, section_text, sections_text};
+ghost use Rattle.sect_cert.specs.declared.line.Line.TheVariants as line;
+
+use crate::certificate::{Cert, Chain, Section, Step};
+use crate::fault::CertFault;
+use crate::items::Items;
+use crate::lock::{Lock, Path};
+use sect_front::name::Name;
+use std::alloc::{AllocError, Global};
+
+// Writes a word behind a blank.
+fn put_word(out: &mut Vec<u8>, word: &[u8]) -> Result<(), AllocError>
+    ensures { OnOk result (out.new.items ≡ out.old.items ++ 32 ∷ word.now) }
+{
+    out.push(b' ')?;
+    out.extend_from_slice(word)
+}
+
+// Writes a number behind a blank.
+fn put_number(alloc: Global, out: &mut Vec<u8>, number: usize) -> Result<(), AllocError>
+    ensures { OnOk result (out.new.items ≡ out.old.items ++ 32 ∷ decimal number) }
+{
+    let digits = format!(in alloc; "{number}")?;
+    put_word(out, digits.as_bytes())
+}
+
+fn put_field(out: &mut Vec<u8>, field: &Name) -> Result<(), AllocError>
+    ensures { OnOk result (out.new.items ≡ out.old.items ++ field_text field.now) }
+{
+    out.push(b'.')?;
+    field.append_to(out)
+}
+
+// Writes the names of a path, joined by points, behind a blank.
+fn put_path(out: &mut Vec<u8>, path: &Path) -> Result<(), AllocError>
+    ensures { OnOk result (out.new.items ≡ out.old.items ++ 32 ∷ path_text path.now) }
+{
+    put_word(out, path.base.as_bytes())?;
+    for field in path.fields.as_slice() {
+        put_field(out, field)?;
+    }
+    Ok(())
+}
+
+fn put_path_lock(out: &mut Vec<u8>, mode: &[u8], path: &Path) -> Result<(), AllocError>
+    ensures { OnOk result (out.new.items ≡ out.old.items ++ spaced (mode.now ∷ path_text path.now ∷ [])) }
+{
+    put_word(out, mode)?;
+    put_path(out, path)
+}
+
+fn put_class_lock(
+    alloc: Global,
+    out: &mut Vec<u8>,
+    mode: &[u8],
+    class: u32,
+) -> Result<(), AllocError>
+    ensures { OnOk result (out.new.items ≡ out.old.items ++ spaced (mode.now ∷ codes "class" ∷ decimal class ∷ [])) }
+{
+    put_word(out, mode)?;
+    put_word(out, b"class")?;
+    put_number(alloc, out, class as usize)
+}
+
+// Writes the words of a lock, each behind a blank.
+fn put_lock(alloc: Global, out: &mut Vec<u8>, lock: &Lock) -> Result<(), AllocError>
+    ensures { OnOk result (out.new.items ≡ out.old.items ++ lock_text lock.now) }
+{
+    match lock {
+        Lock::ReadPath(path) => put_path_lock(out, b"R", path),
+        Lock::WritePath(path) => put_path_lock(out, b"W", path),
+        Lock::ReadClass(class) => put_class_lock(alloc, out, b"R", *class),
+        Lock::WriteClass(class) => put_class_lock(alloc, out, b"W", *class),
+        Lock::MakeClass(class) => put_class_lock(alloc, out, b"M", *class),
+    }
+}
+
+fn put_next_lock(alloc: Global, out: &mut Vec<u8>, lock: &Lock) -> Result<(), AllocError>
+    ensures { OnOk result (out.new.items ≡ out.old.items ++ next_lock lock.now) }
+{
+    out.push(b',')?;
+    put_lock(alloc, out, lock)
+}
+
+// Writes a list of locks, behind a blank.
+fn put_list(alloc: Global, out: &mut Vec<u8>, locks: &[Lock]) -> Result<(), AllocError>
+    ensures { OnOk result (out.new.items ≡ out.old.items ++ spaced (list_words locks.now)) }
+{
+    let Some((first, others)) = locks.split_first() else {
+        return put_word(out, b"none");
+    };
+    put_lock(alloc, out, first)?;
+    for lock in others {
+        put_next_lock(alloc, out, lock)?;
+    }
+    Ok(())
+}
+
+fn put_step(alloc: Global, out: &mut Vec<u8>, step: &Step) -> Result<(), AllocError>
+    ensures { OnOk result (out.new.items ≡ out.old.items ++ step_text step.now) }
+{
+    put_number(alloc, out, step.node as usize)?;
+    put_lock(alloc, out, &step.lock)
+}
+
+fn put_next_step(alloc: Global, out: &mut Vec<u8>, step: &Step) -> Result<(), AllocError>
+    ensures { OnOk result (out.new.items ≡ out.old.items ++ next_step step.now) }
+{
+    put_word(out, b">")?;
+    put_step(alloc, out, step)
+}
+
+// Writes the steps of a chain, joined by arrows, behind a blank.
+fn put_steps(alloc: Global, out: &mut Vec<u8>, steps: &[Step]) -> Result<(), AllocError>
+    ensures { OnOk result (out.new.items ≡ out.old.items ++ spaced (chain_words steps.now)) }
+{
+    let Some((first, others)) = steps.split_first() else {
+        return Ok(());
+    };
+    put_step(alloc, out, first)?;
+    for step in others {
+        put_next_step(alloc, out, step)?;
+    }
+    Ok(())
+}
+
+fn put_node(alloc: Global, out: &mut Vec<u8>, node: usize, locks: &[Lock]) -> Result<(), AllocError>
+    ensures { OnOk result (out.new.items ≡ out.old.items ++ fed_line (line.Node node locks.now)) }
+{
+    out.extend_from_slice(b"node")?;
+    put_number(alloc, out, node)?;
+    out.push(b':')?;
+    put_list(alloc, out, locks)?;
+    Ok(out.push(b'\n')?)
+}
+
+fn put_nodes(alloc: Global, out: &mut Vec<u8>, nodes: &[Items<Lock>]) -> Result<(), AllocError>
+    ensures { OnOk result (out.new.items ≡ out.old.items ++ nodes_text 0 nodes.now) }
+{
+    for (node, locks) in nodes.iter().enumerate() {
+        put_node(alloc, out, node, locks.as_slice())?;
+    }
+    Ok(())
+}
+
+fn put_entry(alloc: Global, out: &mut Vec<u8>, locks: &[Lock]) -> Result<(), AllocError>
+    ensures { OnOk result (out.new.items ≡ out.old.items ++ fed_line (line.Entry locks.now)) }
+{
+    out.extend_from_slice(b"entry:")?;
+    put_list(alloc, out, locks)?;
+    Ok(out.push(b'\n')?)
+}
+
+fn put_chain(alloc: Global, out: &mut Vec<u8>, chain: &Chain) -> Result<(), AllocError>
+    ensures { OnOk result (out.new.items ≡ out.old.items ++ chain_text chain.now) }
+{
+    out.extend_from_slice(b"chain")?;
+    put_number(alloc, out, chain.lock as usize)?;
+    out.push(b':')?;
+    put_steps(alloc, out, chain.steps.as_slice())?;
+    Ok(out.push(b'\n')?)
+}
+
+fn put_chains(alloc: Global, out: &mut Vec<u8>, chains: &[Chain]) -> Result<(), AllocError>
+    ensures { OnOk result (out.new.items ≡ out.old.items ++ flat_map chain_text chains.now) }
+{
+    for chain in chains {
+        put_chain(alloc, out, chain)?;
+    }
+    Ok(())
+}
+
+// Writes the first line of a section.
+fn put_head(
+    alloc: Global,
+    out: &mut Vec<u8>,
+    section: usize,
+    nodes: usize,
+) -> Result<(), AllocError>
+    ensures { OnOk result (out.new.items ≡ out.old.items ++ fed_line (line.Section section nodes)) }
+{
+    out.extend_from_slice(b"section")?;
+    put_number(alloc, out, section)?;
+    out.extend_from_slice(b" nodes")?;
+    put_number(alloc, out, nodes)?;
+    Ok(out.push(b'\n')?)
+}
+
+fn put_section(
+    alloc: Global,
+    out: &mut Vec<u8>,
+    number: usize,
+    section: &Section,
+) -> Result<(), AllocError>
+    ensures { OnOk result (out.new.items ≡ out.old.items ++ section_text number section.now) }
+{
+    put_head(alloc, out, number, section.nodes.len())?;
+    put_nodes(alloc, out, section.nodes.as_slice())?;
+    put_entry(alloc, out, section.entry.as_slice())?;
+    put_chains(alloc, out, section.chains.as_slice())
+}
+
+fn put_sections(alloc: Global, out: &mut Vec<u8>, sections: &[Section]) -> Result<(), AllocError>
+    ensures { OnOk result (out.new.items ≡ out.old.items ++ sections_text 0 sections.now) }
+{
+    for (number, section) in sections.iter().enumerate() {
+        put_section(alloc, out, number, section)?;
+    }
+    Ok(())
+}
+
+// Writes the lines before the first section.
+fn put_front(alloc: Global, out: &mut Vec<u8>, k: u32, sections: usize) -> Result<(), AllocError>
+    ensures { OnOk result (out.new.items ≡ out.old.items ++ (codes "sect-cert 1" ++ 10 ∷ (fed_line (line.K k) ++ fed_line (line.Sections sections)))) }
+{
+    out.extend_from_slice(b"sect-cert 1\nk")?;
+    put_number(alloc, out, k as usize)?;
+    out.extend_from_slice(b"\nsections")?;
+    put_number(alloc, out, sections)?;
+    Ok(out.push(b'\n')?)
+}
+
+/// The text of a certificate.
+pub fn write_cert(alloc: Global, cert: &Cert) -> Result<Vec<u8>, AllocError>
+    ensures text { IfOk result (λ text. text.items ≡ certificate_text cert.now) }
+    // Where the certificate has a text, reading gives it back, unless memory runs out.
+    ensures reads_back { IfOk result (λ text. HasText cert.now → (answer : Result Cert CertFault) → Judges text.items answer → Gives cert.now answer) }
+{
+    let mut text = Vec::new(alloc);
+    put_front(alloc, &mut text, cert.k, cert.sections.len())?;
+    put_sections(alloc, &mut text, cert.sections.as_slice())?;
+    text.extend_from_slice(b"end\n")?;
+    Ok(text)
+}

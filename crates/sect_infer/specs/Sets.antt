@@ -1,9 +1,27 @@
--- Lists of locks.
-use Rattle.std.specs.Prelude.{ℕ, List, All}
-use Rattle.sect_types.specs.Programs.{Numbered}
-use Rattle.sect_names.specs.Locks.{IsLockOf}
+-- The locks of a section.
+use Rattle.std.specs.Prelude.{◌≡◌, ◌↔◌, ℕ, List, Some, slice_get, length}
+use Rattle.sect_types.specs.Lists.{Has}
+use Rattle.sect_types.specs.Statements.{Statements}
+use Rattle.sect_types.specs.Sections.{SectionOf}
+use Rattle.sect_graph.specs.declared.flow.Node.{Node}
 use Rattle.sect_names.specs.declared.lock.Lock.{Lock}
+use Rattle.sect_names.specs.Schemes.{SchemeOf}
+use Rattle.sect_names.specs.Needed.{IsNeededFrom, IsLeast}
+use Rattle.sect_names.specs.Order.{AreInOrder}
 
--- each of the locks is one of a section of the thread
-abbrev pub AreLocksOf : Numbered → ℕ → List Lock → Type 0
-AreLocksOf p t locks = All (IsLockOf p t) locks
+-- the locks at each node of a section's graph, and those that are taken at its entry
+pub record LocksOf : Type 0 where
+  pub at : List (List Lock)
+  pub entry : List Lock
+
+-- these are the locks that are needed from each node on
+pub record AreNeeded (s : SchemeOf) (t : ℕ) (body : Statements) (g : List Node) (at : List (List Lock)) : Type 0 where
+  pub count : length at ≡ length g
+  pub each : (j : ℕ) (locks : List Lock) → slice_get at j ≡ Some locks → (l : Lock) → Has locks l ↔ IsNeededFrom s t body g j l
+
+-- these are the locks of a section with this graph: at each node those that are needed from there on, and at the entry
+-- the least set that protects, in canonical order
+pub record AreLocksOf (s : SchemeOf) (section : SectionOf) (g : List Node) (locks : LocksOf) : Type 0 where
+  pub needed : AreNeeded s section.thread section.body g locks.at
+  pub least : IsLeast s section.thread section.body locks.entry
+  pub in_order : AreInOrder locks.entry

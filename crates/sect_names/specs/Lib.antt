@@ -1,1 +1,9 @@
+pub mod Schemes
+pub mod Verdicts
 pub mod Locks
+pub mod Carrying
+pub mod Needed
+pub mod Order
+pub mod Comparing
+pub mod Laws
+pub mod Printing

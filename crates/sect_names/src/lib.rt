@@ -1,12 +1,19 @@
 //! Paths, locks, and what the statements of a program need.
 #![tactic(auto)]
 
+mod carry;
+mod covers;
+pub mod fault;
+mod generate;
+pub mod laws;
 pub mod lock;
+mod maximal;
 pub mod path;
 pub mod scheme;
-mod straight;
 pub mod text;
+mod variables;
 
+pub use fault::SchemeFault;
 pub use lock::{Effect, Lock, Right};
 pub use path::Path;
-pub use scheme::{MOST_FIELDS, Scheme, SchemeFault, check_k, scheme_of};
+pub use scheme::{MOST_FIELDS, Scheme, check_k, scheme_of};

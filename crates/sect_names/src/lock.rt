@@ -1,8 +1,6 @@
 //! Locks.
 
-ghost use Rattle.std.specs.Prelude.{ℕ, IfOk};
-ghost use Rattle.sect_types.specs.Programs.{Numbered};
-ghost use Rattle.sect_names.specs.Locks.{IsLockOf};
+ghost use Rattle.std.specs.Prelude.{◌≡◌, IfOk};
 
 use crate::path::Path;
 use std::alloc::AllocError;
@@ -24,7 +22,7 @@ pub enum Right {
 
 /// A lock: a coarse one on a class, or a fine one on the object of a path. The derived order is the canonical one:
 /// class locks by class, then by right; then path locks by path, then `R` before `W`.
-#[derive(Debug, Drop, PartialEq, Eq, PartialOrd, Ord, Hash)]
+#[derive(Drop, PartialEq, Eq, PartialOrd, Ord, Hash)]
 pub enum Lock {
     Class(u16, Right),
     Path(Path, Effect),
@@ -33,7 +31,7 @@ pub enum Lock {
 impl Lock {
     /// A lock equal to this one.
     pub fn try_clone(&self) -> Result<Lock, AllocError>
-        ensures { (program : Numbered) (thread : ℕ) → IsLockOf program thread self.now → IfOk result (IsLockOf program thread) }
+        ensures { IfOk result (λ lock. lock ≡ self.now) }
     {
         match self {
             Lock::Class(class, right) => Ok(Lock::Class(*class, *right)),

@@ -1,25 +1,45 @@
 //! Paths: how a section names an object that it is to lock.
 
-ghost use Rattle.std.specs.Prelude.{◌≡◌, [], IfOk};
+ghost use Rattle.std.specs.Prelude.{◌≡◌, ◌↔◌, IfOk, OnOk, IsTrue, length};
+ghost use Rattle.std.specs.Ordering.{as_partial_cmp};
+ghost use Rattle.std.specs.Cmp.{partial_equiv_from_equiv};
+ghost use Rattle.std.specs.Cmp.Rules.{comparing};
+ghost use Rattle.std.proofs.Common.{rules};
+ghost use Rattle.sect_names.specs.Comparing.{path_eq, path_fed, path_cmp, path_equivalence, path_alike, path_ties, path_total, path_order};
 
-use sect_types::action::{Base, Field};
+use sect_points::flow::Variable;
+use sect_types::action::Field;
 use smallvec::SmallVec;
 use std::alloc::{AllocError, Global};
+use std::cmp::Ordering;
+use std::hash::{Hash, Hasher};
+use std::marker::Model;
 
-/// A path: a local or a global, then fields that are references, the first to be followed first. The fields of a
-/// scheme's paths are at most 3, so they are kept inline. Paths are ordered by base (globals in order, then locals),
-/// then field by field, a path before what extends it.
-#[derive(Debug, Drop, PartialEq, Eq, PartialOrd, Ord, Hash)]
+/// A path: a variable, then fields that are references, the first to be followed first. The fields of a scheme's
+/// paths are at most 3, so they are kept inline.
+#[derive(Drop)]
 pub struct Path {
-    base: Base,
+    base: Variable,
     fields: SmallVec<Field, 3>,
 }
 
+impl Model for Path {
+    ghost use Rattle.sect_points.specs.Places.{Place, place_code, place_of};
+
+    ghost Value = { Place };
+
+    ghost coded = { place_code };
+
+    ghost view = { λ p. place_of p.base p.fields.items };
+}
+
 impl Path {
-    /// The path of a base alone.
-    pub fn new(alloc: Global, base: Base) -> Path
-        ensures base { result.base ≡ base }
-        ensures fields { result.fields.items ≡ [] }
+    ghost use Rattle.sect_points.specs.Places.{var, dot, dots, base_of, fields_of};
+    ghost use Rattle.sect_names.specs.Locks.{depth};
+
+    /// The path of a variable alone.
+    pub fn new(alloc: Global, base: Variable) -> Path
+        ensures { result ≡ var base }
     {
         Path {
             base,
@@ -27,10 +47,31 @@ impl Path {
         }
     }
 
+    /// Where it begins.
+    pub fn base(&self) -> Variable
+        ensures { result ≡ base_of self.now }
+    {
+        self.base
+    }
+
+    /// The fields that it follows, in order.
+    pub fn fields(&self) -> &[Field]
+        ensures fields { result.now ≡ fields_of self.now }
+        ensures depth { length result.now ≡ depth self.now }
+    {
+        self.fields.as_slice()
+    }
+
+    /// Whether it is the path of this variable alone.
+    pub fn is_variable(&self, variable: Variable) -> bool
+        ensures { IsTrue result ↔ (self.now ≡ var variable) }
+    {
+        self.base() == variable && self.fields().is_empty()
+    }
+
     /// A path equal to this one.
     pub fn try_clone(&self) -> Result<Path, AllocError>
-        ensures base { IfOk result (λ path. path.base ≡ self.now.base) }
-        ensures fields { IfOk result (λ path. path.fields.items ≡ self.now.fields.items) }
+        ensures { IfOk result (λ path. path ≡ self.now) }
     {
         Ok(Path {
             base: self.base,
@@ -38,17 +79,71 @@ impl Path {
         })
     }
 
-    /// Where it begins.
-    pub fn base(&self) -> Base
-        ensures { result ≡ self.now.base }
+    /// The path that goes on from this one by these fields.
+    pub fn extended(&self, fields: &[Field]) -> Result<Path, AllocError>
+        ensures { IfOk result (λ path. path ≡ dots self.now fields.now) }
     {
-        self.base
+        let mut longer = self.try_clone()?;
+        longer.fields.extend_from_slice(fields)?;
+        Ok(longer)
     }
 
-    /// The fields that it follows, in order.
-    pub fn fields(&self) -> &[Field]
-        ensures { result.now ≡ self.now.fields.items }
+    /// Goes on by one field more.
+    pub fn push(&mut self, field: Field) -> Result<(), AllocError>
+        ensures { OnOk result (self.new ≡ dot self.old field) }
     {
-        self.fields.as_slice()
+        self.fields.push(field)?;
+        Ok(())
+    }
+}
+
+impl PartialEq for Path {
+    ghost eq = { path_eq };
+
+    ghost laws = { partial_equiv_from_equiv path_equivalence };
+
+    fn eq(&self, other: &Path) -> bool {
+        self.base() == other.base() && self.fields() == other.fields()
+    }
+}
+
+impl Eq for Path {
+    ghost laws = { path_equivalence };
+}
+
+impl Hash for Path {
+    ghost hash_input = { path_fed };
+
+    ghost respects_eq = { path_alike.fed };
+
+    fn hash<H: Hasher>(&self, state: &mut H) {
+        self.base().hash(state);
+        self.fields().hash(state);
+    }
+}
+
+impl Ord for Path {
+    ghost cmp = { path_cmp };
+
+    ghost total = { path_total };
+
+    ghost matches_partial_cmp = { Prim.search (comparing, rules) };
+
+    ghost matches_eq = { path_ties };
+
+    fn cmp(&self, other: &Path) -> Ordering {
+        self.base()
+            .cmp(&other.base())
+            .then(self.fields().cmp(other.fields()))
+    }
+}
+
+impl PartialOrd for Path {
+    ghost partial_cmp = { as_partial_cmp path_cmp };
+
+    ghost laws = { path_order };
+
+    fn partial_cmp(&self, other: &Path) -> Option<Ordering> {
+        Some(self.cmp(other))
     }
 }

@@ -1,44 +1,59 @@
-//! The locks of a program, and which of them its statements need.
+//! What lock inference knows of a program.
 
-ghost use Rattle.std.specs.Prelude.{◌≡◌, ◌<◌, ◌≤◌, ℕ, OnErr, OnOk, IfOk, IfSome};
-ghost use Rattle.sect_types.specs.Programs.{environment_at};
-ghost use Rattle.sect_types.specs.Sound.{IsSoundAction};
-ghost use Rattle.sect_names.specs.Locks.{IsLockOf};
+ghost use Rattle.std.specs.Prelude.{◌≡◌, ◌≤◌, ◌↔◌, ◌<◌, ℕ, Some, IsOkUnless, OnOk, IfErr};
+ghost use Rattle.sect_hints.specs.Hints.{ObeysHints};
+ghost use Rattle.sect_names.specs.declared.fault.SchemeFault.TheVariants.{Memory, BadK};
+ghost use Rattle.sect_points.specs.Places.{var};
+ghost use Rattle.sect_points.specs.Partitions.{HasClass};
+ghost use Rattle.sect_names.specs.Schemes.{IsScheme};
+ghost use Rattle.sect_names.specs.Verdicts.{Judges};
 
-use crate::lock::{Effect, Lock, Right};
+use crate::fault::SchemeFault;
 use crate::path::Path;
-use crate::straight::is_straight;
+use sect_graph::graph::{Graph, graph_of};
+use sect_hints::guards;
+use sect_hints::table::Guards;
+use sect_points::classes::{Classes, class_of_path, laws_of_classes};
+use sect_points::flow::Variable;
+use sect_points::partition::classes;
+use sect_points::points_to;
 use sect_types::Program;
-use sect_types::action::{Action, Base};
-use std::alloc::{AllocError, Global};
-use thiserror::Error;
+use std::alloc::Global;
+use std::marker::Model;
 
 /// The most fields that a path may be allowed.
 pub const MOST_FIELDS: u16 = 3;
 
-/// Why a program has no scheme.
-#[derive(Clone, Copy, Debug, PartialEq, Eq, Error)]
-pub enum SchemeFault {
-    #[error("out of memory")]
-    Memory,
-    /// Paths of so many fields aren't offered.
-    #[error("60 BadK")]
-    BadK,
-    /// The program uses a part of the language whose locks aren't inferred yet.
-    #[error("not inferred yet")]
-    NotYet,
+/// A typed program whose hints obey the rules, and how many fields a path may have: with the classes of its sites, the
+/// guards of its records and its control-flow graphs.
+#[derive(Drop)]
+pub struct Scheme {
+    program: Program,
+    k: u16,
+    classes: Classes,
+    guards: Guards,
+    graph: Graph,
 }
 
-impl From<AllocError> for SchemeFault {
-    fn from(_refused: AllocError) -> SchemeFault {
-        SchemeFault::Memory
-    }
+impl Model for Scheme {
+    ghost use Rattle.std.specs.Coded.{codes};
+    ghost use Rattle.sect_front.specs.Syntax.{body_code};
+    ghost use Rattle.sect_types.specs.Statements.{statements_code};
+    ghost use Rattle.sect_names.specs.Schemes.{SchemeOf, IsScheme};
+
+    ghost Value = { SchemeOf };
+
+    ghost coded = { Prim.hlevel (codes, body_code, statements_code) };
+
+    ghost view = { λ s. record { program = s.program; most = s.k; classes = s.classes; guards = s.guards; graphs = s.graph } };
+
+    ghost invariant = { λ s. IsScheme (record { program = s.program; most = s.k; classes = s.classes; guards = s.guards; graphs = s.graph }) };
 }
 
-/// Tests how many fields a path may have.
+/// Tests how many fields a path may have: `BadK` where `k` is above 3.
 pub fn check_k(k: u16) -> Result<(), SchemeFault>
     ensures ok { OnOk result (k ≤ 3) }
-    ensures err { OnErr result (3 < k) }
+    ensures err { IfErr result (λ fault. (fault ≡ BadK) × (3 < k)) }
 {
     if k > MOST_FIELDS {
         return Err(SchemeFault::BadK);
@@ -46,25 +61,34 @@ pub fn check_k(k: u16) -> Result<(), SchemeFault>
     Ok(())
 }
 
-/// A program, and how many fields a path may have.
-#[derive(Drop)]
-pub struct Scheme {
-    program: Program,
-    k: u16,
-}
-
-/// The scheme of a program.
-pub fn scheme_of(program: Program, k: u16) -> Result<Scheme, SchemeFault>
-    ensures { IfOk result (λ s. s.program ≡ program) }
+/// The scheme of a program for paths of at most `k` fields: `BadK` where `k` is above 3, else the first fault of the
+/// hints. `Memory` is answered only where a growth was refused.
+pub fn scheme_of(alloc: Global, program: Program, k: u16) -> Result<Scheme, SchemeFault>
+    ensures judges { Judges program k result }
+    ensures only { k ≤ 3 → ObeysHints program → IsOkUnless result Memory }
 {
     check_k(k)?;
-    if !is_straight(&program) {
-        return Err(SchemeFault::NotYet);
-    }
-    Ok(Scheme { program, k })
+    let guards = guards(alloc, &program)?;
+    let classes = classes(alloc, points_to(alloc, &program)?)?;
+    laws_of_classes();
+    let graph = graph_of(alloc, &program)?;
+    Ok(Scheme {
+        program,
+        k,
+        classes,
+        guards,
+        graph,
+    })
 }
 
 impl Scheme {
+    /// What a scheme keeps.
+    pub fn rules(&self)
+        ensures { IsScheme self.now }
+    {
+        let _ = &self.program;
+    }
+
     /// The program.
     pub fn program(&self) -> &Program
         ensures { result.now ≡ self.now.program }
@@ -73,46 +97,44 @@ impl Scheme {
     }
 
     /// How many fields a path may have, 0 to 3.
-    pub fn k(&self) -> u16 {
+    pub fn k(&self) -> u16
+        ensures { result ≡ self.now.most }
+    {
         self.k
     }
 
-    /// The class of a path. Each global is a class of its own.
-    fn class_of(&self, path: &Path) -> Option<u16> {
-        match path.base() {
-            Base::Global(number) => Some(number),
-            Base::Local(_) => None,
-        }
-    }
-
-    /// The lock that a statement needs of itself, if any.
-    pub fn generate(&self, alloc: Global, action: Action) -> Option<Lock>
-        ensures { (thread : ℕ) → IsSoundAction (environment_at self.now.program thread) action → IfSome result (IsLockOf self.now.program thread) }
+    /// The classes of the program's sites.
+    pub fn classes(&self) -> &Classes
+        ensures { result.now ≡ self.now.classes }
     {
-        match action {
-            Action::Load(_, base, _) => Some(Lock::Path(Path::new(alloc, base), Effect::Read)),
-            Action::Store(base, _, _) => Some(Lock::Path(Path::new(alloc, base), Effect::Write)),
-            Action::Assign(_, _)
-            | Action::Compute(_, _, _, _)
-            | Action::New(_, _, _)
-            | Action::Print(_) => None,
-        }
+        &self.classes
     }
 
-    /// Whether the lock `big` covers the lock `small`: who holds it may do all that the other allows.
-    pub fn covers(&self, big: &Lock, small: &Lock) -> bool {
-        match (big, small) {
-            (Lock::Path(path, effect), Lock::Path(other, least)) => {
-                path == other && *least <= *effect
-            }
-            (Lock::Class(class, right), Lock::Path(other, least)) => {
-                self.class_of(other) == Some(*class)
-                    && (*right == Right::Write || (*right == Right::Read && *least == Effect::Read))
-            }
-            (Lock::Class(class, right), Lock::Class(other, least)) => {
-                class == other && (*right == Right::Write || right == least)
-            }
-            (Lock::Path(_, _), Lock::Class(_, _)) => false,
-        }
+    /// The guards of the program's records.
+    pub fn guards(&self) -> &Guards
+        ensures { result.now ≡ self.now.guards }
+    {
+        &self.guards
+    }
+
+    /// The control-flow graphs of the program.
+    pub fn graph(&self) -> &Graph
+        ensures { result.now ≡ self.now.graphs }
+    {
+        &self.graph
+    }
+
+    /// The class of a path: that of the objects that it may denote, none where it is always null.
+    pub fn class_of(&self, path: &Path) -> Option<u16>
+        ensures { (n : ℕ) → (result ≡ Some n) ↔ HasClass self.now.classes path.now n }
+    {
+        class_of_path(&self.classes, path.base(), path.fields())
+    }
+
+    /// The class of the path of a variable alone.
+    pub fn class_of_variable(&self, variable: Variable) -> Option<u16>
+        ensures { (n : ℕ) → (result ≡ Some n) ↔ HasClass self.now.classes (var variable) n }
+    {
+        class_of_path(&self.classes, variable, &[])
     }
 }

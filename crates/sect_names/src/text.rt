@@ -1,56 +1,108 @@
 //! Locks as they are printed.
 
-ghost use Rattle.std.specs.Prelude.{◌<◌, length};
-ghost use Rattle.sect_types.specs.Programs.{environment_at};
-ghost use Rattle.sect_names.specs.Locks.{IsBase, IsLockOf};
+ghost use Rattle.std.specs.Prelude.{◌≡◌, ◌++◌, OnOk, Some};
+ghost use Rattle.std.specs.String.{string_bytes};
+ghost use Rattle.sect_names.specs.Locks.{IsVariable, IsField, IsPathOf};
+ghost use Rattle.sect_names.specs.Printing.{IsNamed, AreNamed, effect_text, right_text, variable_name, field_name, path_text, lock_text, locks_text};
 
 use crate::lock::{Effect, Lock, Right};
+use crate::path::Path;
 use sect_front::name::Name;
+use sect_points::flow::Variable;
 use sect_types::Program;
-use sect_types::action::Base;
+use sect_types::action::Field;
 use std::alloc::AllocError;
+use std::fmt;
 use std::fmt::Write;
 
-/// Adds a lock of a thread's section to a text, as `R class 1` or `W head`.
-pub fn put_lock(
-    text: &mut String,
-    program: &Program,
-    thread: u16,
-    lock: &Lock,
-) -> Result<(), AllocError>
-    requires thread { thread < length program.now.texts }
-    requires lock { IsLockOf program.now thread lock.now }
+impl fmt::Display for Effect {
+    ghost output = { λ e. Some (effect_text e) };
+
+    fn fmt<W: fmt::Write>(&self, f: &mut fmt::Formatter<W>) -> fmt::Result {
+        match self {
+            Effect::Read => f.write_str("R"),
+            Effect::Write => f.write_str("W"),
+        }
+    }
+}
+
+impl fmt::Display for Right {
+    ghost output = { λ r. Some (right_text r) };
+
+    fn fmt<W: fmt::Write>(&self, f: &mut fmt::Formatter<W>) -> fmt::Result {
+        match self {
+            Right::Read => f.write_str("R"),
+            Right::Write => f.write_str("W"),
+            Right::Make => f.write_str("M"),
+        }
+    }
+}
+
+/// Adds locks of a program to a text, joined by `, `, or `none` where there are none.
+pub fn put_locks(text: &mut String, program: &Program, locks: &[Lock]) -> Result<(), AllocError>
+    requires { AreNamed program.now locks.now }
+    ensures { OnOk result (string_bytes text.new ≡ string_bytes text.old ++ locks_text program.now.source locks.now) }
+{
+    let Some((first, others)) = locks.split_first() else {
+        return text.push_str("none");
+    };
+    put_lock(text, program, first)?;
+    for lock in others {
+        text.push_str(", ")?;
+        put_lock(text, program, lock)?;
+    }
+    Ok(())
+}
+
+/// Adds a lock of a program to a text, as `M class 1` or `W head.next`.
+pub fn put_lock(text: &mut String, program: &Program, lock: &Lock) -> Result<(), AllocError>
+    requires { IsNamed program.now lock.now }
+    ensures { OnOk result (string_bytes text.new ≡ string_bytes text.old ++ lock_text program.now.source lock.now) }
 {
     match lock {
-        Lock::Class(class, right) => {
-            let mark = match right {
-                Right::Read => 'R',
-                Right::Write => 'W',
-                Right::Make => 'M',
-            };
-            write!(text, "{mark} class {class}")?;
-        }
+        Lock::Class(class, right) => write!(text, "{right} class {class}")?,
         Lock::Path(path, effect) => {
-            let mark = match effect {
-                Effect::Read => 'R',
-                Effect::Write => 'W',
-            };
-            write!(text, "{mark} {}", base_name(program, thread, path.base()))?;
+            write!(text, "{effect} ")?;
+            put_path(text, program, path)?;
         }
     }
     Ok(())
 }
 
-/// The name of a base.
-fn base_name(program: &Program, thread: u16, base: Base) -> &Name
-    requires thread { thread < length program.now.texts }
-    requires base { IsBase (environment_at program.now thread) base }
+// Adds a path to a text.
+fn put_path(text: &mut String, program: &Program, path: &Path) -> Result<(), AllocError>
+    requires { IsPathOf program.now path.now }
+    ensures { OnOk result (string_bytes text.new ≡ string_bytes text.old ++ path_text program.now.source path.now) }
+{
+    write!(text, "{}", variable_name(program, path.base()))?;
+    for field in path.fields() {
+        write!(text, ".{}", field_name(program, *field))?;
+    }
+    Ok(())
+}
+
+// The name of a variable.
+fn variable_name(program: &Program, variable: Variable) -> &Name
+    requires { IsVariable program.now variable }
+    ensures { result.now ≡ variable_name program.now.source variable }
 {
     let tree = program.tree();
-    match base {
-        Base::Global(number) => &tree.globals()[number as usize].name,
-        Base::Local(number) => {
-            &tree.threads()[thread as usize].locals.as_slice()[number as usize].name
+    match variable {
+        Variable::Global(number) => &tree.globals()[number as usize].name,
+        Variable::Local(thread, number) => {
+            let locals = tree.threads()[thread as usize].locals.as_slice();
+            &locals[number as usize].name
         }
     }
+}
+
+// The name of a field.
+fn field_name(program: &Program, field: Field) -> &Name
+    requires { IsField program.now field }
+    ensures { result.now ≡ field_name program.now.source field }
+{
+    let fields = program.tree().records()[field.of as usize]
+        .fields
+        .as_slice();
+    &fields[field.number as usize].name
 }

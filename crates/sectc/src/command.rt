@@ -121,4 +121,6 @@ fn worked(alloc: Global, request: &Request, source: &[u8]) -> Result<Answer, Fai
 }
 
 #[cfg(test)]
+mod lock_tests;
+#[cfg(test)]
 mod tests;

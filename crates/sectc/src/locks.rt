@@ -2,14 +2,13 @@
 
 ghost use Rattle.std.specs.Prelude.{◌<◌, length};
 ghost use Rattle.sect_types.specs.Sections.{sections_of};
-ghost use Rattle.sect_infer.specs.Sets.{AreLocksOf};
 
 use crate::refusal::Refusal;
 use sect_front::parse;
 use sect_infer::infer;
-use sect_names::text::put_lock;
-use sect_names::{Lock, Scheme, check_k, scheme_of};
-use sect_types::{Program, check_types};
+use sect_names::text::put_locks;
+use sect_names::{Scheme, check_k, scheme_of};
+use sect_types::check_types;
 use std::alloc::{AllocError, Global};
 use std::fmt::Write;
 
@@ -19,7 +18,7 @@ pub fn locks(alloc: Global, source: &[u8], k: u16) -> Result<String, Refusal> {
     check_k(k)?;
     let tree = parse(alloc, source)?;
     let program = check_types(alloc, tree)?;
-    let scheme = scheme_of(program, k)?;
+    let scheme = scheme_of(alloc, program, k)?;
     let mut text = String::new(alloc);
     for section in 0..scheme.program().section_count() {
         put_section(alloc, &mut text, &scheme, section)?;
@@ -37,30 +36,7 @@ fn put_section(
     requires { section < length (sections_of scheme.now.program.texts) }
 {
     let sets = infer(alloc, scheme, section)?;
-    let program = scheme.program();
     write!(text, "section {section}: ")?;
-    put_locks(text, program, program.section(section).thread, sets.entry())?;
+    put_locks(text, scheme.program(), sets.entry())?;
     text.push('\n')
-}
-
-/// Adds a list of locks, joined by `, `; the empty list is `none`.
-fn put_locks(
-    text: &mut String,
-    program: &Program,
-    thread: u16,
-    locks: &[Lock],
-) -> Result<(), AllocError>
-    requires thread { thread < length program.now.texts }
-    requires locks { AreLocksOf program.now thread locks.now }
-{
-    if locks.is_empty() {
-        return text.push_str("none");
-    }
-    for (i, lock) in locks.iter().enumerate() {
-        if i > 0 {
-            text.push_str(", ")?;
-        }
-        put_lock(text, program, thread, lock)?;
-    }
-    Ok(())
 }

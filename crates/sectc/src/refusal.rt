@@ -11,8 +11,6 @@ use thiserror::Error;
 pub enum Refusal {
     #[error("out of memory")]
     Memory,
-    #[error("not inferred yet")]
-    NotYet,
     #[error("refused {0}")]
     Front(FrontFault),
     #[error("refused {0}")]
@@ -49,7 +47,6 @@ impl From<SchemeFault> for Refusal {
     fn from(fault: SchemeFault) -> Refusal {
         match fault {
             SchemeFault::Memory => Refusal::Memory,
-            SchemeFault::NotYet => Refusal::NotYet,
             other => Refusal::Scheme(other),
         }
     }

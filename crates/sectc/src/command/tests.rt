@@ -33,7 +33,7 @@ fn words_of(alloc: Global, line: &str) -> Result<Vec<String>, AllocError> {
 }
 
 /// Runs a command line on a source, and compares the status and the text.
-fn expect_bytes(
+pub(super) fn expect_bytes(
     rt: &(impl AllocGlobal + Abort),
     line: &str,
     source: &[u8],
@@ -151,18 +151,6 @@ fn k_is_judged_before_the_source(rt: HostRuntime) -> Result<(), Fail> {
     }
     for line in ["locks --k 0", "locks --k=3", "locks --k 0003"] {
         expect_bytes(&rt, line, ACCOUNT.as_bytes(), 0, "section 0: W a\n")?;
-    }
-    Ok(())
-}
-
-#[test]
-fn what_is_read_and_not_inferred_yet(rt: HostRuntime) -> Result<(), Fail> {
-    for source in [
-        "record N { int v; N next; } global N a; thread t { N p; atomic { p = a.next; } }",
-        "thread t { int x; while (x < 3) { x = x + 1; } }",
-        "record L { int n; } record C protected_by g { int v; } global L g;",
-    ] {
-        expect_bytes(&rt, "locks", source.as_bytes(), 1, "not inferred yet\n")?;
     }
     Ok(())
 }

@@ -1,0 +1,78 @@
+-- Lists of lists to which elements are added.
+use Rattle.std.proofs.Common.{◌≡◌, ◌↔◌, ◌⊎◌, ℕ, zero, suc, ◌+◌, ◌<◌, List, [], ◌∷◌, ◌++◌, Bool, true, false, map, set, take, length, get_or, inl, inr, refl, sym, ap, ◌∙◌, subst, arith}
+use Rattle.std.specs.Prelude.{slice_index_or, if◌then◌else◌}
+use Rattle.std.specs.Bool.{Decides}
+use Rattle.std.specs.List.{list_any}
+use Rattle.std.proofs.lemmas.Bool.{cases_eq}
+use Rattle.std.proofs.lemmas.List.{get_or-set_same, get_or-set_other}
+use Rattle.sect_types.specs.Lists.{Has}
+use Rattle.sect_types.proofs.Membership.{Has-cases, Has-left, Has-right}
+use Rattle.sect_names.specs.declared.lock.Lock.{Lock}
+use Rattle.sect_names.proofs.Making.{last_of, so_far}
+use Rattle.sect_names.proofs.Telling.{any_tells}
+use Rattle.sect_infer.specs.declared.need.Need.{Need}
+use Rattle.sect_infer.specs.Needs.{need, IsAdded, AreByNode}
+
+pub map-set : {X Y : Type 0} (f : X → Y) (xs : List X) (i : ℕ) (x : X) → map f (set xs i x) ≡ set (map f xs) i (f x)
+map-set f [] i x = refl
+map-set f (y ∷ xs) zero x = refl
+map-set f (y ∷ xs) (suc i) x = ap (λ l. f y ∷ l) (map-set f xs i x)
+
+pub empty_more : {X : Type 0} (xs : List (List X)) (m : ℕ) → ((m : ℕ) → slice_index_or xs m [] ≡ []) → slice_index_or (xs ++ [] ∷ []) m [] ≡ []
+empty_more [] zero h = refl
+empty_more [] (suc m) h = refl
+empty_more (x ∷ xs) zero h = h 0
+empty_more (x ∷ xs) (suc m) h = empty_more xs m (λ n. h (suc n))
+
+-- one element more in the list at a place
+pub put_at : {X : Type 0} (lists : List (List X)) (to : ℕ) (x : X) (new : List X) → to < length lists → ((y : X) → Has new y ↔ (Has (slice_index_or lists to []) y ⊎ (y ≡ x))) → IsAdded lists (set lists to new) to x
+put_at lists to x new there put m within y =
+    elim (cases_eq m to) [
+      inl e ↦
+        let here : slice_index_or (set lists to new) m [] ≡ new = ap (λ k. get_or (set lists to new) k []) e ∙ get_or-set_same lists to new [] there in
+        let was : slice_index_or lists m [] ≡ slice_index_or lists to [] = ap (λ k. get_or lists k []) e in
+        ( λ h. elim ((put y).0 (subst (λ l. Has l y) here h)) [ inl a ↦ inl (subst (λ l. Has l y) (sym was) a) | inr q ↦ inr (e, q) ]
+        , λ h. subst (λ l. Has l y) (sym here) ((put y).1 (elim h [ inl a ↦ inl (subst (λ l. Has l y) was a) | inr b ↦ inr b.1 ])) )
+    | inr n ↦
+        let here : slice_index_or (set lists to new) m [] ≡ slice_index_or lists m [] = get_or-set_other lists to m new [] n in
+        ( λ h. inl (subst (λ l. Has l y) here h)
+        , λ h. subst (λ l. Has l y) (sym here) (elim h [ inl a ↦ a | inr b ↦ absurd (n b.0) ]) )
+    ]
+
+-- one element behind a list
+pub behind : {X : Type 0} (xs : List X) (x y : X) → Has (xs ++ x ∷ []) y ↔ (Has xs y ⊎ (y ≡ x))
+behind xs x y =
+    ( λ h. elim (Has-cases xs (x ∷ []) y h) [ inl a ↦ inl a | inr b ↦ elim b [ inl e ↦ inr (sym e) | inr k ↦ absurd k ] ]
+    , λ h. elim h [ inl a ↦ Has-left xs (x ∷ []) y a | inr e ↦ Has-right xs (x ∷ []) y (inl (sym e)) ] )
+
+-- an element that is inserted where it isn't there
+pub inserted : {X : Type 0} (eq : X → X → Bool) → ((x y : X) → Decides (eq x y) (x ≡ y)) → (xs : List X) (x y : X) → Has (if list_any (eq x) xs then xs else xs ++ x ∷ []) y ↔ (Has xs y ⊎ (y ≡ x))
+inserted {X} eq tells xs x y = go (list_any (eq x) xs) (any_tells eq tells xs x)
+  where
+    go : (b : Bool) → ((b ≡ true) ↔ Has xs x) → Has (if b then xs else xs ++ x ∷ []) y ↔ (Has xs y ⊎ (y ≡ x))
+    go true t = (λ h. inl h, λ h. elim h [ inl a ↦ a | inr e ↦ subst (Has xs) (sym e) (t.0 refl) ])
+    go false t = behind xs x y
+
+-- the locks of one need more
+pub by_next : (count : ℕ) (kept : List Need) (i : ℕ) (x : Need) (old new : List (List Lock)) → i < length kept → x ≡ get_or kept i x → length new ≡ length old → IsAdded old new x.node x.lock
+    → AreByNode count (take i kept) old → AreByNode count (take (i + 1) kept) new
+by_next count kept i x old new within is long added b = record {
+  counted = long ∙ b.counted;
+  each = λ j below l.
+      let put = added j (omega (arith, below, b.counted)) l in
+      let was = b.each j below l in
+      ( λ h. elim (put.0 h) [
+          inl a ↦ so_far kept i x (need j l) within is (inl (was.0 a))
+        | inr e ↦ so_far kept i x (need j l) within is (inr (ap (λ n. need n l) e.0 ∙ ap (need x.node) e.1))
+        ]
+      , λ h. put.1 (elim (last_of kept i x (need j l) within is h) [
+          inl a ↦ inl (was.1 a)
+        | inr e ↦ inr (ap (λ n. n.node) e, ap (λ n. n.lock) e)
+        ]) );
+}
+
+pub by_none : (count : ℕ) (lists : List (List Lock)) → length lists ≡ count → ((j : ℕ) → slice_index_or lists j [] ≡ []) → AreByNode count [] lists
+by_none count lists long none = record {
+  counted = long;
+  each = λ j below l. (λ h. absurd (subst (λ ls. Has ls l) (none j) h), λ h. absurd h);
+}

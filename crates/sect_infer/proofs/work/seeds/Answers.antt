@@ -1,0 +1,28 @@
+use Rattle.std.proofs.Common.{◌≡◌, ◌≤◌, ◌↔◌, arith, length, subst, Some, sym}
+use Rattle.sect_names.specs.declared.lock.Lock.{Lock}
+use Rattle.sect_names.specs.Carrying.{Generated}
+use Rattle.sect_infer.proofs.Carrying.{node_at, seeds_none, seeds_skip, seeds_next, seeds_done}
+use Rattle.sect_infer.proofs.work.seeds.Goals as goal
+use Rattle.sect_infer.proofs.work.seeds.Goals.{in-Some+in_ok-keep, in_default}
+
+pub loop-node-init : goal.loop-node-init
+loop-node-init c = seeds_none c.args.scheme.now c.args.thread c.args.flow.now c.new-kept.result.keys c.new-kept.ensures.empty
+
+pub loop-node-preserved : goal.loop-node-preserved
+loop-node-preserved c =
+    let s = c.args.scheme.now in
+    let t = c.args.thread in
+    let g = c.args.flow.now in
+    let j = c.loop-node.node in
+    let node = node_at g j c.action.result c.action.ensures in
+    let y = node.0 in
+    let tells = subst (λ a. (l : Lock) → (c.generate.result ≡ Some l) ↔ Generated s t a l) (sym node.2) c.generate.ensures in
+    elim c.match-generate.branch [
+      | in-Some+in_ok-keep w ↦ rw w.kept-is (seeds_next s t g j y node.1 c.generate.result tells c.loop-node.kept.keys w.keep.new.kept.keys w.in-Some.lock w.in-Some.is c.loop-node.invariant w.in_ok-keep.ensures)
+      | in_default w ↦ rw w.kept-is (seeds_skip s t g j y node.1 c.generate.result tells c.loop-node.kept.keys w.in_default.is c.loop-node.invariant)
+    ]
+
+pub returns : goal.returns
+returns c =
+    let past : length c.args.flow.now ≤ c.loop-node.node = omega (arith, c.exit-node-end.ensures.number, c.loop-node-test.false) in
+    seeds_done c.args.scheme.now c.args.thread c.args.flow.now c.loop-node.kept.keys c.loop-node.node past c.loop-node.invariant

@@ -1,0 +1,10 @@
+use Rattle.std.proofs.Common.{◌≡◌, ◌++◌, take}
+use Rattle.std.specs.Prelude.{codes}
+use Rattle.std.specs.List.{flat_map}
+use Rattle.std.specs.String.{string_bytes}
+use Rattle.sect_names.specs.Printing.{field_name}
+use Rattle.sect_names.proofs.text.put_path.Given as goal
+
+abbrev pub invariant-loop-field : goal.invariant-loop-field
+invariant-loop-field l =
+    string_bytes l.text ≡ string_bytes l.initial.text ++ flat_map (λ f. codes "." ++ field_name l.program.source f) (take l.field-index l.field-items)

@@ -1,0 +1,276 @@
+//! What is needed before a statement for what is needed after it.
+
+ghost use Rattle.std.specs.Prelude.{◌≡◌, ◌↔◌, [], ◌∷◌, Some, None, IfOk, IsTrue};
+ghost use Rattle.sect_types.specs.Lists.{Has};
+ghost use Rattle.sect_points.specs.declared.flow.Variable.{Variable};
+ghost use Rattle.sect_points.specs.Places.{Place, var};
+ghost use Rattle.sect_names.specs.declared.lock.Lock.{Lock};
+ghost use Rattle.sect_names.specs.Carrying.{Replaced, AreOfOneClass, BeforeStore, BeforeAssignment, Before, GoesOn, OverField, LockOn, CarriedBack};
+
+use crate::lock::{Effect, Lock, Right};
+use crate::path::Path;
+use crate::scheme::Scheme;
+use crate::variables::{variable_in, variable_of};
+use sect_points::flow::Variable;
+use sect_types::action::{Action, Field, Label, Value};
+use std::alloc::{AllocError, Global};
+
+impl Effect {
+    ghost use Rattle.sect_names.specs.Carrying.{right_for};
+
+    /// The right over a class that it asks for.
+    pub fn right(self) -> Right
+        ensures { result ≡ right_for self }
+    {
+        match self {
+            Effect::Read => Right::Read,
+            Effect::Write => Right::Write,
+        }
+    }
+}
+
+// A path alone.
+fn alone(alloc: Global, path: Path) -> Result<Vec<Path>, AllocError>
+    ensures { IfOk result (λ paths. paths.items ≡ path ∷ []) }
+{
+    let mut paths = Vec::new(alloc);
+    paths.push(path)?;
+    Ok(paths)
+}
+
+// The path that begins with `start` in place of the variable `x`, where it begins with that.
+fn rebased(x: Variable, start: &Path, path: &Path) -> Result<Path, AllocError>
+    ensures { IfOk result (λ r. (q : Place) → (q ≡ r) ↔ Replaced x (Some start.now) path.now q) }
+{
+    if path.base() == x {
+        Ok(start.extended(path.fields())?)
+    } else {
+        Ok(path.try_clone()?)
+    }
+}
+
+// The path, unless it begins with the variable `x`.
+fn unless_based(alloc: Global, x: Variable, path: &Path) -> Result<Vec<Path>, AllocError>
+    ensures { IfOk result (λ paths. (q : Place) → Has paths.items q ↔ Replaced x None path.now q) }
+{
+    if path.base() == x {
+        Ok(Vec::new(alloc))
+    } else {
+        Ok(alone(alloc, path.try_clone()?)?)
+    }
+}
+
+// The paths with one field more, but `z.f` itself.
+fn with_field(
+    alloc: Global,
+    z: Variable,
+    f: Field,
+    field: Field,
+    paths: &[Path],
+) -> Result<Vec<Path>, AllocError>
+    ensures { IfOk result (λ longer. (q : Place) → Has longer.items q ↔ ((r : Place) × Has paths.now r × GoesOn z f field r q)) }
+{
+    let mut longer = Vec::new(alloc);
+    for path in paths {
+        if !is_stored(z, f, field, path) {
+            longer.push(path.extended(&[field])?)?;
+        }
+    }
+    Ok(longer)
+}
+
+// Whether the path with this field more is `z.f` itself.
+fn is_stored(z: Variable, f: Field, field: Field, path: &Path) -> bool
+    ensures { IsTrue result ↔ ((field ≡ f) × (path.now ≡ var z)) }
+{
+    field == f && path.is_variable(z)
+}
+
+// The paths that may denote before the store `z.f = w` what a beginning with one field more denotes after it, where
+// these may denote what the beginning does.
+fn over_field(
+    scheme: &Scheme,
+    alloc: Global,
+    z: Variable,
+    f: Field,
+    w: Option<Variable>,
+    beginning: &Path,
+    field: Field,
+    paths: &[Path],
+) -> Result<Vec<Path>, AllocError>
+    ensures { IfOk result (λ over. (q : Place) → Has over.items q ↔ OverField scheme.now.classes z f w beginning.now field paths.now q) }
+{
+    let mut over = with_field(alloc, z, f, field, paths)?;
+    if let Some(value) = value_read(scheme, z, f, w, beginning, field) {
+        over.push(Path::new(alloc, value))?;
+    }
+    Ok(over)
+}
+
+// What the field of a path may denote because of the store `z.f = w`.
+fn value_read(
+    scheme: &Scheme,
+    z: Variable,
+    f: Field,
+    w: Option<Variable>,
+    path: &Path,
+    field: Field,
+) -> Option<Variable>
+    ensures { (v : Variable) → (result ≡ Some v) ↔ ((field ≡ f) × AreOfOneClass scheme.now.classes path.now (var z) × (w ≡ Some v)) }
+{
+    if field == f && are_of_one_class(scheme, path, z) {
+        w
+    } else {
+        None
+    }
+}
+
+// Whether a path and a variable have a class, and it is one.
+fn are_of_one_class(scheme: &Scheme, path: &Path, variable: Variable) -> bool
+    ensures { IsTrue result ↔ AreOfOneClass scheme.now.classes path.now (var variable) }
+{
+    match scheme.class_of(path) {
+        Some(class) => scheme.class_of_variable(variable) == Some(class),
+        None => false,
+    }
+}
+
+// The paths that may denote before the store `z.f = w` what this path denotes after it.
+fn before_store(
+    scheme: &Scheme,
+    alloc: Global,
+    z: Variable,
+    f: Field,
+    w: Option<Variable>,
+    path: &Path,
+) -> Result<Vec<Path>, AllocError>
+    ensures { IfOk result (λ paths. (q : Place) → Has paths.items q ↔ BeforeStore scheme.now.classes z f w path.now q) }
+{
+    let mut beginning = Path::new(alloc, path.base());
+    let mut paths = alone(alloc, Path::new(alloc, path.base()))?;
+    for field in path.fields() {
+        paths = over_field(scheme, alloc, z, f, w, &beginning, *field, paths.as_slice())?;
+        beginning.push(*field)?;
+    }
+    Ok(paths)
+}
+
+impl Scheme {
+    /// The locks that are needed before a node of the graph of a thread's section, where this lock is needed after it.
+    /// A class lock stays. A path lock becomes those of the paths that may denote before the node what its path denotes
+    /// after it, each the lock of its class where it has more than k fields; a path that has no class needs none.
+    pub fn rewrite(
+        &self,
+        alloc: Global,
+        thread: u16,
+        label: Label,
+        lock: &Lock,
+    ) -> Result<Vec<Lock>, AllocError>
+        ensures { IfOk result (λ locks. (l : Lock) → Has locks.items l ↔ CarriedBack self.now thread label lock.now l) }
+    {
+        match lock {
+            Lock::Class(_, _) => {
+                let mut locks = Vec::new(alloc);
+                locks.push(lock.try_clone()?)?;
+                Ok(locks)
+            }
+            Lock::Path(path, effect) => {
+                let paths = self.before(alloc, thread, label, path)?;
+                self.locks_on(alloc, *effect, paths.as_slice())
+            }
+        }
+    }
+
+    // The paths that may denote before a node what this path denotes after it.
+    fn before(
+        &self,
+        alloc: Global,
+        thread: u16,
+        label: Label,
+        path: &Path,
+    ) -> Result<Vec<Path>, AllocError>
+        ensures { IfOk result (λ paths. (q : Place) → Has paths.items q ↔ Before self.now.classes thread label path.now q) }
+    {
+        let Label::Act(action) = label else {
+            return alone(alloc, path.try_clone()?);
+        };
+        match action {
+            Action::Assign(target, value) => {
+                before_assignment(alloc, thread, target, value, path)
+            }
+            Action::New(target, _, _) => {
+                unless_based(alloc, Variable::Local(thread, target), path)
+            }
+            Action::Load(target, base, field) => {
+                let start = Path::new(alloc, variable_of(thread, base)).extended(&[field])?;
+                alone(
+                    alloc,
+                    rebased(Variable::Local(thread, target), &start, path)?,
+                )
+            }
+            Action::Store(base, field, value) => {
+                let z = variable_of(thread, base);
+                before_store(self, alloc, z, field, variable_in(thread, value), path)
+            }
+            Action::Compute(_, _, _, _) | Action::Print(_) => alone(alloc, path.try_clone()?),
+        }
+    }
+
+    // The locks with this effect on these paths.
+    fn locks_on(
+        &self,
+        alloc: Global,
+        effect: Effect,
+        paths: &[Path],
+    ) -> Result<Vec<Lock>, AllocError>
+        ensures { IfOk result (λ locks. (l : Lock) → Has locks.items l ↔ ((q : Place) × Has paths.now q × LockOn self.now effect q l)) }
+    {
+        let mut locks = Vec::new(alloc);
+        for path in paths {
+            if let Some(lock) = self.lock_on(effect, path)? {
+                locks.push(lock)?;
+            }
+        }
+        Ok(locks)
+    }
+
+    // The lock with this effect on a path, if it has a class.
+    fn lock_on(&self, effect: Effect, path: &Path) -> Result<Option<Lock>, AllocError>
+        ensures { IfOk result (λ lock. (l : Lock) → (lock ≡ Some l) ↔ LockOn self.now effect path.now l) }
+    {
+        match self.class_of(path) {
+            None => Ok(None),
+            Some(class) => {
+                if path.fields().len() > self.k() as usize {
+                    return Ok(Some(Lock::Class(class, effect.right())));
+                }
+                Ok(Some(Lock::Path(path.try_clone()?, effect)))
+            }
+        }
+    }
+}
+
+// The paths that may denote before `target = value` what this path denotes after it.
+fn before_assignment(
+    alloc: Global,
+    thread: u16,
+    target: u16,
+    value: Value,
+    path: &Path,
+) -> Result<Vec<Path>, AllocError>
+    ensures { IfOk result (λ paths. (q : Place) → Has paths.items q ↔ BeforeAssignment thread target value path.now q) }
+{
+    let x = Variable::Local(thread, target);
+    match value {
+        Value::Number(_) => alone(alloc, path.try_clone()?),
+        Value::Null => unless_based(alloc, x, path),
+        Value::Local(number) => {
+            let start = Path::new(alloc, Variable::Local(thread, number));
+            alone(alloc, rebased(x, &start, path)?)
+        }
+        Value::Global(number) => {
+            let start = Path::new(alloc, Variable::Global(number));
+            alone(alloc, rebased(x, &start, path)?)
+        }
+    }
+}

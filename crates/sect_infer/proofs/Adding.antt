@@ -28,22 +28,25 @@ empty_more (x ∷ xs) (suc m) h = empty_more xs m (λ n. h (suc n))
 pub put_at : {X : Type 0} (lists : List (List X)) (to : ℕ) (x : X) (new : List X) → to < length lists → ((y : X) → Has new y ↔ (Has (slice_index_or lists to []) y ⊎ (y ≡ x))) → IsAdded lists (set lists to new) to x
 put_at lists to x new there put m within y =
     elim (cases_eq m to) [
-      inl e ↦
-        let here : slice_index_or (set lists to new) m [] ≡ new = ap (λ k. get_or (set lists to new) k []) e ∙ get_or-set_same lists to new [] there in
-        let was : slice_index_or lists m [] ≡ slice_index_or lists to [] = ap (λ k. get_or lists k []) e in
-        ( λ h. elim ((put y).0 (subst (λ l. Has l y) here h)) [ inl a ↦ inl (subst (λ l. Has l y) (sym was) a) | inr q ↦ inr (e, q) ]
-        , λ h. subst (λ l. Has l y) (sym here) ((put y).1 (elim h [ inl a ↦ inl (subst (λ l. Has l y) was a) | inr b ↦ inr b.1 ])) )
-    | inr n ↦
-        let here : slice_index_or (set lists to new) m [] ≡ slice_index_or lists m [] = get_or-set_other lists to m new [] n in
-        ( λ h. inl (subst (λ l. Has l y) here h)
-        , λ h. subst (λ l. Has l y) (sym here) (elim h [ inl a ↦ a | inr b ↦ absurd (n b.0) ]) )
+      | inl e ↦
+          let here : slice_index_or (set lists to new) m [] ≡ new = ap (λ k. get_or (set lists to new) k []) e ∙ get_or-set_same lists to new [] there in
+          let was : slice_index_or lists m [] ≡ slice_index_or lists to [] = ap (λ k. get_or lists k []) e in (
+            λ h. elim ((put y).0 (subst (λ l. Has l y) here h)) [ inl a ↦ inl (subst (λ l. Has l y) (sym was) a) | inr q ↦ inr (e, q) ],
+            λ h. subst (λ l. Has l y) (sym here) ((put y).1 (elim h [ inl a ↦ inl (subst (λ l. Has l y) was a) | inr b ↦ inr b.1 ])),
+          )
+      | inr n ↦
+          let here : slice_index_or (set lists to new) m [] ≡ slice_index_or lists m [] = get_or-set_other lists to m new [] n in (
+            λ h. inl (subst (λ l. Has l y) here h),
+            λ h. subst (λ l. Has l y) (sym here) (elim h [ inl a ↦ a | inr b ↦ absurd (n b.0) ]),
+          )
     ]
 
 -- one element behind a list
 pub behind : {X : Type 0} (xs : List X) (x y : X) → Has (xs ++ x ∷ []) y ↔ (Has xs y ⊎ (y ≡ x))
-behind xs x y =
-    ( λ h. elim (Has-cases xs (x ∷ []) y h) [ inl a ↦ inl a | inr b ↦ elim b [ inl e ↦ inr (sym e) | inr k ↦ absurd k ] ]
-    , λ h. elim h [ inl a ↦ Has-left xs (x ∷ []) y a | inr e ↦ Has-right xs (x ∷ []) y (inl (sym e)) ] )
+behind xs x y = (
+  λ h. elim (Has-cases xs (x ∷ []) y h) [ inl a ↦ inl a | inr b ↦ elim b [ inl e ↦ inr (sym e) | inr k ↦ absurd k ] ],
+  λ h. elim h [ inl a ↦ Has-left xs (x ∷ []) y a | inr e ↦ Has-right xs (x ∷ []) y (inl (sym e)) ],
+)
 
 -- an element that is inserted where it isn't there
 pub inserted : {X : Type 0} (eq : X → X → Bool) → ((x y : X) → Decides (eq x y) (x ≡ y)) → (xs : List X) (x y : X) → Has (if list_any (eq x) xs then xs else xs ++ x ∷ []) y ↔ (Has xs y ⊎ (y ≡ x))
@@ -60,15 +63,16 @@ by_next count kept i x old new within is long added b = record {
   counted = long ∙ b.counted;
   each = λ j below l.
       let put = added j (omega (arith, below, b.counted)) l in
-      let was = b.each j below l in
-      ( λ h. elim (put.0 h) [
-          inl a ↦ so_far kept i x (need j l) within is (inl (was.0 a))
-        | inr e ↦ so_far kept i x (need j l) within is (inr (ap (λ n. need n l) e.0 ∙ ap (need x.node) e.1))
-        ]
-      , λ h. put.1 (elim (last_of kept i x (need j l) within is h) [
-          inl a ↦ inl (was.1 a)
-        | inr e ↦ inr (ap (λ n. n.node) e, ap (λ n. n.lock) e)
-        ]) );
+      let was = b.each j below l in (
+        λ h. elim (put.0 h) [
+          | inl a ↦ so_far kept i x (need j l) within is (inl (was.0 a))
+          | inr e ↦ so_far kept i x (need j l) within is (inr (ap (λ n. need n l) e.0 ∙ ap (need x.node) e.1))
+        ],
+        λ h. put.1 (elim (last_of kept i x (need j l) within is h) [
+          | inl a ↦ inl (was.1 a)
+          | inr e ↦ inr (ap (λ n. n.node) e, ap (λ n. n.lock) e)
+        ]),
+      );
 }
 
 pub by_none : (count : ℕ) (lists : List (List Lock)) → length lists ≡ count → ((j : ℕ) → slice_index_or lists j [] ≡ []) → AreByNode count [] lists

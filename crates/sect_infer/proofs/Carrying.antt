@@ -1,5 +1,5 @@
 -- Needs that the nodes generate, and that are carried back to them.
-use Rattle.std.proofs.Common.{◌≡◌, ◌↔◌, ◌⊎◌, ℕ, ◌+◌, ◌<◌, ◌≤◌, List, [], ◌∷◌, Option, Some, None, inl, inr, refl, sym, ap, ◌∙◌, subst, take, length, get_or, arith}
+use Rattle.std.proofs.Common.{◌≡◌, ◌↔◌, ◌⊎◌, ℕ, ◌+◌, ◌<◌, ◌≤◌, List, [], Option, Some, None, inl, inr, refl, sym, ap, ◌∙◌, subst, take, length, get_or, arith}
 use Rattle.std.specs.Prelude.{slice_get, option_map}
 use Rattle.std.proofs.lemmas.Bool.{cases_lt}
 use Rattle.std.proofs.lemmas.List.{take_all}
@@ -8,7 +8,6 @@ use Rattle.sect_types.specs.Lists.{Has}
 use Rattle.sect_types.specs.declared.action.Label.{Label}
 use Rattle.sect_types.proofs.Membership.{Has-get_or}
 use Rattle.sect_graph.specs.declared.flow.Node.{Node}
-use Rattle.sect_graph.specs.Paths.{LeadsTo}
 use Rattle.sect_names.specs.declared.lock.Lock.{Lock}
 use Rattle.sect_names.specs.Schemes.{SchemeOf}
 use Rattle.sect_names.specs.Carrying.{Generated, CarriedBack}
@@ -48,26 +47,27 @@ module _ (s : SchemeOf) (t : ℕ) (g : List Node) where
 
     pub seeds_skip : (kept : List Need) → o ≡ None → Grows [] kept (SeedsBelow j) → Grows [] kept (SeedsBelow (j + 1))
     seeds_skip kept none before = grows_as [] kept (SeedsBelow j) (SeedsBelow (j + 1))
-      (λ x h. elim (below x h.0) [ inl a ↦ (a, h.1) | inr e ↦ (let f = at_node x e h.1 in absurd cc) ])
-      (λ x h. (omega (arith, h.0), h.1)) before
+        (λ x h. elim (below x h.0) [ inl a ↦ (a, h.1) | inr e ↦ (let f = at_node x e h.1 in absurd cc) ])
+        (λ x h. (omega (arith, h.0), h.1)) before
 
     pub seeds_next : (mid new : List Need) (l : Lock) → o ≡ Some l → Grows [] mid (SeedsBelow j) → Grows mid new (λ x. x ≡ need j l) → Grows [] new (SeedsBelow (j + 1))
     seeds_next mid new l is f n = grows_as [] new (λ x. SeedsBelow j x ⊎ (x ≡ need j l)) (SeedsBelow (j + 1))
-      (λ x h. elim (below x h.0) [ inl a ↦ inl (a, h.1) | inr e ↦ (let same : x.lock ≡ l = (let q = at_node x e h.1 in cc) in inr (same_place x j l e same)) ])
-      (λ x h. elim h [
-          inl a ↦ (omega (arith, a.0), a.1)
-        | inr e ↦ (let node : x.node ≡ j = ap (λ n. n.node) e in
-                   (omega (arith, node), (y, subst (λ k. slice_get g k ≡ Some y) (sym node) at, subst (Generated s t y.label) (sym (ap (λ n. n.lock) e)) ((tells l).0 is))))
+        (λ x h. elim (below x h.0) [ inl a ↦ inl (a, h.1) | inr e ↦ (let same : x.lock ≡ l = (let q = at_node x e h.1 in cc) in inr (same_place x j l e same)) ])
+        (λ x h. elim h [
+          | inl a ↦ (omega (arith, a.0), a.1)
+          | inr e ↦ (let node : x.node ≡ j = ap (λ n. n.node) e in
+              (omega (arith, node), (y, subst (λ k. slice_get g k ≡ Some y) (sym node) at, subst (Generated s t y.label) (sym (ap (λ n. n.lock) e)) ((tells l).0 is))))
         ])
-      (grows_then [] mid new (SeedsBelow j) (λ x. x ≡ need j l) f n)
+        (grows_then [] mid new (SeedsBelow j) (λ x. x ≡ need j l) f n)
 
   pub seeds_none : (kept : List Need) → kept ≡ [] → Grows [] kept (SeedsBelow 0)
   seeds_none kept e = subst (λ l. Grows [] l (SeedsBelow 0)) (sym e) (grows_none [] (SeedsBelow 0) (λ x h. absurd (omega (arith, h.0))))
 
   pub seeds_done : (kept : List Need) (j : ℕ) → length g ≤ j → Grows [] kept (SeedsBelow j) → (x : Need) → Has kept x ↔ IsSeed s t g x
-  seeds_done kept j past f x =
-      ( λ h. elim (f.only x h) [ inl k ↦ absurd k | inr a ↦ a.1 ]
-      , λ h. f.each x (let w = slice_get_within g x.node h.0 h.1 in omega (arith, w, past), h) )
+  seeds_done kept j past f x = (
+    λ h. elim (f.only x h) [ inl k ↦ absurd k | inr a ↦ a.1 ],
+    λ h. f.each x (let w = slice_get_within g x.node h.0 h.1 in omega (arith, w, past), h),
+  )
 
   module _ (n : Need) (nodes : List ℕ) (before : AreBefore g n.node nodes) where
     -- what is carried back to the first of these nodes
@@ -91,18 +91,18 @@ module _ (s : SchemeOf) (t : ℕ) (g : List Node) where
         let at = found.1 in
         let leads = found.2 in
         grows_as old new (λ x. CarriesToFirst i x ⊎ ((x.node ≡ j) × CarriedBack s t y.label n.lock x.lock)) (CarriesToFirst (i + 1))
-          (λ x h. elim (last_of nodes i j x.node within is h.0) [
-              inl a ↦ inl (a, h.1)
-            | inr e ↦ (let same = same_node g j h.1.0 y (subst (λ k. slice_get g k ≡ Some h.1.0) e h.1.1) at in
-                       inr (e, subst (λ z. CarriedBack s t z.label n.lock x.lock) same h.1.3))
-            ])
-          (λ x h. elim h [
-              inl a ↦ (so_far nodes i j x.node within is (inl a.0), a.1)
-            | inr b ↦ (so_far nodes i j x.node within is (inr b.0), (y, subst (λ k. slice_get g k ≡ Some y) (sym b.0) at, leads, b.1))
-            ])
-          (grows_then old mid new (CarriesToFirst i) (λ x. (x.node ≡ j) × CarriedBack s t y.label n.lock x.lock) f (k y at))
+        (λ x h. elim (last_of nodes i j x.node within is h.0) [
+          | inl a ↦ inl (a, h.1)
+          | inr e ↦ (let same = same_node g j h.1.0 y (subst (λ k. slice_get g k ≡ Some h.1.0) e h.1.1) at in
+              inr (e, subst (λ z. CarriedBack s t z.label n.lock x.lock) same h.1.3))
+        ])
+        (λ x h. elim h [
+          | inl a ↦ (so_far nodes i j x.node within is (inl a.0), a.1)
+          | inr b ↦ (so_far nodes i j x.node within is (inr b.0), (y, subst (λ k. slice_get g k ≡ Some y) (sym b.0) at, leads, b.1))
+        ])
+        (grows_then old mid new (CarriesToFirst i) (λ x. (x.node ≡ j) × CarriedBack s t y.label n.lock x.lock) f (k y at))
 
     pub carry_done : (i : ℕ) (old new : List Need) → length nodes ≤ i → Grows old new (CarriesToFirst i) → Grows old new (CarriesTo s t g n)
     carry_done i old new past f = grows_as old new (CarriesToFirst i) (CarriesTo s t g n)
-      (λ x h. (subst (λ l. Has l x.node) (sym (take_all i nodes past)) ((before x.node).1 (h.0, h.1, h.2)), h))
-      (λ x h. h.1) f
+        (λ x h. (subst (λ l. Has l x.node) (sym (take_all i nodes past)) ((before x.node).1 (h.0, h.1, h.2)), h))
+        (λ x h. h.1) f

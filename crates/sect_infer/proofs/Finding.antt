@@ -1,5 +1,5 @@
 -- The locks that are found for a section.
-use Rattle.std.proofs.Common.{◌≡◌, ◌↔◌, ◌⊎◌, ℕ, ◌<◌, ◌≤◌, List, [], length, Some, inl, inr, refl, sym, ap, ◌∙◌, subst, arith, get_or}
+use Rattle.std.proofs.Common.{◌≡◌, ◌↔◌, ℕ, ◌<◌, List, [], length, Some, inl, inr, sym, subst, arith}
 use Rattle.std.specs.Prelude.{slice_get, slice_index_or}
 use Rattle.std.proofs.lemmas.Bool.{cases_lt}
 use Rattle.std.proofs.lemmas.Option.{slice_get_within, get_or_from_slice_get}
@@ -16,7 +16,7 @@ use Rattle.sect_names.proofs.Sounding.{generated_lock, carried_lock}
 use Rattle.sect_names.proofs.SectionSteps.{section_step_sound}
 use Rattle.sect_infer.specs.declared.need.Need.{Need}
 use Rattle.sect_infer.specs.Needs.{need, IsDerived, AreLawful, AreByNode}
-use Rattle.sect_infer.specs.Sets.{LocksOf, AreLocksOf}
+use Rattle.sect_infer.specs.Sets.{AreLocksOf}
 use Rattle.sect_infer.proofs.Working.{derived_lock}
 use Rattle.sect_infer.proofs.Meaning.{derived_from, least}
 
@@ -33,13 +33,15 @@ module _ (s : SchemeOf) (scheme : IsScheme s) (sound : AreSound s.program.record
     -- the locks at the first node are those that are derived there; a section without a node has none
     first_tells : (l : Lock) → Has (slice_index_or nodes 0 []) l ↔ IsDerived s of.thread g (need 0 l)
     first_tells l = elim (cases_lt 0 (length g)) [
-        inl some ↦
-          ( λ h. (exact (need 0 l)).0 ((by_node.each 0 some l).0 h)
-          , λ d. (by_node.each 0 some l).1 ((exact (need 0 l)).1 d) )
-      | inr none ↦
-          ( λ h. absurd (subst (λ ls. Has ls l) (get_or-eq_default nodes [] (omega (arith, none, by_node.counted))) h)
-          , λ d. absurd (omega (arith, none, (derived_lock s of.thread g lawful_section d.0 (need 0 l) d.1).0)) )
-      ]
+      | inl some ↦ (
+        λ h. (exact (need 0 l)).0 ((by_node.each 0 some l).0 h),
+        λ d. (by_node.each 0 some l).1 ((exact (need 0 l)).1 d),
+      )
+      | inr none ↦ (
+        λ h. absurd (subst (λ ls. Has ls l) (get_or-eq_default nodes [] (omega (arith, none, by_node.counted))) h),
+        λ d. absurd (omega (arith, none, (derived_lock s of.thread g lawful_section d.0 (need 0 l) d.1).0)),
+      )
+    ]
 
     module _ (entry : List Lock) (max : AreMaximal s (slice_index_or nodes 0 []) entry) where
       pub locks_found : AreLocksOf s of g (record { at = nodes; entry = entry })
@@ -49,11 +51,12 @@ module _ (s : SchemeOf) (scheme : IsScheme s) (sound : AreSound s.program.record
             needed = record {
               count = by_node.counted;
               each = λ j locks at l.
-                let below : j < length g = omega (arith, slice_get_within nodes j locks at, by_node.counted) in
-                let same : slice_index_or nodes j [] ≡ locks = get_or_from_slice_get nodes j locks [] at in
-                let means = derived_from s of.thread g of.body graph j l (omega (arith, below)) in
-                ( λ h. means.0 ((exact (need j l)).0 ((by_node.each j below l).0 (subst (λ ls. Has ls l) (sym same) h)))
-                , λ n. subst (λ ls. Has ls l) same ((by_node.each j below l).1 ((exact (need j l)).1 (means.1 n))) );
+                  let below : j < length g = omega (arith, slice_get_within nodes j locks at, by_node.counted) in
+                  let same : slice_index_or nodes j [] ≡ locks = get_or_from_slice_get nodes j locks [] at in
+                  let means = derived_from s of.thread g of.body graph j l (omega (arith, below)) in (
+                    λ h. means.0 ((exact (need j l)).0 ((by_node.each j below l).0 (subst (λ ls. Has ls l) (sym same) h))),
+                    λ n. subst (λ ls. Has ls l) same ((by_node.each j below l).1 ((exact (need j l)).1 (means.1 n))),
+                  );
             };
             least = least s of.thread g of.body graph (slice_index_or nodes 0 []) entry first_tells max;
             in_order = max.in_order;

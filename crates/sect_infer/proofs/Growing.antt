@@ -3,7 +3,7 @@ use Rattle.std.proofs.Common.{◌≡◌, ◌↔◌, ◌⊎◌, ℕ, ◌+◌, ◌
 use Rattle.std.specs.Prelude.{if◌then◌else◌}
 use Rattle.std.specs.Bool.{Decides}
 use Rattle.std.specs.List.{list_any}
-use Rattle.std.proofs.lemmas.List.{append-nil, take_more}
+use Rattle.std.proofs.lemmas.List.{append-nil}
 use Rattle.sect_types.specs.Lists.{Has}
 use Rattle.sect_types.proofs.Membership.{Has-cases, Has-left, Has-right}
 use Rattle.sect_names.specs.declared.lock.Lock.{Lock}
@@ -37,13 +37,13 @@ pub grows_then : (old mid new : List Need) (P Q : Need → Type 0) → Grows old
 grows_then old mid new P Q f g = record {
   longer = (f.longer.0 ++ g.longer.0, g.longer.1 ∙ ap (λ l. l ++ g.longer.0) f.longer.1 ∙ append_assoc old f.longer.0 g.longer.0);
   each = λ x h. elim h [
-      inl p ↦ subst (λ l. Has l x) (sym g.longer.1) (Has-left mid g.longer.0 x (f.each x p))
+    | inl p ↦ subst (λ l. Has l x) (sym g.longer.1) (Has-left mid g.longer.0 x (f.each x p))
     | inr q ↦ g.each x q
-    ];
+  ];
   only = λ x h. elim (g.only x h) [
-      inl k ↦ elim (f.only x k) [ inl o ↦ inl o | inr p ↦ inr (inl p) ]
+    | inl k ↦ elim (f.only x k) [ inl o ↦ inl o | inr p ↦ inr (inl p) ]
     | inr q ↦ inr (inr q)
-    ];
+  ];
 }
 
 -- one is put, unless it is there
@@ -52,6 +52,7 @@ grows_put old y = go (list_any (the_need_eq.eq y) old) refl
   where
     tells : (list_any (the_need_eq.eq y) old ≡ true) ↔ Has old y
     tells = any_tells the_need_eq.eq need_tells old y
+
     go : (b : Bool) → list_any (the_need_eq.eq y) old ≡ b → Grows old (if b then old else old ++ y ∷ []) (λ x. x ≡ y)
     go true e = record {
       longer = ([], sym (append-nil old));
@@ -72,6 +73,6 @@ pub keeps_next : (old mid new : List Need) (j : ℕ) (locks : List Lock) (i : �
     → Grows old mid (λ x. (x.node ≡ j) × Has (take i locks) x.lock) → Grows mid new (λ x. x ≡ need j l) → Grows old new (λ x. (x.node ≡ j) × Has (take (i + 1) locks) x.lock)
 keeps_next old mid new j locks i l within is f g =
     grows_as old new (λ x. ((x.node ≡ j) × Has (take i locks) x.lock) ⊎ (x ≡ need j l)) (λ x. (x.node ≡ j) × Has (take (i + 1) locks) x.lock)
-      (λ x h. elim (last_of locks i l x.lock within is h.1) [ inl a ↦ inl (h.0, a) | inr e ↦ inr (same_need x j l h.0 e) ])
-      (λ x h. elim h [ inl a ↦ (a.0, so_far locks i l x.lock within is (inl a.1)) | inr e ↦ (ap (λ n. n.node) e, so_far locks i l x.lock within is (inr (ap (λ n. n.lock) e))) ])
-      (grows_then old mid new (λ x. (x.node ≡ j) × Has (take i locks) x.lock) (λ x. x ≡ need j l) f g)
+    (λ x h. elim (last_of locks i l x.lock within is h.1) [ inl a ↦ inl (h.0, a) | inr e ↦ inr (same_need x j l h.0 e) ])
+    (λ x h. elim h [ inl a ↦ (a.0, so_far locks i l x.lock within is (inl a.1)) | inr e ↦ (ap (λ n. n.node) e, so_far locks i l x.lock within is (inr (ap (λ n. n.lock) e))) ])
+    (grows_then old mid new (λ x. (x.node ≡ j) × Has (take i locks) x.lock) (λ x. x ≡ need j l) f g)

@@ -1,23 +1,21 @@
 -- What is derived over the graph is what the traces need.
-use Rattle.std.proofs.Common.{◌≡◌, ◌↔◌, inl, inr, ℕ, zero, suc, ◌<◌, ◌≤◌, List, [], ◌∷◌, ◌++◌, Some, None, Option, length, refl, sym, ap, ◌∙◌, subst, arith}
+use Rattle.std.proofs.Common.{◌≡◌, ◌↔◌, inl, inr, ℕ, zero, suc, ◌≤◌, List, [], ◌∷◌, ◌++◌, Some, length, refl, sym, ap, ◌∙◌, subst, arith}
 use Rattle.std.specs.Prelude.{slice_get}
-use Rattle.std.proofs.lemmas.Option.{slice_get_past, slice_get_within}
+use Rattle.std.proofs.lemmas.Option.{slice_get_within}
 use Rattle.sect_types.specs.Lists.{Has}
 use Rattle.sect_types.specs.Statements.{Statements}
 use Rattle.sect_types.specs.Traces.{Step, step}
-use Rattle.sect_types.specs.Sections.{SectionOf}
 use Rattle.sect_graph.specs.declared.flow.Node.{Node}
-use Rattle.sect_graph.specs.Paths.{IsPath, IsConnected, LeadsTo}
+use Rattle.sect_graph.specs.Paths.{IsPath, IsConnected}
 use Rattle.sect_graph.specs.Graphs.{IsGraphOf}
 use Rattle.sect_names.specs.declared.lock.Lock.{Lock}
 use Rattle.sect_names.specs.Schemes.{SchemeOf}
-use Rattle.sect_names.specs.Locks.{Covers}
 use Rattle.sect_names.specs.Carrying.{Generated, CarriedBack}
 use Rattle.sect_names.specs.Needed.{CarriedOver, GeneratedFirst, IsNeededOn, IsNeeded, IsNeededFrom, IsLeast}
 use Rattle.sect_names.specs.Order.{AreMaximal}
 use Rattle.sect_names.proofs.Telling.{lock_cases}
 use Rattle.sect_infer.specs.declared.need.Need.{Need}
-use Rattle.sect_infer.specs.Needs.{need, IsSeed, CarriesTo, Derived, IsDerived}
+use Rattle.sect_infer.specs.Needs.{need, Derived, IsDerived}
 
 module _ (s : SchemeOf) (t : ℕ) (g : List Node) where
   -- needed along some path from the node to the exit
@@ -55,24 +53,27 @@ module _ (s : SchemeOf) (t : ℕ) (g : List Node) where
 
   -- derived at a node: needed along some path from there
   pub derived_means : IsConnected g → (j : ℕ) (l : Lock) → IsDerived s t g (need j l) ↔ IsNeededAlong j l
-  derived_means con j l =
-      ( λ h. derived_along con h.0 (need j l) h.1
-      , λ h. (let n = h.2 in along_derived n.0 j h.0 n.1 n.2 l h.1 n.3 n.4 n.5) )
+  derived_means con j l = (
+    λ h. derived_along con h.0 (need j l) h.1,
+    λ h. (let n = h.2 in along_derived n.0 j h.0 n.1 n.2 l h.1 n.3 n.4 n.5),
+  )
 
   module _ (body : Statements) (graph : IsGraphOf body g) where
     -- the needs of a node are those of the rests of traces that begin there
     pub derived_from : (j : ℕ) (l : Lock) → j ≤ length g → IsDerived s t g (need j l) ↔ IsNeededFrom s t body g j l
     derived_from j l within =
-        let means = derived_means graph.connected j l in
-        ( λ h. (let a = means.0 h in (a.0, (graph.rests j within a.0).0 a.1, a.2))
-        , λ h. means.1 (h.0, (graph.rests j within h.0).1 h.1, h.2) )
+        let means = derived_means graph.connected j l in (
+          λ h. (let a = means.0 h in (a.0, (graph.rests j within a.0).0 a.1, a.2)),
+          λ h. means.1 (h.0, (graph.rests j within h.0).1 h.1, h.2),
+        )
 
     -- those of the first node are those of the traces
     pub derived_entry : (l : Lock) → IsDerived s t g (need 0 l) ↔ IsNeeded s t body l
     derived_entry l =
-        let means = derived_means graph.connected 0 l in
-        ( λ h. (let a = means.0 h in (a.0, (graph.paths a.0).0 a.1, a.2))
-        , λ h. means.1 (h.0, (graph.paths h.0).1 h.1, h.2) )
+        let means = derived_means graph.connected 0 l in (
+          λ h. (let a = means.0 h in (a.0, (graph.paths a.0).0 a.1, a.2)),
+          λ h. means.1 (h.0, (graph.paths h.0).1 h.1, h.2),
+        )
 
     -- the maximal ones of the first node are the least set that protects
     pub least : (first entry : List Lock) → ((l : Lock) → Has first l ↔ IsDerived s t g (need 0 l)) → AreMaximal s first entry → IsLeast s t body entry
@@ -80,7 +81,7 @@ module _ (s : SchemeOf) (t : ℕ) (g : List Node) where
       protects = λ l n. max.covering l ((tells l).1 ((derived_entry l).1 n));
       least = λ others protects l h. protects l ((derived_entry l).0 ((tells l).0 ((max.kept_are l).0 h).0));
       apart = λ l big h k c. elim (lock_cases big l) [
-          inl e ↦ e
+        | inl e ↦ e
         | inr n ↦ absurd (((max.kept_are l).0 h).1 (big, ((max.kept_are big).0 k).0, c, n))
-        ];
+      ];
     }

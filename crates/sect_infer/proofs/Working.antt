@@ -1,5 +1,5 @@
 -- The worklist: what it keeps, where it ends, and that it ends.
-use Rattle.std.proofs.Common.{◌≡◌, ◌↔◌, ◌⊎◌, ℕ, zero, suc, ◌+◌, ◌<◌, ◌≤◌, List, [], ◌∷◌, ◌++◌, map, length, get_or, Some, inl, inr, refl, sym, ap, ◌∙◌, subst, arith, length-append}
+use Rattle.std.proofs.Common.{◌≡◌, ◌↔◌, ℕ, zero, suc, ◌+◌, ◌<◌, ◌≤◌, List, [], ◌∷◌, map, length, get_or, Some, inl, inr, sym, ap, ◌∙◌, subst, arith, length-append}
 use Rattle.std.specs.Prelude.{slice_get}
 use Rattle.std.specs.List.{flat_map, IsDistinct}
 use Rattle.std.proofs.lemmas.Bool.{cases_lt}
@@ -7,9 +7,8 @@ use Rattle.std.proofs.lemmas.List.{get_or_append_left}
 use Rattle.std.proofs.lemmas.Map.Made.{length-le_from_is_member}
 use Rattle.std.proofs.lemmas.Option.{slice_get_within, get_or_from_slice_get, slice_get-get_or}
 use Rattle.sect_types.specs.Lists.{Has}
-use Rattle.sect_types.proofs.Membership.{Has-left, Has-get_or, Has-slice_get}
+use Rattle.sect_types.proofs.Membership.{Has-left, Has-slice_get}
 use Rattle.sect_graph.specs.declared.flow.Node.{Node}
-use Rattle.sect_names.specs.declared.lock.Lock.{Lock}
 use Rattle.sect_names.specs.Schemes.{SchemeOf}
 use Rattle.sect_names.specs.Locks.{IsLockOf}
 use Rattle.sect_names.proofs.Finiteness.{Has-map, Has-flat_map, below, Has-below, all_locks, finite_locks}
@@ -51,6 +50,7 @@ module _ (s : SchemeOf) (t : ℕ) (g : List Node) where
       first : (l : List Need) → done < length l → Need
       first [] h = absurd (omega (arith, h))
       first (x ∷ l) h = x
+
       go : Need → IsWorklist new (done + 1)
       go d =
           let n = get_or old done d in
@@ -61,18 +61,18 @@ module _ (s : SchemeOf) (t : ℕ) (g : List Node) where
           record {
             seeds = λ x h. grown x (w.seeds x h);
             closed = λ i m x le here c. elim (cases_lt i done) [
-                inl a ↦ (let within : i < length old = omega (arith, a, lt) in
-                         let same : get_or new i m ≡ get_or old i m = ap (λ l. get_or l i m) f.longer.1 ∙ get_or_append_left old more m i within in
-                         let was : slice_get old i ≡ Some m = slice_get-get_or old i m within ∙ ap (λ z. Some z) (sym same ∙ get_or_from_slice_get new i m m here) in
-                         grown x (w.closed i m x a was c))
+              | inl a ↦ (let within : i < length old = omega (arith, a, lt) in
+                  let same : get_or new i m ≡ get_or old i m = ap (λ l. get_or l i m) f.longer.1 ∙ get_or_append_left old more m i within in
+                  let was : slice_get old i ≡ Some m = slice_get-get_or old i m within ∙ ap (λ z. Some z) (sym same ∙ get_or_from_slice_get new i m m here) in
+                  grown x (w.closed i m x a was c))
               | inr b ↦ (let e : i ≡ done = omega (arith, le, b) in
-                         let same : m ≡ n = sym (get_or_from_slice_get new i m m here) ∙ ap (λ k. get_or new k m) e ∙ ap (λ l. get_or l done m) f.longer.1 ∙ get_or_append_left old more m done lt ∙ get_or_from_slice_get old done n m at in
-                         f.each x (subst (λ z. CarriesTo s t g z x) same c))
-              ];
+                  let same : m ≡ n = sym (get_or_from_slice_get new i m m here) ∙ ap (λ k. get_or new k m) e ∙ ap (λ l. get_or l done m) f.longer.1 ∙ get_or_append_left old more m done lt ∙ get_or_from_slice_get old done n m at in
+                  f.each x (subst (λ z. CarriesTo s t g z x) same c))
+            ];
             only = λ x h. elim (f.only x h) [
-                inl k ↦ w.only x k
+              | inl k ↦ w.only x k
               | inr c ↦ (let r = w.only n (Has-slice_get old done n at) in (suc r.0, (n, r.1, c)))
-              ];
+            ];
             within = omega (arith, ap length f.longer.1, length-append old more, lt);
           }
 
@@ -97,4 +97,4 @@ module _ (s : SchemeOf) (t : ℕ) (g : List Node) where
         let d = only x ((any_tells the_need_eq.eq need_tells kept x).0 h) in
         let l = derived_lock d.0 x d.1 in
         (any_tells the_need_eq.eq need_tells (all_needs s g) x).1
-          (Has-flat_map (λ j. map (need j) (all_locks s)) (below (length g)) x.node x (Has-below (length g) x.node l.0) (Has-map (need x.node) (all_locks s) x.lock (finite_locks s x.lock l.1))))
+        (Has-flat_map (λ j. map (need j) (all_locks s)) (below (length g)) x.node x (Has-below (length g) x.node l.0) (Has-map (need x.node) (all_locks s) x.lock (finite_locks s x.lock l.1))))

@@ -1,5 +1,5 @@
 -- Locks that are needed at the nodes of a section's graph, one from another.
-use Rattle.std.specs.Prelude.{◌≡◌, ◌↔◌, ◌≤◌, ℕ, zero, suc, ◌<◌, ◌⊎◌, List, [], ◌++◌, Some, slice_get, slice_index_or, length}
+use Rattle.std.specs.Prelude.{◌≡◌, ◌↔◌, ℕ, zero, suc, ◌<◌, ◌⊎◌, List, [], ◌++◌, Some, slice_get, slice_index_or, length}
 use Rattle.sect_types.specs.Lists.{Has}
 use Rattle.sect_graph.specs.declared.flow.Node.{Node}
 use Rattle.sect_graph.specs.Paths.{LeadsTo}

@@ -37,11 +37,7 @@ pub fn infer(alloc: Global, scheme: &Scheme, section: u16) -> Result<Sets, Alloc
 }
 
 // The maximal locks of the first node; none where there is no node.
-fn entry_of(
-    alloc: Global,
-    scheme: &Scheme,
-    nodes: &NodeLocks,
-) -> Result<Vec<Lock>, AllocError>
+fn entry_of(alloc: Global, scheme: &Scheme, nodes: &NodeLocks) -> Result<Vec<Lock>, AllocError>
     ensures { IfOk result (λ entry. AreMaximal scheme.now (slice_index_or nodes.now 0 []) entry.items) }
 {
     if nodes.len() == 0 {

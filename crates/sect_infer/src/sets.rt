@@ -20,7 +20,6 @@ pub struct NodeLocks {
 impl Model for NodeLocks {
     ghost use Rattle.std.specs.Prelude.{List, map};
     ghost use Rattle.sect_names.specs.declared.lock.Lock.{Lock};
-
     ghost use Rattle.std.specs.Coded.{codes};
     ghost use Rattle.sect_points.specs.Places.{place_code};
 

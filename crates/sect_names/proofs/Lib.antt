@@ -15,3 +15,4 @@ pub mod Finiteness
 pub mod Sounding
 pub mod SectionSteps
 pub mod Named
+pub mod Uniqueness

@@ -57,21 +57,22 @@ module _ (s : SchemeOf) (given kept : List Lock) (told : (x : Lock) → Has give
   -- above each lock of the list stands one that is kept
   covered : (n : ℕ) (l : Lock) → 3 ≤ rank l + n → Has given l → CoveredBy s kept l
   covered zero l high h = elim (told l h) [
-      inl k ↦ (l, k, covers_refl s l)
+    | inl k ↦ (l, k, covers_refl s l)
     | inr out ↦ absurd (omega (arith, high, climbs s out.0 l out.2 out.3, rank-most out.0))
-    ]
+  ]
   covered (suc n) l high h = elim (told l h) [
-      inl k ↦ (l, k, covers_refl s l)
+    | inl k ↦ (l, k, covers_refl s l)
     | inr out ↦
-      let over = covered n out.0 (omega (arith, high, climbs s out.0 l out.2 out.3)) out.1 in
-      (over.0, over.1, covers_trans s over.0 out.0 l over.2 out.2)
-    ]
+        let over = covered n out.0 (omega (arith, high, climbs s out.0 l out.2 out.3)) out.1 in
+        (over.0, over.1, covers_trans s over.0 out.0 l over.2 out.2)
+  ]
 
 pub are_maximal : (s : SchemeOf) (given kept : List Lock) → ((x : Lock) → Has given x → Has kept x ⊎ IsOutdone s given x) → Makes (λ (x y : Lock). (y ≡ x) × (IsOutdone s given x → ⊥)) given kept → AreInOrder kept → AreMaximal s given kept
 are_maximal s given kept told made order = record {
-  kept_are = λ l.
-      ( λ h. (let m = (made l).0 h in (subst (Has given) (sym m.2.0) m.1, λ out. m.2.1 (subst (IsOutdone s given) m.2.0 out)))
-      , λ h. (made l).1 (l, h.0, (refl, h.1)) );
+  kept_are = λ l. (
+    λ h. (let m = (made l).0 h in (subst (Has given) (sym m.2.0) m.1, λ out. m.2.1 (subst (IsOutdone s given) m.2.0 out))),
+    λ h. (made l).1 (l, h.0, (refl, h.1)),
+  );
   covering = λ l h. covered s given kept told 3 l (omega arith) h;
   in_order = order;
 }

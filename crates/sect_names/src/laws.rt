@@ -1,6 +1,6 @@
 //! Laws of locks: what holds of every scheme. The functions have empty bodies; the clauses say the laws.
 
-ghost use Rattle.std.specs.Prelude.{ℕ, ◌<◌, List, length};
+ghost use Rattle.std.specs.Prelude.{◌≡◌, ◌<◌, ℕ, List, length};
 ghost use Rattle.sect_types.specs.Lists.{Has};
 ghost use Rattle.sect_types.specs.Sections.{SectionOf};
 ghost use Rattle.sect_types.specs.Sound.{AreSound};
@@ -10,6 +10,9 @@ ghost use Rattle.sect_names.specs.declared.lock.Lock.{Lock};
 ghost use Rattle.sect_names.specs.Schemes.{SchemeOf, IsScheme};
 ghost use Rattle.sect_names.specs.Locks.{IsLockOf};
 ghost use Rattle.sect_names.specs.Carrying.{Generated, CarriedBack};
+ghost use Rattle.sect_types.specs.Statements.{Statements};
+ghost use Rattle.sect_names.specs.Needed.{IsLeast};
+ghost use Rattle.sect_names.specs.Order.{AreInOrder};
 ghost use Rattle.sect_names.specs.Laws.{IsProgramStep, IsSoundStep, KeepsItsClass, RespectsCover, StandsIn};
 
 /// A path that may denote before a step of the program what another denotes after it has no class but that one's.
@@ -45,4 +48,10 @@ pub fn steps_of_sections()
     ensures sound { (s : SchemeOf) → IsScheme s → AreSound s.program.records s.program.globals s.program.locals s.program.texts
         → (section : SectionOf) (x : Node) → StandsIn s section x
         → IsSoundStep s.program section.thread x.label × (section.thread < length s.program.locals) }
+{}
+
+/// A section has one least lock set in canonical order.
+pub fn least_sets_are_one()
+    ensures { (s : SchemeOf) (t : ℕ) (body : Statements) (locks others : List Lock) → IsLeast s t body locks
+        → IsLeast s t body others → AreInOrder locks → AreInOrder others → locks ≡ others }
 {}

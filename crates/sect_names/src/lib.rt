@@ -13,6 +13,7 @@ pub mod scheme;
 pub mod text;
 mod variables;
 
+pub use covers::covering_is_an_order;
 pub use fault::SchemeFault;
 pub use lock::{Effect, Lock, Right};
 pub use path::Path;

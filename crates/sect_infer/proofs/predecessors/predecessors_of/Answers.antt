@@ -1,5 +1,4 @@
-use Rattle.std.proofs.Common.{◌≡◌, ◌≤◌, ◌↔◌, ◌⊎◌, ℕ, length, arith, sym, subst, ap, ◌∙◌}
-use Rattle.sect_graph.specs.Paths.{IsSuccessor}
+use Rattle.std.proofs.Common.{◌≡◌, ◌≤◌, length, arith, ◌∙◌}
 use Rattle.sect_graph.specs.declared.flow.Successors.TheVariants.{Next, Branch}
 use Rattle.sect_infer.proofs.Preceding.{before_none, before_next, before_done, added_one, added_two, next_at}
 use Rattle.sect_infer.proofs.predecessors.predecessors_of.Goals as goal
@@ -17,14 +16,14 @@ loop-node-preserved c =
     let y = node.0 in
     elim c.match-succ.branch [
       | in-Next+in_ok-add-in-Next w ↦
-        let is : y.next ≡ Next w.in-Next.next = node.2 ∙ w.in-Next.is in
-        let a = w.in_ok-add-in-Next.ensures in
-        rw w.lists-is (before_next g j y old w.add.new.self node.1 a.count (added_one y.next w.in-Next.next old w.add.new.self j (λ m. rw is (λ h. h, λ h. h)) a.added) c.loop-node.invariant)
+          let is : y.next ≡ Next w.in-Next.next = node.2 ∙ w.in-Next.is in
+          let a = w.in_ok-add-in-Next.ensures in
+          rw w.lists-is (before_next g j y old w.add.new.self node.1 a.count (added_one y.next w.in-Next.next old w.add.new.self j (λ m. rw is (λ h. h, λ h. h)) a.added) c.loop-node.invariant)
       | in-Branch+in_ok-add-in-Branch+in_ok-add-in-Branch-2 w ↦
-        let is : y.next ≡ Branch w.in-Branch.holds w.in-Branch.fails = node.2 ∙ w.in-Branch.is in
-        let a = w.in_ok-add-in-Branch.ensures in
-        let b = w.in_ok-add-in-Branch-2.ensures in
-        rw w.lists-is (before_next g j y old w.add-in-Branch-2.new.self node.1 (b.count ∙ a.count) (added_two y.next w.in-Branch.holds w.in-Branch.fails old w.add-in-Branch.new.self w.add-in-Branch-2.new.self j (λ m. rw is (λ h. h, λ h. h)) a.count a.added b.added) c.loop-node.invariant)
+          let is : y.next ≡ Branch w.in-Branch.holds w.in-Branch.fails = node.2 ∙ w.in-Branch.is in
+          let a = w.in_ok-add-in-Branch.ensures in
+          let b = w.in_ok-add-in-Branch-2.ensures in
+          rw w.lists-is (before_next g j y old w.add-in-Branch-2.new.self node.1 (b.count ∙ a.count) (added_two y.next w.in-Branch.holds w.in-Branch.fails old w.add-in-Branch.new.self w.add-in-Branch-2.new.self j (λ m. rw is (λ h. h, λ h. h)) a.count a.added b.added) c.loop-node.invariant)
     ]
 
 pub returns : goal.returns

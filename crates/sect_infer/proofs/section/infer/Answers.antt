@@ -1,9 +1,8 @@
-use Rattle.std.proofs.Common.{◌≡◌, sym, ap, ◌∙◌, subst, Some, arith, List, ℕ}
+use Rattle.std.proofs.Common.{◌≡◌, sym, subst, Some, arith}
 use Rattle.std.specs.Prelude.{slice_get}
 use Rattle.sect_types.specs.Programs.{Numbered}
 use Rattle.sect_types.specs.Sections.{SectionOf, sections_of}
 use Rattle.sect_types.specs.Sound.{AreSound}
-use Rattle.sect_graph.specs.declared.flow.Node.{Node}
 use Rattle.sect_graph.specs.Graphs.{Graphs}
 use Rattle.sect_infer.specs.Needs.{AreByNode}
 use Rattle.sect_infer.proofs.Working.{derived_lock}

@@ -1,4 +1,4 @@
-use Rattle.std.proofs.Common.{◌≡◌, ◌≤◌, sym, arith, length, subst, get_or}
+use Rattle.std.proofs.Common.{◌≤◌, sym, arith, length, subst}
 use Rattle.std.proofs.lemmas.Option.{slice_get_within, get_or_from_slice_get}
 use Rattle.std.proofs.lemmas.List.{take_all}
 use Rattle.sect_types.proofs.Membership.{Has-slice_get}

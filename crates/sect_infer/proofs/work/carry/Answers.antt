@@ -1,6 +1,6 @@
-use Rattle.std.proofs.Common.{◌≡◌, ◌↔◌, ◌<◌, ◌≤◌, arith, length, subst, Some, sym, get_or, refl}
+use Rattle.std.proofs.Common.{◌<◌, ◌≤◌, arith, length, get_or}
 use Rattle.std.proofs.lemmas.List.{get_or_default}
-use Rattle.sect_infer.proofs.Carrying.{node_at, node_within, carry_none, carry_next, carry_done}
+use Rattle.sect_infer.proofs.Carrying.{node_within, carry_none, carry_next, carry_done}
 use Rattle.sect_infer.proofs.work.carry.Goals as goal
 
 pub carry_to-requires : goal.carry_to-requires

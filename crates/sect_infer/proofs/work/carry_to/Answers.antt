@@ -16,6 +16,6 @@ returns c = λ y at.
     let label : c.action.result ≡ y.label = sym node.2 ∙ ap (λ z. z.label) (same_node c.args.flow.now j node.0 y node.1 at) in
     let locks = c.as_slice.result.now in
     grows_as c.args.kept.now.keys c.keep_all.new.kept.keys (λ (x : Need). (x.node ≡ j) × Has locks x.lock) (λ (x : Need). (x.node ≡ j) × CarriedBack s t y.label l x.lock)
-      (λ x h. (h.0, subst (λ ls. Has ls x.lock) (sym c.as_slice.ensures.value) ((c.in_ok-locks.ensures x.lock).1 (subst (λ a. CarriedBack s t a l x.lock) (sym label) h.1))))
-      (λ x h. (h.0, subst (λ a. CarriedBack s t a l x.lock) label ((c.in_ok-locks.ensures x.lock).0 (subst (λ ls. Has ls x.lock) c.as_slice.ensures.value h.1))))
-      c.in_ok-keep_all.ensures
+    (λ x h. (h.0, subst (λ ls. Has ls x.lock) (sym c.as_slice.ensures.value) ((c.in_ok-locks.ensures x.lock).1 (subst (λ a. CarriedBack s t a l x.lock) (sym label) h.1))))
+    (λ x h. (h.0, subst (λ a. CarriedBack s t a l x.lock) label ((c.in_ok-locks.ensures x.lock).0 (subst (λ ls. Has ls x.lock) c.as_slice.ensures.value h.1))))
+    c.in_ok-keep_all.ensures

@@ -1,4 +1,4 @@
-use Rattle.std.proofs.Common.{◌≡◌, ◌≤◌, ◌<◌, length, arith}
+use Rattle.std.proofs.Common.{◌≤◌, length, arith}
 use Rattle.sect_types.proofs.Membership.{Has-slice_get}
 use Rattle.sect_infer.proofs.Working.{work_begins, work_next, work_ends, derived_lock, few}
 use Rattle.sect_infer.proofs.work.needs.Goals as goal

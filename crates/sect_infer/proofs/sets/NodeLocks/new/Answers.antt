@@ -9,7 +9,7 @@ pub loop-preserved : goal.loop-preserved
 loop-preserved c =
     let lists : List (List Lock) = map (λ s. s.keys) c.loop.lists.items in
     let new : map (λ s. s.keys) c.push.new.self.items ≡ lists ++ [] ∷ [] =
-        ap (map (λ s. s.keys)) c.in_ok-push.ensures.items ∙ map-append (λ s. s.keys) c.loop.lists.items (c.new.result ∷ []) ∙ ap (λ l. lists ++ l ∷ []) c.new.ensures.empty in
+    ap (map (λ s. s.keys)) c.in_ok-push.ensures.items ∙ map-append (λ s. s.keys) c.loop.lists.items (c.new.result ∷ []) ∙ ap (λ l. lists ++ l ∷ []) c.new.ensures.empty in
     record {
       counted = ap length new ∙ length-append lists ([] ∷ []) ∙ ap (λ n. n + 1) c.loop.invariant.counted;
       empty = λ j. ap (λ l. slice_index_or l j []) new ∙ empty_more lists j c.loop.invariant.empty;

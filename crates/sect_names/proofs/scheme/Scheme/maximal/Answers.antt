@@ -27,21 +27,22 @@ loop-i-preserved c =
     let told = c.loop-i.invariant.told in
     elim c.if-not-branch.branch [
       | then-not-branch+in_ok-try_clone+in_ok-insert w ↦
-        let new : w.in_ok-try_clone.field-0 ≡ x = w.in_ok-try_clone.ensures in
-        let put : (y : Lock) → Has w.insert.new.self.keys y ↔ (Has old y ⊎ (y ≡ x)) = λ y. rw (w.in_ok-insert.ensures.keys, new) (put_has old x y) in
-        rw w.kept-is (record {
-          made = makes_put P xs i x old w.insert.new.self.keys within is made (λ y.
-            ( λ h. elim ((put y).0 h) [ inl a ↦ inl a | inr e ↦ inr (e, λ out. true≢false (sym (tells.1 out) ∙ w.if-not-branch.true)) ]
-            , λ h. (put y).1 (elim h [ inl a ↦ inl a | inr b ↦ inr b.0 ]) ));
-          told = λ y h. elim (last_of xs i x y within is h) [
-              inl a ↦ elim (told y a) [ inl k ↦ inl ((put y).1 (inl k)) | inr out ↦ inr out ]
-            | inr e ↦ inl ((put y).1 (inr e))
+          let new : w.in_ok-try_clone.field-0 ≡ x = w.in_ok-try_clone.ensures in
+          let put : (y : Lock) → Has w.insert.new.self.keys y ↔ (Has old y ⊎ (y ≡ x)) = λ y. rw (w.in_ok-insert.ensures.keys, new) (put_has old x y) in
+          rw w.kept-is (record {
+            made = makes_put P xs i x old w.insert.new.self.keys within is made (λ y. (
+              λ h. elim ((put y).0 h) [ inl a ↦ inl a | inr e ↦ inr (e, λ out. true≢false (sym (tells.1 out) ∙ w.if-not-branch.true)) ],
+              λ h. (put y).1 (elim h [ inl a ↦ inl a | inr b ↦ inr b.0 ]),
+            ));
+            told = λ y h. elim (last_of xs i x y within is h) [
+              | inl a ↦ elim (told y a) [ inl k ↦ inl ((put y).1 (inl k)) | inr out ↦ inr out ]
+              | inr e ↦ inl ((put y).1 (inr e))
             ];
-        })
+          })
       | else-not-branch w ↦ rw w.kept-is (record {
-          made = makes_skip P xs i x old within is made (λ y h. h.1 (tells.0 w.if-not-branch.false));
-          told = λ y h. elim (last_of xs i x y within is h) [ inl a ↦ told y a | inr e ↦ inr (subst (IsOutdone s xs) (sym e) (tells.0 w.if-not-branch.false)) ];
-        })
+        made = makes_skip P xs i x old within is made (λ y h. h.1 (tells.0 w.if-not-branch.false));
+        told = λ y h. elim (last_of xs i x y within is h) [ inl a ↦ told y a | inr e ↦ inr (subst (IsOutdone s xs) (sym e) (tells.0 w.if-not-branch.false)) ];
+      })
     ]
 
 pub returns : goal.returns

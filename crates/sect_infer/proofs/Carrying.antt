@@ -1,11 +1,10 @@
 -- Needs that the nodes generate, and that are carried back to them.
-use Rattle.std.proofs.Common.{◌≡◌, ◌↔◌, ◌⊎◌, ℕ, ◌+◌, ◌<◌, ◌≤◌, List, [], Option, Some, None, inl, inr, refl, sym, ap, ◌∙◌, subst, take, length, get_or, arith}
+use Rattle.std.proofs.Common.{◌≡◌, ◌↔◌, ◌⊎◌, ℕ, ◌+◌, ◌<◌, ◌≤◌, List, [], Option, Some, None, inl, inr, refl, sym, ap, subst, take, length, get_or, arith}
 use Rattle.std.specs.Prelude.{slice_get, option_map}
 use Rattle.std.proofs.lemmas.Bool.{cases_lt}
 use Rattle.std.proofs.lemmas.List.{take_all}
 use Rattle.std.proofs.lemmas.Option.{slice_get_within}
 use Rattle.sect_types.specs.Lists.{Has}
-use Rattle.sect_types.specs.declared.action.Label.{Label}
 use Rattle.sect_types.proofs.Membership.{Has-get_or}
 use Rattle.sect_graph.specs.declared.flow.Node.{Node}
 use Rattle.sect_names.specs.declared.lock.Lock.{Lock}
@@ -14,21 +13,18 @@ use Rattle.sect_names.specs.Carrying.{Generated, CarriedBack}
 use Rattle.sect_infer.specs.declared.need.Need.{Need}
 use Rattle.sect_infer.specs.Needs.{need, IsSeed, CarriesTo, Grows, AreBefore}
 use Rattle.sect_names.proofs.Making.{last_of, so_far}
-use Rattle.sect_infer.proofs.Growing.{grows_none, grows_as, grows_then}
+use Rattle.sect_infer.proofs.Growing.{grows_none, grows_as, grows_then, same_need}
 
--- the node of which the graph tells what it does
-pub node_at : (g : List Node) (j : ℕ) (l : Label) → option_map (λ (x : Node). x.label) (slice_get g j) ≡ Some l → (y : Node) × (slice_get g j ≡ Some y) × (y.label ≡ l)
-node_at g j l e = go (slice_get g j) refl e
+-- the node of which the graph tells something
+pub node_at : {X : Type 0} (f : Node → X) (g : List Node) (j : ℕ) (x : X) → option_map f (slice_get g j) ≡ Some x → (y : Node) × (slice_get g j ≡ Some y) × (f y ≡ x)
+node_at {X} f g j x e = go (slice_get g j) refl e
   where
-    go : (o : Option Node) → slice_get g j ≡ o → option_map (λ (x : Node). x.label) o ≡ Some l → (y : Node) × (slice_get g j ≡ Some y) × (y.label ≡ l)
+    go : (o : Option Node) → slice_get g j ≡ o → option_map f o ≡ Some x → (y : Node) × (slice_get g j ≡ Some y) × (f y ≡ x)
     go None at e = absurd cc
-    go (Some y) at e = (y, at, let q : y.label ≡ l = cc in q)
+    go (Some y) at e = (y, at, let q : f y ≡ x = cc in q)
 
 pub same_node : (g : List Node) (j : ℕ) (y z : Node) → slice_get g j ≡ Some y → slice_get g j ≡ Some z → y ≡ z
 same_node g j y z e f = cc
-
-pub same_place : (x : Need) (j : ℕ) (l : Lock) → x.node ≡ j → x.lock ≡ l → x ≡ need j l
-same_place x j l e f = ap (λ n. need n x.lock) e ∙ ap (need j) f
 
 module _ (s : SchemeOf) (t : ℕ) (g : List Node) where
   -- the seeds at the nodes below j
@@ -52,7 +48,7 @@ module _ (s : SchemeOf) (t : ℕ) (g : List Node) where
 
     pub seeds_next : (mid new : List Need) (l : Lock) → o ≡ Some l → Grows [] mid (SeedsBelow j) → Grows mid new (λ x. x ≡ need j l) → Grows [] new (SeedsBelow (j + 1))
     seeds_next mid new l is f n = grows_as [] new (λ x. SeedsBelow j x ⊎ (x ≡ need j l)) (SeedsBelow (j + 1))
-        (λ x h. elim (below x h.0) [ inl a ↦ inl (a, h.1) | inr e ↦ (let same : x.lock ≡ l = (let q = at_node x e h.1 in cc) in inr (same_place x j l e same)) ])
+        (λ x h. elim (below x h.0) [ inl a ↦ inl (a, h.1) | inr e ↦ (let same : x.lock ≡ l = (let q = at_node x e h.1 in cc) in inr (same_need x j l e same)) ])
         (λ x h. elim h [
           | inl a ↦ (omega (arith, a.0), a.1)
           | inr e ↦ (let node : x.node ≡ j = ap (λ n. n.node) e in

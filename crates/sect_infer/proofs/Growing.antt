@@ -65,7 +65,8 @@ grows_put old y = go (list_any (the_need_eq.eq y) old) refl
       only = λ x h. elim (Has-cases old (y ∷ []) x h) [ inl a ↦ inl a | inr b ↦ elim b [ inl is ↦ inr (sym is) | inr k ↦ absurd k ] ];
     }
 
-same_need : (x : Need) (j : ℕ) (l : Lock) → x.node ≡ j → x.lock ≡ l → x ≡ need j l
+-- a need is its node and its lock
+pub same_need : (x : Need) (j : ℕ) (l : Lock) → x.node ≡ j → x.lock ≡ l → x ≡ need j l
 same_need x j l e f = ap (λ n. need n x.lock) e ∙ ap (need j) f
 
 -- one lock more of a list is kept at a node

@@ -1,6 +1,6 @@
 -- Lists of predecessors.
-use Rattle.std.proofs.Common.{◌≡◌, ◌↔◌, ◌⊎◌, ℕ, ◌+◌, ◌<◌, ◌≤◌, List, [], length, inl, inr, refl, sym, ◌∙◌, subst, arith, Option, Some, None}
-use Rattle.std.specs.Prelude.{slice_index_or, slice_get, option_map}
+use Rattle.std.proofs.Common.{◌≡◌, ◌↔◌, ◌⊎◌, ℕ, ◌+◌, ◌<◌, ◌≤◌, List, [], length, inl, inr, sym, ◌∙◌, subst, arith, Some}
+use Rattle.std.specs.Prelude.{slice_index_or, slice_get}
 use Rattle.std.proofs.lemmas.Bool.{cases_lt}
 use Rattle.std.proofs.lemmas.Option.{slice_get_within}
 use Rattle.sect_types.specs.Lists.{Has}
@@ -75,11 +75,3 @@ added_two next k l old mid new j is long a b m within x =
         | inr q ↦ elim ((is m).0 q.0) [ inl e ↦ inl (first.1 (inr (e, q.1))) | inr e ↦ inr (e, q.1) ]
       ]),
     )
-
--- the node of which the graph tells where control goes on
-pub next_at : (g : List Node) (j : ℕ) (s : Successors) → option_map (λ (x : Node). x.next) (slice_get g j) ≡ Some s → (y : Node) × (slice_get g j ≡ Some y) × (y.next ≡ s)
-next_at g j s e = go (slice_get g j) refl e
-  where
-    go : (o : Option Node) → slice_get g j ≡ o → option_map (λ (x : Node). x.next) o ≡ Some s → (y : Node) × (slice_get g j ≡ Some y) × (y.next ≡ s)
-    go None at e = absurd cc
-    go (Some y) at e = (y, at, let q : y.next ≡ s = cc in q)

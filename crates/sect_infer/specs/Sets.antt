@@ -1,5 +1,5 @@
 -- The locks of a section.
-use Rattle.std.specs.Prelude.{◌≡◌, ◌↔◌, ℕ, List, Some, slice_get, length}
+use Rattle.std.specs.Prelude.{◌≡◌, ◌↔◌, ℕ, List, [], Some, slice_get, slice_index_or, length}
 use Rattle.sect_types.specs.Lists.{Has}
 use Rattle.sect_types.specs.Statements.{Statements}
 use Rattle.sect_types.specs.Sections.{SectionOf}
@@ -7,12 +7,19 @@ use Rattle.sect_graph.specs.declared.flow.Node.{Node}
 use Rattle.sect_names.specs.declared.lock.Lock.{Lock}
 use Rattle.sect_names.specs.Schemes.{SchemeOf}
 use Rattle.sect_names.specs.Needed.{IsNeededFrom, IsLeast}
-use Rattle.sect_names.specs.Order.{AreInOrder}
+use Rattle.sect_names.specs.Order.{AreInOrder, AreMaximal}
+use Rattle.sect_infer.specs.Needs.{need, IsDerived}
 
 -- the locks at each node of a section's graph, and those that are taken at its entry
 pub record LocksOf : Type 0 where
   pub at : List (List Lock)
   pub entry : List Lock
+
+-- at each node the locks that are derived there, and at the entry the maximal ones of the first node
+pub record AreFound (s : SchemeOf) (t : ℕ) (g : List Node) (locks : LocksOf) : Type 0 where
+  pub count : length locks.at ≡ length g
+  pub each : (j : ℕ) (l : Lock) → Has (slice_index_or locks.at j []) l ↔ IsDerived s t g (need j l)
+  pub entry : AreMaximal s (slice_index_or locks.at 0 []) locks.entry
 
 -- these are the locks that are needed from each node on
 pub record AreNeeded (s : SchemeOf) (t : ℕ) (body : Statements) (g : List Node) (at : List (List Lock)) : Type 0 where

@@ -7,10 +7,12 @@ ghost use Rattle.sect_graph.specs.declared.flow.Node.{Node};
 ghost use Rattle.sect_names.specs.declared.lock.Lock.{Lock};
 ghost use Rattle.sect_names.specs.Locks.{IsLockOf};
 ghost use Rattle.sect_names.specs.Order.{AreMaximal};
-ghost use Rattle.sect_infer.specs.Sets.{AreLocksOf};
+ghost use Rattle.sect_infer.specs.Needs.{AreLawful};
+ghost use Rattle.sect_infer.specs.Sets.{AreFound, AreLocksOf};
 
 use crate::sets::{NodeLocks, Sets, by_node};
 use crate::work::needs;
+use sect_graph::flow::Flow;
 use sect_names::laws::{locks_stay_the_programs, steps_of_sections};
 use sect_names::{Lock, Scheme};
 use std::alloc::{AllocError, Global};
@@ -25,11 +27,30 @@ pub fn infer(alloc: Global, scheme: &Scheme, section: u16) -> Result<Sets, Alloc
     ensures lawful { IfOk result (λ sets. (lock : Lock) → Has sets.entry lock → IsLockOf scheme.now lock) }
 {
     scheme.rules();
+    only_the_programs(scheme, section);
+    let thread = scheme.program().section(section).thread;
+    let flow = scheme.graph().section(section);
+    found(alloc, scheme, thread, flow)
+}
+
+// What the nodes of a section's graph generate and carry back are locks of the program, which the clause says.
+fn only_the_programs(scheme: &Scheme, section: u16)
+    ensures { (of : SectionOf) (g : List Node) → slice_get (sections_of scheme.now.program.texts) section ≡ Some of
+        → slice_get scheme.now.graphs.sections section ≡ Some g → AreLawful scheme.now of.thread g }
+{
+    scheme.rules();
     scheme.program().typing();
     locks_stay_the_programs();
     steps_of_sections();
-    let thread = scheme.program().section(section).thread;
-    let flow = scheme.graph().section(section);
+}
+
+// The locks of a graph whose nodes need locks of the program alone: at each node those that are derived there, at the
+// entry the maximal ones of the first node.
+fn found(alloc: Global, scheme: &Scheme, thread: u16, flow: &Flow) -> Result<Sets, AllocError>
+    requires { AreLawful scheme.now thread flow.now }
+    ensures found { IfOk result (AreFound scheme.now thread flow.now) }
+    ensures lawful { IfOk result (λ sets. (lock : Lock) → Has sets.entry lock → IsLockOf scheme.now lock) }
+{
     let kept = needs(alloc, scheme, thread, flow)?;
     let nodes = by_node(alloc, flow.exit(), &kept)?;
     let entry = entry_of(alloc, scheme, &nodes)?;

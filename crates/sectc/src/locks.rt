@@ -1,27 +1,54 @@
 //! The command `locks`.
 
-ghost use Rattle.std.specs.Prelude.{◌<◌, length};
-ghost use Rattle.sect_types.specs.Sections.{sections_of};
+ghost use Rattle.std.specs.Prelude.{◌≡◌, ◌<◌, ◌++◌, List, Some, length, slice_get, IfOk, IfErr, OnOk};
+ghost use Rattle.std.specs.String.{string_bytes};
+ghost use Rattle.sect_types.specs.Sections.{SectionOf, sections_of};
+ghost use Rattle.sect_names.specs.declared.lock.Lock.{Lock};
+ghost use Rattle.sectc.specs.Listing.{IsLeastInOrder, IsListing, section_line};
+ghost use Rattle.sectc.specs.Answers.{IsTypedText, IsAnswer, IsRefused, IsDue};
 
 use crate::refusal::Refusal;
 use sect_front::parse;
 use sect_infer::infer;
 use sect_names::text::put_locks;
 use sect_names::{Scheme, check_k, scheme_of};
-use sect_types::check_types;
+use sect_types::{Program, check_types};
 use std::alloc::{AllocError, Global};
 use std::fmt::Write;
 
 /// The lock set of each section of a source text, a line a section. How many fields a path may have is judged before
 /// the source.
-pub fn locks(alloc: Global, source: &[u8], k: u16) -> Result<String, Refusal> {
+pub fn locks(alloc: Global, source: &[u8], k: u16) -> Result<String, Refusal>
+    // The text is accepted, and each section has a line with the least set of locks that protects it.
+    ensures answers { IfOk result (λ text. IsAnswer source.now k (string_bytes text)) }
+    // A refusal is due, and it is the first that is.
+    ensures refuses { IfErr result (IsDue source.now k) }
+{
     check_k(k)?;
+    let program = program_of(alloc, source)?;
+    let scheme = scheme_of(alloc, program, k)?;
+    scheme.rules();
+    Ok(lines(alloc, &scheme)?)
+}
+
+/// The program of a source text.
+fn program_of(alloc: Global, source: &[u8]) -> Result<Program, Refusal>
+    ensures answers { IfOk result (IsTypedText source.now) }
+    ensures refuses { IfErr result (IsRefused source.now) }
+{
     let tree = parse(alloc, source)?;
     let program = check_types(alloc, tree)?;
-    let scheme = scheme_of(alloc, program, k)?;
+    let _typed = program.tree();
+    Ok(program)
+}
+
+/// A line for each section of the program.
+fn lines(alloc: Global, scheme: &Scheme) -> Result<String, AllocError>
+    ensures { IfOk result (λ text. IsListing scheme.now (length (sections_of scheme.now.program.texts)) (string_bytes text)) }
+{
     let mut text = String::new(alloc);
     for section in 0..scheme.program().section_count() {
-        put_section(alloc, &mut text, &scheme, section)?;
+        put_section(alloc, &mut text, scheme, section)?;
     }
     Ok(text)
 }
@@ -34,9 +61,14 @@ fn put_section(
     section: u16,
 ) -> Result<(), AllocError>
     requires { section < length (sections_of scheme.now.program.texts) }
+    ensures { OnOk result ((of : SectionOf) → slice_get (sections_of scheme.now.program.texts) section ≡ Some of
+        → (locks : List Lock) × IsLeastInOrder scheme.now of locks
+        × (string_bytes text.new ≡ string_bytes text.old ++ section_line scheme.now.program.source section locks)) }
 {
+    scheme.rules();
     let sets = infer(alloc, scheme, section)?;
     write!(text, "section {section}: ")?;
     put_locks(text, scheme.program(), sets.entry())?;
-    text.push('\n')
+    text.push_str("\n")?;
+    Ok(())
 }

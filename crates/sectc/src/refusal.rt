@@ -1,5 +1,9 @@
 //! The refusals of all layers.
 
+ghost use Rattle.std.specs.Prelude.{◌≡◌};
+ghost use Rattle.sectc.specs.declared.refusal.Refusal.TheVariants.{Memory};
+ghost use Rattle.sectc.specs.Answers.{of_front, of_types, of_scheme};
+
 use sect_front::FrontFault;
 use sect_names::SchemeFault;
 use sect_types::TypeFault;
@@ -20,12 +24,16 @@ pub enum Refusal {
 }
 
 impl From<AllocError> for Refusal {
+    ghost from_gives = { λ _ r. r ≡ Memory };
+
     fn from(_refused: AllocError) -> Refusal {
         Refusal::Memory
     }
 }
 
 impl From<FrontFault> for Refusal {
+    ghost from_gives = { λ fault r. r ≡ of_front fault };
+
     fn from(fault: FrontFault) -> Refusal {
         match fault {
             FrontFault::Memory => Refusal::Memory,
@@ -35,6 +43,8 @@ impl From<FrontFault> for Refusal {
 }
 
 impl From<TypeFault> for Refusal {
+    ghost from_gives = { λ fault r. r ≡ of_types fault };
+
     fn from(fault: TypeFault) -> Refusal {
         match fault {
             TypeFault::Memory => Refusal::Memory,
@@ -44,6 +54,8 @@ impl From<TypeFault> for Refusal {
 }
 
 impl From<SchemeFault> for Refusal {
+    ghost from_gives = { λ fault r. r ≡ of_scheme fault };
+
     fn from(fault: SchemeFault) -> Refusal {
         match fault {
             SchemeFault::Memory => Refusal::Memory,

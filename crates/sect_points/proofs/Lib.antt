@@ -7,3 +7,4 @@ pub mod LabelLaws
 pub mod PartitionLaws
 pub mod UnionLaws
 pub mod ClashLaws
+pub mod FilledLaws

@@ -2,6 +2,7 @@ pub mod Sites
 pub mod Rows
 pub mod Flow
 pub mod Sets
+pub mod Filled
 pub mod Solving
 pub mod Statements
 pub mod Places

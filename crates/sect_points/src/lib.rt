@@ -4,6 +4,7 @@
 
 mod clashes;
 pub mod classes;
+mod filled;
 pub mod flow;
 mod labels;
 pub mod partition;

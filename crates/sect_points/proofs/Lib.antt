@@ -8,3 +8,4 @@ pub mod PartitionLaws
 pub mod UnionLaws
 pub mod ClashLaws
 pub mod FilledLaws
+pub mod WaitingLaws

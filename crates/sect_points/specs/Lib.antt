@@ -9,3 +9,4 @@ pub mod Places
 pub mod Partitions
 pub mod Labels
 pub mod PathClasses
+pub mod Waiting

@@ -14,6 +14,7 @@ pub mod sets;
 pub mod sites;
 mod solving;
 mod statements;
+mod waiting;
 
 pub use points::points_to;
 

@@ -7,3 +7,5 @@ pub mod LabelLaws
 pub mod PartitionLaws
 pub mod UnionLaws
 pub mod ClashLaws
+pub mod FilledLaws
+pub mod WaitingLaws

@@ -1,13 +1,13 @@
 -- Laws of sets of sites.
 use Rattle.std.proofs.Common.{◌≡◌, ℕ, ◌+◌, ◌-◌, ◌*◌, ◌/◌, ◌%◌, ◌^◌, ◌<◌, ◌≤◌, ◌⊎◌, ◌↔◌, Bool, true, false, true≢false, List, length, max, min, get_or, refl, sym, ap, ◌∙◌, inl, inr, arith, slice_set, w64}
 use Rattle.std.specs.Prelude.{bit_or, bit_and}
-use Rattle.std.specs.Int.{bit_at, bit_not, trailing_zeros}
+use Rattle.std.specs.Int.{bit_at, trailing_zeros}
 use Rattle.std.proofs.lemmas.List.{get_or-set_same, get_or-set_other, length-set, get_or_past}
 use Rattle.std.proofs.lemmas.Bool.{cases_eq, cases_lt}
-use Rattle.std.proofs.lemmas.Nat.Bits.{bit_at_set_same, bit_at_set_other, bit_at_or, bit_at_and, bit_at_not, bit_at-lt, bit_at-zero, bit_at-trailing_zeros}
-use Rattle.std.proofs.lemmas.Nat.{le_or_l}
+use Rattle.std.proofs.lemmas.Nat.Bits.{bit_at_set_same, bit_at_set_other, bit_at_or, bit_at_and, bit_at_above, bit_at-lt, bit_at-zero, bit_at-trailing_zeros}
+use Rattle.std.proofs.lemmas.Nat.{le_or_l, shr-shr}
 use Rattle.std.proofs.lemmas.List.Sums.{sum_by-set}
-use Rattle.sect_points.specs.Sites.{HasSite, room}
+use Rattle.sect_points.specs.Sites.{HasSite, InBoth, IsNext, room}
 
 -- one more bit
 pub insert_site : (words : List ℕ) (site : ℕ) → site / 64 < length words → (other : ℕ)
@@ -105,38 +105,56 @@ all_joined n old other new grew h lo lt site =
       ],
     )
 
--- a word that the other lacks nothing of
-pub lacks_none : (w o b : ℕ) → o < 2 ^ 64 → bit_and w (bit_not w64 o) ≡ 0 → b < 64 → bit_at w b ≡ 1 → bit_at o b ≡ 1
-lacks_none w o b fits e lt one =
-    let none : min (bit_at w b) (1 - bit_at o b) ≡ 0 =
-    ap (min (bit_at w b)) (sym (bit_at_not w64 o b fits lt)) ∙ sym (bit_at_and w (bit_not w64 o) b) ∙ ap (λ x. bit_at x b) e ∙ bit_at-zero b in
-    omega (arith, none, one, bit_at-lt o b)
+-- a bit of both words, of which the lowest are skipped
+both_bit : (w o x skipped t : ℕ) → x ≡ bit_and w o / 2 ^ skipped → bit_at x t ≡ min (bit_at w (skipped + t)) (bit_at o (skipped + t))
+both_bit w o x skipped t is = ap (λ y. bit_at y t) is ∙ ap (λ y. y % 2) (shr-shr (bit_and w o) skipped t) ∙ bit_at_and w o (skipped + t)
 
--- a site that the other lacks
-pub lacks_some : (words others : List ℕ) (i x t : ℕ) → x ≡ bit_and (get_or words i 0) (bit_not w64 (get_or others i 0)) → t ≡ trailing_zeros w64 x → get_or others i 0 < 2 ^ 64 → x < 2 ^ 64 → (x ≡ 0 → ⊥)
-    → i < 16 → (i * 64 + t < 1024) × HasSite words (i * 64 + t) × (HasSite others (i * 64 + t) → ⊥)
-lacks_some words others i x t is at fits small some lt =
+-- no site of both up to the next word
+pub none_here : (words others : List ℕ) (from i skipped x : ℕ) → x ≡ bit_and (get_or words i 0) (get_or others i 0) / 2 ^ skipped → x ≡ 0
+    → ((site : ℕ) → from ≤ site → site < i * 64 + skipped → InBoth words others site → ⊥)
+    → (site : ℕ) → from ≤ site → site < (i + 1) * 64 → InBoth words others site → ⊥
+none_here words others from i skipped x is zero before site le lt both = elim (cases_lt site (i * 64 + skipped)) [
+  | inl lt ↦ before site le lt both
+  | inr ge ↦
+      let t = site % 64 - skipped in
+      let at : site / 64 ≡ i = omega (arith, lt, ge) in
+      let rem : skipped + t ≡ site % 64 = omega (arith, lt, ge) in
+      let none : min (bit_at (get_or words i 0) (site % 64)) (bit_at (get_or others i 0) (site % 64)) ≡ 0 =
+      rw rem at (sym (both_bit (get_or words i 0) (get_or others i 0) x skipped t is) ∙ ap (λ y. bit_at y t) zero ∙ bit_at-zero t) in
+      let one : bit_at (get_or words i 0) (site % 64) ≡ 1 = ap (λ k. bit_at (get_or words k 0) (site % 64)) (sym at) ∙ both.0 in
+      let other : bit_at (get_or others i 0) (site % 64) ≡ 1 = ap (λ k. bit_at (get_or others k 0) (site % 64)) (sym at) ∙ both.1 in
+      omega (arith, none, one, other)
+]
+
+-- the least site of both from there on
+pub next_found : (words others : List ℕ) (from i skipped x t : ℕ) → x ≡ bit_and (get_or words i 0) (get_or others i 0) / 2 ^ skipped → t ≡ trailing_zeros w64 x → get_or words i 0 < 2 ^ 64 → x < 2 ^ 64
+    → (x ≡ 0 → ⊥) → i < 16 → skipped < 64 → from ≤ i * 64 + skipped
+    → ((site : ℕ) → from ≤ site → site < i * 64 + skipped → InBoth words others site → ⊥)
+    → IsNext (InBoth words others) from (i * 64 + skipped + t)
+next_found words others from i skipped x t is at fits small some lt few le before =
     let w = get_or words i 0 in
     let o = get_or others i 0 in
     let more : 0 < x = elim (cases_eq x 0) [ inl e ↦ absurd (some e) | inr n ↦ omega arith ] in
     let facts = bit_at-trailing_zeros w64 x more small in
-    let below : t < 64 = omega (arith, at, facts.0) in
-    let bit : min (bit_at w t) (1 - bit_at o t) ≡ 1 =
-    ap (min (bit_at w t)) (sym (bit_at_not w64 o t fits below)) ∙ sym (bit_at_and w (bit_not w64 o) t) ∙ ap (λ y. bit_at y t) (sym is) ∙ ap (bit_at x) at ∙ facts.1 in
-    let div : (i * 64 + t) / 64 ≡ i = omega arith in
-    let rem : (i * 64 + t) % 64 ≡ t = omega arith in (
-      omega arith,
-      rw (div, rem) (omega (arith, bit, bit_at-lt w t)),
-      λ h. let one : bit_at o t ≡ 1 = ap (bit_at o) (sym rem) ∙ ap (λ k. bit_at (get_or others k 0) ((i * 64 + t) % 64)) (sym div) ∙ h in omega (arith, bit, one),
+    let bit : min (bit_at w (skipped + t)) (bit_at o (skipped + t)) ≡ 1 = sym (both_bit w o x skipped t is) ∙ ap (bit_at x) at ∙ facts.1 in
+    let one : bit_at w (skipped + t) ≡ 1 = omega (arith, bit, bit_at-lt w (skipped + t), bit_at-lt o (skipped + t)) in
+    let other : bit_at o (skipped + t) ≡ 1 = omega (arith, bit, bit_at-lt w (skipped + t), bit_at-lt o (skipped + t)) in
+    let below : skipped + t < 64 = elim (cases_lt (skipped + t) 64) [ inl lt ↦ lt | inr ge ↦ absurd (omega (arith, one, bit_at_above w 64 (skipped + t) fits ge)) ] in
+    let div : (i * 64 + skipped + t) / 64 ≡ i = omega (arith, below) in
+    let rem : (i * 64 + skipped + t) % 64 ≡ skipped + t = omega (arith, below) in (
+      omega (arith, le),
+      omega (arith, below, lt),
+      (rw (div, rem) one, rw (div, rem) other),
+      λ site from lt both. elim (cases_lt site (i * 64 + skipped)) [
+        | inl lt ↦ before site from lt both
+        | inr ge ↦
+            let b = site % 64 - skipped in
+            let here : site / 64 ≡ i = omega (arith, lt, ge, below) in
+            let left : skipped + b ≡ site % 64 = omega (arith, lt, ge, below) in
+            let less : b < trailing_zeros w64 x = omega (arith, lt, ge, below, at) in
+            let none : min (bit_at w (site % 64)) (bit_at o (site % 64)) ≡ 0 = rw left at (sym (both_bit w o x skipped b is) ∙ facts.2 b less) in
+            let first : bit_at w (site % 64) ≡ 1 = ap (λ k. bit_at (get_or words k 0) (site % 64)) (sym here) ∙ both.0 in
+            let second : bit_at o (site % 64) ≡ 1 = ap (λ k. bit_at (get_or others k 0) (site % 64)) (sym here) ∙ both.1 in
+            omega (arith, none, first, second)
+      ],
     )
-
--- one word more of which nothing is lacking
-pub none_more : (words others : List ℕ) (i : ℕ) → get_or others i 0 < 2 ^ 64 → bit_and (get_or words i 0) (bit_not w64 (get_or others i 0)) ≡ 0
-    → ((site : ℕ) → site / 64 < i → HasSite words site → HasSite others site)
-    → (site : ℕ) → site / 64 < i + 1 → HasSite words site → HasSite others site
-none_more words others i fits e before site lt h = elim (cases_eq (site / 64) i) [
-  | inl is ↦ (let w = get_or words i 0 in
-      let one : bit_at (get_or words i 0) (site % 64) ≡ 1 = ap (λ k. bit_at (get_or words k 0) (site % 64)) (sym is) ∙ h in
-      ap (λ k. bit_at (get_or others k 0) (site % 64)) is ∙ lacks_none (get_or words i 0) (get_or others i 0) (site % 64) fits e (omega arith) one)
-  | inr apart ↦ before site (omega arith) h
-]

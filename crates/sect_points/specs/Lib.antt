@@ -2,9 +2,11 @@ pub mod Sites
 pub mod Rows
 pub mod Flow
 pub mod Sets
+pub mod Filled
 pub mod Solving
 pub mod Statements
 pub mod Places
 pub mod Partitions
 pub mod Labels
 pub mod PathClasses
+pub mod Waiting

@@ -4,6 +4,7 @@
 
 mod clashes;
 pub mod classes;
+mod filled;
 pub mod flow;
 mod labels;
 pub mod partition;
@@ -13,6 +14,7 @@ pub mod sets;
 pub mod sites;
 mod solving;
 mod statements;
+mod waiting;
 
 pub use points::points_to;
 

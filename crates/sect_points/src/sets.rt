@@ -158,10 +158,10 @@ impl PointsTo {
         ensures { (site : ℕ) → HasSite result.words site ↔ ((base : ℕ) × HasSite bases.now.words base × InSets self.now (Slot base field) site) }
     {
         let mut all = SiteSet::new();
-        for base in 0..self.sites {
-            if bases.contains(base) {
-                all.join(&self.slot(base, field));
-            }
+        let mut from = 0;
+        while let Some(base) = bases.next(from) {
+            all.join(&self.slots.get_or_none(base as usize * 16 + field as usize));
+            from = base + 1;
         }
         all
     }
@@ -172,11 +172,12 @@ impl PointsTo {
         requires bases { (base : ℕ) → HasSite bases.now.words base → base < self.old.sites }
         ensures { Adds self.old self.new (spread_to bases.now.words field sites.now.words) result }
     {
+        self.bounds();
         let mut grew = false;
-        for base in 0..self.sites {
-            if bases.contains(base) {
-                grew = self.join_slot(base, field, sites) || grew;
-            }
+        let mut from = 0;
+        while let Some(base) = bases.next(from) {
+            grew = self.join_slot(base, field, sites) || grew;
+            from = base + 1;
         }
         grew
     }

@@ -1,7 +1,7 @@
 //! Sets of sites.
 
-ghost use Rattle.std.specs.Prelude.{◌≡◌, ◌↔◌, ◌⊎◌, ◌<◌, ℕ, IsTrue, IfSome, IfNone, true, false};
-ghost use Rattle.sect_points.specs.Sites.{HasSite, room};
+ghost use Rattle.std.specs.Prelude.{◌≡◌, ◌↔◌, ◌⊎◌, ◌<◌, ◌≤◌, ℕ, IsTrue, IfSome, IfNone, true, false};
+ghost use Rattle.sect_points.specs.Sites.{HasSite, InBoth, IsNext, room};
 
 /// How many sites a set has room for.
 pub const MOST_SITES: u16 = 1024;
@@ -65,18 +65,36 @@ impl SiteSet {
         grew
     }
 
-    /// A site of this set that the other lacks: the least.
-    pub fn outside(&self, other: &SiteSet) -> Option<u16>
-        ensures some { IfSome result (λ site. (site < MOST_SITES) × HasSite self.now.words site × (HasSite other.now.words site → ⊥)) }
-        ensures none { IfNone result ((site : ℕ) → HasSite self.now.words site → HasSite other.now.words site) }
+    /// The least site that both sets have, from one on.
+    pub fn next_common(&self, other: &SiteSet, from: u16) -> Option<u16>
+        ensures some { IfSome result (IsNext (InBoth self.now.words other.now.words) from) }
+        ensures none { IfNone result ((site : ℕ) → from ≤ site → InBoth self.now.words other.now.words site → ⊥) }
     {
-        for i in 0..WORDS {
-            let lacking = self.words[i] & !other.words[i];
-            if lacking != 0 {
-                return Some(i as u16 * 64 + lacking.trailing_zeros() as u16);
+        let mut skipped = from % 64;
+        for i in from as usize / 64..WORDS {
+            let word = (self.words[i] & other.words[i]) >> skipped;
+            if word != 0 {
+                return Some(i as u16 * 64 + skipped + word.trailing_zeros() as u16);
             }
+            skipped = 0;
         }
         None
+    }
+
+    /// The least site from one on.
+    pub fn next(&self, from: u16) -> Option<u16>
+        ensures some { IfSome result (IsNext (HasSite self.now.words) from) }
+        ensures none { IfNone result ((site : ℕ) → from ≤ site → HasSite self.now.words site → ⊥) }
+    {
+        self.next_common(self, from)
+    }
+
+    /// The least site that both sets have.
+    pub fn common(&self, other: &SiteSet) -> Option<u16>
+        ensures some { IfSome result (λ site. (site < MOST_SITES) × InBoth self.now.words other.now.words site) }
+        ensures none { IfNone result ((site : ℕ) → InBoth self.now.words other.now.words site → ⊥) }
+    {
+        self.next_common(other, 0)
     }
 
     /// The least site.
@@ -84,6 +102,6 @@ impl SiteSet {
         ensures some { IfSome result (λ site. (site < MOST_SITES) × HasSite self.now.words site) }
         ensures none { IfNone result ((site : ℕ) → HasSite self.now.words site → ⊥) }
     {
-        self.outside(&SiteSet::new())
+        self.next(0)
     }
 }

@@ -1,15 +1,18 @@
-//! The least sets, by rounds over all statements.
+//! The least sets, by rounds over the statements that wait.
 
-ghost use Rattle.std.specs.Prelude.{◌≡◌, ◌↔◌, ◌≤◌, ℕ};
+ghost use Rattle.std.specs.Prelude.{◌≡◌, ◌↔◌, ◌<◌, ◌≤◌, ℕ, length, vec_len, OnOk};
 ghost use Rattle.sect_points.specs.Sites.{HasSite};
 ghost use Rattle.sect_points.specs.Flow.{ValueHas, BaseHas, Moved, IsLeastFlow};
 ghost use Rattle.sect_points.specs.Sets.{InSets, IsEmpty, Adds, SamePlaces};
-ghost use Rattle.sect_points.specs.Solving.{FitsValue, FitsBase, FitsAction, AllFit, AreBelow, IsRound};
+ghost use Rattle.sect_points.specs.Solving.{FitsValue, FitsBase, FitsAction, AllFit, AreBelow};
+ghost use Rattle.sect_points.specs.Waiting.{AreIdle, IsTurn, IsRound};
 
 use crate::flow::Placed;
 use crate::sets::PointsTo;
 use crate::sites::{MOST_SITES, SiteSet};
+use crate::waiting::wake;
 use sect_types::action::{Action, Base, Value};
+use std::alloc::{AllocError, Global};
 
 /// The sites of a value.
 fn value_sites(sets: &PointsTo, thread: u16, value: Value) -> SiteSet
@@ -64,28 +67,53 @@ fn step(sets: &mut PointsTo, placed: Placed) -> bool
     }
 }
 
-/// Moves what each statement moves, and tells whether some set grew.
-fn round(sets: &mut PointsTo, statements: &[Placed]) -> bool
+/// Gives a statement its turn, and sets those waiting that it gave more to move. Tells whether some set grew.
+fn turn(sets: &mut PointsTo, statements: &[Placed], waiting: &mut Vec<bool>, i: usize) -> bool
+    requires within { i < length statements.now }
+    requires long { vec_len waiting.old ≡ length statements.now }
     requires fits { AllFit sets.old statements.now }
     requires below { AreBelow sets.old }
     requires most { sets.old.sites ≤ MOST_SITES }
-    ensures { IsRound statements.now sets.old sets.new result }
+    requires idle { AreIdle statements.now sets.old waiting.old.items }
+    ensures { IsTurn statements.now i sets.old sets.new waiting.old.items waiting.new.items result }
+{
+    let placed = statements[i];
+    waiting[i] = false;
+    let grew = step(sets, placed);
+    if grew {
+        wake(waiting, statements, &placed);
+    }
+    grew
+}
+
+/// Gives each statement that waits its turn, and tells whether some set grew.
+fn round(sets: &mut PointsTo, statements: &[Placed], waiting: &mut Vec<bool>) -> bool
+    requires long { vec_len waiting.old ≡ length statements.now }
+    requires fits { AllFit sets.old statements.now }
+    requires below { AreBelow sets.old }
+    requires most { sets.old.sites ≤ MOST_SITES }
+    requires idle { AreIdle statements.now sets.old waiting.old.items }
+    ensures { IsRound (length statements.now) statements.now sets.old sets.new waiting.new.items result }
 {
     let mut grew = false;
-    for placed in statements {
-        grew = step(sets, *placed) || grew;
+    for i in 0..statements.len() {
+        if waiting[i] {
+            grew = turn(sets, statements, waiting, i) || grew;
+        }
     }
     grew
 }
 
 /// Moves what the statements move until nothing grows: from empty sets, the least that are closed.
-pub fn close(sets: &mut PointsTo, statements: &[Placed])
+pub fn close(alloc: Global, sets: &mut PointsTo, statements: &[Placed]) -> Result<(), AllocError>
     requires fits { AllFit sets.old statements.now }
     requires empty { IsEmpty sets.old }
     requires most { sets.old.sites ≤ MOST_SITES }
-    ensures least { IsLeastFlow (InSets sets.new) statements.now }
-    ensures below { AreBelow sets.new }
-    ensures places { SamePlaces sets.old sets.new }
+    ensures least { OnOk result (IsLeastFlow (InSets sets.new) statements.now) }
+    ensures below { OnOk result (AreBelow sets.new) }
+    ensures places { OnOk result (SamePlaces sets.old sets.new) }
 {
-    while round(sets, statements) {}
+    let mut waiting = vec![in alloc; true; statements.len()]?;
+    while round(sets, statements, &mut waiting) {}
+    Ok(())
 }

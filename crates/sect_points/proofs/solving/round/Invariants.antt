@@ -1,6 +1,5 @@
-use Rattle.std.proofs.Common.{take}
-use Rattle.sect_points.specs.Solving.{IsRound}
+use Rattle.sect_points.specs.Waiting.{IsRound}
 use Rattle.sect_points.proofs.solving.round.Given as goal
 
-abbrev pub invariant-loop-placed : goal.invariant-loop-placed
-invariant-loop-placed l = IsRound (take l.placed-index l.statements) l.fn.sets l.sets l.grew
+abbrev pub invariant-loop-i : goal.invariant-loop-i
+invariant-loop-i l = IsRound l.i l.statements l.fn.sets l.sets l.waiting.items l.grew

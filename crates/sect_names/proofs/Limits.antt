@@ -1,5 +1,6 @@
 -- The lock on a path, as it is found.
 use Rattle.std.proofs.Common.{◌≡◌, ◌↔◌, ℕ, ◌≤◌, ◌<◌, Option, Some, None, sym, ap, ◌∙◌, inl, inr, arith}
+use Rattle.std.proofs.lemmas.Bool.{cases_lt}
 use Rattle.sect_points.specs.Places.{Place}
 use Rattle.sect_points.specs.Partitions.{HasClass}
 use Rattle.sect_names.specs.declared.lock.Effect.{Effect}
@@ -13,17 +14,13 @@ module _ (s : SchemeOf) (e : Effect) (p : Place) (o : Option ℕ) (tells : (n : 
   pub no_lock : o ≡ None → (l : Lock) → (None ≡ Some l) ↔ LockOn s e p l
   no_lock is l = (λ h. absurd cc, λ h. let t = (tells h.0).1 h.1 in absurd cc)
 
-  pub short_lock : (n : ℕ) → o ≡ Some n → depth p ≤ s.most → (l : Lock) → (Some (lock.Path p e) ≡ Some l) ↔ LockOn s e p l
-  short_lock n is short l = (
-    λ h. (n, (tells n).0 is, inl (short, let q : l ≡ lock.Path p e = cc in q)),
-    λ h. elim h.2 [ inl a ↦ ap (λ x. Some x) (sym a.1) | inr b ↦ absurd (let c = b.0 in omega arith) ],
-  )
-
-  pub long_lock : (n : ℕ) → o ≡ Some n → s.most < depth p → (l : Lock) → (Some (lock.Class n (right_for e)) ≡ Some l) ↔ LockOn s e p l
-  long_lock n is long l = (
-    λ h. (n, (tells n).0 is, inr (long, let q : l ≡ lock.Class n (right_for e) = cc in q)),
+  pub a_lock : (n : ℕ) → o ≡ Some n → (x : Lock) → (depth p ≤ s.most → x ≡ lock.Path p e) → (s.most < depth p → x ≡ lock.Class n (right_for e)) → (l : Lock) → (Some x ≡ Some l) ↔ LockOn s e p l
+  a_lock n is x short long l = (
+    λ h.
+        let same : l ≡ x = cc in
+        (n, (tells n).0 is, elim (cases_lt s.most (depth p)) [ inl deep ↦ inr (deep, same ∙ long deep) | inr flat ↦ inl (flat, same ∙ short flat) ]),
     λ h. elim h.2 [
-      | inl a ↦ absurd (let c = a.0 in omega arith)
-      | inr b ↦ (let t = (tells h.0).1 h.1 in let same : n ≡ h.0 = cc in ap (λ x. Some x) (ap (λ m. lock.Class m (right_for e)) same ∙ sym b.1))
+      | inl a ↦ ap (λ y. Some y) (short a.0 ∙ sym a.1)
+      | inr b ↦ (let t = (tells h.0).1 h.1 in let own : n ≡ h.0 = cc in ap (λ y. Some y) (long b.0 ∙ ap (λ m. lock.Class m (right_for e)) own ∙ sym b.1))
     ],
   )

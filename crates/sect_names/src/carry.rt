@@ -1,11 +1,13 @@
 //! What is needed before a statement for what is needed after it.
 
-ghost use Rattle.std.specs.Prelude.{◌≡◌, ◌↔◌, [], ◌∷◌, Some, None, IfOk, IsTrue};
+ghost use Rattle.std.specs.Prelude.{◌≡◌, ◌≤◌, ◌<◌, ◌↔◌, [], ◌∷◌, Some, None, IfOk, IsTrue};
 ghost use Rattle.sect_types.specs.Lists.{Has};
 ghost use Rattle.sect_points.specs.declared.flow.Variable.{Variable};
 ghost use Rattle.sect_points.specs.Places.{Place, var};
 ghost use Rattle.sect_names.specs.declared.lock.Lock.{Lock};
-ghost use Rattle.sect_names.specs.Carrying.{Replaced, AreOfOneClass, BeforeStore, BeforeAssignment, Before, GoesOn, OverField, LockOn, CarriedBack};
+ghost use Rattle.sect_names.specs.declared.lock.Lock.TheVariants as lock;
+ghost use Rattle.sect_names.specs.Locks.{depth};
+ghost use Rattle.sect_names.specs.Carrying.{Replaced, AreOfOneClass, BeforeStore, BeforeAssignment, Before, GoesOn, OverField, LockOn, CarriedBack, right_for};
 
 use crate::lock::{Effect, Lock, Right};
 use crate::path::Path;
@@ -16,8 +18,6 @@ use sect_types::action::{Action, Field, Label, Value};
 use std::alloc::{AllocError, Global};
 
 impl Effect {
-    ghost use Rattle.sect_names.specs.Carrying.{right_for};
-
     /// The right over a class that it asks for.
     pub fn right(self) -> Right
         ensures { result ≡ right_for self }
@@ -240,13 +240,19 @@ impl Scheme {
     {
         match self.class_of(path) {
             None => Ok(None),
-            Some(class) => {
-                if path.fields().len() > self.k() as usize {
-                    return Ok(Some(Lock::Class(class, effect.right())));
-                }
-                Ok(Some(Lock::Path(path.try_clone()?, effect)))
-            }
+            Some(class) => Ok(Some(self.lock_in(class, effect, path)?)),
         }
+    }
+
+    // The lock with this effect on a path of this class: that of the class where the path has more than k fields.
+    fn lock_in(&self, class: u16, effect: Effect, path: &Path) -> Result<Lock, AllocError>
+        ensures short { IfOk result (λ l. depth path.now ≤ self.now.most → l ≡ lock.Path path.now effect) }
+        ensures long { IfOk result (λ l. self.now.most < depth path.now → l ≡ lock.Class class (right_for effect)) }
+    {
+        if path.fields().len() > self.k() as usize {
+            return Ok(Lock::Class(class, effect.right()));
+        }
+        Ok(Lock::Path(path.try_clone()?, effect))
     }
 }
 

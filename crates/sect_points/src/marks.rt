@@ -12,7 +12,7 @@ use crate::flow::Placed;
 use crate::sites::SiteSet;
 use sect_types::action::{Action, Base, Value};
 
-/// The mark that all statements read.
+/// The mark that all statements read. Those below it are fields', and those above it locals'.
 pub const START: u16 = 16;
 
 /// The mark of a field, by its number, of each site.

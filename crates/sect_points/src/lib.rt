@@ -7,6 +7,7 @@ pub mod classes;
 mod filled;
 pub mod flow;
 mod labels;
+mod marks;
 pub mod partition;
 mod points;
 pub mod rows;
@@ -14,7 +15,6 @@ pub mod sets;
 pub mod sites;
 mod solving;
 mod statements;
-mod waiting;
 
 pub use points::points_to;
 

@@ -22,7 +22,7 @@ pub fn points_to(alloc: Global, program: &Program) -> Result<PointsTo, AllocErro
     let statements = placed_statements(alloc, program)?;
     let mut sets = empty_sets(alloc, program)?;
     program.typing();
-    close(alloc, &mut sets, statements.as_slice())?;
+    close(&mut sets, statements.as_slice());
     Ok(sets)
 }
 

@@ -1,18 +1,17 @@
-//! The least sets, by rounds over the statements that wait.
+//! The least sets, by rounds over the statements, of which those that read nothing that has grown are left out.
 
-ghost use Rattle.std.specs.Prelude.{◌≡◌, ◌↔◌, ◌<◌, ◌≤◌, ℕ, length, vec_len, OnOk};
+ghost use Rattle.std.specs.Prelude.{◌≡◌, ◌↔◌, ◌≤◌, ℕ};
 ghost use Rattle.sect_points.specs.Sites.{HasSite};
 ghost use Rattle.sect_points.specs.Flow.{ValueHas, BaseHas, Moved, IsLeastFlow};
 ghost use Rattle.sect_points.specs.Sets.{InSets, IsEmpty, Adds, SamePlaces};
 ghost use Rattle.sect_points.specs.Solving.{FitsValue, FitsBase, FitsAction, AllFit, AreBelow};
-ghost use Rattle.sect_points.specs.Waiting.{AreIdle, IsTurn, IsRound};
+ghost use Rattle.sect_points.specs.Marks.{AreIdle, IsMarked, IsRound};
 
 use crate::flow::Placed;
+use crate::marks::{START, added_mark, waits};
 use crate::sets::PointsTo;
 use crate::sites::{MOST_SITES, SiteSet};
-use crate::waiting::wake;
 use sect_types::action::{Action, Base, Value};
-use std::alloc::{AllocError, Global};
 
 /// The sites of a value.
 fn value_sites(sets: &PointsTo, thread: u16, value: Value) -> SiteSet
@@ -67,53 +66,53 @@ fn step(sets: &mut PointsTo, placed: Placed) -> bool
     }
 }
 
-/// Gives a statement its turn, and sets those waiting that it gave more to move. Tells whether some set grew.
-fn turn(sets: &mut PointsTo, statements: &[Placed], waiting: &mut Vec<bool>, i: usize) -> bool
-    requires within { i < length statements.now }
-    requires long { vec_len waiting.old ≡ length statements.now }
-    requires fits { AllFit sets.old statements.now }
+/// Moves what a statement moves, and where some set grew marks it. Tells whether some set grew.
+fn turn(sets: &mut PointsTo, placed: &Placed, recent: &mut SiteSet, marks: &mut SiteSet) -> bool
+    requires fits { FitsAction sets.old placed.now.thread placed.now.action }
     requires below { AreBelow sets.old }
     requires most { sets.old.sites ≤ MOST_SITES }
-    requires idle { AreIdle statements.now sets.old waiting.old.items }
-    ensures { IsTurn statements.now i sets.old sets.new waiting.old.items waiting.new.items result }
+    ensures adds { Adds sets.old sets.new (Moved (InSets sets.old) placed.now.thread placed.now.action) result }
+    ensures recent { IsMarked placed.now result recent.old.words recent.new.words }
+    ensures marks { IsMarked placed.now result marks.old.words marks.new.words }
 {
-    let placed = statements[i];
-    waiting[i] = false;
-    let grew = step(sets, placed);
+    let grew = step(sets, *placed);
     if grew {
-        wake(waiting, statements, &placed);
+        let mark = added_mark(*placed);
+        recent.insert(mark);
+        marks.insert(mark);
     }
     grew
 }
 
-/// Gives each statement that waits its turn, and tells whether some set grew.
-fn round(sets: &mut PointsTo, statements: &[Placed], waiting: &mut Vec<bool>) -> bool
-    requires long { vec_len waiting.old ≡ length statements.now }
+/// Moves what the statements move that read something marked, and leaves the marks of what grew by that. Tells whether
+/// some set grew.
+fn round(sets: &mut PointsTo, statements: &[Placed], marks: &mut SiteSet) -> bool
     requires fits { AllFit sets.old statements.now }
     requires below { AreBelow sets.old }
     requires most { sets.old.sites ≤ MOST_SITES }
-    requires idle { AreIdle statements.now sets.old waiting.old.items }
-    ensures { IsRound (length statements.now) statements.now sets.old sets.new waiting.new.items result }
+    requires idle { AreIdle statements.now sets.old marks.old.words }
+    ensures { IsRound statements.now sets.old sets.new marks.new.words result }
 {
+    let mut recent = *marks;
+    *marks = SiteSet::new();
     let mut grew = false;
-    for i in 0..statements.len() {
-        if waiting[i] {
-            grew = turn(sets, statements, waiting, i) || grew;
+    for placed in statements {
+        if waits(&recent, *placed) {
+            grew = turn(sets, placed, &mut recent, marks) || grew;
         }
     }
     grew
 }
 
 /// Moves what the statements move until nothing grows: from empty sets, the least that are closed.
-pub fn close(alloc: Global, sets: &mut PointsTo, statements: &[Placed]) -> Result<(), AllocError>
+pub fn close(sets: &mut PointsTo, statements: &[Placed])
     requires fits { AllFit sets.old statements.now }
     requires empty { IsEmpty sets.old }
     requires most { sets.old.sites ≤ MOST_SITES }
-    ensures least { OnOk result (IsLeastFlow (InSets sets.new) statements.now) }
-    ensures below { OnOk result (AreBelow sets.new) }
-    ensures places { OnOk result (SamePlaces sets.old sets.new) }
+    ensures least { IsLeastFlow (InSets sets.new) statements.now }
+    ensures below { AreBelow sets.new }
+    ensures places { SamePlaces sets.old sets.new }
 {
-    let mut waiting = vec![in alloc; true; statements.len()]?;
-    while round(sets, statements, &mut waiting) {}
-    Ok(())
+    let mut marks = SiteSet::of(START);
+    while round(sets, statements, &mut marks) {}
 }

@@ -14,4 +14,4 @@ close-requires-clause-fits c =
 
 pub returns-clause-least : goal.returns-clause-least
 returns-clause-least c =
-    subst (IsLeastFlow (InSets c.close.new.sets)) (c.as_slice.ensures.value ∙ c.in_ok-statements.ensures) c.in_ok-close.ensures.least
+    subst (IsLeastFlow (InSets c.close.new.sets)) (c.as_slice.ensures.value ∙ c.in_ok-statements.ensures) c.close.ensures.least

@@ -1,9 +1,9 @@
 use Rattle.sect_points.specs.Sets.{sets_room}
-use Rattle.sect_points.proofs.WaitingLaws.{IsOnTheWay}
+use Rattle.sect_points.proofs.MarkLaws.{IsOnTheWay}
 use Rattle.sect_points.proofs.solving.close.Given as goal
 
-abbrev pub invariant-loop : goal.invariant-loop
-invariant-loop l = IsOnTheWay l.statements l.fn.sets l.sets l.waiting.items
+abbrev pub invariant-loop-marks : goal.invariant-loop-marks
+invariant-loop-marks l = IsOnTheWay l.statements l.fn.sets l.sets l.marks.words
 
-abbrev pub decreases-loop : goal.decreases-loop
-decreases-loop l = sets_room l.sets
+abbrev pub decreases-loop-marks : goal.decreases-loop-marks
+decreases-loop-marks l = sets_room l.sets

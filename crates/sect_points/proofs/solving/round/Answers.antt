@@ -1,23 +1,35 @@
-use Rattle.std.proofs.Common.{◌≡◌, ◌<◌, ◌∙◌, length, get_or, false, sym, arith, refl}
-use Rattle.std.proofs.lemmas.List.{get_or_default}
-use Rattle.sect_points.proofs.WaitingLaws.{no_round, round_same, round_more, some_statement}
+use Rattle.std.proofs.Common.{arith, refl}
+use Rattle.sect_points.proofs.MarkLaws.{no_round, turn_fits, next_rests, next_turn, whole_round}
 use Rattle.sect_points.proofs.solving.round.Goals as goal
-use Rattle.sect_points.proofs.solving.round.Goals.{then-index+then-turn, then-index+else-turn, else-index}
+use Rattle.sect_points.proofs.solving.round.Goals.{then-waits+then-turn, then-waits+else-turn, else-waits}
 
-pub loop-i-init : goal.loop-i-init
-loop-i-init c = no_round c.args.statements.now c.args.sets.now c.args.waiting.now.items c.requires.below (omega (arith, c.requires.long)) c.requires.idle
+pub loop-placed-init : goal.loop-placed-init
+loop-placed-init c = record {
+  round = no_round c.args.sets.now c.new.result.words c.requires.below c.new.ensures;
+  idle = c.requires.idle;
+}
 
-pub loop-i-preserved : goal.loop-i-preserved
-loop-i-preserved c =
-    let l = c.loop-i in
+pub turn-requires-clause-fits : goal.turn-requires-clause-fits
+turn-requires-clause-fits c =
+    let l = c.loop-placed in
+    turn_fits l.placed-index c.args.statements.now c.placed-item.result c.args.sets.now l.sets l.recent.words l.marks.words l.grew l.invariant c.requires.fits (omega arith) c.placed-item.is
+
+pub loop-placed-preserved : goal.loop-placed-preserved
+loop-placed-preserved c =
+    let l = c.loop-placed in
     let list = c.args.statements.now in
-    let at = some_statement list l.i (omega arith) in
-    elim c.if-index.branch [
-      | then-index+then-turn w ↦ rw (w.sets-is, w.waiting-is, w.grew-is)
-          (round_more l.i list at.0 c.args.sets.now l.sets w.turn.new.sets l.waiting.items w.turn.new.waiting.items l.grew w.turn.result w.turn.result (omega arith) at.1 c.requires.fits l.invariant w.turn.ensures (rw w.if-turn.true refl))
-      | then-index+else-turn w ↦ rw (w.sets-is, w.waiting-is, w.grew-is)
-          (round_more l.i list at.0 c.args.sets.now l.sets w.turn.new.sets l.waiting.items w.turn.new.waiting.items l.grew w.turn.result l.grew (omega arith) at.1 c.requires.fits l.invariant w.turn.ensures (rw w.if-turn.false refl))
-      | else-index w ↦ (let within : l.i < length l.waiting.items = omega (arith, l.invariant.long) in
-          let flag : get_or l.waiting.items l.i false ≡ false = get_or_default l.waiting.items l.i false c.index.result.now within ∙ sym c.index.ensures ∙ w.if-index.false in
-          rw (w.sets-is, w.waiting-is, w.grew-is) (round_same l.i list c.args.sets.now l.sets l.waiting.items l.grew (omega arith) flag l.invariant))
+    elim c.if-waits.branch [
+      | then-waits+then-turn w ↦ rw (w.sets-is, w.recent-is, w.marks-is, w.grew-is)
+          (next_turn l.placed-index list c.placed-item.result c.args.sets.now l.sets w.turn.new.sets l.recent.words w.turn.new.recent.words l.marks.words w.turn.new.marks.words l.grew w.turn.result w.turn.result
+          (omega arith) c.placed-item.is c.requires.fits l.invariant w.turn.ensures.adds w.turn.ensures.recent w.turn.ensures.marks (rw w.if-turn.true refl))
+      | then-waits+else-turn w ↦ rw (w.sets-is, w.recent-is, w.marks-is, w.grew-is)
+          (next_turn l.placed-index list c.placed-item.result c.args.sets.now l.sets w.turn.new.sets l.recent.words w.turn.new.recent.words l.marks.words w.turn.new.marks.words l.grew w.turn.result l.grew
+          (omega arith) c.placed-item.is c.requires.fits l.invariant w.turn.ensures.adds w.turn.ensures.recent w.turn.ensures.marks (rw w.if-turn.false refl))
+      | else-waits w ↦ rw (w.sets-is, w.recent-is, w.marks-is, w.grew-is)
+          (next_rests l.placed-index list c.placed-item.result c.args.sets.now l.sets l.recent.words l.marks.words l.grew (omega arith) c.placed-item.is l.invariant (c.waits.ensures w.if-waits.false))
     ]
+
+pub returns : goal.returns
+returns c =
+    let l = c.loop-placed in
+    whole_round l.placed-index c.args.statements.now c.args.sets.now l.sets l.recent.words l.marks.words l.grew (omega arith) l.invariant

@@ -1,5 +1,5 @@
-use Rattle.sect_points.specs.Waiting.{IsRound}
+use Rattle.sect_points.proofs.MarkLaws.{IsUnderWay}
 use Rattle.sect_points.proofs.solving.round.Given as goal
 
-abbrev pub invariant-loop-i : goal.invariant-loop-i
-invariant-loop-i l = IsRound l.i l.statements l.fn.sets l.sets l.waiting.items l.grew
+abbrev pub invariant-loop-placed : goal.invariant-loop-placed
+invariant-loop-placed l = IsUnderWay l.placed-index l.statements l.fn.sets l.sets l.recent.words l.marks.words l.grew

@@ -5,6 +5,7 @@ use crate::need::{Need, keep, keep_all};
 use crate::sets::Sets;
 use Effect::{Read, Write};
 use Variable::{Global, Local};
+use Wanted::{All, At};
 use indexmap::IndexSet;
 use sect_front::parse;
 use sect_names::{Effect, Lock, Path, Right, Scheme, scheme_of};
@@ -57,45 +58,33 @@ fn sets(rt: &(impl Abort + AllocGlobal), text: &[u8], k: u16, section: u16) -> R
     Ok(infer(rt.alloc(), &scheme, section)?)
 }
 
-// A lock on the path of a variable and so many times the field `next`.
-fn on(
-    rt: &(impl Abort + AllocGlobal),
-    base: Variable,
-    fields: usize,
-    effect: Effect,
-) -> Result<Lock, Fail> {
-    let path = [NEXT, NEXT, NEXT];
-    assert!(rt; fields <= 3);
-    let path = Path::new(rt.alloc(), base).extended(&path[..fields])?;
-    Ok(Lock::Path(path, effect))
+// A lock: on a class, or on the path of a variable and so many times the field `next`.
+#[derive(Clone, Copy)]
+enum Wanted {
+    All(u16, Right),
+    At(Variable, usize, Effect),
 }
 
-// Locks on classes, and then locks on paths.
-fn locks(
-    rt: &(impl Abort + AllocGlobal),
-    classes: &[(u16, Right)],
-    paths: &[(Variable, usize, Effect)],
-) -> Result<Vec<Lock>, Fail> {
-    let mut locks = Vec::new(rt.alloc());
-    for (class, right) in classes {
-        locks.push(Lock::Class(*class, *right))?;
+// The lock that is wanted.
+fn lock(rt: &(impl Abort + AllocGlobal), wanted: Wanted) -> Result<Lock, Fail> {
+    match wanted {
+        All(class, right) => Ok(Lock::Class(class, right)),
+        At(base, fields, effect) => {
+            let path = [NEXT, NEXT, NEXT];
+            assert!(rt; fields <= 3);
+            let path = Path::new(rt.alloc(), base).extended(&path[..fields])?;
+            Ok(Lock::Path(path, effect))
+        }
     }
-    for (base, fields, effect) in paths {
-        locks.push(on(rt, *base, *fields, *effect)?)?;
-    }
-    Ok(locks)
 }
 
 // These are the locks at the entry, in this order.
-fn takes(
-    rt: &(impl Abort + AllocGlobal),
-    sets: &Sets,
-    classes: &[(u16, Right)],
-    paths: &[(Variable, usize, Effect)],
-) -> Result<(), Fail> {
-    let expected = locks(rt, classes, paths)?;
-    assert_eq!(rt; sets.entry().len(), expected.len());
-    assert!(rt; sets.entry() == expected.as_slice());
+fn takes(rt: &(impl Abort + AllocGlobal), sets: &Sets, wanted: &[Wanted]) -> Result<(), Fail> {
+    let mut locks = Vec::new(rt.alloc());
+    for each in wanted {
+        locks.push(lock(rt, *each)?)?;
+    }
+    assert!(rt; sets.entry() == locks.as_slice());
     Ok(())
 }
 
@@ -104,129 +93,176 @@ fn needs(
     rt: &(impl Abort + AllocGlobal),
     sets: &Sets,
     node: u16,
-    classes: &[(u16, Right)],
-    paths: &[(Variable, usize, Effect)],
+    wanted: &[Wanted],
 ) -> Result<(), Fail> {
-    let expected = locks(rt, classes, paths)?;
     assert!(rt; (node as usize) < sets.nodes().len());
     let found = sets.nodes().at(node);
-    assert_eq!(rt; found.len(), expected.len());
-    for lock in expected.as_slice() {
-        assert!(rt; found.contains(lock));
+    assert_eq!(rt; found.len(), wanted.len());
+    for each in wanted {
+        let lock = lock(rt, *each)?;
+        assert!(rt; found.contains(&lock));
     }
     Ok(())
 }
 
+// A section of a text has so many nodes, takes these locks at its entry, and needs those from some of its nodes on.
+fn holds(
+    rt: &(impl Abort + AllocGlobal),
+    (text, k, section): (&[u8], u16, u16),
+    count: usize,
+    entry: &[Wanted],
+    nodes: &[(u16, &[Wanted])],
+) -> Result<(), Fail> {
+    let found = sets(rt, text, k, section)?;
+    assert_eq!(rt; found.nodes().len(), count);
+    takes(rt, &found, entry)?;
+    for (node, wanted) in nodes {
+        needs(rt, &found, *node, wanted)?;
+    }
+    Ok(())
+}
+
+const HEAD: Variable = Global(0);
+
+// The list from a variable on is read.
+const fn walked(base: Variable) -> [Wanted; 4] {
+    [
+        All(1, Right::Read),
+        At(base, 0, Read),
+        At(base, 1, Read),
+        At(base, 2, Read),
+    ]
+}
+
 #[test]
 fn a_list_is_read(rt: HostRuntime) -> Result<(), Fail> {
-    let sum = sets(&rt, LIST, 2, 0)?;
-    takes(&rt, &sum, &[(1, Right::Read)], &[(Global(0), 0, Read)])?;
-    assert_eq!(rt; sum.nodes().len(), 6);
-    let head = Global(0);
-    needs(
+    let (first, walk) = (walked(HEAD), walked(Local(0, 0)));
+    holds(
         &rt,
-        &sum,
-        0,
-        &[(1, Right::Read)],
-        &[(head, 0, Read), (head, 1, Read), (head, 2, Read)],
-    )?;
-    let p = Local(0, 0);
-    let walk = [(p, 0, Read), (p, 1, Read), (p, 2, Read)];
-    needs(&rt, &sum, 1, &[(1, Right::Read)], &walk)?;
-    needs(&rt, &sum, 3, &[(1, Right::Read)], &walk)?;
-    needs(&rt, &sum, 4, &[(1, Right::Read)], &walk)?;
-    needs(&rt, &sum, 5, &[], &[])
+        (LIST, 2, 0),
+        6,
+        &[All(1, Right::Read), At(HEAD, 0, Read)],
+        &[(0, &first), (1, &walk), (3, &walk), (4, &walk), (5, &[])],
+    )
 }
 
 #[test]
 fn an_object_is_made(rt: HostRuntime) -> Result<(), Fail> {
-    let push = sets(&rt, LIST, 2, 1)?;
-    let head = Global(0);
-    takes(&rt, &push, &[(1, Right::Make)], &[(head, 0, Write)])?;
-    assert_eq!(rt; push.nodes().len(), 5);
-    let both = [(head, 0, Read), (head, 0, Write)];
-    needs(&rt, &push, 0, &[(1, Right::Make)], &both)?;
-    let n = Local(1, 0);
-    needs(&rt, &push, 2, &[], &[(n, 0, Write), both[0], both[1]])?;
-    needs(&rt, &push, 3, &[], &[(n, 0, Write), (head, 0, Write)])?;
-    needs(&rt, &push, 4, &[], &[(head, 0, Write)])
+    let make = All(1, Right::Make);
+    let (read, write, own) = (
+        At(HEAD, 0, Read),
+        At(HEAD, 0, Write),
+        At(Local(1, 0), 0, Write),
+    );
+    holds(
+        &rt,
+        (LIST, 2, 1),
+        5,
+        &[make, write],
+        &[
+            (0, &[make, read, write]),
+            (2, &[own, read, write]),
+            (3, &[own, write]),
+            (4, &[write]),
+        ],
+    )
 }
+
+// The variables of the program whose paths may be one.
+const X: Variable = Local(0, 0);
+
+const Y: Variable = Local(0, 1);
+
+const Z: Variable = Local(0, 2);
+
+const W: Variable = Local(0, 3);
 
 #[test]
 fn paths_that_may_be_one(rt: HostRuntime) -> Result<(), Fail> {
-    let (x, y, z, w) = (Local(0, 0), Local(0, 1), Local(0, 2), Local(0, 3));
-    let fine = sets(&rt, SHARED, 2, 0)?;
-    let first = [(x, 0, Write), (y, 0, Read), (y, 1, Write), (z, 0, Write)];
-    takes(&rt, &fine, &[], &first)?;
-    assert_eq!(rt; fine.nodes().len(), 3);
-    needs(&rt, &fine, 0, &[], &first)?;
-    needs(&rt, &fine, 1, &[], &[(y, 0, Read), (y, 1, Write)])?;
-    needs(&rt, &fine, 2, &[], &[(w, 0, Write)])?;
-    let coarse = sets(&rt, SHARED, 0, 0)?;
-    takes(
+    let first = [
+        At(X, 0, Write),
+        At(Y, 0, Read),
+        At(Y, 1, Write),
+        At(Z, 0, Write),
+    ];
+    holds(
         &rt,
-        &coarse,
-        &[(1, Right::Write)],
-        &[(x, 0, Write), (y, 0, Read)],
+        (SHARED, 2, 0),
+        3,
+        &first,
+        &[
+            (0, &first),
+            (1, &[At(Y, 0, Read), At(Y, 1, Write)]),
+            (2, &[At(W, 0, Write)]),
+        ],
     )
+}
+
+#[test]
+fn paths_that_may_be_one_by_their_class(rt: HostRuntime) -> Result<(), Fail> {
+    let taken = [All(1, Right::Write), At(X, 0, Write), At(Y, 0, Read)];
+    holds(&rt, (SHARED, 0, 0), 3, &taken, &[])
 }
 
 #[test]
 fn a_list_that_ends(rt: HostRuntime) -> Result<(), Fail> {
-    let (a, p, q) = (Global(0), Local(0, 0), Local(1, 0));
-    takes(&rt, &sets(&rt, CHAIN, 2, 0)?, &[], &[(a, 0, Write)])?;
-    takes(&rt, &sets(&rt, CHAIN, 2, 2)?, &[], &[(q, 0, Read)])?;
-    let walk = sets(&rt, CHAIN, 2, 1)?;
-    let every = [(a, 0, Write), (p, 0, Read), (p, 1, Read)];
-    takes(&rt, &walk, &[], &every)?;
-    assert_eq!(rt; walk.nodes().len(), 4);
-    needs(&rt, &walk, 0, &[], &every)?;
-    needs(&rt, &walk, 2, &[], &every)?;
-    needs(&rt, &walk, 3, &[], &[(a, 0, Write)])
-}
-
-#[test]
-fn a_list_that_ends_by_its_class(rt: HostRuntime) -> Result<(), Fail> {
-    let (a, p) = (Global(0), Local(0, 0));
-    let walk = sets(&rt, CHAIN, 0, 1)?;
-    takes(&rt, &walk, &[(0, Right::Read)], &[(a, 0, Write)])?;
-    needs(
+    let every = [At(HEAD, 0, Write), At(X, 0, Read), At(X, 1, Read)];
+    let last = [At(HEAD, 0, Write)];
+    holds(
         &rt,
-        &walk,
-        2,
-        &[(0, Right::Read)],
-        &[(p, 0, Read), (a, 0, Write)],
+        (CHAIN, 2, 1),
+        4,
+        &every,
+        &[(0, &every), (2, &every), (3, &last)],
     )
 }
 
 #[test]
+fn beside_a_list_that_ends(rt: HostRuntime) -> Result<(), Fail> {
+    holds(&rt, (CHAIN, 2, 0), 1, &[At(HEAD, 0, Write)], &[])?;
+    holds(&rt, (CHAIN, 2, 2), 2, &[At(Local(1, 0), 0, Read)], &[])
+}
+
+#[test]
+fn a_list_that_ends_by_its_class(rt: HostRuntime) -> Result<(), Fail> {
+    let (class, end, own) = (All(0, Right::Read), At(HEAD, 0, Write), At(X, 0, Read));
+    holds(
+        &rt,
+        (CHAIN, 0, 1),
+        4,
+        &[class, end],
+        &[(2, &[class, own, end])],
+    )
+}
+
+// The locks of the two programs with branches.
+const BOTH: [Wanted; 2] = [At(Global(0), 0, Read), At(Global(1), 0, Write)];
+
+#[test]
 fn around_a_loop(rt: HostRuntime) -> Result<(), Fail> {
-    let turns = sets(&rt, TURNS, 2, 0)?;
-    let both = [(Global(0), 0, Read), (Global(1), 0, Write)];
-    takes(&rt, &turns, &[], &both)?;
-    assert_eq!(rt; turns.nodes().len(), 4);
-    needs(&rt, &turns, 0, &[], &both)?;
-    needs(&rt, &turns, 2, &[], &both)?;
-    needs(&rt, &turns, 3, &[], &both)
+    holds(
+        &rt,
+        (TURNS, 2, 0),
+        4,
+        &BOTH,
+        &[(0, &BOTH), (2, &BOTH), (3, &BOTH)],
+    )
 }
 
 #[test]
 fn along_either_branch(rt: HostRuntime) -> Result<(), Fail> {
-    let either = sets(&rt, EITHER, 2, 0)?;
-    let both = [(Global(0), 0, Read), (Global(1), 0, Write)];
-    takes(&rt, &either, &[], &both)?;
-    assert_eq!(rt; either.nodes().len(), 4);
-    needs(&rt, &either, 0, &[], &both)?;
-    needs(&rt, &either, 1, &[], &[both[0]])?;
-    needs(&rt, &either, 2, &[], &[both[1]])?;
-    needs(&rt, &either, 3, &[], &[])
+    holds(
+        &rt,
+        (EITHER, 2, 0),
+        4,
+        &BOTH,
+        &[(0, &BOTH), (1, &BOTH[..1]), (2, &BOTH[1..]), (3, &[])],
+    )
 }
 
 #[test]
 fn an_empty_section_takes_nothing(rt: HostRuntime) -> Result<(), Fail> {
-    let nothing = sets(&rt, b"thread e { atomic { } }", 2, 0)?;
-    assert_eq!(rt; nothing.nodes().len(), 0);
-    takes(&rt, &nothing, &[], &[])
+    holds(&rt, (b"thread e { atomic { } }", 2, 0), 0, &[], &[])
 }
 
 #[test]

@@ -1,6 +1,6 @@
 //! Marks of what has grown: a statement that reads nothing marked has nothing more to move.
 
-ghost use Rattle.std.specs.Prelude.{◌≡◌, ◌<◌, ℕ, true, false};
+ghost use Rattle.std.specs.Prelude.{◌≡◌, ◌↔◌, ◌<◌, ℕ, IsTrue, true, false};
 ghost use Rattle.sect_points.specs.declared.flow.Holder.{Holder};
 ghost use Rattle.sect_points.specs.declared.flow.Holder.TheVariants.{Local, Slot};
 ghost use Rattle.sect_points.specs.Sites.{HasSite};
@@ -48,7 +48,7 @@ pub fn added_mark(placed: Placed) -> u16
 
 /// Whether a value is a local that is marked.
 fn value_grew(marks: &SiteSet, thread: u16, value: Value) -> bool
-    ensures { result ≡ false → (holder : Holder) → ReadsValue thread value holder → HasSite marks.now.words (mark_of holder) → ⊥ }
+    ensures { IsTrue result ↔ ((holder : Holder) × ReadsValue thread value holder × HasSite marks.now.words (mark_of holder)) }
 {
     match value {
         Value::Local(local) => marks.contains(local_mark(thread, local)),
@@ -58,7 +58,7 @@ fn value_grew(marks: &SiteSet, thread: u16, value: Value) -> bool
 
 /// Whether a base is a local that is marked.
 fn base_grew(marks: &SiteSet, thread: u16, base: Base) -> bool
-    ensures { result ≡ false → (holder : Holder) → ReadsBase thread base holder → HasSite marks.now.words (mark_of holder) → ⊥ }
+    ensures { IsTrue result ↔ ((holder : Holder) × ReadsBase thread base holder × HasSite marks.now.words (mark_of holder)) }
 {
     match base {
         Base::Local(local) => marks.contains(local_mark(thread, local)),
@@ -68,8 +68,8 @@ fn base_grew(marks: &SiteSet, thread: u16, base: Base) -> bool
 
 /// Whether something that a statement reads is marked.
 fn grew(marks: &SiteSet, placed: Placed) -> bool
-    ensures { result ≡ false → (holder : Holder) → Reads placed.thread placed.action holder
-        → HasSite marks.now.words (mark_of holder) → ⊥ }
+    ensures { IsTrue result ↔ ((holder : Holder) × Reads placed.thread placed.action holder
+        × HasSite marks.now.words (mark_of holder)) }
 {
     let thread = placed.thread;
     match placed.action {
@@ -86,7 +86,8 @@ fn grew(marks: &SiteSet, placed: Placed) -> bool
 
 /// Whether a statement may have more to move.
 pub fn waits(marks: &SiteSet, placed: Placed) -> bool
-    ensures { result ≡ false → Rests marks.now.words placed }
+    ensures rests { result ≡ false → Rests marks.now.words placed }
+    ensures waits { result ≡ true → Rests marks.now.words placed → ⊥ }
 {
     marks.contains(START) || grew(marks, placed)
 }

@@ -26,7 +26,7 @@ loop-placed-preserved c =
           (next_turn l.placed-index list c.placed-item.result c.args.sets.now l.sets w.turn.new.sets l.recent.words w.turn.new.recent.words l.marks.words w.turn.new.marks.words l.grew w.turn.result l.grew
           (omega arith) c.placed-item.is c.requires.fits l.invariant w.turn.ensures.adds w.turn.ensures.recent w.turn.ensures.marks (rw w.if-turn.false refl))
       | else-waits w ↦ rw (w.sets-is, w.recent-is, w.marks-is, w.grew-is)
-          (next_rests l.placed-index list c.placed-item.result c.args.sets.now l.sets l.recent.words l.marks.words l.grew (omega arith) c.placed-item.is l.invariant (c.waits.ensures w.if-waits.false))
+          (next_rests l.placed-index list c.placed-item.result c.args.sets.now l.sets l.recent.words l.marks.words l.grew (omega arith) c.placed-item.is l.invariant (c.waits.ensures.rests w.if-waits.false))
     ]
 
 pub returns : goal.returns

@@ -9,26 +9,31 @@ ghost use Rattle.sect_points.specs.Sets.{Sets, InSets};
 ghost use Rattle.sect_points.specs.Marks.{mark_of, ReadsValue, ReadsBase, Reads, Rests};
 
 use crate::flow::Placed;
-use crate::sites::SiteSet;
+use crate::sets::MOST_FIELDS;
+use crate::sites::{MOST_SITES, SiteSet};
 use sect_types::action::{Action, Base, Value};
 
 /// The mark that all statements read. Those below it are fields', and those above it locals'.
-pub const START: u16 = 16;
+pub const START: u16 = MOST_FIELDS;
+
+const FIRST_LOCAL: u16 = START + 1;
+
+const LOCAL_MARKS: usize = (MOST_SITES - FIRST_LOCAL) as usize;
 
 /// The mark of a field, by its number, of each site.
 fn field_mark(number: u16) -> u16
     ensures mark { (site : ℕ) → result ≡ mark_of (Slot site number) }
     ensures few { result < 1024 }
 {
-    number % 16
+    number % MOST_FIELDS
 }
 
-/// The mark of a local. Several may share one.
+/// The mark of a local: threads have 64 locals at most. Several may share one.
 fn local_mark(thread: u16, local: u16) -> u16
     ensures mark { result ≡ mark_of (Local thread local) }
     ensures few { result < 1024 }
 {
-    ((thread as usize * 64 + local as usize) % 1007) as u16 + 17
+    FIRST_LOCAL + ((thread as usize * 64 + local as usize) % LOCAL_MARKS) as u16
 }
 
 /// The mark of what a statement adds to. One that adds nothing has any mark.

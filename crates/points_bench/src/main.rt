@@ -5,8 +5,7 @@
 use sect_front::parse;
 use sect_points::partition::classes;
 use sect_points::points_to;
-use sect_types::Program;
-use sect_types::check_types;
+use sect_types::{Program, check_types};
 use std::alloc::{AllocError, Global};
 use std::io::{Read, Write};
 use std::process::ExitCode;

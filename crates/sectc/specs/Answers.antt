@@ -1,5 +1,5 @@
 -- What the command `locks` answers to a source text.
-use Rattle.std.specs.Prelude.{◌≡◌, ◌≢◌, ◌≤◌, ◌<◌, ◌⊎◌, ℕ, ⊤, List, Err, length}
+use Rattle.std.specs.Prelude.{◌≡◌, ◌≢◌, ◌≤◌, ◌<◌, ◌⊎◌, ℕ, ⊤, List, Result, Ok, Err, length}
 use Rattle.sect_front.specs.Source.{Source}
 use Rattle.sect_front.specs.Front.{IsSpelled, IsFault}
 use Rattle.sect_front.specs.declared.parsing.FrontFault.{FrontFault}
@@ -57,6 +57,11 @@ IsRefused bytes refusal.Memory = ⊤
 IsRefused bytes (refusal.Front fault) = (fault ≢ front.Memory) × IsFault bytes fault
 IsRefused bytes (refusal.Types fault) = (fault ≢ type_fault.Memory) × ((t : Source) × IsSpelled bytes t × types.Judges {A = ℕ} t (Err fault))
 IsRefused bytes (refusal.Scheme fault) = ⊥
+
+-- this program is given, unless memory ran out
+abbrev pub GivesProgram : Numbered → Result Numbered Refusal → Type 0
+GivesProgram p (Ok given) = given ≡ p
+GivesProgram p (Err r) = r ≡ refusal.Memory
 
 -- the refusal is due: k is judged first, then the text, and then its hints
 abbrev pub IsDue : List ℕ → ℕ → Refusal → Type 0

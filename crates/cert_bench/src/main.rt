@@ -14,7 +14,7 @@ use std::io::Write;
 use std::process::ExitCode;
 use std::{env, io};
 
-// How many nodes a section has, and how many steps a chain.
+/// How many nodes a section has, and how many steps a chain.
 const NODES: u32 = 8;
 
 /// Why a measurement ended early.

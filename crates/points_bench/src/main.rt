@@ -17,14 +17,14 @@ enum Failure {
     /// The command line isn't `sets` or `classes` and a number.
     Usage,
     /// The text was refused, or a growth was.
-    Source,
+    TreeView,
     /// The input or the output failed.
     Streams,
 }
 
 impl From<AllocError> for Failure {
     fn from(_refused: AllocError) -> Failure {
-        Failure::Source
+        Failure::TreeView
     }
 }
 
@@ -67,11 +67,11 @@ fn measured<I: Read + Drop, O: Write + Drop>(
 /// The program of a source text.
 fn program_of(alloc: Global, source: &[u8]) -> Result<Program, Failure> {
     let Ok(tree) = parse(alloc, source) else {
-        return Err(Failure::Source);
+        return Err(Failure::TreeView);
     };
     match check_types(alloc, tree) {
         Ok(program) => Ok(program),
-        Err(_) => Err(Failure::Source),
+        Err(_) => Err(Failure::TreeView),
     }
 }
 

@@ -23,7 +23,7 @@ pub enum Spot {
     Whole,
 }
 
-// Takes one more word.
+/// Takes one more word.
 fn walk_word(
     alloc: Global,
     steps: &mut Vec<Step>,

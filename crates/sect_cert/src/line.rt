@@ -34,7 +34,7 @@ pub enum Line {
     End,
 }
 
-// The one number that is left.
+/// The one number that is left.
 fn only_number(mut words: Parts<'_>) -> Option<u32>
     ensures { result ≡ only_number_at words.entry }
 {
@@ -54,7 +54,7 @@ fn section_line(mut words: Parts<'_>) -> Option<Line>
     Some(Line::Section(number(section)?, number(nodes)?))
 }
 
-// A number before a colon.
+/// A number before a colon.
 fn colon_number(word: &[u8]) -> Option<u32>
     ensures { result ≡ colon_number_at word.now }
 {

@@ -33,7 +33,7 @@ fn place_after(word: &[u8]) -> Place
     }
 }
 
-// Takes one more word.
+/// Takes one more word.
 fn take_word(
     alloc: Global,
     locks: &mut Vec<Lock>,

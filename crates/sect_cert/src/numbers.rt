@@ -22,7 +22,7 @@ pub fn number(word: &[u8]) -> Option<u32>
     decimal(word)
 }
 
-// The number that digits are, leading zeros or not.
+/// The number that digits are, leading zeros or not.
 fn decimal(digits: &[u8]) -> Option<u32>
     ensures { result ≡ decimal_from 0 digits.now }
 {

@@ -17,7 +17,7 @@ fn is_finished(stage: &Stage) -> bool
     matches!(stage, Stage::Finished(_))
 }
 
-// What comes of the lines that were read, by what stands behind the last line feed, on this line.
+/// What comes of the lines that were read, by what stands behind the last line feed, on this line.
 fn close(stage: Stage, rest: &[u8], line: usize) -> Result<Cert, CertFault>
     ensures { Closes stage rest.now line result }
 {
@@ -43,7 +43,7 @@ fn fault_on(fault: LineFault, line: usize) -> CertFault
     }
 }
 
-// The certificate that a text is, by the answer alone.
+/// The certificate that a text is, by the answer alone.
 fn judge(alloc: Global, bytes: &[u8]) -> Result<Cert, CertFault>
     ensures { Judges bytes.now result }
 {

@@ -39,7 +39,7 @@ pub enum Stage {
     Finished(Cert),
 }
 
-// Takes the line of the next section, or the end.
+/// Takes the line of the next section, or the end.
 fn begin(alloc: Global, begun: Open, line: Line) -> Result<Stage, LineFault>
     ensures { GoesTo result (begin_of begun line) }
 {
@@ -69,7 +69,7 @@ fn begin(alloc: Global, begun: Open, line: Line) -> Result<Stage, LineFault>
     }
 }
 
-// The sections with one more.
+/// The sections with one more.
 fn close(begun: Open, section: Section) -> Result<Open, LineFault>
     ensures { ClosesTo result (close_of begun section) }
 {
@@ -78,7 +78,7 @@ fn close(begun: Open, section: Section) -> Result<Open, LineFault>
     Ok(Open { k, count, done })
 }
 
-// Takes a line of a node, or the entry list.
+/// Takes a line of a node, or the entry list.
 fn node(
     alloc: Global,
     begun: Open,
@@ -116,7 +116,7 @@ fn node(
     }
 }
 
-// Whether a chain of this number may come after these.
+/// Whether a chain of this number may come after these.
 fn rises(chains: &[Chain], lock: u32) -> bool
     ensures { result ≡ is_rising chains.now lock }
 {
@@ -126,7 +126,7 @@ fn rises(chains: &[Chain], lock: u32) -> bool
     }
 }
 
-// Takes a chain, or what comes after the last chain of a section.
+/// Takes a chain, or what comes after the last chain of a section.
 fn chain(alloc: Global, begun: Open, mut section: Section, line: Line) -> Result<Stage, LineFault>
     ensures { GoesTo result (chain_of begun section line) }
 {
@@ -143,7 +143,7 @@ fn chain(alloc: Global, begun: Open, mut section: Section, line: Line) -> Result
     }
 }
 
-// Takes one more line after the first.
+/// Takes one more line after the first.
 fn take_line(alloc: Global, stage: Stage, line: Line) -> Result<Stage, LineFault>
     ensures { GoesTo result (stage_of stage line) }
 {
@@ -183,7 +183,7 @@ fn header(text: &[u8]) -> Result<Stage, LineFault>
     }
 }
 
-// Takes the text of a line after the first. One with leading zeros is read without them, and then refused.
+/// Takes the text of a line after the first. One with leading zeros is read without them, and then refused.
 #[tactic(auto, using(crate::proofs::ZerosLemmas::plain_exact))]
 fn later(alloc: Global, stage: Stage, text: &[u8]) -> Result<Stage, LineFault>
     ensures { GoesTo result (later_of stage text.now) }

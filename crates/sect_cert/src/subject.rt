@@ -36,7 +36,7 @@ pub fn mode_of(word: &[u8]) -> Option<Mode>
     }
 }
 
-// The path that a word is.
+/// The path that a word is.
 fn path_of(alloc: Global, word: &[u8]) -> Result<Path, LineFault>
     ensures { ReadsAs result (path_at word.now) }
 {

@@ -11,19 +11,19 @@ use std::alloc::{AllocError, Global};
 use std::process::Abort;
 use std::test::Fail;
 
-// The certificate of a section that adds one to a field of a global.
+/// The certificate of a section that adds one to a field of a global.
 const ADDS_ONE: &[u8] =
     b"sect-cert 1\nk 2\nsections 1\nsection 0 nodes 4\nnode 0: W a\nnode 1: W a\nnode 2: W a\n\
 node 3: none\nentry: W a\nchain 0: 0 W a > 1 W a > 2 W a\nend\n";
 
-// Every form of a lock, of a list and of a chain, sections of no node and of no chain, and numbers at their ends.
+/// Every form of a lock, of a list and of a chain, sections of no node and of no chain, and numbers at their ends.
 const ALL_FORMS: &[u8] =
     b"sect-cert 1\nk 4294967295\nsections 3\nsection 0 nodes 0\nentry: none\nsection 1 nodes 2\n\
 node 0: R a, W _b.next.val9, R class 0, W class 4294967295, M class 10, R a\nnode 1: none\nentry: M class 1, R x0\n\
 chain 0: 4294967295 M class 1\nchain 4294967295: 0 R x0 > 10 W class 7 > 2 R a.b.c.d.e\nsection 2 nodes 1\n\
 node 0: W a\nentry: none\nend\n";
 
-// What a text is answered with: nothing where it is read, else the fault as it is printed.
+/// What a text is answered with: nothing where it is read, else the fault as it is printed.
 fn answer(alloc: Global, text: &[u8]) -> Result<String, AllocError> {
     match read_cert(alloc, text) {
         Ok(_) => Ok(String::new(alloc)),
@@ -37,7 +37,7 @@ fn answers(rt: &(impl Abort + AllocGlobal), text: &[u8], wanted: &str) -> Result
     Ok(())
 }
 
-// What follows these lines is refused so.
+/// What follows these lines is refused so.
 fn refused_after(
     rt: &(impl Abort + AllocGlobal),
     front: &[u8],
@@ -67,7 +67,7 @@ fn certificates_are_written_back(rt: HostRuntime) -> Result<(), Fail> {
     reads_back(&rt, b"sect-cert 1\nk 0\nsections 0\nend\n")
 }
 
-// What stands at a place.
+/// What stands at a place.
 fn at<T>(items: &[T], place: usize) -> Result<&T, Fail> {
     match items.get(place) {
         Some(item) => Ok(item),
@@ -112,7 +112,7 @@ fn a_chain_is_read_as_what_it_says(rt: HostRuntime) -> Result<(), Fail> {
     }
 }
 
-// The name that these bytes are.
+/// The name that these bytes are.
 fn name(bytes: &[u8]) -> Result<Name, Fail> {
     if is_name(bytes) {
         Ok(Name::new(bytes))
@@ -251,7 +251,7 @@ fn section_lines_are_refused(rt: HostRuntime) -> Result<(), Fail> {
     Ok(())
 }
 
-// The lines before a section's two nodes.
+/// The lines before a section's two nodes.
 const BEFORE_NODES: &[u8] = b"sect-cert 1\nk 2\nsections 1\nsection 0 nodes 2\n";
 
 #[test]
@@ -334,7 +334,7 @@ fn lists_that_are_no_lists_are_refused(rt: HostRuntime) -> Result<(), Fail> {
     refused_after(&rt, BEFORE_NODES, longest, "31 CertEnd line 6")
 }
 
-// The lines before a section's chains.
+/// The lines before a section's chains.
 const BEFORE_CHAINS: &[u8] =
     b"sect-cert 1\nk 2\nsections 1\nsection 0 nodes 1\nnode 0: none\nentry: W a\n";
 

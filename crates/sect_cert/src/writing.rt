@@ -16,7 +16,7 @@ use crate::lock::{Lock, Path};
 use sect_front::name::Name;
 use std::alloc::{AllocError, Global};
 
-// Writes a word behind a blank.
+/// Writes a word behind a blank.
 fn put_word(out: &mut Vec<u8>, word: &[u8]) -> Result<(), AllocError>
     ensures { OnOk result (out.new.items ≡ out.old.items ++ 32 ∷ word.now) }
 {
@@ -24,7 +24,7 @@ fn put_word(out: &mut Vec<u8>, word: &[u8]) -> Result<(), AllocError>
     out.extend_from_slice(word)
 }
 
-// Writes a number behind a blank.
+/// Writes a number behind a blank.
 fn put_number(alloc: Global, out: &mut Vec<u8>, number: usize) -> Result<(), AllocError>
     ensures { OnOk result (out.new.items ≡ out.old.items ++ 32 ∷ decimal number) }
 {
@@ -39,7 +39,7 @@ fn put_field(out: &mut Vec<u8>, field: &Name) -> Result<(), AllocError>
     field.append_to(out)
 }
 
-// Writes the names of a path, joined by points, behind a blank.
+/// Writes the names of a path, joined by points, behind a blank.
 fn put_path(out: &mut Vec<u8>, path: &Path) -> Result<(), AllocError>
     ensures { OnOk result (out.new.items ≡ out.old.items ++ 32 ∷ path_text path.now) }
 {
@@ -70,7 +70,7 @@ fn put_class_lock(
     put_number(alloc, out, class as usize)
 }
 
-// Writes the words of a lock, each behind a blank.
+/// Writes the words of a lock, each behind a blank.
 fn put_lock(alloc: Global, out: &mut Vec<u8>, lock: &Lock) -> Result<(), AllocError>
     ensures { OnOk result (out.new.items ≡ out.old.items ++ lock_text lock.now) }
 {
@@ -90,7 +90,7 @@ fn put_next_lock(alloc: Global, out: &mut Vec<u8>, lock: &Lock) -> Result<(), Al
     put_lock(alloc, out, lock)
 }
 
-// Writes a list of locks, behind a blank.
+/// Writes a list of locks, behind a blank.
 fn put_list(alloc: Global, out: &mut Vec<u8>, locks: &[Lock]) -> Result<(), AllocError>
     ensures { OnOk result (out.new.items ≡ out.old.items ++ spaced (list_words locks.now)) }
 {
@@ -118,7 +118,7 @@ fn put_next_step(alloc: Global, out: &mut Vec<u8>, step: &Step) -> Result<(), Al
     put_step(alloc, out, step)
 }
 
-// Writes the steps of a chain, joined by arrows, behind a blank.
+/// Writes the steps of a chain, joined by arrows, behind a blank.
 fn put_steps(alloc: Global, out: &mut Vec<u8>, steps: &[Step]) -> Result<(), AllocError>
     ensures { OnOk result (out.new.items ≡ out.old.items ++ spaced (chain_words steps.now)) }
 {
@@ -178,7 +178,7 @@ fn put_chains(alloc: Global, out: &mut Vec<u8>, chains: &[Chain]) -> Result<(), 
     Ok(())
 }
 
-// Writes the first line of a section.
+/// Writes the first line of a section.
 fn put_head(
     alloc: Global,
     out: &mut Vec<u8>,
@@ -217,7 +217,7 @@ fn put_sections(alloc: Global, out: &mut Vec<u8>, sections: &[Section]) -> Resul
     Ok(())
 }
 
-// Writes the lines before the first section.
+/// Writes the lines before the first section.
 fn put_front(alloc: Global, out: &mut Vec<u8>, k: u32, sections: usize) -> Result<(), AllocError>
     ensures { OnOk result (out.new.items ≡ out.old.items ++ (codes "sect-cert 1" ++ 10 ∷ (fed_line (line.K k) ++ fed_line (line.Sections sections)))) }
 {

@@ -22,7 +22,7 @@ fn begins_digit(bytes: &[u8]) -> bool
     }
 }
 
-// Whether a byte is a zero that leads a number, by whether it stands inside a name or number and what follows it.
+/// Whether a byte is a zero that leads a number, by whether it stands inside a name or number and what follows it.
 fn leads(inside: bool, byte: u8, others: &[u8]) -> bool
     ensures { result ≡ leads_of inside byte others.now }
 {

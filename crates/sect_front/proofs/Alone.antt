@@ -2,14 +2,14 @@
 use Rattle.std.proofs.Common.{◌≡◌, ◌≢◌, ℕ, zero, suc, ◌+◌, ◌-◌, ◌<◌, ◌≤◌, Bool, true, false, List, [], ◌∷◌, ◌++◌, Some, Result, Ok, Err, length, take, drop, refl, sym, ◌∙◌, ap, subst, arith, append_assoc, ◌⊎◌, inl, inr}
 use Rattle.std.specs.Prelude.{unwrap_or, slice_get, option_map}
 use Rattle.std.proofs.lemmas.List.{take-append-drop}
-use Rattle.sect_front.specs.Source.{Source}
+use Rattle.sect_front.specs.TreeView.{TreeView}
 use Rattle.sect_front.specs.Words.{is_letter, is_digit, begins}
 use Rattle.sect_front.specs.Braces.{open_after, IsShallow}
 use Rattle.sect_front.specs.Lexing.{Spells, IsBadAt}
 use Rattle.sect_front.specs.Faults.{IsViable, tokens_in, IsUnexpectedAt, IsTooDeepAt, IsUnfinished}
 use Rattle.sect_front.specs.Front.{IsBadOn, IsFault, Judges, Refuses, line_of}
 use Rattle.sect_front.specs.declared.token.Token.{Token}
-use Rattle.sect_front.specs.declared.token.Placed.{Placed}
+use Rattle.sect_front.specs.declared.token.TokenAt.{TokenAt}
 use Rattle.sect_front.specs.declared.parsing.FrontFault.{FrontFault}
 use Rattle.sect_front.specs.declared.parsing.FrontFault.TheVariants as fault
 use Rattle.sect_front.specs.declared.reading.TokenFault.{TokenFault}
@@ -102,11 +102,11 @@ same_token list token_fault.Memory g h k = absurd h
 same_token list f token_fault.Memory h k = absurd k
 
 -- the place of a token by its number
-abbrev place_at : List Placed → ℕ → ℕ
+abbrev place_at : List TokenAt → ℕ → ℕ
 place_at ps i = unwrap_or (option_map (λ p. p.at) (slice_get ps i)) 0
 
 -- the answer for a fault of tokens, and for a bad lexeme by its first byte
-abbrev token_answer : List ℕ → List Placed → TokenFault → FrontFault
+abbrev token_answer : List ℕ → List TokenAt → TokenFault → FrontFault
 token_answer bytes ps (token_fault.Unexpected i) = fault.Unexpected (line_of bytes (place_at ps i))
 token_answer bytes ps (token_fault.TooDeep i) = fault.TooDeep (line_of bytes (place_at ps i))
 token_answer bytes ps token_fault.Unfinished = fault.UnexpectedEnd (line_of bytes (length bytes - 1))
@@ -124,14 +124,14 @@ bad_at bytes at = bad_answer (begins is_letter (drop at bytes)) (begins is_digit
 data Kind (bytes : List ℕ) (e : FrontFault) : Type 0 where
   Large : 1048576 < length bytes → e ≡ fault.TooLarge → Kind bytes e
   Bad : length bytes ≤ 1048576 → (at : ℕ) → IsBadAt bytes at → e ≡ bad_at bytes at → Kind bytes e
-  Tokens : length bytes ≤ 1048576 → (ps : List Placed) → Spells bytes ps → (t : TokenFault) → IsTokenFault (tokens_in ps) t → e ≡ token_answer bytes ps t → Kind bytes e
+  Tokens : length bytes ≤ 1048576 → (ps : List TokenAt) → Spells bytes ps → (t : TokenFault) → IsTokenFault (tokens_in ps) t → e ≡ token_answer bytes ps t → Kind bytes e
 
 bad_kind : (bytes : List ℕ) (line : ℕ) (l d : Bool) → IsBadOn bytes line l d → Kind bytes (bad_answer l d line)
 bad_kind bytes line l d h =
     Bad h.fits h.at h.bad (ap (bad_answer l d) h.place ∙ (ap (λ x. bad_answer x d (line_of bytes h.at)) (sym h.letter_first) ∙ ap (λ x. bad_answer (begins is_letter (drop h.at bytes)) x (line_of bytes h.at)) (sym h.digit_first)))
 
 -- where a token is found is its place
-found_place : (ps : List Placed) (i : ℕ) (p : Placed) → slice_get ps i ≡ Some p → p.at ≡ place_at ps i
+found_place : (ps : List TokenAt) (i : ℕ) (p : TokenAt) → slice_get ps i ≡ Some p → p.at ≡ place_at ps i
 found_place ps i p e = ap (λ o. unwrap_or (option_map (λ q. q.at) o) 0) (sym e)
 
 kind_of : (bytes : List ℕ) (e : FrontFault) → e ≢ fault.Memory → IsFault bytes e → Kind bytes e
@@ -162,7 +162,7 @@ same_kind bytes e f (Tokens fits ps s t h p) (Tokens fits' qs s' u k q) =
     p ∙ (ap (λ x. token_answer bytes x t) same ∙ (ap (token_answer bytes qs) one ∙ sym q))
 
 -- a text with a fault is refused with it
-pub refuses : (bytes : List ℕ) (e : FrontFault) → e ≢ fault.Memory → IsFault bytes e → (r : Result Source FrontFault) → Judges bytes r → Refuses e r
+pub refuses : (bytes : List ℕ) (e : FrontFault) → e ≢ fault.Memory → IsFault bytes e → (r : Result TreeView FrontFault) → Judges bytes r → Refuses e r
 refuses bytes e ne h (Ok tree) s = spelled_fault e ne h
   where
     spelled_fault : (e : FrontFault) → e ≢ fault.Memory → IsFault bytes e → ⊥

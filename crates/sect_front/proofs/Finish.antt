@@ -1,13 +1,14 @@
 -- Whatever has been read can be finished.
 use Rattle.std.proofs.Common.{◌≡◌, ℕ, List, [], ◌∷◌, ◌++◌, Some, refl, sym, ◌∙◌, ap, subst, IfSome}
-use Rattle.sect_front.specs.Syntax.{Form, Body, Primitive, If, IfElse, While, Atomic, End}
-use Rattle.sect_front.specs.Source.{Source}
+use Rattle.sect_front.specs.Syntax.{StatementView, BlockView, Primitive, If, IfElse, While, Atomic, End}
+use Rattle.sect_front.specs.TreeView.{TreeView}
 use Rattle.sect_front.specs.Trees.{append}
 use Rattle.sect_front.specs.Grammar.{kind_token}
-use Rattle.sect_front.specs.Tokens.{test_tokens, form_tokens, body_tokens, declarations_tokens, record_tokens, global_tokens, thread_tokens, source_tokens}
-use Rattle.sect_front.specs.Reading.{Reading, reading, empty}
-use Rattle.sect_front.specs.Read.{after, with_record, with_global, with_thread}
+use Rattle.sect_front.specs.steps.Tokens.{locking_tokens, test_tokens, statement_tokens, block_tokens, declarations_tokens, record_tokens, global_tokens, thread_tokens, source_tokens}
+use Rattle.sect_front.specs.steps.ReaderView.{ReaderView, reading, empty}
+use Rattle.sect_front.specs.steps.Read.{after, with_record, with_global, with_thread}
 use Rattle.sect_front.specs.declared.token.Token.{Token}
+use Rattle.sect_front.specs.declared.tree.Locking.TheVariants as locking
 use Rattle.sect_front.specs.declared.token.Token.TheVariants as token
 use Rattle.sect_front.specs.declared.tree.Operand.{Operand}
 use Rattle.sect_front.specs.declared.tree.Operand.TheVariants as operand
@@ -16,20 +17,20 @@ use Rattle.sect_front.specs.declared.tree.Test.{Test}
 use Rattle.sect_front.specs.declared.tree.Comparison.{Comparison}
 use Rattle.sect_front.specs.declared.tree.Comparison.TheVariants as comparison
 use Rattle.sect_front.specs.declared.tree.Declaration.{Declaration}
-use Rattle.sect_front.specs.declared.line.Branch.{Branch}
-use Rattle.sect_front.specs.declared.line.Branch.TheVariants as branch
-use Rattle.sect_front.specs.declared.line.AssignLine.{AssignLine}
-use Rattle.sect_front.specs.declared.line.AssignLine.TheVariants as assign
-use Rattle.sect_front.specs.declared.line.StoreLine.{StoreLine}
-use Rattle.sect_front.specs.declared.line.StoreLine.TheVariants as store
-use Rattle.sect_front.specs.declared.line.BranchLine.{BranchLine}
-use Rattle.sect_front.specs.declared.line.BranchLine.TheVariants as head
-use Rattle.sect_front.specs.declared.line.Line.{Line}
-use Rattle.sect_front.specs.declared.line.Line.TheVariants as line
+use Rattle.sect_front.specs.declared.partial.Branch.{Branch}
+use Rattle.sect_front.specs.declared.partial.Branch.TheVariants as branch
+use Rattle.sect_front.specs.declared.partial.PartialAssign.{PartialAssign}
+use Rattle.sect_front.specs.declared.partial.PartialAssign.TheVariants as assign
+use Rattle.sect_front.specs.declared.partial.PartialStore.{PartialStore}
+use Rattle.sect_front.specs.declared.partial.PartialStore.TheVariants as store
+use Rattle.sect_front.specs.declared.partial.PartialBranch.{PartialBranch}
+use Rattle.sect_front.specs.declared.partial.PartialBranch.TheVariants as head
+use Rattle.sect_front.specs.declared.partial.PartialHead.{PartialHead}
+use Rattle.sect_front.specs.declared.partial.PartialHead.TheVariants as line
 use Rattle.sect_front.specs.declared.within.Frame.{Frame}
 use Rattle.sect_front.specs.declared.within.Frame.TheVariants as frame
-use Rattle.sect_front.specs.declared.within.Place.{Place}
-use Rattle.sect_front.specs.declared.within.Place.TheVariants as place
+use Rattle.sect_front.specs.declared.within.Partial.{Partial}
+use Rattle.sect_front.specs.declared.within.Partial.TheVariants as place
 use Rattle.sect_front.specs.declared.reader.Part.TheVariants as part
 use Rattle.sect_front.specs.declared.reader.RecordStage.{RecordStage}
 use Rattle.sect_front.specs.declared.reader.RecordStage.TheVariants as in_record
@@ -42,10 +43,10 @@ use Rattle.sect_front.specs.declared.reader.Stage.TheVariants as stage
 use Rattle.sect_front.proofs.Keeps.{line_tokens, place_tokens, frames_tokens, stage_tokens, record_stage_tokens, global_stage_tokens, thread_stage_tokens, body_tokens_append, after_law, declarations_append, hints_append, opened, headed, one_record, one_global, one_thread, Fits, part_in, IsOrdered, IsKept}
 
 -- a statement that a line can become, by these tokens
-record LineEnd (l : Line) : Type 0 where
-  form : Form
+record LineEnd (l : PartialHead) : Type 0 where
+  form : StatementView
   more : List Token → List Token
-  is : (w : List Token) → form_tokens form w ≡ line_tokens l (more w)
+  is : (w : List Token) → statement_tokens form w ≡ line_tokens l (more w)
 
 abbrev zero_operand : Operand
 zero_operand = operand.Number 0
@@ -60,7 +61,7 @@ zero_test = test_of zero_operand comparison.Less zero_operand
 abbrev no_block : List Token → List Token
 no_block w = token.OpenBrace ∷ token.CloseBrace ∷ w
 
-assign_end : (x : List ℕ) (a : AssignLine) → LineEnd (line.Assign x a)
+assign_end : (x : List ℕ) (a : PartialAssign) → LineEnd (line.Assign x a)
 assign_end x assign.AfterEqual = record { form = Primitive (primitive.Assign x zero_operand); more = λ w. token.Number 0 ∷ token.Semicolon ∷ w; is = λ w. refl }
 assign_end x (assign.AfterFirstName y) = record { form = Primitive (primitive.Assign x (operand.Name y)); more = λ w. token.Semicolon ∷ w; is = λ w. refl }
 assign_end x (assign.AfterFirst v) = record { form = Primitive (primitive.Assign x v); more = λ w. token.Semicolon ∷ w; is = λ w. refl }
@@ -71,22 +72,22 @@ assign_end x (assign.AfterRecord r) = record { form = Primitive (primitive.New x
 assign_end x (assign.AfterDot y) = record { form = Primitive (primitive.Load x y y); more = λ w. token.Name y ∷ token.Semicolon ∷ w; is = λ w. refl }
 assign_end x (assign.AfterField y f) = record { form = Primitive (primitive.Load x y f); more = λ w. token.Semicolon ∷ w; is = λ w. refl }
 
-store_end : (y : List ℕ) (s : StoreLine) → LineEnd (line.Store y s)
+store_end : (y : List ℕ) (s : PartialStore) → LineEnd (line.Store y s)
 store_end y store.AfterDot = record { form = Primitive (primitive.Store y y zero_operand); more = λ w. token.Name y ∷ token.Equal ∷ token.Number 0 ∷ token.Semicolon ∷ w; is = λ w. refl }
 store_end y (store.AfterField f) = record { form = Primitive (primitive.Store y f zero_operand); more = λ w. token.Equal ∷ token.Number 0 ∷ token.Semicolon ∷ w; is = λ w. refl }
 store_end y (store.AfterEqual f) = record { form = Primitive (primitive.Store y f zero_operand); more = λ w. token.Number 0 ∷ token.Semicolon ∷ w; is = λ w. refl }
 store_end y (store.AfterValue f v) = record { form = Primitive (primitive.Store y f v); more = λ w. token.Semicolon ∷ w; is = λ w. refl }
 
 -- the statement that a branch makes of a test, with an empty block
-abbrev branch_form : Branch → Test → Form
+abbrev branch_form : Branch → Test → StatementView
 branch_form branch.If t = If t End
 branch_form branch.While t = While t End
 
-branch_is : (b : Branch) (t : Test) (w : List Token) → form_tokens (branch_form b t) w ≡ line_tokens (line.Branch b (head.AfterClose t)) (no_block w)
+branch_is : (b : Branch) (t : Test) (w : List Token) → statement_tokens (branch_form b t) w ≡ line_tokens (line.Branch b (head.AfterClose t)) (no_block w)
 branch_is branch.If t w = refl
 branch_is branch.While t w = refl
 
-branch_end : (b : Branch) (h : BranchLine) → LineEnd (line.Branch b h)
+branch_end : (b : Branch) (h : PartialBranch) → LineEnd (line.Branch b h)
 branch_end b head.AfterWord = record { form = branch_form b zero_test; more = λ w. test_tokens zero_test (no_block w); is = branch_is b zero_test }
 branch_end b head.AfterOpen = record { form = branch_form b zero_test; more = λ w. token.Number 0 ∷ token.Less ∷ token.Number 0 ∷ token.CloseParen ∷ no_block w; is = branch_is b zero_test }
 branch_end b (head.AfterLeft v) = let t = test_of v comparison.Less zero_operand in
@@ -96,54 +97,55 @@ branch_end b (head.AfterComparison v o) = let t = test_of v o zero_operand in
 branch_end b (head.AfterRight t) = record { form = branch_form b t; more = λ w. token.CloseParen ∷ no_block w; is = branch_is b t }
 branch_end b (head.AfterClose t) = record { form = branch_form b t; more = no_block; is = branch_is b t }
 
-line_end : (l : Line) → LineEnd l
+line_end : (l : PartialHead) → LineEnd l
 line_end (line.AfterName x) = record { form = Primitive (primitive.Assign x zero_operand); more = λ w. token.Equal ∷ token.Number 0 ∷ token.Semicolon ∷ w; is = λ w. refl }
 line_end (line.Assign x a) = assign_end x a
 line_end (line.Store y s) = store_end y s
 line_end line.AfterPrint = record { form = Primitive (primitive.Print zero_operand); more = λ w. token.Number 0 ∷ token.Semicolon ∷ w; is = λ w. refl }
 line_end (line.AfterPrinted v) = record { form = Primitive (primitive.Print v); more = λ w. token.Semicolon ∷ w; is = λ w. refl }
 line_end (line.Branch b h) = branch_end b h
-line_end line.AfterAtomic = record { form = Atomic End; more = no_block; is = λ w. refl }
+line_end line.AfterAtomic = record { form = Atomic locking.Inferred End; more = no_block; is = λ w. refl }
+line_end line.AfterAll = record { form = Atomic locking.All End; more = no_block; is = λ w. refl }
 
 -- a body that what has been read can become, by these tokens
 record BodyEnd (kept : List Token → List Token) : Type 0 where
-  body : Body
+  body : BlockView
   more : List Token → List Token
-  is : (w : List Token) → body_tokens body w ≡ kept (more w)
+  is : (w : List Token) → block_tokens body w ≡ kept (more w)
 
-place_end : (b : Body) (p : Place) → BodyEnd (λ w. body_tokens b (place_tokens p w))
+place_end : (b : BlockView) (p : Partial) → BodyEnd (λ w. block_tokens b (place_tokens p w))
 place_end b place.Start = record { body = b; more = λ w. w; is = λ w. refl }
 place_end b (place.Inside l) = let e = line_end l in
-    record { body = append b e.form; more = e.more; is = λ w. body_tokens_append b e.form w ∙ ap (body_tokens b) (e.is w) }
+    record { body = append b e.form; more = e.more; is = λ w. body_tokens_append b e.form w ∙ ap (block_tokens b) (e.is w) }
 place_end b (place.AfterThen t a) = record { body = append b (If t a); more = λ w. w; is = body_tokens_append b (If t a) }
 place_end b (place.AfterElse t a) =
     record { body = append b (IfElse t a End); more = no_block; is = body_tokens_append b (IfElse t a End) }
 
 -- the innermost block becomes a statement of the one around it
-closed : (fs : List Frame) (b : Body) (s : Form) (kept : List Token → List Token) → ((w : List Token) → form_tokens s w ≡ kept (token.CloseBrace ∷ w)) →
-    BodyEnd (λ w. frames_tokens fs (body_tokens (append b s) w)) → BodyEnd (λ w. frames_tokens fs (body_tokens b (kept w)))
+closed : (fs : List Frame) (b : BlockView) (s : StatementView) (kept : List Token → List Token) → ((w : List Token) → statement_tokens s w ≡ kept (token.CloseBrace ∷ w)) →
+    BodyEnd (λ w. frames_tokens fs (block_tokens (append b s) w)) → BodyEnd (λ w. frames_tokens fs (block_tokens b (kept w)))
 closed fs b s kept h e =
-    record { body = e.body; more = λ w. token.CloseBrace ∷ e.more w; is = λ w. e.is w ∙ ap (frames_tokens fs) (body_tokens_append b s (e.more w) ∙ ap (body_tokens b) (h (e.more w))) }
+    record { body = e.body; more = λ w. token.CloseBrace ∷ e.more w; is = λ w. e.is w ∙ ap (frames_tokens fs) (body_tokens_append b s (e.more w) ∙ ap (block_tokens b) (h (e.more w))) }
 
-frames_end : (fs : List Frame) (b : Body) → BodyEnd (λ w. frames_tokens fs (body_tokens b w))
+frames_end : (fs : List Frame) (b : BlockView) → BodyEnd (λ w. frames_tokens fs (block_tokens b w))
 frames_end [] b = record { body = b; more = λ w. w; is = λ w. refl }
-frames_end (frame.Atomic c ∷ fs) b = closed fs c (Atomic b) (λ w. token.Atomic ∷ token.OpenBrace ∷ body_tokens b w) (λ w. refl) (frames_end fs (append c (Atomic b)))
-frames_end (frame.While c t ∷ fs) b = closed fs c (While t b) (λ w. token.While ∷ test_tokens t (token.OpenBrace ∷ body_tokens b w)) (λ w. refl) (frames_end fs (append c (While t b)))
-frames_end (frame.Then c t ∷ fs) b = closed fs c (If t b) (λ w. token.If ∷ test_tokens t (token.OpenBrace ∷ body_tokens b w)) (λ w. refl) (frames_end fs (append c (If t b)))
+frames_end (frame.Atomic c l ∷ fs) b = closed fs c (Atomic l b) (λ w. token.Atomic ∷ locking_tokens l (token.OpenBrace ∷ block_tokens b w)) (λ w. refl) (frames_end fs (append c (Atomic l b)))
+frames_end (frame.While c t ∷ fs) b = closed fs c (While t b) (λ w. token.While ∷ test_tokens t (token.OpenBrace ∷ block_tokens b w)) (λ w. refl) (frames_end fs (append c (While t b)))
+frames_end (frame.Then c t ∷ fs) b = closed fs c (If t b) (λ w. token.If ∷ test_tokens t (token.OpenBrace ∷ block_tokens b w)) (λ w. refl) (frames_end fs (append c (If t b)))
 frames_end (frame.Else c t a ∷ fs) b =
-    closed fs c (IfElse t a b) (λ w. form_tokens (If t a) (token.Else ∷ token.OpenBrace ∷ body_tokens b w)) (λ w. refl) (frames_end fs (append c (IfElse t a b)))
+    closed fs c (IfElse t a b) (λ w. statement_tokens (If t a) (token.Else ∷ token.OpenBrace ∷ block_tokens b w)) (λ w. refl) (frames_end fs (append c (IfElse t a b)))
 
-stand_end : (fs : List Frame) (b : Body) (p : Place) → BodyEnd (λ w. frames_tokens fs (body_tokens b (place_tokens p w)))
+stand_end : (fs : List Frame) (b : BlockView) (p : Partial) → BodyEnd (λ w. frames_tokens fs (block_tokens b (place_tokens p w)))
 stand_end fs b p = let e = place_end b p in let f = frames_end fs e.body in
     record { body = f.body; more = λ w. e.more (f.more w); is = λ w. f.is w ∙ ap (frames_tokens fs) (e.is (f.more w)) }
 
 -- a tree that what has been read can become
 record SourceEnd (kept : List Token → List Token) : Type 0 where
-  source : Source
+  source : TreeView
   rest : List Token
   is : source_tokens source [] ≡ kept rest
 
-record_end : (s : Source) (n : List ℕ) (hs : List (List ℕ)) (fs : List Declaration) (kept : List Token → List Token) (rest : List Token) → Fits part.Records s →
+record_end : (s : TreeView) (n : List ℕ) (hs : List (List ℕ)) (fs : List Declaration) (kept : List Token → List Token) (rest : List Token) → Fits part.Records s →
     record_tokens (record { name = n; hints = hs; fields = fs }) [] ≡ kept rest → SourceEnd (λ w. source_tokens s (kept w))
 record_end s n hs fs kept rest h e = record {
   source = with_record s (record { name = n; hints = hs; fields = fs });
@@ -156,7 +158,7 @@ one_field : (n : List ℕ) (hs : List (List ℕ)) (fs : List Declaration) (d : D
     headed n hs (token.OpenBrace ∷ declarations_tokens fs (kind_token d.kind ∷ token.Name d.name ∷ token.Semicolon ∷ token.CloseBrace ∷ []))
 one_field n hs fs d = ap (λ x. headed n hs (token.OpenBrace ∷ x)) (declarations_append fs d (token.CloseBrace ∷ []))
 
-record_stage_end : (s : Source) (r : RecordStage) → Fits part.Records s → SourceEnd (λ w. source_tokens s (record_stage_tokens r w))
+record_stage_end : (s : TreeView) (r : RecordStage) → Fits part.Records s → SourceEnd (λ w. source_tokens s (record_stage_tokens r w))
 record_stage_end s in_record.AfterWord h = record_end s (120 ∷ []) [] [] (record_stage_tokens in_record.AfterWord) (token.Name (120 ∷ []) ∷ no_block []) h refl
 record_stage_end s (in_record.Head n hs) h = record_end s n hs [] (record_stage_tokens (in_record.Head n hs)) (no_block []) h refl
 record_stage_end s (in_record.AfterProtectedBy n hs) h =
@@ -167,7 +169,7 @@ record_stage_end s (in_record.AfterKind n hs fs k) h = let d : Declaration = rec
 record_stage_end s (in_record.AfterField n hs fs k f) h = let d : Declaration = record { kind = k; name = f } in
     record_end s n hs (fs ++ d ∷ []) (record_stage_tokens (in_record.AfterField n hs fs k f)) (token.Semicolon ∷ token.CloseBrace ∷ []) h (one_field n hs fs d)
 
-global_end : (s : Source) (r g : List ℕ) (kept : List Token → List Token) (rest : List Token) → Fits part.Globals s →
+global_end : (s : TreeView) (r g : List ℕ) (kept : List Token → List Token) (rest : List Token) → Fits part.Globals s →
     global_tokens (record { of = r; name = g }) [] ≡ kept rest → SourceEnd (λ w. source_tokens s (kept w))
 global_end s r g kept rest h e = record {
   source = with_global s (record { of = r; name = g });
@@ -175,13 +177,13 @@ global_end s r g kept rest h e = record {
   is = sym (one_global s (record { of = r; name = g }) [] h) ∙ ap (source_tokens s) e;
 }
 
-global_stage_end : (s : Source) (g : GlobalStage) → Fits part.Globals s → SourceEnd (λ w. source_tokens s (global_stage_tokens g w))
+global_stage_end : (s : TreeView) (g : GlobalStage) → Fits part.Globals s → SourceEnd (λ w. source_tokens s (global_stage_tokens g w))
 global_stage_end s in_global.AfterWord h =
     global_end s (120 ∷ []) (120 ∷ []) (global_stage_tokens in_global.AfterWord) (token.Name (120 ∷ []) ∷ token.Name (120 ∷ []) ∷ token.Semicolon ∷ []) h refl
 global_stage_end s (in_global.AfterRecord r) h = global_end s r r (global_stage_tokens (in_global.AfterRecord r)) (token.Name r ∷ token.Semicolon ∷ []) h refl
 global_stage_end s (in_global.AfterName r g) h = global_end s r g (global_stage_tokens (in_global.AfterName r g)) (token.Semicolon ∷ []) h refl
 
-thread_end : (s : Source) (n : List ℕ) (ls : List Declaration) (b : Body) (kept : List Token → List Token) (rest : List Token) →
+thread_end : (s : TreeView) (n : List ℕ) (ls : List Declaration) (b : BlockView) (kept : List Token → List Token) (rest : List Token) →
     thread_tokens (record { name = n; locals = ls; body = b }) [] ≡ kept rest → SourceEnd (λ w. source_tokens s (kept w))
 thread_end s n ls b kept rest e = record {
   source = with_thread s (record { name = n; locals = ls; body = b });
@@ -194,7 +196,7 @@ one_local : (n : List ℕ) (ls : List Declaration) (d : Declaration) → thread_
     opened n ls (kind_token d.kind ∷ token.Name d.name ∷ token.Semicolon ∷ token.CloseBrace ∷ [])
 one_local n ls d = ap (λ x. token.Thread ∷ token.Name n ∷ token.OpenBrace ∷ x) (declarations_append ls d (token.CloseBrace ∷ []))
 
-thread_stage_end : (s : Source) (t : ThreadStage) → SourceEnd (λ w. source_tokens s (thread_stage_tokens t w))
+thread_stage_end : (s : TreeView) (t : ThreadStage) → SourceEnd (λ w. source_tokens s (thread_stage_tokens t w))
 thread_stage_end s in_thread.AfterWord = thread_end s (120 ∷ []) [] End (thread_stage_tokens in_thread.AfterWord) (token.Name (120 ∷ []) ∷ no_block []) refl
 thread_stage_end s (in_thread.AfterName n) = thread_end s n [] End (thread_stage_tokens (in_thread.AfterName n)) (no_block []) refl
 thread_stage_end s (in_thread.Locals n ls) = thread_end s n ls End (thread_stage_tokens (in_thread.Locals n ls)) (token.CloseBrace ∷ []) refl
@@ -205,24 +207,24 @@ thread_stage_end s (in_thread.AfterLocal n ls k x) = let d : Declaration = recor
 thread_stage_end s (in_thread.Inside n ls x) = let e = stand_end x.frames x.before x.place in
     thread_end s n ls e.body (thread_stage_tokens (in_thread.Inside n ls x)) (e.more (token.CloseBrace ∷ [])) (ap (opened n ls) (e.is (token.CloseBrace ∷ [])))
 
-source_end : (s : Source) (g : Stage) → Fits (part_in g) s → SourceEnd (λ w. source_tokens s (stage_tokens g w))
+source_end : (s : TreeView) (g : Stage) → Fits (part_in g) s → SourceEnd (λ w. source_tokens s (stage_tokens g w))
 source_end s (stage.Between p) h = record { source = s; rest = []; is = refl }
 source_end s (stage.Record r) h = record_stage_end s r h
 source_end s (stage.Global g) h = global_stage_end s g h
 source_end s (stage.Thread t) h = thread_stage_end s t
 
-abbrev pub start : Reading
+abbrev pub start : ReaderView
 start = reading empty (stage.Between part.Records)
 
 pub start_ordered : IsOrdered start
 start_ordered = (refl, refl)
 
 -- these tokens are what the state keeps of them
-pub kept_from : (front rest : List Token) (r : Reading) → after start front ≡ Some r → IsKept (front ++ rest) rest r
+pub kept_from : (front rest : List Token) (r : ReaderView) → after start front ≡ Some r → IsKept (front ++ rest) rest r
 kept_from front rest r h = subst (λ o. IfSome o (IsKept (front ++ rest) rest)) h (after_law start front rest start_ordered)
 
 -- what is read from the start on begins the tokens of a tree
-pub finishes : (front : List Token) (r : Reading) → after start front ≡ Some r → (s : Source) × (rest : List Token) × (source_tokens s [] ≡ front ++ rest)
+pub finishes : (front : List Token) (r : ReaderView) → after start front ≡ Some r → (s : TreeView) × (rest : List Token) × (source_tokens s [] ≡ front ++ rest)
 finishes front r h =
     let ordered : IsOrdered r = (kept_from front [] r h).ordered in
     let e = source_end r.source r.stage ordered in

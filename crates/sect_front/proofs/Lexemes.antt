@@ -7,7 +7,7 @@ use Rattle.std.proofs.lemmas.List.Folds.{length-prefix_len}
 use Rattle.std.proofs.lemmas.List.Sums.{prefix_len-le-length}
 use Rattle.sect_front.specs.Words.{is_letter, is_digit, is_name_byte}
 use Rattle.sect_front.specs.Gaps.{begins_with}
-use Rattle.sect_front.specs.Recognition.{keyword_of, keyword_table, token_beside, or_name, word_token, decimal_from, number_of, as_number, single_sign, double_sign, sign_token, spelled}
+use Rattle.sect_front.specs.steps.Recognition.{keyword_of, keyword_table, token_beside, or_name, word_token, decimal_from, number_of, as_number, single_sign, double_sign, sign_token, spelled}
 use Rattle.sect_front.specs.Lexeme.{with_length, longest, sign_at, lexeme_of, begins_name}
 use Rattle.sect_front.specs.Lexing.{stands, IsFirst, IsBad}
 use Rattle.sect_front.specs.declared.token.Token.{Token}
@@ -33,7 +33,7 @@ beside_holds P w (row ∷ rows) h t e = if_some P (bytes_eq w row.0) row.1 (toke
 
 -- keywords and names stand where no name byte follows
 stands_word : (w rest : List ℕ) → stands (word_token w) rest ≡ not (begins_name rest)
-stands_word w rest = go (keyword_of w) (beside_holds P w keyword_table (refl, (refl, (refl, (refl, (refl, (refl, (refl, (refl, (refl, (refl, (refl, (refl, (refl, tt))))))))))))))
+stands_word w rest = go (keyword_of w) (beside_holds P w keyword_table (refl, (refl, (refl, (refl, (refl, (refl, (refl, (refl, (refl, (refl, (refl, (refl, (refl, (refl, tt)))))))))))))))
   where
     P : Token → Type 0
     P t = stands t rest ≡ not (begins_name rest)

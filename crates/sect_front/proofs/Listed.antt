@@ -1,11 +1,12 @@
 -- The tokens of a tree by the grammar are those that stand before what follows.
 use Rattle.std.proofs.Common.{◌≡◌, ℕ, List, [], ◌∷◌, ◌++◌, refl, sym, ◌∙◌, ap, append_assoc, append-nil}
 use Rattle.std.specs.List.{flat_map}
-use Rattle.sect_front.specs.Syntax.{Form, Body, Primitive, If, IfElse, While, Atomic, End, Then}
-use Rattle.sect_front.specs.Source.{Source}
+use Rattle.sect_front.specs.Syntax.{StatementView, BlockView, Primitive, If, IfElse, While, Atomic, End, Then}
+use Rattle.sect_front.specs.TreeView.{TreeView}
 use Rattle.sect_front.specs.Grammar.{primitive_list, in_braces, statement_list, statements_list, declaration_list, hint_list, record_list, global_list, thread_list, kind_token, tokens_of}
-use Rattle.sect_front.specs.Tokens.{primitive_tokens, test_tokens, form_tokens, body_tokens, declarations_tokens, hints_tokens, record_tokens, thread_tokens, records_tokens, globals_tokens, threads_tokens, source_tokens}
+use Rattle.sect_front.specs.steps.Tokens.{primitive_tokens, test_tokens, statement_tokens, block_tokens, declarations_tokens, hints_tokens, record_tokens, thread_tokens, records_tokens, globals_tokens, threads_tokens, source_tokens}
 use Rattle.sect_front.specs.declared.token.Token.{Token}
+use Rattle.sect_front.specs.declared.tree.Locking.TheVariants as locking
 use Rattle.sect_front.specs.declared.token.Token.TheVariants as token
 use Rattle.sect_front.specs.declared.tree.Primitive as leaf
 use Rattle.sect_front.specs.declared.tree.Primitive.TheVariants as primitive
@@ -26,23 +27,24 @@ primitive_same (primitive.Print v) w = refl
 braced : (inner w : List Token) → in_braces inner ++ w ≡ token.OpenBrace ∷ inner ++ token.CloseBrace ∷ w
 braced inner w = ap (λ x. token.OpenBrace ∷ x) (append_assoc inner (token.CloseBrace ∷ []) w)
 
-block : (b : Body) → ((w : List Token) → statements_list b ++ w ≡ body_tokens b w) → (w : List Token) →
-    in_braces (statements_list b) ++ w ≡ token.OpenBrace ∷ body_tokens b (token.CloseBrace ∷ w)
+block : (b : BlockView) → ((w : List Token) → statements_list b ++ w ≡ block_tokens b w) → (w : List Token) →
+    in_braces (statements_list b) ++ w ≡ token.OpenBrace ∷ block_tokens b (token.CloseBrace ∷ w)
 block b ih w = braced (statements_list b) w ∙ ap (λ x. token.OpenBrace ∷ x) (ih (token.CloseBrace ∷ w))
 
 mutual
-  form_same : (s : Form) (w : List Token) → statement_list s ++ w ≡ form_tokens s w
+  form_same : (s : StatementView) (w : List Token) → statement_list s ++ w ≡ statement_tokens s w
   form_same (Primitive p) w = primitive_same p w
   form_same (If t a) w = ap (λ x. token.If ∷ test_tokens t x) (block a (λ v. body_same a v) w)
   form_same (IfElse t a b) w =
       ap (λ x. token.If ∷ test_tokens t x) (append_assoc (in_braces (statements_list a)) (token.Else ∷ in_braces (statements_list b)) w ∙
-      (block a (λ v. body_same a v) (token.Else ∷ in_braces (statements_list b) ++ w) ∙ ap (λ x. token.OpenBrace ∷ body_tokens a (token.CloseBrace ∷ token.Else ∷ x)) (block b (λ v. body_same b v) w)))
+      (block a (λ v. body_same a v) (token.Else ∷ in_braces (statements_list b) ++ w) ∙ ap (λ x. token.OpenBrace ∷ block_tokens a (token.CloseBrace ∷ token.Else ∷ x)) (block b (λ v. body_same b v) w)))
   form_same (While t a) w = ap (λ x. token.While ∷ test_tokens t x) (block a (λ v. body_same a v) w)
-  form_same (Atomic a) w = ap (λ x. token.Atomic ∷ x) (block a (λ v. body_same a v) w)
+  form_same (Atomic locking.Inferred a) w = ap (λ x. token.Atomic ∷ x) (block a (λ v. body_same a v) w)
+  form_same (Atomic locking.All a) w = ap (λ x. token.Atomic ∷ token.All ∷ x) (block a (λ v. body_same a v) w)
 
-  body_same : (b : Body) (w : List Token) → statements_list b ++ w ≡ body_tokens b w
+  body_same : (b : BlockView) (w : List Token) → statements_list b ++ w ≡ block_tokens b w
   body_same End w = refl
-  body_same (Then s b) w = append_assoc (statement_list s) (statements_list b) w ∙ (ap (λ x. statement_list s ++ x) (body_same b w) ∙ form_same s (body_tokens b w))
+  body_same (Then s b) w = append_assoc (statement_list s) (statements_list b) w ∙ (ap (λ x. statement_list s ++ x) (body_same b w) ∙ form_same s (block_tokens b w))
 
 declarations_same : (ds : List Declaration) (w : List Token) → flat_map declaration_list ds ++ w ≡ declarations_tokens ds w
 declarations_same [] w = refl
@@ -77,7 +79,7 @@ threads_same [] w = refl
 threads_same (t ∷ ts) w = append_assoc (thread_list t) (flat_map thread_list ts) w ∙ (ap (λ x. thread_list t ++ x) (threads_same ts w) ∙ thread_same t (threads_tokens ts w))
 
 -- the tokens of a tree before those of what follows
-pub tokens_before : (s : Source) (w : List Token) → tokens_of s ++ w ≡ source_tokens s w
+pub tokens_before : (s : TreeView) (w : List Token) → tokens_of s ++ w ≡ source_tokens s w
 tokens_before s w =
     let records : List Token = flat_map record_list s.records in
     let globals : List Token = flat_map global_list s.globals in
@@ -85,5 +87,5 @@ tokens_before s w =
     append_assoc (records ++ globals) threads w ∙ (append_assoc records globals (threads ++ w) ∙ (ap (λ x. records ++ (globals ++ x)) (threads_same s.threads w) ∙
     (ap (λ x. records ++ x) (globals_same s.globals (threads_tokens s.threads w)) ∙ records_same s.records (globals_tokens s.globals (threads_tokens s.threads w)))))
 
-pub tokens_same : (s : Source) → tokens_of s ≡ source_tokens s []
+pub tokens_same : (s : TreeView) → tokens_of s ≡ source_tokens s []
 tokens_same s = sym (append-nil (tokens_of s)) ∙ tokens_before s []

@@ -11,7 +11,7 @@ use Rattle.std.specs.Str.{bytes_eq}
 use Rattle.std.specs.Prelude.{is_some, is_none}
 use Rattle.sect_front.specs.Names.{IsPadded, zeros_from}
 use Rattle.sect_front.specs.Words.{is_name, is_letter, is_name_byte, is_keyword, begins}
-use Rattle.sect_front.specs.Recognition.{keyword_of, keyword_table, token_beside}
+use Rattle.sect_front.specs.steps.Recognition.{keyword_of, keyword_table, token_beside}
 use Rattle.sect_front.proofs.Choices.{both, not_true}
 
 -- what a name is

@@ -7,7 +7,7 @@ use Rattle.std.proofs.lemmas.Bool.Decides.{nat_tests}
 use Rattle.std.proofs.lemmas.Fmt.{decimal_by_steps_wide, decimal-digits_value, digits_decimal, decimal_nonempty}
 use Rattle.std.proofs.lemmas.Str.Parse.{IsNumeralModel, IsDigitsTest, FoldsDigits, numerals_by_fold}
 use Rattle.sect_front.specs.Words.{is_digit}
-use Rattle.sect_front.specs.Recognition.{decimal_from, number_of}
+use Rattle.sect_front.specs.steps.Recognition.{decimal_from, number_of}
 use Rattle.sect_front.proofs.Choices.{chosen, refused, both, some_inj, no_some}
 
 digit_test : (n : ℕ) → n < 10 → is_digit (48 + n) ≡ true

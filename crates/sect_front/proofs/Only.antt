@@ -3,8 +3,8 @@ use Rattle.std.proofs.Common.{ℕ, List, Result, Ok, Err, subst, arith, Bool}
 use Rattle.sect_front.specs.Front.{IsSpelled, IsBadOn, Judges, Gives}
 use Rattle.sect_front.specs.Faults.{tokens_in, IsTree}
 use Rattle.sect_front.specs.Lexing.{Spells}
-use Rattle.sect_front.specs.declared.token.Placed.{Placed}
-use Rattle.sect_front.specs.Source.{Source}
+use Rattle.sect_front.specs.declared.token.TokenAt.{TokenAt}
+use Rattle.sect_front.specs.TreeView.{TreeView}
 use Rattle.sect_front.specs.declared.parsing.FrontFault.{FrontFault}
 use Rattle.sect_front.specs.declared.parsing.FrontFault.TheVariants as fault
 use Rattle.sect_front.specs.declared.reading.TokenFault.TheVariants as token_fault
@@ -12,14 +12,14 @@ use Rattle.sect_front.proofs.Reach.{one_lexing, bad_or_lexed}
 use Rattle.sect_front.proofs.Verdict.{given}
 
 -- the same tokens, whichever way they were found
-same_tokens : (bytes : List ℕ) (ps : List Placed) (tree : Source) → Spells bytes ps → (s : IsSpelled bytes tree) → IsTree (tokens_in ps) tree
+same_tokens : (bytes : List ℕ) (ps : List TokenAt) (tree : TreeView) → Spells bytes ps → (s : IsSpelled bytes tree) → IsTree (tokens_in ps) tree
 same_tokens bytes ps tree h s =
     subst (λ qs. IsTree (tokens_in qs) tree) (one_lexing bytes s.places ps s.spells h) s.parses
 
-no_bad : (bytes : List ℕ) (line : ℕ) (l d : Bool) (tree : Source) → IsBadOn bytes line l d → IsSpelled bytes tree → ⊥
+no_bad : (bytes : List ℕ) (line : ℕ) (l d : Bool) (tree : TreeView) → IsBadOn bytes line l d → IsSpelled bytes tree → ⊥
 no_bad bytes line l d tree h s = bad_or_lexed bytes h.at s.places h.bad s.spells
 
-pub only : (bytes : List ℕ) (tree : Source) → IsSpelled bytes tree → (r : Result Source FrontFault) → Judges bytes r → Gives tree r
+pub only : (bytes : List ℕ) (tree : TreeView) → IsSpelled bytes tree → (r : Result TreeView FrontFault) → Judges bytes r → Gives tree r
 only bytes tree s (Ok found) h = given (tokens_in h.places) (Ok found) h.parses tree (same_tokens bytes h.places tree h.spells s)
 only bytes tree s (Err fault.Memory) h = tt
 only bytes tree s (Err fault.TooLarge) h = omega (arith, s.fits)

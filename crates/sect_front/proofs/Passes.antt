@@ -1,14 +1,15 @@
 -- The tokens of each tree are taken, one after another, and lead to that tree.
 use Rattle.std.proofs.Common.{◌≡◌, ℕ, List, [], ◌∷◌, ◌++◌, Some, refl, sym, ◌∙◌, ap, append_assoc, append-nil}
-use Rattle.sect_front.specs.Syntax.{Form, Body, Primitive, If, IfElse, While, Atomic, End, Then}
-use Rattle.sect_front.specs.Source.{Source}
+use Rattle.sect_front.specs.Syntax.{StatementView, BlockView, Primitive, If, IfElse, While, Atomic, End, Then}
+use Rattle.sect_front.specs.TreeView.{TreeView}
 use Rattle.sect_front.specs.Trees.{append}
 use Rattle.sect_front.specs.Grammar.{operand_token, operator_token, comparison_token, kind_token}
-use Rattle.sect_front.specs.Tokens.{primitive_tokens, test_tokens, form_tokens, body_tokens, declarations_tokens, hints_tokens, record_tokens, thread_tokens, records_tokens, globals_tokens, threads_tokens, source_tokens}
-use Rattle.sect_front.specs.Advance.{operand_of, operator_of, comparison_of}
-use Rattle.sect_front.specs.Reading.{Reading, reading}
-use Rattle.sect_front.specs.Read.{after}
+use Rattle.sect_front.specs.steps.Tokens.{primitive_tokens, test_tokens, statement_tokens, block_tokens, declarations_tokens, hints_tokens, record_tokens, thread_tokens, records_tokens, globals_tokens, threads_tokens, source_tokens}
+use Rattle.sect_front.specs.steps.Advance.{operand_of, operator_of, comparison_of}
+use Rattle.sect_front.specs.steps.ReaderView.{ReaderView, reading}
+use Rattle.sect_front.specs.steps.Read.{after}
 use Rattle.sect_front.specs.declared.token.Token.{Token}
+use Rattle.sect_front.specs.declared.tree.Locking.TheVariants as locking
 use Rattle.sect_front.specs.declared.token.Token.TheVariants as token
 use Rattle.sect_front.specs.declared.tree.Operand.{Operand}
 use Rattle.sect_front.specs.declared.tree.Operand.TheVariants as operand
@@ -27,8 +28,8 @@ use Rattle.sect_front.specs.declared.tree.GlobalObject.{GlobalObject}
 use Rattle.sect_front.specs.declared.tree.Thread.{Thread}
 use Rattle.sect_front.specs.declared.within.Frame.{Frame}
 use Rattle.sect_front.specs.declared.within.Frame.TheVariants as frame
-use Rattle.sect_front.specs.declared.within.Place.{Place}
-use Rattle.sect_front.specs.declared.within.Place.TheVariants as place
+use Rattle.sect_front.specs.declared.within.Partial.{Partial}
+use Rattle.sect_front.specs.declared.within.Partial.TheVariants as place
 use Rattle.sect_front.specs.declared.reader.Part.{Part}
 use Rattle.sect_front.specs.declared.reader.Part.TheVariants as part
 use Rattle.sect_front.specs.declared.reader.RecordStage.TheVariants as in_record
@@ -53,48 +54,48 @@ comparison_back comparison.Equal = refl
 comparison_back comparison.NotEqual = refl
 
 -- these statements and then those
-abbrev join : Body → Body → Body
+abbrev join : BlockView → BlockView → BlockView
 join b End = b
 join b (Then s c) = join (append b s) c
 
 -- the same, by recursion on the first
-abbrev cat : Body → Body → Body
+abbrev cat : BlockView → BlockView → BlockView
 cat End c = c
 cat (Then s b) c = Then s (cat b c)
 
-cat_append : (b : Body) (s : Form) (c : Body) → cat (append b s) c ≡ cat b (Then s c)
+cat_append : (b : BlockView) (s : StatementView) (c : BlockView) → cat (append b s) c ≡ cat b (Then s c)
 cat_append End s c = refl
 cat_append (Then t b) s c = ap (Then t) (cat_append b s c)
 
-cat_end : (b : Body) → cat b End ≡ b
+cat_end : (b : BlockView) → cat b End ≡ b
 cat_end End = refl
 cat_end (Then t b) = ap (Then t) (cat_end b)
 
-join_cat : (b c : Body) → join b c ≡ cat b c
+join_cat : (b c : BlockView) → join b c ≡ cat b c
 join_cat b End = sym (cat_end b)
 join_cat b (Then s c) = join_cat (append b s) c ∙ cat_append b s c
 
-join_end : (b : Body) → join End b ≡ b
+join_end : (b : BlockView) → join End b ≡ b
 join_end b = join_cat End b
 
-module _ (s : Source) (n : List ℕ) (ls : List Declaration) where
-  abbrev at : List Frame → Body → Place → Reading
+module _ (s : TreeView) (n : List ℕ) (ls : List Declaration) where
+  abbrev at : List Frame → BlockView → Partial → ReaderView
   at fs b p = reading s (stage.Thread (in_thread.Inside n ls (record { frames = fs; before = b; place = p })))
 
   -- where a statement leads
-  abbrev ended : List Frame → Body → Form → Reading
+  abbrev ended : List Frame → BlockView → StatementView → ReaderView
   ended fs b (Primitive p) = at fs (append b (Primitive p)) place.Start
   ended fs b (If t a) = at fs b (place.AfterThen t a)
   ended fs b (While t a) = at fs (append b (While t a)) place.Start
   ended fs b (IfElse t a c) = at fs (append b (IfElse t a c)) place.Start
-  ended fs b (Atomic a) = at fs (append b (Atomic a)) place.Start
+  ended fs b (Atomic l a) = at fs (append b (Atomic l a)) place.Start
 
-  assign_passes : (fs : List Frame) (b : Body) (x : List ℕ) (v : Operand) (w : List Token) → after (at fs b place.Start) (primitive_tokens (primitive.Assign x v) w) ≡ after (at fs (append b (Primitive (primitive.Assign x v))) place.Start) w
+  assign_passes : (fs : List Frame) (b : BlockView) (x : List ℕ) (v : Operand) (w : List Token) → after (at fs b place.Start) (primitive_tokens (primitive.Assign x v) w) ≡ after (at fs (append b (Primitive (primitive.Assign x v))) place.Start) w
   assign_passes fs b x (operand.Number n) w = refl
   assign_passes fs b x operand.Null w = refl
   assign_passes fs b x (operand.Name n) w = refl
 
-  compute_passes : (fs : List Frame) (b : Body) (x : List ℕ) (v : Operand) (o : Operator) (u : Operand) (w : List Token) → after (at fs b place.Start) (primitive_tokens (primitive.Compute x v o u) w) ≡ after (at fs (append b (Primitive (primitive.Compute x v o u))) place.Start) w
+  compute_passes : (fs : List Frame) (b : BlockView) (x : List ℕ) (v : Operand) (o : Operator) (u : Operand) (w : List Token) → after (at fs b place.Start) (primitive_tokens (primitive.Compute x v o u) w) ≡ after (at fs (append b (Primitive (primitive.Compute x v o u))) place.Start) w
   compute_passes fs b x (operand.Number n) operator.Add u w = simp operand_back
   compute_passes fs b x (operand.Number n) operator.Subtract u w = simp operand_back
   compute_passes fs b x (operand.Number n) operator.Multiply u w = simp operand_back
@@ -105,7 +106,7 @@ module _ (s : Source) (n : List ℕ) (ls : List Declaration) where
   compute_passes fs b x (operand.Name n) operator.Subtract u w = simp operand_back
   compute_passes fs b x (operand.Name n) operator.Multiply u w = simp operand_back
 
-  primitive_passes : (fs : List Frame) (b : Body) (p : leaf.Primitive) (w : List Token) → after (at fs b place.Start) (primitive_tokens p w) ≡ after (at fs (append b (Primitive p)) place.Start) w
+  primitive_passes : (fs : List Frame) (b : BlockView) (p : leaf.Primitive) (w : List Token) → after (at fs b place.Start) (primitive_tokens p w) ≡ after (at fs (append b (Primitive p)) place.Start) w
   primitive_passes fs b (primitive.Assign x v) w = assign_passes fs b x v w
   primitive_passes fs b (primitive.Compute x v o u) w = compute_passes fs b x v o u w
   primitive_passes fs b (primitive.New x r) w = refl
@@ -113,17 +114,17 @@ module _ (s : Source) (n : List ℕ) (ls : List Declaration) where
   primitive_passes fs b (primitive.Store y f v) w = simp operand_back
   primitive_passes fs b (primitive.Print v) w = simp operand_back
 
-  test_passes : (fs : List Frame) (b : Body) (t : Test) (w : List Token) →
+  test_passes : (fs : List Frame) (b : BlockView) (t : Test) (w : List Token) →
       after (at fs b place.Start) (token.If ∷ test_tokens t (token.OpenBrace ∷ w)) ≡ after (at (frame.Then b t ∷ fs) End place.Start) w
   test_passes fs b t w = simp (operand_back, comparison_back)
 
-  while_passes : (fs : List Frame) (b : Body) (t : Test) (w : List Token) →
+  while_passes : (fs : List Frame) (b : BlockView) (t : Test) (w : List Token) →
       after (at fs b place.Start) (token.While ∷ test_tokens t (token.OpenBrace ∷ w)) ≡ after (at (frame.While b t ∷ fs) End place.Start) w
   while_passes fs b t w = simp (operand_back, comparison_back)
 
   -- after a choice with no else-part the next statement starts as after any other
-  settled_next : (fs : List Frame) (b : Body) (t : Test) (a : Body) (s : Form) (w : List Token) →
-      after (at fs b (place.AfterThen t a)) (form_tokens s w) ≡ after (at fs (append b (If t a)) place.Start) (form_tokens s w)
+  settled_next : (fs : List Frame) (b : BlockView) (t : Test) (a : BlockView) (s : StatementView) (w : List Token) →
+      after (at fs b (place.AfterThen t a)) (statement_tokens s w) ≡ after (at fs (append b (If t a)) place.Start) (statement_tokens s w)
   settled_next fs b t a (Primitive (primitive.Assign x v)) w = refl
   settled_next fs b t a (Primitive (primitive.Compute x v o u)) w = refl
   settled_next fs b t a (Primitive (primitive.New x r)) w = refl
@@ -133,56 +134,58 @@ module _ (s : Source) (n : List ℕ) (ls : List Declaration) where
   settled_next fs b t a (If u c) w = refl
   settled_next fs b t a (While u c) w = refl
   settled_next fs b t a (IfElse u c d) w = refl
-  settled_next fs b t a (Atomic c) w = refl
+  settled_next fs b t a (Atomic l c) w = refl
 
-  settled : (fs : List Frame) (b : Body) (s : Form) (r : Body) (w : List Token) →
-      after (ended fs b s) (body_tokens r (token.CloseBrace ∷ w)) ≡ after (at fs (append b s) place.Start) (body_tokens r (token.CloseBrace ∷ w))
+  settled : (fs : List Frame) (b : BlockView) (s : StatementView) (r : BlockView) (w : List Token) →
+      after (ended fs b s) (block_tokens r (token.CloseBrace ∷ w)) ≡ after (at fs (append b s) place.Start) (block_tokens r (token.CloseBrace ∷ w))
   settled fs b (Primitive p) r w = refl
   settled fs b (If t a) End w = refl
-  settled fs b (If t a) (Then s r) w = settled_next fs b t a s (body_tokens r (token.CloseBrace ∷ w))
+  settled fs b (If t a) (Then s r) w = settled_next fs b t a s (block_tokens r (token.CloseBrace ∷ w))
   settled fs b (While t a) r w = refl
   settled fs b (IfElse t a c) r w = refl
-  settled fs b (Atomic a) r w = refl
+  settled fs b (Atomic l a) r w = refl
 
   mutual
-    form_passes : (s : Form) (fs : List Frame) (b : Body) (w : List Token) → after (at fs b place.Start) (form_tokens s w) ≡ after (ended fs b s) w
+    form_passes : (s : StatementView) (fs : List Frame) (b : BlockView) (w : List Token) → after (at fs b place.Start) (statement_tokens s w) ≡ after (ended fs b s) w
     form_passes (Primitive p) fs b w = primitive_passes fs b p w
     form_passes (If t a) fs b w =
         test_passes fs b t _ ∙ (body_passes a (frame.Then b t ∷ fs) End w ∙ ap (λ x. after (at fs b (place.AfterThen t x)) w) (join_end a))
     form_passes (IfElse t a c) fs b w =
         test_passes fs b t _ ∙ (body_passes a (frame.Then b t ∷ fs) End _ ∙
-        (ap (λ x. after (at fs b (place.AfterThen t x)) (token.Else ∷ token.OpenBrace ∷ body_tokens c (token.CloseBrace ∷ w))) (join_end a) ∙
+        (ap (λ x. after (at fs b (place.AfterThen t x)) (token.Else ∷ token.OpenBrace ∷ block_tokens c (token.CloseBrace ∷ w))) (join_end a) ∙
         (body_passes c (frame.Else b t a ∷ fs) End w ∙ ap (λ x. after (at fs (append b (IfElse t a x)) place.Start) w) (join_end c))))
     form_passes (While t a) fs b w =
         while_passes fs b t _ ∙ (body_passes a (frame.While b t ∷ fs) End w ∙ ap (λ x. after (at fs (append b (While t x)) place.Start) w) (join_end a))
-    form_passes (Atomic a) fs b w =
-        body_passes a (frame.Atomic b ∷ fs) End w ∙ ap (λ x. after (at fs (append b (Atomic x)) place.Start) w) (join_end a)
+    form_passes (Atomic locking.Inferred a) fs b w =
+        body_passes a (frame.Atomic b locking.Inferred ∷ fs) End w ∙ ap (λ x. after (at fs (append b (Atomic locking.Inferred x)) place.Start) w) (join_end a)
+    form_passes (Atomic locking.All a) fs b w =
+        body_passes a (frame.Atomic b locking.All ∷ fs) End w ∙ ap (λ x. after (at fs (append b (Atomic locking.All x)) place.Start) w) (join_end a)
 
-    body_passes : (c : Body) (fs : List Frame) (b : Body) (w : List Token) →
-        after (at fs b place.Start) (body_tokens c (token.CloseBrace ∷ w)) ≡ after (at fs (join b c) place.Start) (token.CloseBrace ∷ w)
+    body_passes : (c : BlockView) (fs : List Frame) (b : BlockView) (w : List Token) →
+        after (at fs b place.Start) (block_tokens c (token.CloseBrace ∷ w)) ≡ after (at fs (join b c) place.Start) (token.CloseBrace ∷ w)
     body_passes End fs b w = refl
     body_passes (Then s c) fs b w = form_passes s fs b _ ∙ (settled fs b s c w ∙ body_passes c fs (append b s) w)
 
 -- so many declarations of each kind
-abbrev source : List Record → List GlobalObject → List Thread → Source
+abbrev source : List Record → List GlobalObject → List Thread → TreeView
 source rs gs ts = record { records = rs; globals = gs; threads = ts }
 
 -- between declarations
-abbrev between : Source → Part → Reading
+abbrev between : TreeView → Part → ReaderView
 between s p = reading s (stage.Between p)
 
-abbrev in_head : Source → List ℕ → List (List ℕ) → Reading
+abbrev in_head : TreeView → List ℕ → List (List ℕ) → ReaderView
 in_head s n hs = reading s (stage.Record (in_record.Head n hs))
 
-abbrev in_fields : Source → List ℕ → List (List ℕ) → List Declaration → Reading
+abbrev in_fields : TreeView → List ℕ → List (List ℕ) → List Declaration → ReaderView
 in_fields s n hs fs = reading s (stage.Record (in_record.Fields n hs fs))
 
-abbrev in_locals : Source → List ℕ → List Declaration → Reading
+abbrev in_locals : TreeView → List ℕ → List Declaration → ReaderView
 in_locals s n ls = reading s (stage.Thread (in_thread.Locals n ls))
 
 -- the first statement after the locals starts as any other
-enter : (s : Source) (n : List ℕ) (ls : List Declaration) (b : Body) (w : List Token) →
-    after (in_locals s n ls) (body_tokens b (token.CloseBrace ∷ w)) ≡ after (at s n ls [] End place.Start) (body_tokens b (token.CloseBrace ∷ w))
+enter : (s : TreeView) (n : List ℕ) (ls : List Declaration) (b : BlockView) (w : List Token) →
+    after (in_locals s n ls) (block_tokens b (token.CloseBrace ∷ w)) ≡ after (at s n ls [] End place.Start) (block_tokens b (token.CloseBrace ∷ w))
 enter s n ls End w = refl
 enter s n ls (Then (Primitive (primitive.Assign x v)) b) w = refl
 enter s n ls (Then (Primitive (primitive.Compute x v o u)) b) w = refl
@@ -193,29 +196,29 @@ enter s n ls (Then (Primitive (primitive.Print v)) b) w = refl
 enter s n ls (Then (If t a) b) w = refl
 enter s n ls (Then (IfElse t a c) b) w = refl
 enter s n ls (Then (While t a) b) w = refl
-enter s n ls (Then (Atomic a) b) w = refl
+enter s n ls (Then (Atomic l a) b) w = refl
 
-local_passes : (s : Source) (n : List ℕ) (ls : List Declaration) (k : Kind) (x : List ℕ) (w : List Token) →
+local_passes : (s : TreeView) (n : List ℕ) (ls : List Declaration) (k : Kind) (x : List ℕ) (w : List Token) →
     after (in_locals s n ls) (kind_token k ∷ token.Name x ∷ token.Semicolon ∷ w) ≡ after (in_locals s n (ls ++ record { kind = k; name = x } ∷ [])) w
 local_passes s n ls kind.Int x w = refl
 local_passes s n ls (kind.Record r) x w = refl
 
-locals_pass : (s : Source) (n : List ℕ) (ms ls : List Declaration) (w : List Token) → after (in_locals s n ls) (declarations_tokens ms w) ≡ after (in_locals s n (ls ++ ms)) w
+locals_pass : (s : TreeView) (n : List ℕ) (ms ls : List Declaration) (w : List Token) → after (in_locals s n ls) (declarations_tokens ms w) ≡ after (in_locals s n (ls ++ ms)) w
 locals_pass s n [] ls w = ap (λ x. after (in_locals s n x) w) (sym (append-nil ls))
 locals_pass s n (m ∷ ms) ls w =
     local_passes s n ls m.kind m.name (declarations_tokens ms w) ∙ (locals_pass s n ms (ls ++ m ∷ []) w ∙ ap (λ x. after (in_locals s n x) w) (append_assoc ls (m ∷ []) ms))
 
-field_passes : (s : Source) (n : List ℕ) (hs : List (List ℕ)) (fs : List Declaration) (k : Kind) (x : List ℕ) (w : List Token) →
+field_passes : (s : TreeView) (n : List ℕ) (hs : List (List ℕ)) (fs : List Declaration) (k : Kind) (x : List ℕ) (w : List Token) →
     after (in_fields s n hs fs) (kind_token k ∷ token.Name x ∷ token.Semicolon ∷ w) ≡ after (in_fields s n hs (fs ++ record { kind = k; name = x } ∷ [])) w
 field_passes s n hs fs kind.Int x w = refl
 field_passes s n hs fs (kind.Record r) x w = refl
 
-fields_pass : (s : Source) (n : List ℕ) (hs : List (List ℕ)) (gs fs : List Declaration) (w : List Token) → after (in_fields s n hs fs) (declarations_tokens gs w) ≡ after (in_fields s n hs (fs ++ gs)) w
+fields_pass : (s : TreeView) (n : List ℕ) (hs : List (List ℕ)) (gs fs : List Declaration) (w : List Token) → after (in_fields s n hs fs) (declarations_tokens gs w) ≡ after (in_fields s n hs (fs ++ gs)) w
 fields_pass s n hs [] fs w = ap (λ x. after (in_fields s n hs x) w) (sym (append-nil fs))
 fields_pass s n hs (g ∷ gs) fs w =
     field_passes s n hs fs g.kind g.name (declarations_tokens gs w) ∙ (fields_pass s n hs gs (fs ++ g ∷ []) w ∙ ap (λ x. after (in_fields s n hs x) w) (append_assoc fs (g ∷ []) gs))
 
-hints_pass : (s : Source) (n : List ℕ) (gs hs : List (List ℕ)) (w : List Token) → after (in_head s n hs) (hints_tokens gs w) ≡ after (in_head s n (hs ++ gs)) w
+hints_pass : (s : TreeView) (n : List ℕ) (gs hs : List (List ℕ)) (w : List Token) → after (in_head s n hs) (hints_tokens gs w) ≡ after (in_head s n (hs ++ gs)) w
 hints_pass s n [] hs w = ap (λ x. after (in_head s n x) w) (sym (append-nil hs))
 hints_pass s n (g ∷ gs) hs w =
     hints_pass s n gs (hs ++ g ∷ []) w ∙ ap (λ x. after (in_head s n x) w) (append_assoc hs (g ∷ []) gs)
@@ -250,7 +253,7 @@ globals_pass rs [] w = refl
 globals_pass rs (g ∷ gs) w = globals_more rs gs (g ∷ []) w
 
 -- a thread may come after each declaration
-thread_begins : (s : Source) (p : Part) (w : List Token) → after (between s p) (token.Thread ∷ w) ≡ after (reading s (stage.Thread in_thread.AfterWord)) w
+thread_begins : (s : TreeView) (p : Part) (w : List Token) → after (between s p) (token.Thread ∷ w) ≡ after (reading s (stage.Thread in_thread.AfterWord)) w
 thread_begins s part.Records w = refl
 thread_begins s part.Globals w = refl
 thread_begins s part.Threads w = refl
@@ -259,7 +262,7 @@ thread_passes : (rs : List Record) (gs : List GlobalObject) (ts : List Thread) (
     after (between (source rs gs ts) p) (thread_tokens t w) ≡ after (between (source rs gs (ts ++ t ∷ [])) part.Threads) w
 thread_passes rs gs ts p t w =
     let s = source rs gs ts in
-    let inner : List Token = body_tokens t.body (token.CloseBrace ∷ w) in
+    let inner : List Token = block_tokens t.body (token.CloseBrace ∷ w) in
     thread_begins s p (token.Name t.name ∷ token.OpenBrace ∷ declarations_tokens t.locals inner) ∙
     (locals_pass s t.name t.locals [] inner ∙ (enter s t.name t.locals t.body w ∙ (body_passes s t.name t.locals t.body [] End w ∙
     ap (λ x. after (between (source rs gs (ts ++ record { name = t.name; locals = t.locals; body = x } ∷ [])) part.Threads) w) (join_end t.body))))
@@ -276,11 +279,11 @@ threads_pass rs gs (u ∷ us) ts p =
         thread_passes rs gs ts part.Threads v (threads_tokens vs []) ∙ (threads_more vs (ts ++ v ∷ []) ∙ ap (λ x. Some (between (source rs gs x) part.Threads)) (append_assoc ts (v ∷ []) vs))
 
 -- which declarations may come after a tree's
-abbrev pub last_part : Source → Part
+abbrev pub last_part : TreeView → Part
 last_part s = after_threads (after_globals s.globals) s.threads
 
 -- each tree's tokens lead to it
-pub source_passes : (s : Source) → after start (source_tokens s []) ≡ Some (reading s (stage.Between (last_part s)))
+pub source_passes : (s : TreeView) → after start (source_tokens s []) ≡ Some (reading s (stage.Between (last_part s)))
 source_passes s =
     records_pass s.records [] (globals_tokens s.globals (threads_tokens s.threads [])) ∙
     (globals_pass s.records s.globals (threads_tokens s.threads []) ∙ threads_pass s.records s.globals s.threads [] (after_globals s.globals))

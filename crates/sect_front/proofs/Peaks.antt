@@ -1,13 +1,14 @@
 -- The most braces that are open is the depth.
 use Rattle.std.proofs.Common.{◌≡◌, ℕ, ◌+◌, ◌-◌, ◌≤◌, List, [], ◌∷◌, ◌++◌, max, refl, sym, ◌∙◌, ap, arith, take, drop}
 use Rattle.std.proofs.lemmas.List.{take-append-drop}
-use Rattle.sect_front.specs.Syntax.{Form, Body, Primitive, If, IfElse, While, Atomic, End, Then}
-use Rattle.sect_front.specs.Source.{Source}
+use Rattle.sect_front.specs.Syntax.{StatementView, BlockView, Primitive, If, IfElse, While, Atomic, End, Then}
+use Rattle.sect_front.specs.TreeView.{TreeView}
 use Rattle.sect_front.specs.Grammar.{operand_token, operator_token, comparison_token, kind_token, tokens_of}
-use Rattle.sect_front.specs.Tokens.{primitive_tokens, test_tokens, form_tokens, body_tokens, declarations_tokens, hints_tokens, record_tokens, records_tokens, globals_tokens, threads_tokens}
-use Rattle.sect_front.specs.Depth.{form_depth, body_depth, threads_depth, depth}
+use Rattle.sect_front.specs.steps.Tokens.{primitive_tokens, test_tokens, statement_tokens, block_tokens, declarations_tokens, hints_tokens, record_tokens, records_tokens, globals_tokens, threads_tokens}
+use Rattle.sect_front.specs.Depth.{statement_depth, block_depth, threads_depth, depth}
 use Rattle.sect_front.specs.Braces.{brace, open_after, IsShallow}
 use Rattle.sect_front.specs.declared.token.Token.{Token}
+use Rattle.sect_front.specs.declared.tree.Locking.TheVariants as locking
 use Rattle.sect_front.specs.declared.token.Token.TheVariants as token
 use Rattle.sect_front.specs.declared.tree.Operand.{Operand}
 use Rattle.sect_front.specs.declared.tree.Operand.TheVariants as operand
@@ -86,24 +87,25 @@ braced : (k d p : ℕ) (w : List Token) → p ≡ max (k + 1 + d) (peak (k + 1) 
 braced k d p w h = let e : k + 1 - 1 ≡ k = omega arith in omega (arith, ap (λ j. peak j w) e)
 
 mutual
-  form_peak : (k : ℕ) (s : Form) (w : List Token) → peak k (form_tokens s w) ≡ max (k + form_depth s) (peak k w)
+  form_peak : (k : ℕ) (s : StatementView) (w : List Token) → peak k (statement_tokens s w) ≡ max (k + statement_depth s) (peak k w)
   form_peak k (Primitive p) w = omega (arith, calm_primitive k p w, peak_from k w)
-  form_peak k (If t a) w = calm_test k t (token.OpenBrace ∷ body_tokens a (token.CloseBrace ∷ w)) ∙ braced k (body_depth a) _ w (body_peak (k + 1) a (token.CloseBrace ∷ w))
+  form_peak k (If t a) w = calm_test k t (token.OpenBrace ∷ block_tokens a (token.CloseBrace ∷ w)) ∙ braced k (block_depth a) _ w (body_peak (k + 1) a (token.CloseBrace ∷ w))
   form_peak k (IfElse t a b) w =
-      let rest : List Token = token.Else ∷ token.OpenBrace ∷ body_tokens b (token.CloseBrace ∷ w) in
+      let rest : List Token = token.Else ∷ token.OpenBrace ∷ block_tokens b (token.CloseBrace ∷ w) in
       omega (
         arith,
-        calm_test k t (token.OpenBrace ∷ body_tokens a (token.CloseBrace ∷ rest)),
-        braced k (body_depth a) (peak (k + 1) (body_tokens a (token.CloseBrace ∷ rest))) rest (body_peak (k + 1) a (token.CloseBrace ∷ rest)),
-        braced k (body_depth b) (peak (k + 1) (body_tokens b (token.CloseBrace ∷ w))) w (body_peak (k + 1) b (token.CloseBrace ∷ w)),
+        calm_test k t (token.OpenBrace ∷ block_tokens a (token.CloseBrace ∷ rest)),
+        braced k (block_depth a) (peak (k + 1) (block_tokens a (token.CloseBrace ∷ rest))) rest (body_peak (k + 1) a (token.CloseBrace ∷ rest)),
+        braced k (block_depth b) (peak (k + 1) (block_tokens b (token.CloseBrace ∷ w))) w (body_peak (k + 1) b (token.CloseBrace ∷ w)),
       )
   form_peak k (While t a) w =
-      calm_test k t (token.OpenBrace ∷ body_tokens a (token.CloseBrace ∷ w)) ∙ braced k (body_depth a) _ w (body_peak (k + 1) a (token.CloseBrace ∷ w))
-  form_peak k (Atomic a) w = braced k (body_depth a) _ w (body_peak (k + 1) a (token.CloseBrace ∷ w))
+      calm_test k t (token.OpenBrace ∷ block_tokens a (token.CloseBrace ∷ w)) ∙ braced k (block_depth a) _ w (body_peak (k + 1) a (token.CloseBrace ∷ w))
+  form_peak k (Atomic locking.Inferred a) w = braced k (block_depth a) _ w (body_peak (k + 1) a (token.CloseBrace ∷ w))
+  form_peak k (Atomic locking.All a) w = braced k (block_depth a) _ w (body_peak (k + 1) a (token.CloseBrace ∷ w))
 
-  body_peak : (k : ℕ) (b : Body) (w : List Token) → peak k (body_tokens b w) ≡ max (k + body_depth b) (peak k w)
+  body_peak : (k : ℕ) (b : BlockView) (w : List Token) → peak k (block_tokens b w) ≡ max (k + block_depth b) (peak k w)
   body_peak k End w = omega (arith, peak_from k w)
-  body_peak k (Then s b) w = omega (arith, form_peak k s (body_tokens b w), body_peak k b w)
+  body_peak k (Then s b) w = omega (arith, form_peak k s (block_tokens b w), body_peak k b w)
 
 calm_kind : (t : Kind) (k : ℕ) (f : ℕ → ℕ) → peak_with (kind_token t) k f ≡ f k
 calm_kind kind.Int k f = refl
@@ -121,7 +123,7 @@ threads_peak : (ts : List Thread) → peak 0 (threads_tokens ts []) ≡ threads_
 threads_peak [] = refl
 threads_peak (t ∷ ts) =
     let rest : List Token = token.CloseBrace ∷ threads_tokens ts [] in
-    omega (arith, calm_declarations 1 t.locals (body_tokens t.body rest), braced 0 (body_depth t.body) (peak 1 (body_tokens t.body rest)) (threads_tokens ts []) (body_peak 1 t.body rest), threads_peak ts)
+    omega (arith, calm_declarations 1 t.locals (block_tokens t.body rest), braced 0 (block_depth t.body) (peak 1 (block_tokens t.body rest)) (threads_tokens ts []) (body_peak 1 t.body rest), threads_peak ts)
 
 globals_peak : (gs : List GlobalObject) (w : List Token) → peak 0 (globals_tokens gs w) ≡ peak 0 w
 globals_peak [] w = refl
@@ -137,7 +139,7 @@ records_peak : (rs : List Record) (w : List Token) → max 1 (peak 0 (records_to
 records_peak [] w = refl
 records_peak (r ∷ rs) w = omega (arith, record_peak r (records_tokens rs w), records_peak rs w)
 
-pub depth_peak : (s : Source) → max 1 (peak 0 (tokens_of s)) ≡ max 1 (depth s)
+pub depth_peak : (s : TreeView) → max 1 (peak 0 (tokens_of s)) ≡ max 1 (depth s)
 depth_peak s =
     omega (arith, ap (peak 0) (tokens_same s), records_peak s.records (globals_tokens s.globals (threads_tokens s.threads [])), globals_peak s.globals (threads_tokens s.threads []), threads_peak s.threads)
 

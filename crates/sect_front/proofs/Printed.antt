@@ -6,7 +6,7 @@ use Rattle.std.proofs.Math.Seq.{take-append_seam}
 use Rattle.std.proofs.lemmas.Bool.Decides.{nat_tests}
 use Rattle.sect_front.specs.Words.{is_letter, is_digit, begins}
 use Rattle.sect_front.specs.Gaps.{is_blank, after_gap}
-use Rattle.sect_front.specs.Source.{Source}
+use Rattle.sect_front.specs.TreeView.{TreeView}
 use Rattle.sect_front.specs.Depth.{depth}
 use Rattle.sect_front.specs.Grammar.{in_braces, declaration_list, hint_list, record_list, global_list, thread_list, statements_list, tokens_of}
 use Rattle.sect_front.specs.Spelling.{spelling_of, is_proper}
@@ -14,10 +14,10 @@ use Rattle.sect_front.specs.Lexing.{stands, IsFirst, Reaches}
 use Rattle.sect_front.specs.Faults.{tokens_in}
 use Rattle.sect_front.specs.Front.{IsSpelled}
 use Rattle.sect_front.specs.Layout.{separator, layout_of, IsTextOf}
-use Rattle.sect_front.specs.Spread.{spread}
+use Rattle.sect_front.specs.steps.Spread.{spread}
 use Rattle.sect_front.specs.declared.token.Token.{Token}
 use Rattle.sect_front.specs.declared.token.Token.TheVariants as token
-use Rattle.sect_front.specs.declared.token.Placed.{Placed}
+use Rattle.sect_front.specs.declared.token.TokenAt.{TokenAt}
 use Rattle.sect_front.specs.declared.tree.Record.{Record}
 use Rattle.sect_front.specs.declared.tree.Thread.{Thread}
 use Rattle.sect_front.proofs.Choices.{both}
@@ -61,6 +61,7 @@ solid token.If h = record { first = _; others = _; is = refl; no_blank = refl; n
 solid token.Else h = record { first = _; others = _; is = refl; no_blank = refl; no_slash = refl }
 solid token.While h = record { first = _; others = _; is = refl; no_blank = refl; no_slash = refl }
 solid token.Atomic h = record { first = _; others = _; is = refl; no_blank = refl; no_slash = refl }
+solid token.All h = record { first = _; others = _; is = refl; no_blank = refl; no_slash = refl }
 solid token.Class h = record { first = _; others = _; is = refl; no_blank = refl; no_slash = refl }
 solid token.OpenBrace h = record { first = _; others = _; is = refl; no_blank = refl; no_slash = refl }
 solid token.CloseBrace h = record { first = _; others = _; is = refl; no_blank = refl; no_slash = refl }
@@ -93,6 +94,7 @@ stands_before token.If w = refl
 stands_before token.Else w = refl
 stands_before token.While w = refl
 stands_before token.Atomic w = refl
+stands_before token.All w = refl
 stands_before token.Class w = refl
 stands_before token.OpenBrace w = refl
 stands_before token.CloseBrace w = refl
@@ -132,7 +134,7 @@ drop_front [] w = refl
 drop_front (x ∷ v) w = drop_front v w
 
 -- where each token stands in a text of so many bytes
-abbrev places_of : ℕ → List Token → List Placed
+abbrev places_of : ℕ → List Token → List TokenAt
 places_of total [] = []
 places_of total (t ∷ w) = record { token = t; at = total - length (spread (t ∷ w)) } ∷ places_of total w
 
@@ -207,7 +209,7 @@ record_ends r =
 thread_ends : (t : Thread) → ends_line (thread_list t) ≡ true
 thread_ends t = ends_snoc (token.Thread ∷ token.Name t.name ∷ token.OpenBrace ∷ flat_map declaration_list t.locals ++ statements_list t.body)
 
-tree_ends : (tree : Source) → ends_line (tokens_of tree) ≡ true
+tree_ends : (tree : TreeView) → ends_line (tokens_of tree) ≡ true
 tree_ends tree =
     let records : List Token = flat_map record_list tree.records in
     let globals : List Token = flat_map global_list tree.globals in
@@ -224,12 +226,12 @@ spread_layout (t ∷ []) h = ap (λ x. spelling_of t ++ x ∷ []) (same_number (
 spread_layout (t ∷ u ∷ w) h = ap (λ x. spelling_of t ++ separator t ∷ x) (spread_layout (u ∷ w) h)
 
 -- what is known of a printed text
-pub record IsPrinted (tree : Source) (text : List ℕ) : Type 0 where
+pub record IsPrinted (tree : TreeView) (text : List ℕ) : Type 0 where
   pub layout : text ≡ layout_of (tokens_of tree)
   pub spells : IsTextOf text tree
   pub reads_back : length text ≤ 1048576 → IsSpelled text tree
 
-printed_spread : (tree : Source) → list_all is_proper (tokens_of tree) ≡ true → depth tree ≤ 32 → IsPrinted tree (spread (tokens_of tree))
+printed_spread : (tree : TreeView) → list_all is_proper (tokens_of tree) ≡ true → depth tree ≤ 32 → IsPrinted tree (spread (tokens_of tree))
 printed_spread tree proper low =
     let list : List Token = tokens_of tree in
     let total : ℕ = length (spread list) in
@@ -245,9 +247,9 @@ printed_spread tree proper low =
       };
     }
 
-pub printed : (tree : Source) (text : List ℕ) → text ≡ spread (tokens_of tree) → list_all is_proper (tokens_of tree) ≡ true → depth tree ≤ 32 → IsPrinted tree text
+pub printed : (tree : TreeView) (text : List ℕ) → text ≡ spread (tokens_of tree) → list_all is_proper (tokens_of tree) ≡ true → depth tree ≤ 32 → IsPrinted tree text
 printed tree text e proper low = subst (IsPrinted tree) (sym e) (printed_spread tree proper low)
 
 -- a tree without declarations has no tokens
-pub no_tokens : (tree : Source) → (tree.records ≡ []) × (tree.globals ≡ []) × (tree.threads ≡ []) → tokens_of tree ≡ []
+pub no_tokens : (tree : TreeView) → (tree.records ≡ []) × (tree.globals ≡ []) × (tree.threads ≡ []) → tokens_of tree ≡ []
 no_tokens tree h = rw (h.0, h.1, h.2) refl

@@ -7,10 +7,10 @@ use Rattle.sect_front.specs.Lexeme.{lexeme_of}
 use Rattle.sect_front.specs.Lexing.{IsFirst, IsBad, Reaches, Spells, IsBadAt}
 use Rattle.sect_front.proofs.Choices.{some_inj}
 use Rattle.sect_front.proofs.Lexemes.{lexeme_first, lexeme_only, lexeme_bad, pair}
-use Rattle.sect_front.specs.declared.token.Placed.{Placed}
+use Rattle.sect_front.specs.declared.token.TokenAt.{TokenAt}
 
 -- these tokens have been read, and here the next one stands
-pub record Reached (bytes : List ℕ) (ps : List Placed) (here : List ℕ) : Type 0 where
+pub record Reached (bytes : List ℕ) (ps : List TokenAt) (here : List ℕ) : Type 0 where
   pub rest : List ℕ
   pub reaches : Reaches (length bytes) bytes ps rest
   pub gap : after_gap rest ≡ here
@@ -33,13 +33,13 @@ gap_fits bytes = skip_fits false bytes
 pub reached_none : (bytes : List ℕ) → Reached bytes [] (after_gap bytes)
 reached_none bytes = record { rest = bytes; reaches = refl; gap = refl; fits = gap_fits bytes }
 
-reaches_more : (total : ℕ) (bytes : List ℕ) (ps : List Placed) (rest : List ℕ) (p : Placed) (n : ℕ) → Reaches total bytes ps rest →
+reaches_more : (total : ℕ) (bytes : List ℕ) (ps : List TokenAt) (rest : List ℕ) (p : TokenAt) (n : ℕ) → Reaches total bytes ps rest →
     p.at + length (after_gap rest) ≡ total → IsFirst p.token n (after_gap rest) → Reaches total bytes (ps ++ p ∷ []) (drop n (after_gap rest))
 reaches_more total bytes [] rest p n h at f =
     subst (λ x. Reaches total x (p ∷ []) (drop n (after_gap rest))) (sym h) (n, at, f, refl)
 reaches_more total bytes (q ∷ ps) rest p n h at f = (h.0, h.1, h.2, reaches_more total (drop h.0 (after_gap bytes)) ps rest p n h.3 at f)
 
-pub reached_more : (bytes : List ℕ) (ps : List Placed) (here : List ℕ) (p : Placed) (n : ℕ) → Reached bytes ps here →
+pub reached_more : (bytes : List ℕ) (ps : List TokenAt) (here : List ℕ) (p : TokenAt) (n : ℕ) → Reached bytes ps here →
     p.at + length here ≡ length bytes → lexeme_of here ≡ Some (p.token, n) → Reached bytes (ps ++ p ∷ []) (after_gap (drop n here))
 reached_more bytes ps here p n r at f = record {
   rest = drop n here;
@@ -49,10 +49,10 @@ reached_more bytes ps here p n r at f = record {
   fits = omega (arith, gap_fits (drop n here), length-drop n here, r.fits);
 }
 
-pub lexed : (bytes : List ℕ) (ps : List Placed) (here : List ℕ) → Reached bytes ps here → here ≡ [] → Spells bytes ps
+pub lexed : (bytes : List ℕ) (ps : List TokenAt) (here : List ℕ) → Reached bytes ps here → here ≡ [] → Spells bytes ps
 lexed bytes ps here r e = (r.rest, r.reaches, r.gap ∙ e)
 
-pub bad_at : (bytes : List ℕ) (ps : List Placed) (here : List ℕ) (at : ℕ) → Reached bytes ps here → here ≢ [] → lexeme_of here ≡ None → at + length here ≡ length bytes → IsBadAt bytes at
+pub bad_at : (bytes : List ℕ) (ps : List TokenAt) (here : List ℕ) (at : ℕ) → Reached bytes ps here → here ≢ [] → lexeme_of here ≡ None → at + length here ≡ length bytes → IsBadAt bytes at
 bad_at bytes ps here at r some none place = record {
   before = ps;
   rest = r.rest;
@@ -63,7 +63,7 @@ bad_at bytes ps here at r some none place = record {
 }
 
 -- one text is one list of tokens
-same_reach : (total : ℕ) (bytes : List ℕ) (ps qs : List Placed) (r s : List ℕ) → Reaches total bytes ps r → Reaches total bytes qs s →
+same_reach : (total : ℕ) (bytes : List ℕ) (ps qs : List TokenAt) (r s : List ℕ) → Reaches total bytes ps r → Reaches total bytes qs s →
     IsBad (after_gap r) → IsBad (after_gap s) → (ps ≡ qs) × (r ≡ s)
 same_reach total bytes [] [] r s h k x y = (refl, sym h ∙ k)
 same_reach total bytes [] (q ∷ qs) r s h k x y = absurd (x q.token k.0 (subst (λ b. IsFirst q.token k.0 (after_gap b)) h k.2))
@@ -79,10 +79,10 @@ same_reach total bytes (p ∷ ps) (q ∷ qs) r s h k x y =
 nothing_bad : (bytes : List ℕ) → bytes ≡ [] → IsBad bytes
 nothing_bad bytes e t n f = omega (arith, f.within, f.some, ap length e)
 
-pub one_lexing : (bytes : List ℕ) (ps qs : List Placed) → Spells bytes ps → Spells bytes qs → ps ≡ qs
+pub one_lexing : (bytes : List ℕ) (ps qs : List TokenAt) → Spells bytes ps → Spells bytes qs → ps ≡ qs
 one_lexing bytes ps qs h k = (same_reach (length bytes) bytes ps qs h.0 k.0 h.1 k.1 (nothing_bad _ h.2) (nothing_bad _ k.2)).0
 
-pub bad_or_lexed : (bytes : List ℕ) (at : ℕ) (qs : List Placed) → IsBadAt bytes at → Spells bytes qs → ⊥
+pub bad_or_lexed : (bytes : List ℕ) (at : ℕ) (qs : List TokenAt) → IsBadAt bytes at → Spells bytes qs → ⊥
 bad_or_lexed bytes at qs h k =
     let e = (same_reach (length bytes) bytes h.before qs h.rest k.0 h.reaches k.1 h.bad (nothing_bad _ k.2)).1 in
     h.some (ap after_gap e ∙ k.2)
@@ -94,14 +94,14 @@ one_bad bytes at at' h k =
     omega (arith, h.place, k.place, ap (λ r. length (after_gap r)) e)
 
 -- each place is in the text
-places_fit : (total : ℕ) (bytes : List ℕ) (ps : List Placed) (rest : List ℕ) → Reaches total bytes ps rest → (i : ℕ) (d : Placed) → i < length ps → (get_or ps i d).at ≤ total
+places_fit : (total : ℕ) (bytes : List ℕ) (ps : List TokenAt) (rest : List ℕ) → Reaches total bytes ps rest → (i : ℕ) (d : TokenAt) → i < length ps → (get_or ps i d).at ≤ total
 places_fit total bytes [] rest h i d lt = absurd (omega arith)
 places_fit total bytes (p ∷ ps) rest h zero d lt = omega (arith, h.1)
 places_fit total bytes (p ∷ ps) rest h (suc i) d lt = places_fit total (drop h.0 (after_gap bytes)) ps rest h.3 i d (omega arith)
 
-pub place_fits : (bytes : List ℕ) (ps : List Placed) → Spells bytes ps → (i : ℕ) (p : Placed) → i < length ps → p ≡ get_or ps i p → p.at ≤ length bytes
+pub place_fits : (bytes : List ℕ) (ps : List TokenAt) → Spells bytes ps → (i : ℕ) (p : TokenAt) → i < length ps → p ≡ get_or ps i p → p.at ≤ length bytes
 place_fits bytes ps h i p lt e = omega (arith, places_fit (length bytes) bytes ps h.0 h.1 i p lt, ap (λ q. q.at) e)
 
 -- a place that is read is found
-pub found_at : (ps : List Placed) (i : ℕ) (p : Placed) → i < length ps → p ≡ get_or ps i p → slice_get ps i ≡ Some p
+pub found_at : (ps : List TokenAt) (i : ℕ) (p : TokenAt) → i < length ps → p ≡ get_or ps i p → slice_get ps i ≡ Some p
 found_at ps i p lt e = slice_get-get_or ps i p lt ∙ ap Some (sym e)

@@ -9,7 +9,7 @@ use Rattle.std.proofs.lemmas.Bool.{eqb-true}
 use Rattle.std.proofs.lemmas.Bool.Decides.{nat_tests}
 use Rattle.sect_front.specs.Words.{is_letter, is_digit, is_name_byte, is_name}
 use Rattle.sect_front.specs.Spelling.{spelling_of, is_proper, IsSpelling}
-use Rattle.sect_front.specs.Recognition.{keyword_of, keyword_table, token_beside, or_name, word_token, number_of, as_number, single_sign, double_sign, sign_token, spelled}
+use Rattle.sect_front.specs.steps.Recognition.{keyword_of, keyword_table, token_beside, or_name, word_token, number_of, as_number, single_sign, double_sign, sign_token, spelled}
 use Rattle.sect_front.specs.declared.token.Token.{Token}
 use Rattle.sect_front.specs.declared.token.Token.TheVariants as token
 use Rattle.sect_front.proofs.Choices.{some_inj, no_some, chosen, both, if_some_so}
@@ -69,6 +69,7 @@ spelled_proper token.If h = refl
 spelled_proper token.Else h = refl
 spelled_proper token.While h = refl
 spelled_proper token.Atomic h = refl
+spelled_proper token.All h = refl
 spelled_proper token.Class h = refl
 spelled_proper token.OpenBrace h = refl
 spelled_proper token.CloseBrace h = refl
@@ -98,7 +99,7 @@ beside_so P w (row ∷ rows) h t e =
 keyword_back : (w : List ℕ) (t : Token) → keyword_of w ≡ Some t → IsSpelling t w
 keyword_back w =
     beside_so (λ t. IsSpelling t w) w keyword_table
-    (λ e. record { is = e; proper = refl }, (λ e. record { is = e; proper = refl }, (λ e. record { is = e; proper = refl }, (λ e. record { is = e; proper = refl }, (λ e. record { is = e; proper = refl }, (λ e. record { is = e; proper = refl }, (λ e. record { is = e; proper = refl }, (λ e. record { is = e; proper = refl }, (λ e. record { is = e; proper = refl }, (λ e. record { is = e; proper = refl }, (λ e. record { is = e; proper = refl }, (λ e. record { is = e; proper = refl }, (λ e. record { is = e; proper = refl }, tt)))))))))))))
+    (λ e. record { is = e; proper = refl }, (λ e. record { is = e; proper = refl }, (λ e. record { is = e; proper = refl }, (λ e. record { is = e; proper = refl }, (λ e. record { is = e; proper = refl }, (λ e. record { is = e; proper = refl }, (λ e. record { is = e; proper = refl }, (λ e. record { is = e; proper = refl }, (λ e. record { is = e; proper = refl }, (λ e. record { is = e; proper = refl }, (λ e. record { is = e; proper = refl }, (λ e. record { is = e; proper = refl }, (λ e. record { is = e; proper = refl }, (λ e. record { is = e; proper = refl }, tt))))))))))))))
 
 -- a word that is no keyword is a name
 word_back : (w : List ℕ) (o : Option Token) → keyword_of w ≡ o → (o ≡ None → is_name w ≡ true) → IsSpelling (or_name o w) w

@@ -3,17 +3,17 @@ use Rattle.std.proofs.Common.{◌≡◌, ℕ, ◌+◌, ◌<◌, ◌≤◌, List,
 use Rattle.std.proofs.lemmas.List.{take-append-drop, length-map}
 use Rattle.std.specs.Prelude.{⊤}
 use Rattle.std.specs.Option.{ok_or}
-use Rattle.sect_front.specs.Source.{Source}
+use Rattle.sect_front.specs.TreeView.{TreeView}
 use Rattle.sect_front.specs.Grammar.{tokens_of}
-use Rattle.sect_front.specs.Tokens.{source_tokens}
+use Rattle.sect_front.specs.steps.Tokens.{source_tokens}
 use Rattle.sect_front.specs.Braces.{brace, open_after}
-use Rattle.sect_front.specs.Reading.{Reading, reading, empty}
-use Rattle.sect_front.specs.Read.{read_one, after, finish_of, finish_at}
+use Rattle.sect_front.specs.steps.ReaderView.{ReaderView, reading, empty}
+use Rattle.sect_front.specs.steps.Read.{read_one, after, finish_of, finish_at}
 use Rattle.sect_front.specs.Faults.{IsViable, IsTree, IsUnexpectedAt, IsTooDeepAt, IsUnfinished, tokens_in}
-use Rattle.sect_front.specs.Verdicts.{JudgesTokens}
+use Rattle.sect_front.specs.steps.Verdicts.{JudgesTokens}
 use Rattle.sect_front.specs.declared.token.Token.{Token}
 use Rattle.sect_front.specs.declared.token.Token.TheVariants as token
-use Rattle.sect_front.specs.declared.token.Placed.{Placed}
+use Rattle.sect_front.specs.declared.token.TokenAt.{TokenAt}
 use Rattle.sect_front.specs.declared.reader.Stage.{Stage}
 use Rattle.sect_front.specs.declared.reader.Stage.TheVariants as stage
 use Rattle.sect_front.specs.declared.reading.TokenFault.{TokenFault}
@@ -26,29 +26,29 @@ use Rattle.sect_front.proofs.Listed.{tokens_same}
 use Rattle.sect_front.proofs.Peaks.{peak, peak_from, peak_append, peak_cons, depth_peak, shallow_from}
 
 -- the tokens of a tree lead to it
-tree_passes : (tree : Source) → after start (tokens_of tree) ≡ Some (reading tree (stage.Between (last_part tree)))
+tree_passes : (tree : TreeView) → after start (tokens_of tree) ≡ Some (reading tree (stage.Between (last_part tree)))
 tree_passes tree = ap (after start) (tokens_same tree) ∙ source_passes tree
 
 -- what is read from the start on is viable
-viable : (front : List Token) (r : Reading) → after start front ≡ Some r → IsViable front
+viable : (front : List Token) (r : ReaderView) → after start front ≡ Some r → IsViable front
 viable front r h = let e = finishes front r h in (e.0, e.1, tokens_same e.0 ∙ e.2)
 
 -- these tokens have been read, and so many braces are open
-pub record ReadsTo (front : List Token) (r : Reading) (k : ℕ) : Type 0 where
+pub record ReadsTo (front : List Token) (r : ReaderView) (k : ℕ) : Type 0 where
   pub is : after start front ≡ Some r
   pub level : k ≡ open_after 0 front
   pub shallow : peak 0 front ≤ 32
 
-after_append : (r : Reading) (v w : List Token) → after r (v ++ w) ≡ option_and_then (λ m. after m w) (after r v)
+after_append : (r : ReaderView) (v w : List Token) → after r (v ++ w) ≡ option_and_then (λ m. after m w) (after r v)
 after_append r [] w = refl
 after_append r (t ∷ v) w = go v w (λ m. after_append m v w) (read_one r t)
   where
-    go : (v w : List Token) → ((m : Reading) → after m (v ++ w) ≡ option_and_then (λ x. after x w) (after m v)) → (o : Option Reading) →
+    go : (v w : List Token) → ((m : ReaderView) → after m (v ++ w) ≡ option_and_then (λ x. after x w) (after m v)) → (o : Option ReaderView) →
         option_and_then (λ m. after m (v ++ w)) o ≡ option_and_then (λ x. after x w) (option_and_then (λ m. after m v) o)
     go v w h None = refl
     go v w h (Some m) = h m
 
-after_one : (front : List Token) (r : Reading) (t : Token) (rest : List Token) → after start front ≡ Some r →
+after_one : (front : List Token) (r : ReaderView) (t : Token) (rest : List Token) → after start front ≡ Some r →
     after start (front ++ t ∷ rest) ≡ option_and_then (λ m. after m rest) (read_one r t)
 after_one front r t rest h =
     after_append start front (t ∷ rest) ∙ ap (option_and_then (λ m. after m (t ∷ rest))) h
@@ -60,7 +60,7 @@ open_append k (u ∷ v) t = open_append (brace k u) v t
 pub reads_nothing : ReadsTo [] start 0
 reads_nothing = record { is = refl; level = refl; shallow = omega arith }
 
-pub reads_more : (front : List Token) (r m : Reading) (k : ℕ) (t : Token) → ReadsTo front r k → read_one r t ≡ Some m → brace k t ≤ 32 →
+pub reads_more : (front : List Token) (r m : ReaderView) (k : ℕ) (t : Token) → ReadsTo front r k → read_one r t ≡ Some m → brace k t ≤ 32 →
     ReadsTo (front ++ t ∷ []) m (brace k t)
 reads_more front r m k t h e low = record {
   is = after_one front r t [] h.is ∙ ap (option_and_then (λ x. after x [])) e;
@@ -68,13 +68,13 @@ reads_more front r m k t h e low = record {
   shallow = omega (arith, h.shallow, peak_append 0 front (t ∷ []), ap (λ j. peak j (t ∷ [])) h.level, peak_cons t k [], peak_append 0 front [], peak_from (open_after 0 front) [], ap (peak 0) (append-nil front));
 }
 
-pub not_viable : (front : List Token) (r : Reading) (t : Token) → after start front ≡ Some r → read_one r t ≡ None → IsViable (front ++ t ∷ []) → ⊥
+pub not_viable : (front : List Token) (r : ReaderView) (t : Token) → after start front ≡ Some r → read_one r t ≡ None → IsViable (front ++ t ∷ []) → ⊥
 not_viable front r t h e v =
     let one : after start (front ++ t ∷ v.1) ≡ None = after_one front r t v.1 h ∙ ap (option_and_then (λ m. after m v.1)) e in
     let all : after start (front ++ t ∷ v.1) ≡ Some (reading v.0 (stage.Between (last_part v.0))) = ap (after start) (sym (append_assoc front (t ∷ []) v.1) ∙ sym v.2) ∙ tree_passes v.0 in
     cc
 
-pub unexpected : (list : List Token) (i : ℕ) (r : Reading) (k : ℕ) (t : Token) → ReadsTo (take i list) r k → i < length list →
+pub unexpected : (list : List Token) (i : ℕ) (r : ReaderView) (k : ℕ) (t : Token) → ReadsTo (take i list) r k → i < length list →
     take (i + 1) list ≡ take i list ++ t ∷ [] → read_one r t ≡ None → IsUnexpectedAt list i
 unexpected list i r k t h within e none = record {
   within = within;
@@ -83,7 +83,7 @@ unexpected list i r k t h within e none = record {
   shallow = shallow_from (take i list) h.shallow;
 }
 
-pub too_deep : (list : List Token) (i : ℕ) (r m : Reading) (k : ℕ) (t : Token) → ReadsTo (take i list) r k → i < length list →
+pub too_deep : (list : List Token) (i : ℕ) (r m : ReaderView) (k : ℕ) (t : Token) → ReadsTo (take i list) r k → i < length list →
     take (i + 1) list ≡ take i list ++ t ∷ [] → read_one r t ≡ Some m → brace k t ≡ 33 → IsTooDeepAt list i
 too_deep list i r m k t h within e some deep = record {
   within = within;
@@ -92,7 +92,7 @@ too_deep list i r m k t h within e some deep = record {
   shallow = shallow_from (take i list) h.shallow;
 }
 
-pub unfinished : (list : List Token) (r : Reading) (k : ℕ) → ReadsTo list r k → finish_of r ≡ None → IsUnfinished list
+pub unfinished : (list : List Token) (r : ReaderView) (k : ℕ) → ReadsTo list r k → finish_of r ≡ None → IsUnfinished list
 unfinished list r k h e = record {
   viable = viable list r h.is;
   none = λ tree same. let one : Some r ≡ Some (reading tree (stage.Between (last_part tree))) = sym h.is ∙ (ap (after start) (sym same) ∙ tree_passes tree) in
@@ -100,25 +100,25 @@ unfinished list r k h e = record {
   shallow = shallow_from list h.shallow;
 }
 
-finished_at : (s : Source) (g : Stage) (tree : Source) → finish_at s g ≡ Some tree → reading_tokens (reading s g) [] ≡ source_tokens tree []
+finished_at : (s : TreeView) (g : Stage) (tree : TreeView) → finish_at s g ≡ Some tree → reading_tokens (reading s g) [] ≡ source_tokens tree []
 finished_at s (stage.Between p) tree e = ap (λ x. source_tokens x []) (some_inj s tree e)
 finished_at s (stage.Record r) tree e = absurd (no_some tree e)
 finished_at s (stage.Global g) tree e = absurd (no_some tree e)
 finished_at s (stage.Thread t) tree e = absurd (no_some tree e)
 
-kept : (list : List Token) (r : Reading) → after start list ≡ Some r → list ≡ reading_tokens r []
+kept : (list : List Token) (r : ReaderView) → after start list ≡ Some r → list ≡ reading_tokens r []
 kept list r h = sym (append-nil list) ∙ (kept_from list [] r h).is
 
-pub finished : (list : List Token) (r : Reading) (k : ℕ) (tree : Source) → ReadsTo list r k → finish_of r ≡ Some tree → IsTree list tree
+pub finished : (list : List Token) (r : ReaderView) (k : ℕ) (tree : TreeView) → ReadsTo list r k → finish_of r ≡ Some tree → IsTree list tree
 finished list r k tree h e =
     let same : tokens_of tree ≡ list = tokens_same tree ∙ (sym (finished_at r.source r.stage tree e) ∙ sym (kept list r h.is)) in
     record { tokens = same; shallow = omega (arith, depth_peak tree, ap (peak 0) same, h.shallow) }
 
-abbrev source_in : Option Reading → Source
+abbrev source_in : Option ReaderView → TreeView
 source_in None = empty
 source_in (Some r) = r.source
 
-pub is_low : (front : List Token) (r : Reading) (k : ℕ) → ReadsTo front r k → k ≤ 32
+pub is_low : (front : List Token) (r : ReaderView) (k : ℕ) → ReadsTo front r k → k ≤ 32
 is_low front r k h =
     omega (arith, h.level, h.shallow, peak_append 0 front [], peak_from (open_after 0 front) [], ap (peak 0) (append-nil front))
 
@@ -127,11 +127,11 @@ brace_most k token.OpenBrace = omega arith
 brace_most k token.CloseBrace = omega arith
 brace_most k _ = omega arith
 
-pub length_tokens : (ps : List Placed) → length (tokens_in ps) ≡ length ps
+pub length_tokens : (ps : List TokenAt) → length (tokens_in ps) ≡ length ps
 length_tokens ps = length-map ps (λ p. p.token)
 
 -- the tokens up to the next one
-pub next_token : (ps : List Placed) (i : ℕ) (p : Placed) → i < length ps → p ≡ get_or ps i p →
+pub next_token : (ps : List TokenAt) (i : ℕ) (p : TokenAt) → i < length ps → p ≡ get_or ps i p →
     take (i + 1) (tokens_in ps) ≡ take i (tokens_in ps) ++ p.token ∷ []
 next_token [] i p h e = absurd (omega arith)
 next_token (q ∷ ps) zero p h e = ap (λ x. x.token ∷ []) (sym e)
@@ -140,18 +140,18 @@ next_token (q ∷ ps) (suc i) p h e =
     rw add-one (ap (λ w. q.token ∷ w) (ap (λ j. take j (tokens_in ps)) (sym one) ∙ next_token ps i p (omega arith) e))
 
 -- the end of the tokens
-pub at_end : (list : List Token) (r : Reading) (k : ℕ) → ReadsTo list r k → (o : Option Source) → o ≡ finish_of r → JudgesTokens list (ok_or o fault.Unfinished)
+pub at_end : (list : List Token) (r : ReaderView) (k : ℕ) → ReadsTo list r k → (o : Option TreeView) → o ≡ finish_of r → JudgesTokens list (ok_or o fault.Unfinished)
 at_end list r k h None e = unfinished list r k h (sym e)
 at_end list r k h (Some tree) e = finished list r k tree h (sym e)
 
 -- only this tree, unless memory ran out
-abbrev pub IsGiven : Source → Result Source TokenFault → Type 0
+abbrev pub IsGiven : TreeView → Result TreeView TokenFault → Type 0
 IsGiven tree (Ok given) = given ≡ tree
 IsGiven tree (Err fault.Memory) = ⊤
 IsGiven tree (Err _) = ⊥
 
 -- a tree is given wherever there is one
-pub given : (list : List Token) (result : Result Source TokenFault) → JudgesTokens list result → (tree : Source) → IsTree list tree → IsGiven tree result
+pub given : (list : List Token) (result : Result TreeView TokenFault) → JudgesTokens list result → (tree : TreeView) → IsTree list tree → IsGiven tree result
 given list (Ok found) h tree p =
     let e : Some (reading found (stage.Between (last_part found))) ≡ Some (reading tree (stage.Between (last_part tree))) =
     sym (tree_passes found) ∙ (ap (after start) (h.tokens ∙ sym p.tokens) ∙ tree_passes tree) in ap source_in e

@@ -1,26 +1,26 @@
 -- How deep blocks stand in one another.
 use Rattle.std.specs.Prelude.{ℕ, ◌+◌, List, [], ◌∷◌, max}
-use Rattle.sect_front.specs.Syntax.{Form, Body, Primitive, If, IfElse, While, Atomic, End, Then}
-use Rattle.sect_front.specs.Source.{Source}
+use Rattle.sect_front.specs.Syntax.{StatementView, BlockView, Primitive, If, IfElse, While, Atomic, End, Then}
+use Rattle.sect_front.specs.TreeView.{TreeView}
 use Rattle.sect_front.specs.declared.tree.Thread.{Thread}
 
 abbrev mutual
   -- the most blocks of a statement that stand in one another
-  pub form_depth : Form → ℕ
-  form_depth (Primitive p) = 0
-  form_depth (If t a) = body_depth a + 1
-  form_depth (IfElse t a b) = max (body_depth a) (body_depth b) + 1
-  form_depth (While t a) = body_depth a + 1
-  form_depth (Atomic a) = body_depth a + 1
+  pub statement_depth : StatementView → ℕ
+  statement_depth (Primitive p) = 0
+  statement_depth (If t a) = block_depth a + 1
+  statement_depth (IfElse t a b) = max (block_depth a) (block_depth b) + 1
+  statement_depth (While t a) = block_depth a + 1
+  statement_depth (Atomic l a) = block_depth a + 1
 
-  pub body_depth : Body → ℕ
-  body_depth End = 0
-  body_depth (Then s b) = max (form_depth s) (body_depth b)
+  pub block_depth : BlockView → ℕ
+  block_depth End = 0
+  block_depth (Then s b) = max (statement_depth s) (block_depth b)
 
 abbrev pub threads_depth : List Thread → ℕ
 threads_depth [] = 0
-threads_depth (t ∷ ts) = max (body_depth t.body + 1) (threads_depth ts)
+threads_depth (t ∷ ts) = max (block_depth t.body + 1) (threads_depth ts)
 
 -- the depth of the deepest block: a thread's braces are depth 1
-abbrev pub depth : Source → ℕ
+abbrev pub depth : TreeView → ℕ
 depth s = threads_depth s.threads

@@ -1,18 +1,19 @@
 -- What a source text is, and where it stops to be one.
 use Rattle.std.specs.Prelude.{◌≡◌, ℕ, ◌+◌, ◌-◌, ◌<◌, ◌≤◌, ◌==◌, Bool, true, false, List, Result, Ok, Err, ⊤, length, take, drop, count_by, slice_get, Some}
+use Rattle.sect_front.specs.declared.limits.TheConstants.{MOST_BYTES}
 use Rattle.sect_front.specs.Words.{is_letter, is_digit, begins}
 use Rattle.sect_front.specs.Gaps.{line_feed}
 use Rattle.sect_front.specs.Lexing.{Spells, IsBadAt}
-use Rattle.sect_front.specs.Source.{Source}
+use Rattle.sect_front.specs.TreeView.{TreeView}
 use Rattle.sect_front.specs.Faults.{tokens_in, IsTree, IsUnexpectedAt, IsTooDeepAt, IsUnfinished}
-use Rattle.sect_front.specs.declared.token.Placed.{Placed}
+use Rattle.sect_front.specs.declared.token.TokenAt.{TokenAt}
 use Rattle.sect_front.specs.declared.parsing.FrontFault.{FrontFault}
 use Rattle.sect_front.specs.declared.parsing.FrontFault.TheVariants as fault
 
 -- the text spells this tree
-pub record IsSpelled (bytes : List ℕ) (tree : Source) : Type 0 where
-  pub fits : length bytes ≤ 1048576
-  pub places : List Placed
+pub record IsSpelled (bytes : List ℕ) (tree : TreeView) : Type 0 where
+  pub fits : length bytes ≤ MOST_BYTES
+  pub places : List TokenAt
   pub spells : Spells bytes places
   pub parses : IsTree (tokens_in places) tree
 
@@ -22,7 +23,7 @@ line_of bytes at = count_by (λ b. b == line_feed) (take at bytes) + 1
 
 -- there is a first bad lexeme, it begins so, and it stands on this line
 pub record IsBadOn (bytes : List ℕ) (line : ℕ) (letter digit : Bool) : Type 0 where
-  pub fits : length bytes ≤ 1048576
+  pub fits : length bytes ≤ MOST_BYTES
   pub at : ℕ
   pub bad : IsBadAt bytes at
   pub letter_first : begins is_letter (drop at bytes) ≡ letter
@@ -30,27 +31,27 @@ pub record IsBadOn (bytes : List ℕ) (line : ℕ) (letter digit : Bool) : Type 
   pub place : line ≡ line_of bytes at
 
 -- the text spells tokens, this holds of one of them by its number, and that one stands on this line
-pub record IsTokenOn (holds : List Placed → ℕ → Type 0) (bytes : List ℕ) (line : ℕ) : Type 0 where
-  pub fits : length bytes ≤ 1048576
-  pub places : List Placed
+pub record IsTokenOn (holds : List TokenAt → ℕ → Type 0) (bytes : List ℕ) (line : ℕ) : Type 0 where
+  pub fits : length bytes ≤ MOST_BYTES
+  pub places : List TokenAt
   pub spells : Spells bytes places
   pub index : ℕ
-  pub token : Placed
+  pub token : TokenAt
   pub found : slice_get places index ≡ Some token
   pub fault : holds places index
   pub place : line ≡ line_of bytes token.at
 
 -- the text spells tokens that end too early, and this is the line of its last byte
 pub record IsEndOn (bytes : List ℕ) (line : ℕ) : Type 0 where
-  pub fits : length bytes ≤ 1048576
-  pub places : List Placed
+  pub fits : length bytes ≤ MOST_BYTES
+  pub places : List TokenAt
   pub spells : Spells bytes places
   pub fault : IsUnfinished (tokens_in places)
   pub place : line ≡ line_of bytes (length bytes - 1)
 
 -- the fault is the text's first, and it stands on its line
 abbrev pub IsFault : List ℕ → FrontFault → Type 0
-IsFault bytes fault.TooLarge = 1048576 < length bytes
+IsFault bytes fault.TooLarge = MOST_BYTES < length bytes
 IsFault bytes (fault.BadByte line) = IsBadOn bytes line false false
 IsFault bytes (fault.BadNumber line) = IsBadOn bytes line false true
 IsFault bytes (fault.LongName line) = IsBadOn bytes line true false
@@ -60,18 +61,18 @@ IsFault bytes (fault.UnexpectedEnd line) = IsEndOn bytes line
 IsFault bytes fault.Memory = ⊤
 
 -- what a reading of the text answers
-abbrev pub Judges : List ℕ → Result Source FrontFault → Type 0
+abbrev pub Judges : List ℕ → Result TreeView FrontFault → Type 0
 Judges bytes (Ok tree) = IsSpelled bytes tree
 Judges bytes (Err e) = IsFault bytes e
 
 -- the tree is given, unless memory ran out
-abbrev pub Gives : Source → Result Source FrontFault → Type 0
+abbrev pub Gives : TreeView → Result TreeView FrontFault → Type 0
 Gives tree (Ok given) = given ≡ tree
 Gives tree (Err fault.Memory) = ⊤
 Gives tree (Err _) = ⊥
 
 -- this fault is the answer, unless memory ran out
-abbrev pub Refuses : FrontFault → Result Source FrontFault → Type 0
+abbrev pub Refuses : FrontFault → Result TreeView FrontFault → Type 0
 Refuses e (Ok tree) = ⊥
 Refuses e (Err fault.Memory) = ⊤
 Refuses e (Err given) = given ≡ e

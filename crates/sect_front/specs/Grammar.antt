@@ -1,8 +1,8 @@
 -- The tokens of a tree, rule by rule as the grammar has them.
 use Rattle.std.specs.Prelude.{List, [], ◌∷◌, ◌++◌, ℕ}
 use Rattle.std.specs.List.{flat_map}
-use Rattle.sect_front.specs.Syntax.{Form, Body, Primitive, If, IfElse, While, Atomic, End, Then}
-use Rattle.sect_front.specs.Source.{Source}
+use Rattle.sect_front.specs.Syntax.{StatementView, BlockView, Primitive, If, IfElse, While, Atomic, End, Then}
+use Rattle.sect_front.specs.TreeView.{TreeView}
 use Rattle.sect_front.specs.declared.token.Token.{Token}
 use Rattle.sect_front.specs.declared.token.Token.TheVariants as token
 use Rattle.sect_front.specs.declared.tree.Operand.{Operand}
@@ -14,6 +14,8 @@ use Rattle.sect_front.specs.declared.tree.Comparison.TheVariants as comparison
 use Rattle.sect_front.specs.declared.tree.Operator.{Operator}
 use Rattle.sect_front.specs.declared.tree.Operator.TheVariants as operator
 use Rattle.sect_front.specs.declared.tree.Test.{Test}
+use Rattle.sect_front.specs.declared.tree.Locking.{Locking}
+use Rattle.sect_front.specs.declared.tree.Locking.TheVariants as locking
 use Rattle.sect_front.specs.declared.tree.Kind.{Kind}
 use Rattle.sect_front.specs.declared.tree.Kind.TheVariants as kind
 use Rattle.sect_front.specs.declared.tree.Declaration.{Declaration}
@@ -62,18 +64,23 @@ test_list t =
 abbrev pub in_braces : List Token → List Token
 in_braces inner = token.OpenBrace ∷ inner ++ token.CloseBrace ∷ []
 
+-- ["all"]
+abbrev pub locking_list : Locking → List Token
+locking_list locking.Inferred = []
+locking_list locking.All = token.All ∷ []
+
 abbrev mutual
-  -- stmt: one without a block | "if" test block | "if" test block "else" block | "while" test block | "atomic" block
-  pub statement_list : Form → List Token
+  -- stmt: one without a block | "if" test block | "if" test block "else" block | "while" test block | "atomic" ["all"] block
+  pub statement_list : StatementView → List Token
   statement_list (Primitive p) = primitive_list p
   statement_list (If t a) = token.If ∷ test_list t ++ in_braces (statements_list a)
   statement_list (IfElse t a b) =
       token.If ∷ test_list t ++ in_braces (statements_list a) ++ token.Else ∷ in_braces (statements_list b)
   statement_list (While t a) = token.While ∷ test_list t ++ in_braces (statements_list a)
-  statement_list (Atomic a) = token.Atomic ∷ in_braces (statements_list a)
+  statement_list (Atomic l a) = token.Atomic ∷ locking_list l ++ in_braces (statements_list a)
 
   -- {stmt}
-  pub statements_list : Body → List Token
+  pub statements_list : BlockView → List Token
   statements_list End = []
   statements_list (Then s b) = statement_list s ++ statements_list b
 
@@ -105,5 +112,5 @@ thread_list t =
     token.Thread ∷ token.Name t.name ∷ in_braces (flat_map declaration_list t.locals ++ statements_list t.body)
 
 -- program = {record} {global} {thread}
-abbrev pub tokens_of : Source → List Token
+abbrev pub tokens_of : TreeView → List Token
 tokens_of s = flat_map record_list s.records ++ flat_map global_list s.globals ++ flat_map thread_list s.threads

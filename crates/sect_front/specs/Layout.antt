@@ -1,6 +1,6 @@
 -- How the tokens of a tree are printed.
 use Rattle.std.specs.Prelude.{◌≡◌, ℕ, List, [], ◌∷◌, ◌++◌}
-use Rattle.sect_front.specs.Source.{Source}
+use Rattle.sect_front.specs.TreeView.{TreeView}
 use Rattle.sect_front.specs.Gaps.{line_feed}
 use Rattle.sect_front.specs.Grammar.{tokens_of}
 use Rattle.sect_front.specs.Spelling.{spelling_of}
@@ -8,7 +8,7 @@ use Rattle.sect_front.specs.Lexing.{Spells}
 use Rattle.sect_front.specs.Faults.{tokens_in}
 use Rattle.sect_front.specs.declared.token.Token.{Token}
 use Rattle.sect_front.specs.declared.token.Token.TheVariants as token
-use Rattle.sect_front.specs.declared.token.Placed.{Placed}
+use Rattle.sect_front.specs.declared.token.TokenAt.{TokenAt}
 
 -- what stands between a token and the next: a line feed after `;`, `{` and `}`, and else a blank
 abbrev pub separator : Token → ℕ
@@ -24,7 +24,7 @@ layout_of (t ∷ []) = spelling_of t ++ line_feed ∷ []
 layout_of (t ∷ u ∷ w) = spelling_of t ++ separator t ∷ layout_of (u ∷ w)
 
 -- the text spells the tokens of the tree
-pub record IsTextOf (bytes : List ℕ) (tree : Source) : Type 0 where
-  pub places : List Placed
+pub record IsTextOf (bytes : List ℕ) (tree : TreeView) : Type 0 where
+  pub places : List TokenAt
   pub spells : Spells bytes places
   pub tokens : tokens_of tree ≡ tokens_in places

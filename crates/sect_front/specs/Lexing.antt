@@ -5,7 +5,7 @@ use Rattle.sect_front.specs.Gaps.{equals_sign, begins_with, after_gap}
 use Rattle.sect_front.specs.Spelling.{IsSpelling}
 use Rattle.sect_front.specs.declared.token.Token.{Token}
 use Rattle.sect_front.specs.declared.token.Token.TheVariants as token
-use Rattle.sect_front.specs.declared.token.Placed.{Placed}
+use Rattle.sect_front.specs.declared.token.TokenAt.{TokenAt}
 
 -- whether a token may stand directly before these bytes: `=` and `<` not before `=`, and a name, a keyword or an integer
 -- not before a byte of names
@@ -39,18 +39,18 @@ IsBad bytes = (t : Token) (n : ℕ) → IsFirst t n bytes → ⊥
 
 -- these tokens stand at the front, each after a gap of blanks and comments, and the rest follows; the bytes are the last
 -- ones of a text of so many, and each token's place is the offset of its first byte in that text
-abbrev pub Reaches : ℕ → List ℕ → List Placed → List ℕ → Type 0
+abbrev pub Reaches : ℕ → List ℕ → List TokenAt → List ℕ → Type 0
 Reaches total bytes [] rest = bytes ≡ rest
 Reaches total bytes (p ∷ ps) rest =
     (n : ℕ) × (p.at + length (after_gap bytes) ≡ total) × IsFirst p.token n (after_gap bytes) × Reaches total (drop n (after_gap bytes)) ps rest
 
 -- the text spells these tokens, at these places, with gaps before, between and after them
-abbrev pub Spells : List ℕ → List Placed → Type 0
+abbrev pub Spells : List ℕ → List TokenAt → Type 0
 Spells bytes places = (rest : List ℕ) × Reaches (length bytes) bytes places rest × (after_gap rest ≡ [])
 
 -- no token stands at this place, and all that stands before it is tokens
 pub record IsBadAt (bytes : List ℕ) (at : ℕ) : Type 0 where
-  pub before : List Placed
+  pub before : List TokenAt
   pub rest : List ℕ
   pub reaches : Reaches (length bytes) bytes before rest
   pub some : after_gap rest ≢ []

@@ -2,6 +2,7 @@
 use Rattle.std.specs.Prelude.{ℕ, Bool, false, not, ◌||◌, ◌&&◌, ◌==◌, nat_le, List, [], ◌∷◌, length, codes}
 use Rattle.std.specs.List.{list_all, list_any}
 use Rattle.std.specs.Str.{bytes_eq}
+use Rattle.sect_front.specs.declared.limits.TheConstants.{MOST_NAME_BYTES}
 
 -- a to z, A to Z or `_`
 abbrev pub is_letter : ℕ → Bool
@@ -23,7 +24,7 @@ begins test (b ∷ bs) = test b
 abbrev pub keywords : List (List ℕ)
 keywords =
     codes "record" ∷ codes "protected_by" ∷ codes "global" ∷ codes "thread" ∷ codes "int" ∷ codes "null" ∷ codes "new" ∷ codes "print" ∷
-    codes "if" ∷ codes "else" ∷ codes "while" ∷ codes "atomic" ∷ codes "class" ∷ []
+    codes "if" ∷ codes "else" ∷ codes "while" ∷ codes "atomic" ∷ codes "all" ∷ codes "class" ∷ []
 
 abbrev pub is_keyword : List ℕ → Bool
 is_keyword bytes = list_any (bytes_eq bytes) keywords
@@ -31,4 +32,4 @@ is_keyword bytes = list_any (bytes_eq bytes) keywords
 -- one name: a letter or `_`, then letters, `_` and digits, at most 32 bytes, and no keyword
 abbrev pub is_name : List ℕ → Bool
 is_name bytes =
-    begins is_letter bytes && list_all is_name_byte bytes && nat_le (length bytes) 32 && not (is_keyword bytes)
+    begins is_letter bytes && list_all is_name_byte bytes && nat_le (length bytes) MOST_NAME_BYTES && not (is_keyword bytes)

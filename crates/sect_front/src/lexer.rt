@@ -4,11 +4,12 @@ ghost use Rattle.std.specs.Prelude.{◌≡◌, ◌<◌, ◌≤◌, ◌^◌, leng
 ghost use Rattle.std.specs.List.{list_all};
 ghost use Rattle.sect_front.specs.Words.{is_name_byte as name_byte, begins, is_letter as letter_of};
 ghost use Rattle.sect_front.specs.Gaps.{is_blank as blank_of, begins_with as begins_so, after_gap as gap_of};
-ghost use Rattle.sect_front.specs.Recognition.{word_token as word_of, number_of, decimal_from, spelled, single_sign, double_sign};
+ghost use Rattle.sect_front.specs.steps.Recognition.{word_token as word_of, number_of, decimal_from, spelled, single_sign, double_sign};
 ghost use Rattle.sect_front.specs.Lexeme.{sign_at, with_length, lexeme_of, begins_name};
 
+use crate::limits::MOST_NAME_BYTES;
 use crate::literal::Literal;
-use crate::name::{MOST_NAME_BYTES, Name};
+use crate::name::Name;
 use crate::token::Token;
 use crate::words::{is_digit, is_letter, is_name_byte, keyword, word_length};
 
@@ -46,7 +47,7 @@ pub fn after_gap(bytes: &[u8]) -> &[u8]
     rest
 }
 
-// The number that these digits are after `0`, or nothing where a byte is no digit or the value is too great.
+/// The number that these digits are after `0`, or nothing where a byte is no digit or the value is too great.
 fn decimal(digits: &[u8]) -> Option<u64>
     ensures value { result ≡ decimal_from 0 digits.now }
     ensures low { IfSome result (λ n. n < 2 ^ 63) }
@@ -67,7 +68,7 @@ fn decimal(digits: &[u8]) -> Option<u64>
     Some(value)
 }
 
-// The number that a word is, unless a zero leads it or it is too great.
+/// The number that a word is, unless a zero leads it or it is too great.
 fn number(word: &[u8]) -> Option<u64>
     ensures value { result ≡ number_of word.now }
     ensures low { IfSome result (λ n. n < 2 ^ 63) }
@@ -79,9 +80,9 @@ fn number(word: &[u8]) -> Option<u64>
     decimal(word)
 }
 
-// The keyword or the name that a word is.
+/// The keyword or the name that a word is.
 fn word_token(word: &[u8]) -> Token
-    requires fits { length word.now ≤ 32 }
+    requires fits { length word.now ≤ MOST_NAME_BYTES }
     requires all { list_all name_byte word.now ≡ true }
     requires letter { begins letter_of word.now ≡ true }
     ensures { result ≡ word_of word.now }
@@ -92,7 +93,7 @@ fn word_token(word: &[u8]) -> Token
     }
 }
 
-// The token that a word is.
+/// The token that a word is.
 fn word_spelled(word: &[u8]) -> Option<Token>
     requires all { list_all name_byte word.now ≡ true }
     requires some { 0 < length word.now }
@@ -108,7 +109,7 @@ fn word_spelled(word: &[u8]) -> Option<Token>
     }
 }
 
-// The sign that this byte is alone.
+/// The sign that this byte is alone.
 fn single(byte: u8) -> Option<Token>
     ensures { result ≡ single_sign byte }
 {
@@ -128,7 +129,7 @@ fn single(byte: u8) -> Option<Token>
     }
 }
 
-// The sign that this byte and `=` are.
+/// The sign that this byte and `=` are.
 fn double(byte: u8) -> Option<Token>
     ensures { result ≡ double_sign byte }
 {
@@ -140,7 +141,7 @@ fn double(byte: u8) -> Option<Token>
     }
 }
 
-// The sign at the front, and how many bytes it has: the longest first.
+/// The sign at the front, and how many bytes it has: the longest first.
 fn sign(first: u8, others: &[u8]) -> Option<(Token, usize)>
     ensures { result ≡ sign_at first others.now }
 {
@@ -155,7 +156,7 @@ fn sign(first: u8, others: &[u8]) -> Option<(Token, usize)>
     }
 }
 
-// The word at the front, and how many bytes it has.
+/// The word at the front, and how many bytes it has.
 #[tactic(auto, using(crate::proofs::Lexemes::names_pass))]
 fn word(bytes: &[u8]) -> Option<(Token, usize)>
     requires { begins_name bytes.now ≡ true }

@@ -1,10 +1,10 @@
 //! The tokens of a whole text.
 
 ghost use Rattle.std.specs.Prelude.{◌≡◌, IfOk, IfErr, Ok, Err};
-ghost use Rattle.sect_front.specs.Verdicts.{Lexes};
+ghost use Rattle.sect_front.specs.steps.Verdicts.{Lexes};
 
 use crate::lexer::{after_gap, lexeme};
-use crate::token::Placed;
+use crate::token::TokenAt;
 use std::alloc::{AllocFailed, Global};
 
 /// Why a text has no tokens.
@@ -27,7 +27,7 @@ impl<T: Drop> From<AllocFailed<T>> for LexFault {
 }
 
 /// The tokens of a text, or the first place at which none stands.
-pub fn lex(alloc: Global, bytes: &[u8]) -> Result<Vec<Placed>, LexFault>
+pub fn lex(alloc: Global, bytes: &[u8]) -> Result<Vec<TokenAt>, LexFault>
     ensures ok { IfOk result (λ v. Lexes bytes.now (Ok v.items)) }
     ensures err { IfErr result (λ e. Lexes bytes.now (Err e)) }
 {
@@ -38,7 +38,7 @@ pub fn lex(alloc: Global, bytes: &[u8]) -> Result<Vec<Placed>, LexFault>
         let Some((token, length)) = lexeme(here) else {
             return Err(LexFault::Bad(at));
         };
-        tokens.push(Placed { token, at })?;
+        tokens.push(TokenAt { token, at })?;
         let (_, after) = here.split_at(length);
         here = after_gap(after);
     }

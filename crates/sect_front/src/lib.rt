@@ -3,11 +3,12 @@
 
 mod lexer;
 mod lexing;
-mod line;
+mod limits;
 mod listing;
 pub mod literal;
 pub mod name;
-pub mod parsing;
+mod parsing;
+mod partial;
 mod printing;
 mod reader;
 mod reading;
@@ -16,6 +17,7 @@ pub mod tree;
 mod within;
 mod words;
 
+pub use limits::{MOST_BYTES, MOST_DEPTH, MOST_NAME_BYTES};
 pub use listing::tokens_of;
 pub use parsing::{FrontFault, parse};
 pub use printing::print;

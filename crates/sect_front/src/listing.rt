@@ -2,15 +2,15 @@
 
 ghost use Rattle.std.specs.Prelude.{◌≡◌, ◌∷◌, OnOk, IfOk};
 ghost use Rattle.sect_front.specs.Grammar.{tokens_of as grammar_tokens, operand_token, operator_token, comparison_token, kind_token};
-ghost use Rattle.sect_front.specs.Tokens.{primitive_tokens, test_tokens, form_tokens, body_tokens, declarations_tokens, hints_tokens, record_tokens, global_tokens, thread_tokens, records_tokens, globals_tokens, threads_tokens};
-ghost use Rattle.sect_front.specs.Trees.{form_of};
-ghost use Rattle.sect_front.specs.Writes.{Writes};
+ghost use Rattle.sect_front.specs.steps.Tokens.{primitive_tokens, test_tokens, locking_tokens, statement_tokens, block_tokens, declarations_tokens, hints_tokens, record_tokens, global_tokens, thread_tokens, records_tokens, globals_tokens, threads_tokens};
+ghost use Rattle.sect_front.specs.Trees.{statement_of};
+ghost use Rattle.sect_front.specs.steps.Writes.{Writes};
 
 use crate::name::Name;
 use crate::token::Token;
 use crate::tree::{
-    Block, Comparison, Declarations, GlobalObject, Hints, Kind, Operand, Operator, Primitive,
-    Record, Statement, Test, Thread, Tree,
+    Block, Comparison, Declarations, GlobalObject, Hints, Kind, Locking, Operand, Operator,
+    Primitive, Record, Statement, Test, Thread, Tree,
 };
 use std::alloc::{AllocError, Global};
 
@@ -61,7 +61,7 @@ fn kind(k: Kind) -> Token
     }
 }
 
-// `x =`
+/// `x =`
 fn put_assigned(out: &mut Vec<Token>, x: Name) -> Result<(), AllocError>
     ensures { OnOk result (Writes out.old.items out.new.items (λ w. Token.Name x ∷ Token.Equal ∷ w)) }
 {
@@ -119,9 +119,19 @@ fn put_test(out: &mut Vec<Token>, t: Test) -> Result<(), AllocError>
     put(out, Token::CloseParen)
 }
 
+fn put_atomic(out: &mut Vec<Token>, locking: Locking) -> Result<(), AllocError>
+    ensures { OnOk result (Writes out.old.items out.new.items (λ w. Token.Atomic ∷ locking_tokens locking w)) }
+{
+    put(out, Token::Atomic)?;
+    match locking {
+        Locking::Inferred => Ok(()),
+        Locking::All => put(out, Token::All),
+    }
+}
+
 #[cycle(put)]
 fn put_statement(out: &mut Vec<Token>, s: &Statement) -> Result<(), AllocError>
-    ensures { OnOk result (Writes out.old.items out.new.items (form_tokens (form_of s.now))) }
+    ensures { OnOk result (Writes out.old.items out.new.items (statement_tokens (statement_of s.now))) }
 {
     match s {
         Statement::Primitive(p) => put_primitive(out, *p),
@@ -142,8 +152,8 @@ fn put_statement(out: &mut Vec<Token>, s: &Statement) -> Result<(), AllocError>
             put_test(out, *t)?;
             put_braced(out, a)
         }
-        Statement::Atomic(a) => {
-            put(out, Token::Atomic)?;
+        Statement::Atomic(locking, a) => {
+            put_atomic(out, *locking)?;
             put_braced(out, a)
         }
     }
@@ -151,7 +161,7 @@ fn put_statement(out: &mut Vec<Token>, s: &Statement) -> Result<(), AllocError>
 
 #[cycle(put)]
 fn put_braced(out: &mut Vec<Token>, b: &Block) -> Result<(), AllocError>
-    ensures { OnOk result (Writes out.old.items out.new.items (λ w. Token.OpenBrace ∷ body_tokens b.now (Token.CloseBrace ∷ w))) }
+    ensures { OnOk result (Writes out.old.items out.new.items (λ w. Token.OpenBrace ∷ block_tokens b.now (Token.CloseBrace ∷ w))) }
 {
     put(out, Token::OpenBrace)?;
     put_block(out, b)?;
@@ -160,7 +170,7 @@ fn put_braced(out: &mut Vec<Token>, b: &Block) -> Result<(), AllocError>
 
 #[cycle(put)]
 fn put_block(out: &mut Vec<Token>, b: &Block) -> Result<(), AllocError>
-    ensures { OnOk result (Writes out.old.items out.new.items (body_tokens b.now)) }
+    ensures { OnOk result (Writes out.old.items out.new.items (block_tokens b.now)) }
 {
     for s in b.as_slice() {
         put_statement(out, s)?;

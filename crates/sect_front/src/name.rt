@@ -1,20 +1,18 @@
 //! Names.
 
-ghost use Rattle.std.specs.Prelude.{◌≡◌, ◌++◌, OnOk, nat_eq, true, Some};
+ghost use Rattle.std.specs.Prelude.{◌≡◌, ◌++◌, OnOk, OnErr, nat_eq, true, Some};
 ghost use Rattle.std.specs.Cmp.Lexicographic.{pointwise};
 ghost use Rattle.std.specs.Cmp.Rules.{comparing, hashing};
 ghost use Rattle.std.specs.Hash as fed;
 ghost use Rattle.std.proofs.Common.{rules};
 ghost use Rattle.sect_front.specs.Words.{is_name};
 
+use crate::limits::MOST_NAME_BYTES;
 use std::alloc::AllocError;
 use std::fmt;
 use std::fmt::Write;
 use std::hash::{Hash, Hasher};
 use std::marker::Model;
-
-/// The most bytes that a name has.
-pub const MOST_NAME_BYTES: usize = 32;
 
 /// A name, which is kept inline: its bytes, and zeros behind them.
 #[derive(Clone, Copy)]
@@ -51,9 +49,11 @@ impl Name {
         Name { bytes: all, len }
     }
 
-    /// Its bytes, at least 1 and at most 32.
+    /// Its bytes, at least 1 and at most `MOST_NAME_BYTES`.
     pub fn as_bytes(&self) -> &[u8]
-        ensures { result.now ≡ self.now }
+        ensures bytes { result.now ≡ self.now }
+        // Every name is one.
+        ensures name { is_name self.now ≡ true }
     {
         &self.bytes[..self.len]
     }
@@ -61,6 +61,7 @@ impl Name {
     /// Adds its bytes to a text.
     pub fn append_to(&self, text: &mut Vec<u8>) -> Result<(), AllocError>
         ensures ok { OnOk result (text.new.items ≡ text.old.items ++ self.now) }
+        ensures err { OnErr result (text.new.items ≡ text.old.items) }
         // Every name is one.
         ensures name { is_name self.now ≡ true }
     {

@@ -7,9 +7,10 @@
 ghost use Rattle.std.specs.Prelude.{◌≡◌, ◌≢◌, ◌≤◌, length};
 ghost use Rattle.sect_front.specs.Front.{IsSpelled, IsFault, Judges, Gives, Refuses, line_of as line};
 ghost use Rattle.sect_front.specs.Lexing.{IsBadAt};
-ghost use Rattle.sect_front.specs.Source.{Source};
+ghost use Rattle.sect_front.specs.TreeView.{TreeView};
 
 use crate::lexing::{LexFault, lex};
+use crate::limits::MOST_BYTES;
 use crate::reading::{TokenFault, read_tokens};
 use crate::tree::Tree;
 use crate::words::{is_digit, is_letter};
@@ -45,10 +46,7 @@ pub enum FrontFault {
     TooLarge,
 }
 
-/// The most bytes of a text.
-pub const MOST_BYTES: usize = 1048576;
-
-// The line of a place.
+/// The line of a place.
 fn line_of(bytes: &[u8], at: usize) -> usize
     requires at_in { at ≤ length bytes.now }
     requires fits { length bytes.now ≤ MOST_BYTES }
@@ -57,7 +55,7 @@ fn line_of(bytes: &[u8], at: usize) -> usize
     bytes[..at].iter().filter(|byte| **byte == b'\n').count() + 1
 }
 
-// The fault of a bad lexeme.
+/// The fault of a bad lexeme.
 fn bad(bytes: &[u8], at: usize) -> FrontFault
     requires bad { IsBadAt bytes.now at }
     requires fits { length bytes.now ≤ MOST_BYTES }
@@ -80,14 +78,14 @@ pub fn parse(alloc: Global, bytes: &[u8]) -> Result<Tree, FrontFault>
     // A tree that is given is spelled so, and a fault is the first one, on its line.
     ensures judges { Judges bytes.now result }
     // A tree that is spelled so is given, unless memory runs out.
-    ensures only { (tree : Source) → IsSpelled bytes.now tree → Gives tree result }
+    ensures only { (tree : TreeView) → IsSpelled bytes.now tree → Gives tree result }
     // A text that has a fault is refused with it, unless memory runs out.
     ensures refuses { (fault : FrontFault) → fault ≢ FrontFault.Memory → IsFault bytes.now fault → Refuses fault result }
 {
     judge(alloc, bytes)
 }
 
-// The same, by its answer alone.
+/// The tree that a text spells, or its first fault. That a tree is the only one and a fault the only fault is `parse`'s.
 fn judge(alloc: Global, bytes: &[u8]) -> Result<Tree, FrontFault>
     ensures { Judges bytes.now result }
 {

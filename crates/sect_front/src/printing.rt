@@ -6,7 +6,7 @@ ghost use Rattle.sect_front.specs.Spelling.{spelling_of, is_proper};
 ghost use Rattle.sect_front.specs.Layout.{separator as separator_of, layout_of, IsTextOf};
 ghost use Rattle.sect_front.specs.Grammar.{tokens_of as grammar_tokens};
 ghost use Rattle.sect_front.specs.Front.{IsSpelled};
-ghost use Rattle.sect_front.specs.Spread.{spread};
+ghost use Rattle.sect_front.specs.steps.Spread.{spread};
 ghost use Rattle.std.specs.List.{list_all};
 
 use crate::listing::tokens_of;
@@ -23,7 +23,7 @@ fn put_decimal(alloc: Global, text: &mut Vec<u8>, value: Literal) -> Result<(), 
     text.extend_from_slice(digits.as_bytes())
 }
 
-// Adds the spelling of a token.
+/// Adds the spelling of a token.
 fn put_spelling(alloc: Global, text: &mut Vec<u8>, token: Token) -> Result<(), AllocError>
     ensures ok { OnOk result (text.new.items ≡ text.old.items ++ spelling_of token) }
     ensures proper { is_proper token ≡ true }
@@ -43,6 +43,7 @@ fn put_spelling(alloc: Global, text: &mut Vec<u8>, token: Token) -> Result<(), A
         Token::Else => text.extend_from_slice(b"else"),
         Token::While => text.extend_from_slice(b"while"),
         Token::Atomic => text.extend_from_slice(b"atomic"),
+        Token::All => text.extend_from_slice(b"all"),
         Token::Class => text.extend_from_slice(b"class"),
         Token::OpenBrace => text.extend_from_slice(b"{"),
         Token::CloseBrace => text.extend_from_slice(b"}"),
@@ -61,7 +62,7 @@ fn put_spelling(alloc: Global, text: &mut Vec<u8>, token: Token) -> Result<(), A
     }
 }
 
-// What stands behind a token: a line feed after `;`, `{` and `}`, and a blank after any other.
+/// What stands behind a token: a line feed after `;`, `{` and `}`, and a blank after any other.
 fn separator(token: Token) -> u8
     ensures { result ≡ separator_of token }
 {
@@ -71,7 +72,7 @@ fn separator(token: Token) -> u8
     }
 }
 
-// The tokens, each with what stands behind it.
+/// The tokens, each with what stands behind it.
 fn put_tokens(alloc: Global, text: &mut Vec<u8>, tokens: &[Token]) -> Result<(), AllocError>
     ensures ok { OnOk result (text.new.items ≡ text.old.items ++ spread tokens.now) }
     ensures proper { OnOk result (list_all is_proper tokens.now ≡ true) }

@@ -3,8 +3,9 @@
 ghost use Rattle.std.specs.Prelude.{◌≡◌, ◌≤◌, []};
 ghost use Rattle.std.specs.Option.{ForSome};
 
-use crate::line::Line;
+use crate::limits::MOST_DEPTH;
 use crate::name::Name;
+use crate::partial::PartialHead;
 use crate::token::Token;
 use crate::tree::{Declarations, GlobalObject, Hints, Kind, Record, Thread, Tree};
 use crate::within::{StepError, Within};
@@ -70,20 +71,20 @@ pub struct Reader {
 
 impl Model for Reader {
     ghost use Rattle.std.specs.Coded.{codes};
-    ghost use Rattle.sect_front.specs.Syntax.{body_code};
-    ghost use Rattle.sect_front.specs.Reading.{Reading};
+    ghost use Rattle.sect_front.specs.Coding.{block_code};
+    ghost use Rattle.sect_front.specs.steps.ReaderView.{ReaderView};
 
-    ghost Value = { Reading };
+    ghost Value = { ReaderView };
 
-    ghost coded = { Prim.hlevel (codes, body_code) };
+    ghost coded = { Prim.hlevel (codes, block_code) };
 
     ghost view = { λ r. record { source = record { records = r.records.items; globals = r.globals.items; threads = r.threads.items }; stage = r.stage } };
 }
 
 impl Reader {
-    ghost use Rattle.sect_front.specs.Reading.{reading, empty};
-    ghost use Rattle.sect_front.specs.Read.{Reads, read_one, begin_step, record_step, end_record_step, global_step, thread_step, after_kind_step, goes_on, finish_of};
-    ghost use Rattle.sect_front.specs.Step.{step_of};
+    ghost use Rattle.sect_front.specs.steps.ReaderView.{reading, empty};
+    ghost use Rattle.sect_front.specs.steps.Read.{Reads, read_one, begin_step, record_step, end_record_step, global_step, thread_step, after_kind_step, goes_on, finish_of};
+    ghost use Rattle.sect_front.specs.steps.Step.{step_of};
     ghost use Rattle.sect_front.specs.Depth.{depth};
 
     /// Nothing has been read.
@@ -110,7 +111,7 @@ impl Reader {
         }
     }
 
-    // A token where a declaration may begin.
+    /// A token where a declaration may begin.
     fn begin(&mut self, part: Part, token: Token) -> Result<(), StepError>
         ensures { Reads result self.new (begin_step self.old.source part token) }
     {
@@ -129,7 +130,7 @@ impl Reader {
         Ok(())
     }
 
-    // A token of a record.
+    /// A token of a record.
     fn record(&mut self, alloc: Global, stage: RecordStage, token: Token) -> Result<(), StepError>
         ensures { Reads result self.new (record_step self.old.source stage token) }
     {
@@ -172,7 +173,7 @@ impl Reader {
         Ok(())
     }
 
-    // The closing brace of a record.
+    /// The closing brace of a record.
     fn end_record(
         &mut self,
         name: Name,
@@ -190,7 +191,7 @@ impl Reader {
         Ok(())
     }
 
-    // A token of a global.
+    /// A token of a global.
     fn global(&mut self, stage: GlobalStage, token: Token) -> Result<(), StepError>
         ensures { Reads result self.new (global_step self.old.source stage token) }
     {
@@ -214,7 +215,7 @@ impl Reader {
         Ok(())
     }
 
-    // A token of a thread.
+    /// A token of a thread.
     fn thread(&mut self, alloc: Global, stage: ThreadStage, token: Token) -> Result<(), StepError>
         ensures { Reads result self.new (thread_step self.old.source stage token) }
     {
@@ -251,7 +252,7 @@ impl Reader {
         Ok(())
     }
 
-    // A token that is no name behind what may be a local's type: a name there began the first statement.
+    /// A token that is no name behind what may be a local's type: a name there began the first statement.
     fn after_kind(
         &mut self,
         alloc: Global,
@@ -265,13 +266,13 @@ impl Reader {
         match kind {
             Kind::Int => Err(StepError::Unexpected),
             Kind::Record(x) => {
-                let within = Within::begun(alloc, Line::AfterName(x));
+                let within = Within::begun(alloc, PartialHead::AfterName(x));
                 self.inside(alloc, name, locals, within, token)
             }
         }
     }
 
-    // A token of a thread's statements.
+    /// A token of a thread's statements.
     fn inside(
         &mut self,
         alloc: Global,
@@ -297,7 +298,7 @@ impl Reader {
 
     /// The tree, unless a declaration is begun and not ended.
     pub fn finish(self) -> Option<Tree>
-        requires { ForSome (finish_of self) (λ tree. depth tree ≤ 32) }
+        requires { ForSome (finish_of self) (λ tree. depth tree ≤ MOST_DEPTH) }
         ensures { result ≡ finish_of self }
     {
         let Reader {

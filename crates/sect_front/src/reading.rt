@@ -3,10 +3,11 @@
 ghost use Rattle.std.specs.Prelude.{◌≡◌, ◌<◌};
 ghost use Rattle.sect_front.specs.Braces.{brace};
 ghost use Rattle.sect_front.specs.Faults.{tokens_in};
-ghost use Rattle.sect_front.specs.Verdicts.{JudgesTokens};
+ghost use Rattle.sect_front.specs.steps.Verdicts.{JudgesTokens};
 
+use crate::limits::MOST_DEPTH;
 use crate::reader::Reader;
-use crate::token::{Placed, Token};
+use crate::token::{Token, TokenAt};
 use crate::tree::Tree;
 use crate::within::StepError;
 use std::alloc::Global;
@@ -15,7 +16,7 @@ use std::alloc::Global;
 #[derive(Debug, Drop)]
 pub enum TokenFault {
     Memory,
-    /// The tokens up to the one of this index begin no tree.
+    /// The tokens before the one of this index begin a tree, and with it they begin none.
     Unexpected(usize),
     /// The token of this index opens too many blocks.
     TooDeep(usize),
@@ -23,10 +24,7 @@ pub enum TokenFault {
     Unfinished,
 }
 
-/// The most blocks that stand in one another, a thread's or a record's braces counted.
-pub const MOST_DEPTH: usize = 32;
-
-// The braces that are open after one more token.
+/// The braces that are open after one more token.
 fn braces(level: usize, token: Token) -> usize
     requires { level < 1000 }
     ensures { result ≡ brace level token }
@@ -39,7 +37,7 @@ fn braces(level: usize, token: Token) -> usize
 }
 
 /// The tree of these tokens, or the first token at which there is none.
-pub fn read_tokens(alloc: Global, tokens: &[Placed]) -> Result<Tree, TokenFault>
+pub fn read_tokens(alloc: Global, tokens: &[TokenAt]) -> Result<Tree, TokenFault>
     ensures { JudgesTokens (tokens_in tokens.now) result }
 {
     let mut reader = Reader::new(alloc);

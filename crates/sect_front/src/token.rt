@@ -20,6 +20,7 @@ pub enum Token {
     Else,
     While,
     Atomic,
+    All,
     Class,
     OpenBrace,
     CloseBrace,
@@ -39,7 +40,7 @@ pub enum Token {
 
 /// A token and the offset of its first byte in the text.
 #[derive(Clone, Copy)]
-pub struct Placed {
+pub struct TokenAt {
     pub token: Token,
     pub at: usize,
 }

@@ -3,6 +3,7 @@
 ghost use Rattle.std.specs.Prelude.{◌≡◌, OnOk, OnErr};
 ghost use Rattle.sect_front.specs.Syntax.{End};
 
+use crate::limits::MOST_DEPTH;
 use crate::literal::Literal;
 use crate::name::Name;
 use std::alloc::{AllocError, Global};
@@ -41,6 +42,15 @@ pub struct Test {
     pub right: Operand,
 }
 
+/// Which locks a section takes.
+#[derive(Clone, Copy, Debug, PartialEq, Eq)]
+pub enum Locking {
+    /// Those that its statements need, as they are inferred: `atomic { .. }`.
+    Inferred,
+    /// The one lock that covers every lock: `atomic all { .. }`.
+    All,
+}
+
 /// A statement without a block.
 #[derive(Clone, Copy)]
 pub enum Primitive {
@@ -58,7 +68,7 @@ pub enum Primitive {
     Print(Operand),
 }
 
-/// Statements, one after another.
+/// TextView, one after another.
 #[cycle(tree)]
 #[derive(Drop)]
 pub struct Block {
@@ -74,21 +84,22 @@ pub enum Statement {
     If(Test, Block),
     IfElse(Test, Block, Block),
     While(Test, Block),
-    Atomic(Block),
+    Atomic(Locking, Block),
 }
 
 impl Model for Block {
-    ghost use Rattle.sect_front.specs.Syntax.{Body, body_code};
+    ghost use Rattle.sect_front.specs.Syntax.{BlockView};
+    ghost use Rattle.sect_front.specs.Coding.{block_code};
 
-    ghost Value = { Body };
+    ghost Value = { BlockView };
 
-    ghost coded = { body_code };
+    ghost coded = { block_code };
 
-    ghost use Rattle.sect_front.specs.Trees.{body_of, body_size};
+    ghost use Rattle.sect_front.specs.Trees.{block_of, block_size};
 
-    ghost view = { λ b. body_of b.statements.items };
+    ghost view = { λ b. block_of b.statements.items };
 
-    ghost size = { body_size };
+    ghost size = { block_size };
 
     ghost use Rattle.std.proofs.Common.{arith};
     ghost use Rattle.sect_front.specs.Falls.{falls};
@@ -97,7 +108,7 @@ impl Model for Block {
 }
 
 impl Block {
-    ghost use Rattle.sect_front.specs.Trees.{append, form_of, body_of};
+    ghost use Rattle.sect_front.specs.Trees.{append, statement_of, block_of};
 
     /// No statements.
     pub fn new(alloc: Global) -> Block
@@ -110,7 +121,7 @@ impl Block {
 
     /// The statements, in text order.
     pub fn as_slice(&self) -> &[Statement]
-        ensures { body_of result.now ≡ self.now }
+        ensures { block_of result.now ≡ self.now }
     {
         self.statements.as_slice()
     }
@@ -118,7 +129,7 @@ impl Block {
     /// Adds a statement at the end.
     #[tactic(auto, using(crate::proofs::Bodies::body_of_push))]
     pub fn push(&mut self, statement: Statement) -> Result<(), AllocError>
-        ensures ok { OnOk result (self.new ≡ append self.old (form_of statement)) }
+        ensures ok { OnOk result (self.new ≡ append self.old (statement_of statement)) }
         ensures err { OnErr result (self.new ≡ self.old) }
     {
         self.statements.push(statement)?;
@@ -170,7 +181,8 @@ impl Declarations {
 
     /// Adds a declaration at the end.
     pub fn push(&mut self, kind: Kind, name: Name) -> Result<(), AllocError>
-        ensures { OnOk result (self.new ≡ self.old ++ record { kind = kind; name = name } ∷ []) }
+        ensures ok { OnOk result (self.new ≡ self.old ++ record { kind = kind; name = name } ∷ []) }
+        ensures err { OnErr result (self.new ≡ self.old) }
     {
         self.list.push(Declaration { kind, name })?;
         Ok(())
@@ -212,7 +224,8 @@ impl Hints {
 
     /// Adds a hint at the end.
     pub fn push(&mut self, name: Name) -> Result<(), AllocError>
-        ensures { OnOk result (self.new ≡ self.old ++ name ∷ []) }
+        ensures ok { OnOk result (self.new ≡ self.old ++ name ∷ []) }
+        ensures err { OnErr result (self.new ≡ self.old) }
     {
         self.list.push(name)?;
         Ok(())
@@ -258,29 +271,30 @@ pub struct Tree {
 }
 
 impl Model for Tree {
-    ghost use Rattle.sect_front.specs.Source.{Source};
+    ghost use Rattle.sect_front.specs.TreeView.{TreeView};
     ghost use Rattle.std.specs.Coded.{codes};
-    ghost use Rattle.sect_front.specs.Syntax.{body_code};
+    ghost use Rattle.sect_front.specs.Coding.{block_code};
 
-    ghost Value = { Source };
+    ghost Value = { TreeView };
 
-    ghost coded = { Prim.hlevel (codes, body_code) };
+    ghost coded = { Prim.hlevel (codes, block_code) };
 
     ghost view = { λ t. record { records = t.records.items; globals = t.globals.items; threads = t.threads.items } };
 
     ghost use Rattle.std.specs.Prelude.{◌≤◌};
     ghost use Rattle.sect_front.specs.Depth.{depth};
+    ghost use Rattle.sect_front.specs.declared.limits.TheConstants.{MOST_DEPTH};
 
-    ghost invariant = { λ t. depth (record { records = t.records.items; globals = t.globals.items; threads = t.threads.items }) ≤ 32 };
+    ghost invariant = { λ t. depth (record { records = t.records.items; globals = t.globals.items; threads = t.threads.items }) ≤ MOST_DEPTH };
 }
 
 impl Tree {
     ghost use Rattle.std.specs.Prelude.{◌≤◌, ◌↔◌, IsTrue, []};
     ghost use Rattle.sect_front.specs.Depth.{depth};
 
-    /// The tree of these declarations, of which no block is deeper than 32, a thread's braces being depth 1.
+    /// The tree of these declarations, of which no block is deeper than `MOST_DEPTH`, a thread's braces being depth 1.
     pub fn new(records: Vec<Record>, globals: Vec<GlobalObject>, threads: Vec<Thread>) -> Tree
-        requires { depth (record { records = records.items; globals = globals.items; threads = threads.items }) ≤ 32 }
+        requires { depth (record { records = records.items; globals = globals.items; threads = threads.items }) ≤ MOST_DEPTH }
         ensures { result ≡ record { records = records.items; globals = globals.items; threads = threads.items } }
     {
         Tree {
@@ -315,7 +329,7 @@ impl Tree {
     pub fn is_empty(&self) -> bool
         ensures empty { IsTrue result ↔ ((self.now.records ≡ []) × (self.now.globals ≡ []) × (self.now.threads ≡ [])) }
         // No tree has a deeper block.
-        ensures shallow { depth self.now ≤ 32 }
+        ensures shallow { depth self.now ≤ MOST_DEPTH }
     {
         self.records.is_empty() && self.globals.is_empty() && self.threads.is_empty()
     }

@@ -3,9 +3,9 @@
 ghost use Rattle.std.specs.Prelude.{◌≡◌, ◌∷◌, [], OnOk};
 ghost use Rattle.sect_front.specs.Syntax.{End};
 
-use crate::line::{Branch, BranchLine, Line, Move, advance};
+use crate::partial::{Branch, Move, PartialBranch, PartialHead, advance};
 use crate::token::Token;
-use crate::tree::{Block, Statement, Test};
+use crate::tree::{Block, Locking, Statement, Test};
 use std::alloc::{AllocError, AllocFailed, Global};
 use std::marker::Model;
 use std::mem;
@@ -13,7 +13,7 @@ use std::mem;
 /// A block that stands open: the statements before the one that it belongs to, and what has been read of that one.
 #[derive(Drop)]
 pub enum Frame {
-    Atomic(Block),
+    Atomic(Block, Locking),
     Then(Block, Test),
     Else(Block, Test, Block),
     While(Block, Test),
@@ -21,9 +21,9 @@ pub enum Frame {
 
 /// Where in a statement the next token stands.
 #[derive(Drop)]
-pub enum Place {
+pub enum Partial {
     Start,
-    Inside(Line),
+    Inside(PartialHead),
     AfterThen(Test, Block),
     AfterElse(Test, Block),
 }
@@ -62,44 +62,44 @@ impl<T: Drop> From<AllocFailed<T>> for StepError {
 pub struct Within {
     frames: Vec<Frame>,
     before: Block,
-    place: Place,
+    place: Partial,
 }
 
 impl Model for Within {
     ghost use Rattle.std.specs.Prelude.{reverse};
     ghost use Rattle.std.specs.Coded.{codes};
-    ghost use Rattle.sect_front.specs.Syntax.{body_code};
-    ghost use Rattle.sect_front.specs.Stand.{Stand};
+    ghost use Rattle.sect_front.specs.Coding.{block_code};
+    ghost use Rattle.sect_front.specs.steps.WithinView.{WithinView};
 
-    ghost Value = { Stand };
+    ghost Value = { WithinView };
 
-    ghost coded = { Prim.hlevel (codes, body_code) };
+    ghost coded = { Prim.hlevel (codes, block_code) };
 
     ghost view = { λ w. record { frames = reverse w.frames.items; before = w.before; place = w.place } };
 }
 
 impl Within {
-    ghost use Rattle.sect_front.specs.Step.{Steps, start_step, close_step, moved, step_of};
+    ghost use Rattle.sect_front.specs.steps.Step.{Steps, start_step, close_step, moved, step_of};
 
     /// No statements.
     pub fn new(alloc: Global) -> Within
-        ensures { result ≡ record { frames = []; before = End; place = Place.Start } }
+        ensures { result ≡ record { frames = []; before = End; place = Partial.Start } }
     {
         Within {
             frames: Vec::new(alloc),
             before: Block::new(alloc),
-            place: Place::Start,
+            place: Partial::Start,
         }
     }
 
     /// The statements of a thread of which the first has begun so.
-    pub fn begun(alloc: Global, line: Line) -> Within
-        ensures { result ≡ record { frames = []; before = End; place = Place.Inside line } }
+    pub fn begun(alloc: Global, line: PartialHead) -> Within
+        ensures { result ≡ record { frames = []; before = End; place = Partial.Inside line } }
     {
         Within {
             frames: Vec::new(alloc),
             before: Block::new(alloc),
-            place: Place::Inside(line),
+            place: Partial::Inside(line),
         }
     }
 
@@ -107,15 +107,15 @@ impl Within {
     pub fn step(&mut self, alloc: Global, token: Token) -> Result<Option<Block>, StepError>
         ensures { Steps result self.new (step_of self.old token) }
     {
-        match mem::replace(&mut self.place, Place::Start) {
-            Place::Start => self.start(alloc, token),
-            Place::Inside(line) => match advance(line, token) {
+        match mem::replace(&mut self.place, Partial::Start) {
+            Partial::Start => self.start(alloc, token),
+            Partial::Inside(line) => match advance(line, token) {
                 None => Err(StepError::Unexpected),
                 Some(to) => self.go(alloc, to),
             },
-            Place::AfterThen(test, then) => match token {
+            Partial::AfterThen(test, then) => match token {
                 Token::Else => {
-                    self.place = Place::AfterElse(test, then);
+                    self.place = Partial::AfterElse(test, then);
                     Ok(None)
                 }
                 _ => {
@@ -123,7 +123,7 @@ impl Within {
                     self.start(alloc, token)
                 }
             },
-            Place::AfterElse(test, then) => match token {
+            Partial::AfterElse(test, then) => match token {
                 Token::OpenBrace => {
                     let before = mem::replace(&mut self.before, Block::new(alloc));
                     self.frames.push(Frame::Else(before, test, then))?;
@@ -134,29 +134,35 @@ impl Within {
         }
     }
 
-    // A token where a statement may start.
+    /// A token where a statement may start.
     fn start(&mut self, alloc: Global, token: Token) -> Result<Option<Block>, StepError>
         ensures { Steps result self.new (start_step self.old.frames self.old.before token) }
     {
         match token {
             Token::Name(x) => {
-                self.place = Place::Inside(Line::AfterName(x));
+                self.place = Partial::Inside(PartialHead::AfterName(x));
                 Ok(None)
             }
             Token::Print => {
-                self.place = Place::Inside(Line::AfterPrint);
+                self.place = Partial::Inside(PartialHead::AfterPrint);
                 Ok(None)
             }
             Token::If => {
-                self.place = Place::Inside(Line::Branch(Branch::If, BranchLine::AfterWord));
+                self.place = Partial::Inside(PartialHead::Branch(
+                    Branch::If,
+                    PartialBranch::AfterWord,
+                ));
                 Ok(None)
             }
             Token::While => {
-                self.place = Place::Inside(Line::Branch(Branch::While, BranchLine::AfterWord));
+                self.place = Partial::Inside(PartialHead::Branch(
+                    Branch::While,
+                    PartialBranch::AfterWord,
+                ));
                 Ok(None)
             }
             Token::Atomic => {
-                self.place = Place::Inside(Line::AfterAtomic);
+                self.place = Partial::Inside(PartialHead::AfterAtomic);
                 Ok(None)
             }
             Token::CloseBrace => self.close(alloc),
@@ -164,7 +170,7 @@ impl Within {
         }
     }
 
-    // A closing brace.
+    /// A closing brace.
     fn close(&mut self, alloc: Global) -> Result<Option<Block>, StepError>
         ensures { Steps result self.new (close_step self.old.frames self.old.before) }
     {
@@ -172,62 +178,62 @@ impl Within {
             return Ok(Some(mem::replace(&mut self.before, Block::new(alloc))));
         };
         match frame {
-            Frame::Atomic(before) => {
+            Frame::Atomic(before, locking) => {
                 let block = mem::replace(&mut self.before, before);
-                self.before.push(Statement::Atomic(block))?;
-                self.place = Place::Start;
+                self.before.push(Statement::Atomic(locking, block))?;
+                self.place = Partial::Start;
                 Ok(None)
             }
             Frame::While(before, test) => {
                 let block = mem::replace(&mut self.before, before);
                 self.before.push(Statement::While(test, block))?;
-                self.place = Place::Start;
+                self.place = Partial::Start;
                 Ok(None)
             }
             Frame::Then(before, test) => {
                 let block = mem::replace(&mut self.before, before);
-                self.place = Place::AfterThen(test, block);
+                self.place = Partial::AfterThen(test, block);
                 Ok(None)
             }
             Frame::Else(before, test, then) => {
                 let block = mem::replace(&mut self.before, before);
                 self.before.push(Statement::IfElse(test, then, block))?;
-                self.place = Place::Start;
+                self.place = Partial::Start;
                 Ok(None)
             }
         }
     }
 
-    // What follows a token inside a statement.
+    /// What follows a token inside a statement.
     fn go(&mut self, alloc: Global, to: Move) -> Result<Option<Block>, StepError>
         ensures { Steps result self.new (moved self.old.frames self.old.before to) }
     {
         match to {
             Move::To(line) => {
-                self.place = Place::Inside(line);
+                self.place = Partial::Inside(line);
                 Ok(None)
             }
             Move::Whole(primitive) => {
                 self.before.push(Statement::Primitive(primitive))?;
-                self.place = Place::Start;
+                self.place = Partial::Start;
                 Ok(None)
             }
             Move::OpensThen(test) => {
                 let before = mem::replace(&mut self.before, Block::new(alloc));
                 self.frames.push(Frame::Then(before, test))?;
-                self.place = Place::Start;
+                self.place = Partial::Start;
                 Ok(None)
             }
             Move::OpensWhile(test) => {
                 let before = mem::replace(&mut self.before, Block::new(alloc));
                 self.frames.push(Frame::While(before, test))?;
-                self.place = Place::Start;
+                self.place = Partial::Start;
                 Ok(None)
             }
-            Move::OpensAtomic => {
+            Move::OpensAtomic(locking) => {
                 let before = mem::replace(&mut self.before, Block::new(alloc));
-                self.frames.push(Frame::Atomic(before))?;
-                self.place = Place::Start;
+                self.frames.push(Frame::Atomic(before, locking))?;
+                self.place = Partial::Start;
                 Ok(None)
             }
         }

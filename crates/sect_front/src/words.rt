@@ -3,9 +3,9 @@
 ghost use Rattle.std.specs.Prelude.{◌≡◌, ◌&&◌, length, take_while};
 ghost use Rattle.std.specs.List.{list_all};
 ghost use Rattle.sect_front.specs.Words.{is_letter as letter_of, is_digit as digit_of, is_name_byte as name_byte, is_name as name_of, begins};
-ghost use Rattle.sect_front.specs.Recognition.{keyword_of};
+ghost use Rattle.sect_front.specs.steps.Recognition.{keyword_of};
 
-use crate::name::MOST_NAME_BYTES;
+use crate::limits::MOST_NAME_BYTES;
 use crate::token::Token;
 
 /// Whether a name may begin with this byte: a letter or `_`.
@@ -64,6 +64,8 @@ pub fn keyword(word: &[u8]) -> Option<Token>
         Some(Token::While)
     } else if word == b"atomic".as_slice() {
         Some(Token::Atomic)
+    } else if word == b"all".as_slice() {
+        Some(Token::All)
     } else if word == b"class".as_slice() {
         Some(Token::Class)
     } else {
@@ -80,7 +82,7 @@ fn begins_letter(bytes: &[u8]) -> bool
     }
 }
 
-// Whether a letter or `_` stands first, and then letters, `_` and digits alone.
+/// Whether a letter or `_` stands first, and then letters, `_` and digits alone.
 #[tactic(auto, using(crate::proofs::NamesLemmas::whole_word))]
 fn is_word(bytes: &[u8]) -> bool
     ensures { result ≡ (begins letter_of bytes.now && list_all name_byte bytes.now) }

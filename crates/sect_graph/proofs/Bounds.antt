@@ -6,7 +6,7 @@ use Rattle.std.proofs.lemmas.List.Elements.{All-nil, All-cons, All-append, All-s
 use Rattle.std.proofs.lemmas.Option.{slice_get_within, get_or_from_slice_get}
 use Rattle.sect_types.specs.declared.action.Label.{Label}
 use Rattle.sect_types.specs.declared.action.Label.TheVariants.{Act, Test, Section as WholeSection}
-use Rattle.sect_types.specs.Statements.{Statements, Stop, Do, Choose, Loop, Section}
+use Rattle.sect_types.specs.Statements.{TextView, Stop, Do, Choose, Loop, Section}
 use Rattle.sect_types.specs.Traces.{node_count}
 use Rattle.sect_graph.specs.declared.flow.Node.{Node}
 use Rattle.sect_graph.specs.declared.flow.Successors.TheVariants.{Next, Branch}
@@ -24,7 +24,7 @@ next_up_to a k most first j to = omega arith
 branch_up_to : (a : Label) (k l most : ℕ) → k ≤ most → l ≤ most → LeadsUpTo most (node a (Branch k l))
 branch_up_to a k l most first second j to = omega arith
 
-entry_up_to : (c : Statements) (n next most : ℕ) → n ≤ most → next ≤ most → entry_of c n next ≤ most
+entry_up_to : (c : TextView) (n next most : ℕ) → n ≤ most → next ≤ most → entry_of c n next ≤ most
 entry_up_to Stop n next most low high = high
 entry_up_to (Do a rest) n next most low high = low
 entry_up_to (Choose t p q rest) n next most low high = low
@@ -32,7 +32,7 @@ entry_up_to (Loop t p rest) n next most low high = low
 entry_up_to (Section i p rest) n next most low high = low
 
 -- control goes on from a text's nodes to nothing above both the place behind them and where the text goes on
-nodes_up_to : (c : Statements) (n next most : ℕ) → n + node_count c ≤ most → next ≤ most → All (LeadsUpTo most) (nodes_of c n next)
+nodes_up_to : (c : TextView) (n next most : ℕ) → n + node_count c ≤ most → next ≤ most → All (LeadsUpTo most) (nodes_of c n next)
 nodes_up_to Stop n next most low high = All-nil (LeadsUpTo most)
 nodes_up_to (Do a rest) n next most low high =
     let after = entry_of rest (n + 1) next in
@@ -67,7 +67,7 @@ nodes_up_to (Loop t p rest) n next most low high =
     All-cons (LeadsUpTo most) (node (Test t) (Branch first second)) (xs ++ zs) here parts
 
 -- control goes on from each node to a node or to the exit
-pub leads_within : (text : Statements) (g : List Node) → g ≡ flow_nodes text → (i j : ℕ) (x : Node) → slice_get g i ≡ Some x → LeadsTo x j → j ≤ length g
+pub leads_within : (text : TextView) (g : List Node) → g ≡ flow_nodes text → (i j : ℕ) (x : Node) → slice_get g i ≡ Some x → LeadsTo x j → j ≤ length g
 leads_within text g is i j x at to =
     let len : length g ≡ node_count text = ap length is ∙ length-nodes_of text 0 (node_count text) in
     let all = All-same (LeadsUpTo (length g)) g (flow_nodes text) is (nodes_up_to text 0 (node_count text) (length g) (omega arith) (omega arith)) in

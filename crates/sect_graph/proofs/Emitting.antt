@@ -5,7 +5,7 @@ use Rattle.sect_types.specs.declared.action.Label.TheVariants.{Test}
 use Rattle.sect_types.specs.declared.action.Condition.{Condition}
 use Rattle.sect_types.specs.declared.text.Step.{Step}
 use Rattle.sect_types.specs.declared.text.Step.TheVariants as step
-use Rattle.sect_types.specs.Statements.{Statements, Stop, Choose, Loop}
+use Rattle.sect_types.specs.Statements.{TextView, Stop, Choose, Loop}
 use Rattle.sect_types.specs.Texts.{step_then, statements_of}
 use Rattle.sect_types.specs.Traces.{node_count}
 use Rattle.sect_graph.specs.declared.flow.Node.{Node}
@@ -15,7 +15,7 @@ use Rattle.sect_graph.specs.Paths.{node}
 use Rattle.sect_graph.proofs.Paths.{length-nodes_of}
 
 -- a statement's nodes, in front of any text
-pub count_front : (s : Step) (rest : Statements) → node_count (step_then s rest) ≡ node_count (step_then s Stop) + node_count rest
+pub count_front : (s : Step) (rest : TextView) → node_count (step_then s rest) ≡ node_count (step_then s Stop) + node_count rest
 count_front (step.Do a) rest = omega arith
 count_front (step.If t p q) rest = omega arith
 count_front (step.While t p) rest = omega arith
@@ -27,7 +27,7 @@ count_more xs i d h =
     at_drop_more (λ l. node_count (statements_of l)) xs i d h ∙ count_front (get_or xs i d) (statements_of (drop (i + 1) xs))
 
 -- a statement's nodes, and then those of the rest
-pub nodes_front : (s : Step) (rest : Statements) (n next : ℕ) →
+pub nodes_front : (s : Step) (rest : TextView) (n next : ℕ) →
     nodes_of (step_then s rest) n next
     ≡ nodes_of (step_then s Stop) n (entry_of rest (n + node_count (step_then s Stop)) next) ++ nodes_of rest (n + node_count (step_then s Stop)) next
 nodes_front (step.Do a) rest n next = refl
@@ -52,7 +52,7 @@ nodes_front (step.While t a) rest n next =
     let flat : xs ++ zs ≡ (xs ++ []) ++ zs = rw (append-nil xs) refl in
     ap at e ∙ ap (λ l. node (Test t) (Branch (entry_of a (n + 1) n) after) ∷ l) flat
 
-entry_front : (s : Step) (rest : Statements) (n next : ℕ) → entry_of (step_then s rest) n next ≡ n
+entry_front : (s : Step) (rest : TextView) (n next : ℕ) → entry_of (step_then s rest) n next ≡ n
 entry_front (step.Do a) rest n next = refl
 entry_front (step.If t p q) rest n next = refl
 entry_front (step.While t p) rest n next = refl
@@ -94,7 +94,7 @@ room_more xs i s old new after total h is_s is_new before =
     omega (arith, count_more xs i s h, ap (λ x. node_count (step_then x Stop)) is_s, ap length is_new, length-append old (nodes_of (step_then s Stop) (length old) after), length-nodes_of (step_then s Stop) (length old) after)
 
 -- the nodes of an `if`
-pub nodes_if : (s : Step) (t : Condition) (a b : Statements) (old n1 n2 n3 : List Node) (start other first second next : ℕ) → step_then s Stop ≡ Choose t a b Stop
+pub nodes_if : (s : Step) (t : Condition) (a b : TextView) (old n1 n2 n3 : List Node) (start other first second next : ℕ) → step_then s Stop ≡ Choose t a b Stop
     → start ≡ length old → other ≡ start + 1 + node_count a
     → first ≡ entry_of a (start + 1) next → second ≡ entry_of b other next
     → n1 ≡ old ++ node (Test t) (Branch first second) ∷ []
@@ -114,7 +114,7 @@ nodes_if s t a b old n1 n2 n3 start other first second next is e0 e0' e1 e2 f1 f
     g3 ∙ flat ∙ ap (λ f. old ++ nodes_of f (length old) next) (sym is)
 
 -- the nodes of a `while`
-pub nodes_while : (s : Step) (t : Condition) (a : Statements) (old n1 n2 : List Node) (start first next : ℕ) → step_then s Stop ≡ Loop t a Stop
+pub nodes_while : (s : Step) (t : Condition) (a : TextView) (old n1 n2 : List Node) (start first next : ℕ) → step_then s Stop ≡ Loop t a Stop
     → start ≡ length old → first ≡ entry_of a (start + 1) start
     → n1 ≡ old ++ node (Test t) (Branch first next) ∷ []
     → n2 ≡ n1 ++ nodes_of a (length n1) start
@@ -129,7 +129,7 @@ nodes_while s t a old n1 n2 start first next is e0 e1 f1 f2 =
     g2 ∙ flat ∙ ap (λ f. old ++ nodes_of f (length old) next) (sym is)
 
 -- there is room for the second side of an `if`
-pub room_if : (s : Step) (t : Condition) (a b : Statements) (old n1 n2 : List Node) (x : Node) (next most : ℕ) → step_then s Stop ≡ Choose t a b Stop
+pub room_if : (s : Step) (t : Condition) (a b : TextView) (old n1 n2 : List Node) (x : Node) (next most : ℕ) → step_then s Stop ≡ Choose t a b Stop
     → n1 ≡ old ++ x ∷ []
     → n2 ≡ n1 ++ nodes_of a (length n1) next
     → length old + node_count (step_then s Stop) ≤ most

@@ -8,18 +8,18 @@ use Rattle.sect_types.specs.Programs.{total_statements}
 use Rattle.sect_types.specs.Texts.{step_then, statements_of}
 use Rattle.sect_types.specs.declared.text.Step.{Step}
 use Rattle.sect_types.specs.declared.text.Step.TheVariants as step
-use Rattle.sect_types.specs.Statements.{Statements, Stop, Do, Choose, Loop, Section, section_bodies, statement_count}
-use Rattle.sect_types.specs.Sections.{SectionOf, sections_of, sections_from}
+use Rattle.sect_types.specs.Statements.{TextView, Stop, Do, Choose, Loop, Section, section_bodies, statement_count}
+use Rattle.sect_types.specs.Sections.{SectionView, sections_of, sections_from}
 use Rattle.sect_types.specs.Traces.{node_count}
 use Rattle.sect_graph.specs.declared.flow.Node.{Node}
 use Rattle.sect_graph.specs.Layout.{flow_nodes}
-use Rattle.sect_graph.specs.Graphs.{IsGraphOf, Graphs, AreGraphs}
+use Rattle.sect_graph.specs.Graphs.{IsGraphOf, GraphView, AreGraphs}
 use Rattle.sect_graph.proofs.Paths.{length-nodes_of, paths_from_zero, is_connected}
 use Rattle.sect_graph.proofs.Bounds.{leads_within}
 use Rattle.sect_graph.proofs.Rests.{paths_are_rests}
 use Rattle.sect_graph.proofs.Running.{runs_rests}
 
-pub is_graph : (text : Statements) (g : List Node) → g ≡ flow_nodes text → IsGraphOf text g
+pub is_graph : (text : TextView) (g : List Node) → g ≡ flow_nodes text → IsGraphOf text g
 is_graph text g is = record {
   paths = paths_from_zero text g is;
   rests = paths_are_rests text g is;
@@ -30,14 +30,14 @@ is_graph text g is = record {
 }
 
 -- a statement is a node at least
-pub nodes_few : (c : Statements) → node_count c ≤ statement_count c
+pub nodes_few : (c : TextView) → node_count c ≤ statement_count c
 nodes_few Stop = omega arith
 nodes_few (Do a r) = omega (arith, nodes_few r)
 nodes_few (Choose t p q r) = omega (arith, nodes_few p, nodes_few q, nodes_few r)
 nodes_few (Loop t p r) = omega (arith, nodes_few p, nodes_few r)
 nodes_few (Section i p r) = omega (arith, nodes_few r)
 
-statements_front : (s : Step) (rest : Statements) → statement_count (step_then s rest) ≡ statement_count (step_then s Stop) + statement_count rest
+statements_front : (s : Step) (rest : TextView) → statement_count (step_then s rest) ≡ statement_count (step_then s Stop) + statement_count rest
 statements_front (step.Do a) rest = omega arith
 statements_front (step.If t p q) rest = omega arith
 statements_front (step.While t p) rest = omega arith
@@ -48,7 +48,7 @@ statements_at [] i d h = absurd (omega arith)
 statements_at (s ∷ xs) zero d h = omega (arith, statements_front s (statements_of xs))
 statements_at (s ∷ xs) (suc i) d h = omega (arith, statements_front s (statements_of xs), statements_at xs i d (omega arith))
 
-bodies_front : (s : Step) (rest : Statements) → section_bodies (step_then s rest) ≡ section_bodies (step_then s Stop) ++ section_bodies rest
+bodies_front : (s : Step) (rest : TextView) → section_bodies (step_then s rest) ≡ section_bodies (step_then s Stop) ++ section_bodies rest
 bodies_front (step.Do a) rest = refl
 bodies_front (step.If t p q) rest = rw (append-nil (section_bodies q)) (sym (append_assoc (section_bodies p) (section_bodies q) (section_bodies rest)))
 bodies_front (step.While t p) rest = rw (append-nil (section_bodies p)) refl
@@ -70,18 +70,18 @@ put_more xs i s old new init h is_s is_new before =
     ap (λ l. l ++ others) is_new ∙ append_assoc old mine others ∙ ap (λ l. old ++ l) (sym split) ∙ before
 
 -- the bodies of all sections
-abbrev pub all_bodies : List Statements → List Statements
+abbrev pub all_bodies : List TextView → List TextView
 all_bodies [] = []
 all_bodies (p ∷ ps) = section_bodies p ++ all_bodies ps
 
-bodies_are : (t : ℕ) (texts : List Statements) → map (λ (s : SectionOf). s.body) (sections_from t texts) ≡ all_bodies texts
+bodies_are : (t : ℕ) (texts : List TextView) → map (λ (s : SectionView). s.body) (sections_from t texts) ≡ all_bodies texts
 bodies_are t [] = refl
 bodies_are t (p ∷ ps) =
-    map-append (λ (s : SectionOf). s.body) (map (λ (b : Statements). record { thread = t; body = b }) (section_bodies p)) (sections_from (t + 1) ps)
-    ∙ ap (λ l. l ++ map (λ (s : SectionOf). s.body) (sections_from (t + 1) ps)) (same t (section_bodies p))
+    map-append (λ (s : SectionView). s.body) (map (λ (b : TextView). record { thread = t; body = b }) (section_bodies p)) (sections_from (t + 1) ps)
+    ∙ ap (λ l. l ++ map (λ (s : SectionView). s.body) (sections_from (t + 1) ps)) (same t (section_bodies p))
     ∙ ap (λ l. section_bodies p ++ l) (bodies_are (t + 1) ps)
   where
-    same : (t : ℕ) (bs : List Statements) → map (λ (s : SectionOf). s.body) (map (λ (b : Statements). record { thread = t; body = b }) bs) ≡ bs
+    same : (t : ℕ) (bs : List TextView) → map (λ (s : SectionView). s.body) (map (λ (b : TextView). record { thread = t; body = b }) bs) ≡ bs
     same t [] = refl
     same t (b ∷ bs) = ap (λ l. b ∷ l) (same t bs)
 
@@ -90,18 +90,18 @@ slice_map f [] i x y e g = absurd cc
 slice_map f (z ∷ xs) zero x y e g = let h : z ≡ x = cc in sym (let k : f z ≡ y = cc in sym (ap f h) ∙ k)
 slice_map f (z ∷ xs) (suc i) x y e g = slice_map f xs i x y e g
 
-pub are_graphs : (texts : List Statements) (g : Graphs) → g.threads ≡ map flow_nodes texts → g.sections ≡ map flow_nodes (all_bodies texts) → AreGraphs texts g
+pub are_graphs : (texts : List TextView) (g : GraphView) → g.threads ≡ map flow_nodes texts → g.sections ≡ map flow_nodes (all_bodies texts) → AreGraphs texts g
 are_graphs texts g is_threads is_sections =
     let bodies = bodies_are 0 texts in
-    let sections : g.sections ≡ map flow_nodes (map (λ (s : SectionOf). s.body) (sections_of texts)) = is_sections ∙ ap (map flow_nodes) (sym bodies) in
+    let sections : g.sections ≡ map flow_nodes (map (λ (s : SectionView). s.body) (sections_of texts)) = is_sections ∙ ap (map flow_nodes) (sym bodies) in
     record {
       thread_count = ap length is_threads ∙ length-map texts flow_nodes;
-      section_count = ap length sections ∙ length-map (map (λ (s : SectionOf). s.body) (sections_of texts)) flow_nodes ∙ length-map (sections_of texts) (λ (s : SectionOf). s.body);
+      section_count = ap length sections ∙ length-map (map (λ (s : SectionView). s.body) (sections_of texts)) flow_nodes ∙ length-map (sections_of texts) (λ (s : SectionView). s.body);
       threads = λ t text flow at here. is_graph text flow (slice_map flow_nodes texts t text flow at (subst (λ l. slice_get l t ≡ Some flow) is_threads here));
       sections = λ i s flow at here.
-          let both : slice_get (map (λ (s : SectionOf). flow_nodes s.body) (sections_of texts)) i ≡ Some flow =
-          subst (λ l. slice_get l i ≡ Some flow) (sections ∙ map_map (λ (s : SectionOf). s.body) flow_nodes (sections_of texts)) here in
-          is_graph s.body flow (slice_map (λ (s : SectionOf). flow_nodes s.body) (sections_of texts) i s flow at both);
+          let both : slice_get (map (λ (s : SectionView). flow_nodes s.body) (sections_of texts)) i ≡ Some flow =
+          subst (λ l. slice_get l i ≡ Some flow) (sections ∙ map_map (λ (s : SectionView). s.body) flow_nodes (sections_of texts)) here in
+          is_graph s.body flow (slice_map (λ (s : SectionView). flow_nodes s.body) (sections_of texts) i s flow at both);
     }
   where
     map_map : {X Y Z : Type 0} (f : X → Y) (g : Y → Z) (xs : List X) → map g (map f xs) ≡ map (λ x. g (f x)) xs
@@ -109,22 +109,22 @@ are_graphs texts g is_threads is_sections =
     map_map f g (x ∷ xs) = ap (λ l. g (f x) ∷ l) (map_map f g xs)
 
 -- the text of a thread comes first of those that are left
-text_next : (texts : List Statements) (t : ℕ) (text : Statements) → slice_get texts t ≡ Some text → drop t texts ≡ text ∷ drop (t + 1) texts
+text_next : (texts : List TextView) (t : ℕ) (text : TextView) → slice_get texts t ≡ Some text → drop t texts ≡ text ∷ drop (t + 1) texts
 text_next texts t text at = drop_next texts t text (slice_get_within texts t text at) (sym (get_or_from_slice_get texts t text text at))
 
-pub count_at : (texts : List Statements) (t : ℕ) (text : Statements) → slice_get texts t ≡ Some text → statement_count text ≤ total_statements texts
+pub count_at : (texts : List TextView) (t : ℕ) (text : TextView) → slice_get texts t ≡ Some text → statement_count text ≤ total_statements texts
 count_at [] t text e = absurd cc
 count_at (p ∷ ps) zero text e = let h : p ≡ text = cc in omega (arith, ap statement_count h)
 count_at (p ∷ ps) (suc t) text e = omega (arith, count_at ps t text e)
 
 -- the graphs that are there and those to come, after one thread more
-pub thread_more : (texts : List Statements) (t : ℕ) (text : Statements) (old new init : List (List Node)) → slice_get texts t ≡ Some text → new ≡ old ++ flow_nodes text ∷ []
+pub thread_more : (texts : List TextView) (t : ℕ) (text : TextView) (old new init : List (List Node)) → slice_get texts t ≡ Some text → new ≡ old ++ flow_nodes text ∷ []
     → old ++ map flow_nodes (drop t texts) ≡ init → new ++ map flow_nodes (drop (t + 1) texts) ≡ init
 thread_more texts t text old new init at is before =
     let e : drop t texts ≡ text ∷ drop (t + 1) texts = text_next texts t text at in
     ap (λ l. l ++ map flow_nodes (drop (t + 1) texts)) is ∙ append_assoc old (flow_nodes text ∷ []) (map flow_nodes (drop (t + 1) texts)) ∙ ap (λ l. old ++ map flow_nodes l) (sym e) ∙ before
 
-pub sections_more : (texts : List Statements) (t : ℕ) (text : Statements) (old new init : List (List Node)) → slice_get texts t ≡ Some text → new ≡ old ++ map flow_nodes (section_bodies text)
+pub sections_more : (texts : List TextView) (t : ℕ) (text : TextView) (old new init : List (List Node)) → slice_get texts t ≡ Some text → new ≡ old ++ map flow_nodes (section_bodies text)
     → old ++ map flow_nodes (all_bodies (drop t texts)) ≡ init → new ++ map flow_nodes (all_bodies (drop (t + 1) texts)) ≡ init
 sections_more texts t text old new init at is before =
     let rest = all_bodies (drop (t + 1) texts) in
@@ -133,7 +133,7 @@ sections_more texts t text old new init at is before =
     ap (λ l. l ++ map flow_nodes rest) is ∙ append_assoc old (map flow_nodes (section_bodies text)) (map flow_nodes rest) ∙ ap (λ l. old ++ l) (sym split) ∙ before
 
 -- past the last thread nothing is to come
-pub ends : (texts : List Statements) (t : ℕ) → length texts ≤ t
+pub ends : (texts : List TextView) (t : ℕ) → length texts ≤ t
     → ((now all : List (List Node)) → now ++ map flow_nodes (drop t texts) ≡ all → now ≡ all)
     × ((now all : List (List Node)) → now ++ map flow_nodes (all_bodies (drop t texts)) ≡ all → now ≡ all)
 ends texts t past =

@@ -9,8 +9,8 @@ use Rattle.sect_types.specs.declared.action.Label.{Label}
 use Rattle.sect_types.specs.declared.action.Label.TheVariants.{Act, Test, Section as WholeSection}
 use Rattle.sect_graph.specs.declared.flow.Node.{Node}
 use Rattle.sect_graph.specs.declared.flow.Successors.TheVariants.{Next, Branch}
-use Rattle.sect_types.specs.Statements.{Statements, Stop, Do, Choose, Loop, Section}
-use Rattle.sect_types.specs.Traces.{Step, step, IsTrace, Rounds, node_count}
+use Rattle.sect_types.specs.Statements.{TextView, Stop, Do, Choose, Loop, Section}
+use Rattle.sect_types.specs.Traces.{Visit, visit, IsTrace, Rounds, node_count}
 use Rattle.sect_graph.specs.Layout.{entry_of, nodes_of}
 use Rattle.sect_graph.specs.Paths.{node, LeadsTo, IsPath, PathsAreTraces, IsConnected}
 use Rattle.std.proofs.lemmas.Bool.{cases_lt, cases_eq}
@@ -40,7 +40,7 @@ has_all (x ∷ xs) pre =
     let rest' = subst (λ l. HasAt l (length (pre ++ x ∷ [])) xs) (append_assoc pre (x ∷ []) xs) rest in
     (here, subst (λ m. HasAt (pre ++ x ∷ xs) m xs) n rest')
 
-pub length-nodes_of : (c : Statements) (n next : ℕ) → length (nodes_of c n next) ≡ node_count c
+pub length-nodes_of : (c : TextView) (n next : ℕ) → length (nodes_of c n next) ≡ node_count c
 length-nodes_of Stop n next = refl
 length-nodes_of (Do a rest) n next = omega (arith, length-nodes_of rest (n + 1) next)
 length-nodes_of (Section k c rest) n next = omega (arith, length-nodes_of rest (n + 1) next)
@@ -58,22 +58,22 @@ length-nodes_of (Loop z a rest) n next =
     omega (arith, length-nodes_of a (n + 1) n, length-nodes_of rest end next, length-append xs zs)
 
 -- the nodes behind a block's
-pub behind : (g : List Node) (c : Statements) (n next : ℕ) (zs : List Node) → HasAt g n (nodes_of c n next ++ zs) → HasAt g (n + node_count c) zs
+pub behind : (g : List Node) (c : TextView) (n next : ℕ) (zs : List Node) → HasAt g n (nodes_of c n next ++ zs) → HasAt g (n + node_count c) zs
 behind g c n next zs h = subst (λ k. HasAt g (n + k) zs) (length-nodes_of c n next) (has_back g n (nodes_of c n next) zs h)
 
-pub path_join : (g : List Node) (xs ys : List Step) (i j k : ℕ) → IsPath g i xs j → IsPath g j ys k → IsPath g i (xs ++ ys) k
+pub path_join : (g : List Node) (xs ys : List Visit) (i j k : ℕ) → IsPath g i xs j → IsPath g j ys k → IsPath g i (xs ++ ys) k
 path_join g [] ys i j k p q = subst (λ n. IsPath g n ys k) (sym p) q
 path_join g (s ∷ xs) ys i j k p q = (p.0, p.1, p.2, p.3, p.4, path_join g xs ys p.3 j k p.5 q)
 
 module _ (g : List Node) where
   -- a trace is a path
-  turn_paths : (z : Condition) (a : Statements) (n next turns : ℕ) (steps : List Step) (x : Node) → slice_get g n ≡ Some x → x ≡ node (Test z) (Branch (entry_of a (n + 1) n) next) → ((mid : List Step) → IsTrace a (n + 1) mid → IsPath g (entry_of a (n + 1) n) mid n) → Rounds n z (IsTrace a (n + 1)) turns steps → IsPath g n steps next
+  turn_paths : (z : Condition) (a : TextView) (n next turns : ℕ) (steps : List Visit) (x : Node) → slice_get g n ≡ Some x → x ≡ node (Test z) (Branch (entry_of a (n + 1) n) next) → ((mid : List Visit) → IsTrace a (n + 1) mid → IsPath g (entry_of a (n + 1) n) mid n) → Rounds n z (IsTrace a (n + 1)) turns steps → IsPath g n steps next
   turn_paths z a n next zero steps x at is body t =
       subst (λ s. IsPath g n s next) (sym t) (node (Test z) (Branch (entry_of a (n + 1) n) next), at ∙ ap Some is, refl, next, inr refl, refl)
   turn_paths z a n next (suc turns) steps x at is body (turn, tail, e, b, t) =
       subst (λ s. IsPath g n s next) (sym e) (node (Test z) (Branch (entry_of a (n + 1) n) next), at ∙ ap Some is, refl, entry_of a (n + 1) n, inl refl, path_join g turn tail _ n next (body turn b) (turn_paths z a n next turns tail x at is body t))
 
-  pub walks : (c : Statements) (n next : ℕ) (steps : List Step) → HasAt g n (nodes_of c n next) → IsTrace c n steps → IsPath g (entry_of c n next) steps next
+  pub walks : (c : TextView) (n next : ℕ) (steps : List Visit) → HasAt g n (nodes_of c n next) → IsTrace c n steps → IsPath g (entry_of c n next) steps next
   walks Stop n next steps has t = subst (λ s. IsPath g next s next) (sym t) refl
   walks (Do a rest) n next steps has (tail, e, t) =
       let after = entry_of rest (n + 1) next in
@@ -102,18 +102,18 @@ module _ (g : List Node) where
       let xs = nodes_of a (n + 1) n in
       let zs = nodes_of rest end next in
       let at_rest = behind g a (n + 1) n zs has.1 in
-      let body = λ (m : List Step) (p : IsTrace a (n + 1) m). walks a (n + 1) n m (has_front g (n + 1) xs zs has.1) p in
+      let body = λ (m : List Visit) (p : IsTrace a (n + 1) m). walks a (n + 1) n m (has_front g (n + 1) xs zs has.1) p in
       subst (λ s. IsPath g n s next) (sym e)
       (path_join g mid tail n after next (turn_paths z a n after turns mid _ has.0 refl body t) (walks rest end next tail at_rest r))
 
   -- a list of steps in two parts: the first is such a trace, the second a path from there to the exit
-  abbrev Split : ℕ → (List Step → Type 0) → ℕ → List Step → Type 0
+  abbrev Split : ℕ → (List Visit → Type 0) → ℕ → List Visit → Type 0
   Split exit Front next steps =
-      (front : List Step) × (back : List Step) × (steps ≡ front ++ back) × Front front × IsPath g next back exit
+      (front : List Visit) × (back : List Visit) × (steps ≡ front ++ back) × Front front × IsPath g next back exit
 
   -- a path to the exit begins with a trace
-  abbrev Splits : ℕ → Statements → ℕ → ℕ → Type 0
-  Splits exit c n next = (steps : List Step) → IsPath g (entry_of c n next) steps exit → Split exit (IsTrace c n) next steps
+  abbrev Splits : ℕ → TextView → ℕ → ℕ → Type 0
+  Splits exit c n next = (steps : List Visit) → IsPath g (entry_of c n next) steps exit → Split exit (IsTrace c n) next steps
 
   same_node : (i : ℕ) (x y : Node) → slice_get g i ≡ Some x → slice_get g i ≡ Some y → x ≡ y
   same_node i x y e f = cc
@@ -121,43 +121,43 @@ module _ (g : List Node) where
   not_end : (exit i : ℕ) (x : Node) → slice_get g exit ≡ None → slice_get g i ≡ Some x → i ≡ exit → ⊥
   not_end exit i x e f same = let h : slice_get g i ≡ None = subst (λ k. slice_get g k ≡ None) (sym same) e in cc
 
-  split_turns : (exit : ℕ) → slice_get g exit ≡ None → (z : Condition) (a : Statements) (n next : ℕ) → slice_get g n ≡ Some (node (Test z) (Branch (entry_of a (n + 1) n) next)) → Splits exit a (n + 1) n → (fuel : ℕ) (steps : List Step) → length steps ≤ fuel → IsPath g n steps exit → Split exit (λ s. (turns : ℕ) × Rounds n z (IsTrace a (n + 1)) turns s) next steps
+  split_turns : (exit : ℕ) → slice_get g exit ≡ None → (z : Condition) (a : TextView) (n next : ℕ) → slice_get g n ≡ Some (node (Test z) (Branch (entry_of a (n + 1) n) next)) → Splits exit a (n + 1) n → (fuel : ℕ) (steps : List Visit) → length steps ≤ fuel → IsPath g n steps exit → Split exit (λ s. (turns : ℕ) × Rounds n z (IsTrace a (n + 1)) turns s) next steps
   split_turns exit ends z a n next at body fuel [] le p = absurd (not_end exit n _ ends at p)
   split_turns exit ends z a n next at body zero (s ∷ steps) le p = absurd (omega arith)
   split_turns exit ends z a n next at body (suc fuel) (s ∷ steps) le (x, here, is, m, to, p) =
       let same = same_node n x (node (Test z) (Branch (entry_of a (n + 1) n) next)) here at in
-      let first : s ≡ step n (Test z) = is ∙ ap (λ y. step n y.label) same in
+      let first : s ≡ visit n (Test z) = is ∙ ap (λ y. visit n y.label) same in
       elim (subst (λ y. LeadsTo y m) same to) [
         | inl e ↦
             let q = body steps (subst (λ k. IsPath g k steps exit) e p) in
             let short : length q.1 ≤ fuel = omega (arith, ap length q.2, length-append q.0 q.1) in
             let r = split_turns exit ends z a n next at body fuel q.1 short q.4 in
-            let joined : s ∷ steps ≡ (step n (Test z) ∷ (q.0 ++ r.0)) ++ r.1 = ap (λ y. y ∷ steps) first ∙ ap (λ l. step n (Test z) ∷ l) (q.2 ∙ ap (λ l. q.0 ++ l) r.2 ∙ sym (append_assoc q.0 r.0 r.1)) in
-            (step n (Test z) ∷ (q.0 ++ r.0), r.1, joined, (suc r.3.0, (q.0, r.0, refl, q.3, r.3.1)), r.4)
+            let joined : s ∷ steps ≡ (visit n (Test z) ∷ (q.0 ++ r.0)) ++ r.1 = ap (λ y. y ∷ steps) first ∙ ap (λ l. visit n (Test z) ∷ l) (q.2 ∙ ap (λ l. q.0 ++ l) r.2 ∙ sym (append_assoc q.0 r.0 r.1)) in
+            (visit n (Test z) ∷ (q.0 ++ r.0), r.1, joined, (suc r.3.0, (q.0, r.0, refl, q.3, r.3.1)), r.4)
         | inr e ↦
-            (step n (Test z) ∷ [], steps, ap (λ y. y ∷ steps) first, (zero, refl), subst (λ k. IsPath g k steps exit) e p)
+            (visit n (Test z) ∷ [], steps, ap (λ y. y ∷ steps) first, (zero, refl), subst (λ k. IsPath g k steps exit) e p)
       ]
 
-  pub splits : (exit : ℕ) → slice_get g exit ≡ None → (c : Statements) (n next : ℕ) → HasAt g n (nodes_of c n next) → Splits exit c n next
+  pub splits : (exit : ℕ) → slice_get g exit ≡ None → (c : TextView) (n next : ℕ) → HasAt g n (nodes_of c n next) → Splits exit c n next
   splits exit ends Stop n next has steps p = ([], steps, refl, refl, p)
   splits exit ends (Do a rest) n next has [] p = absurd (not_end exit n _ ends has.0 p)
   splits exit ends (Section k c rest) n next has [] p = absurd (not_end exit n _ ends has.0 p)
   splits exit ends (Do a rest) n next has (s ∷ steps) (x, here, is, m, to, p) =
       let after = entry_of rest (n + 1) next in
       let same = same_node n x (node (Act a) (Next after)) here has.0 in
-      let first : s ≡ step n (Act a) = is ∙ ap (λ y. step n y.label) same in
+      let first : s ≡ visit n (Act a) = is ∙ ap (λ y. visit n y.label) same in
       let there : m ≡ after = subst (λ y. LeadsTo y m) same to in
       let q = splits exit ends rest (n + 1) next has.1 steps (subst (λ k. IsPath g k steps exit) there p) in
-      let joined : s ∷ steps ≡ (step n (Act a) ∷ q.0) ++ q.1 = ap (λ y. y ∷ steps) first ∙ ap (λ l. step n (Act a) ∷ l) q.2 in
-      (step n (Act a) ∷ q.0, q.1, joined, (q.0, refl, q.3), q.4)
+      let joined : s ∷ steps ≡ (visit n (Act a) ∷ q.0) ++ q.1 = ap (λ y. y ∷ steps) first ∙ ap (λ l. visit n (Act a) ∷ l) q.2 in
+      (visit n (Act a) ∷ q.0, q.1, joined, (q.0, refl, q.3), q.4)
   splits exit ends (Section k c rest) n next has (s ∷ steps) (x, here, is, m, to, p) =
       let after = entry_of rest (n + 1) next in
       let same = same_node n x (node (WholeSection k) (Next after)) here has.0 in
-      let first : s ≡ step n (WholeSection k) = is ∙ ap (λ y. step n y.label) same in
+      let first : s ≡ visit n (WholeSection k) = is ∙ ap (λ y. visit n y.label) same in
       let there : m ≡ after = subst (λ y. LeadsTo y m) same to in
       let q = splits exit ends rest (n + 1) next has.1 steps (subst (λ k. IsPath g k steps exit) there p) in
-      let joined : s ∷ steps ≡ (step n (WholeSection k) ∷ q.0) ++ q.1 = ap (λ y. y ∷ steps) first ∙ ap (λ l. step n (WholeSection k) ∷ l) q.2 in
-      (step n (WholeSection k) ∷ q.0, q.1, joined, (q.0, refl, q.3), q.4)
+      let joined : s ∷ steps ≡ (visit n (WholeSection k) ∷ q.0) ++ q.1 = ap (λ y. y ∷ steps) first ∙ ap (λ l. visit n (WholeSection k) ∷ l) q.2 in
+      (visit n (WholeSection k) ∷ q.0, q.1, joined, (q.0, refl, q.3), q.4)
   splits exit ends (Choose z a b rest) n next has [] p = absurd (not_end exit n _ ends has.0 p)
   splits exit ends (Choose z a b rest) n next has (s ∷ steps) (x, here, is, m, to, p) =
       let end = n + 1 + node_count a + node_count b in
@@ -169,7 +169,7 @@ module _ (g : List Node) where
       let at_rest = behind g b (n + 1 + node_count a) after zs at_b in
       let here' = node (Test z) (Branch (entry_of a (n + 1) after) (entry_of b (n + 1 + node_count a) after)) in
       let same = same_node n x here' here has.0 in
-      let first : s ≡ step n (Test z) = is ∙ ap (λ y. step n y.label) same in
+      let first : s ≡ visit n (Test z) = is ∙ ap (λ y. visit n y.label) same in
       let side : Split exit (λ l. IsTrace a (n + 1) l ⊎ IsTrace b (n + 1 + node_count a) l) after steps =
       elim (subst (λ y. LeadsTo y m) same to) [
         | inl e ↦
@@ -180,8 +180,8 @@ module _ (g : List Node) where
             (q.0, q.1, q.2, inr q.3, q.4)
       ] in
       let r = splits exit ends rest end next at_rest side.1 side.4 in
-      let joined : s ∷ steps ≡ (step n (Test z) ∷ (side.0 ++ r.0)) ++ r.1 = ap (λ y. y ∷ steps) first ∙ ap (λ l. step n (Test z) ∷ l) (side.2 ∙ ap (λ l. side.0 ++ l) r.2 ∙ sym (append_assoc side.0 r.0 r.1)) in
-      (step n (Test z) ∷ (side.0 ++ r.0), r.1, joined, (side.0, r.0, refl, side.3, r.3), r.4)
+      let joined : s ∷ steps ≡ (visit n (Test z) ∷ (side.0 ++ r.0)) ++ r.1 = ap (λ y. y ∷ steps) first ∙ ap (λ l. visit n (Test z) ∷ l) (side.2 ∙ ap (λ l. side.0 ++ l) r.2 ∙ sym (append_assoc side.0 r.0 r.1)) in
+      (visit n (Test z) ∷ (side.0 ++ r.0), r.1, joined, (side.0, r.0, refl, side.3, r.3), r.4)
   splits exit ends (Loop z a rest) n next has steps p =
       let end = n + 1 + node_count a in
       let after = entry_of rest end next in
@@ -194,10 +194,10 @@ module _ (g : List Node) where
       (q.0 ++ r.0, r.1, joined, (q.3.0, q.0, r.0, refl, q.3.1, r.3), r.4)
 
 -- along the paths from this node to the exit stand exactly the traces
-abbrev PathsFrom : Statements → List Node → ℕ → Type 0
-PathsFrom c g entry = (steps : List Step) → IsPath g entry steps (length g) ↔ IsTrace c 0 steps
+abbrev PathsFrom : TextView → List Node → ℕ → Type 0
+PathsFrom c g entry = (steps : List Visit) → IsPath g entry steps (length g) ↔ IsTrace c 0 steps
 
-paths_are_traces : (c : Statements) (g : List Node) → g ≡ nodes_of c 0 (node_count c) → PathsFrom c g (entry_of c 0 (node_count c))
+paths_are_traces : (c : TextView) (g : List Node) → g ≡ nodes_of c 0 (node_count c) → PathsFrom c g (entry_of c 0 (node_count c))
 paths_are_traces c g is steps =
     let len : node_count c ≡ length g = omega (arith, ap length is, length-nodes_of c 0 (node_count c)) in
     let has : HasAt g 0 (nodes_of c 0 (node_count c)) = subst (λ l. HasAt l 0 (nodes_of c 0 (node_count c))) (sym is) (has_all (nodes_of c 0 (node_count c)) []) in
@@ -206,36 +206,36 @@ paths_are_traces c g is steps =
       λ t. subst (λ k. IsPath g (entry_of c 0 (node_count c)) steps k) len (walks g c 0 (node_count c) steps has t),
     )
   where
-    of_split : (c : Statements) (g : List Node) (steps : List Step) → slice_get g (node_count c) ≡ None → Split g (node_count c) (IsTrace c 0) (node_count c) steps → IsTrace c 0 steps
+    of_split : (c : TextView) (g : List Node) (steps : List Visit) → slice_get g (node_count c) ≡ None → Split g (node_count c) (IsTrace c 0) (node_count c) steps → IsTrace c 0 steps
     of_split c g steps ends (front, [], e, t, p) = subst (IsTrace c 0) (sym (e ∙ append-nil front)) t
     of_split c g steps ends (front, s ∷ back, e, t, p) = absurd (not_end g (node_count c) (node_count c) p.0 ends p.1 refl)
 
-entry_zero : (c : Statements) → entry_of c 0 (node_count c) ≡ 0
+entry_zero : (c : TextView) → entry_of c 0 (node_count c) ≡ 0
 entry_zero Stop = refl
 entry_zero (Do a rest) = refl
 entry_zero (Section k c rest) = refl
 entry_zero (Choose z a b rest) = refl
 entry_zero (Loop z a rest) = refl
 
-pub paths_from_zero : (c : Statements) (g : List Node) → g ≡ nodes_of c 0 (node_count c) → PathsAreTraces c g
+pub paths_from_zero : (c : TextView) (g : List Node) → g ≡ nodes_of c 0 (node_count c) → PathsAreTraces c g
 paths_from_zero c g is = subst (PathsFrom c g) (entry_zero c) (paths_are_traces c g is)
 
 -- some trace of a block
-some_trace : (c : Statements) (n : ℕ) → (steps : List Step) × IsTrace c n steps
+some_trace : (c : TextView) (n : ℕ) → (steps : List Visit) × IsTrace c n steps
 some_trace Stop n = ([], refl)
-some_trace (Do a rest) n = let t = some_trace rest (n + 1) in (step n (Act a) ∷ t.0, (t.0, refl, t.1))
-some_trace (Section k c rest) n = let t = some_trace rest (n + 1) in (step n (WholeSection k) ∷ t.0, (t.0, refl, t.1))
+some_trace (Do a rest) n = let t = some_trace rest (n + 1) in (visit n (Act a) ∷ t.0, (t.0, refl, t.1))
+some_trace (Section k c rest) n = let t = some_trace rest (n + 1) in (visit n (WholeSection k) ∷ t.0, (t.0, refl, t.1))
 some_trace (Choose z a b rest) n =
     let mid = some_trace a (n + 1) in
     let t = some_trace rest (n + 1 + node_count a + node_count b) in
-    (step n (Test z) ∷ (mid.0 ++ t.0), (mid.0, t.0, refl, inl mid.1, t.1))
+    (visit n (Test z) ∷ (mid.0 ++ t.0), (mid.0, t.0, refl, inl mid.1, t.1))
 some_trace (Loop z a rest) n =
     let t = some_trace rest (n + 1 + node_count a) in
-    ((step n (Test z) ∷ []) ++ t.0, (zero, step n (Test z) ∷ [], t.0, refl, refl, t.1))
+    ((visit n (Test z) ∷ []) ++ t.0, (zero, visit n (Test z) ∷ [], t.0, refl, refl, t.1))
 
 module _ (g : List Node) where
   abbrev Leads : ℕ → ℕ → Type 0
-  Leads i j = (steps : List Step) × IsPath g i steps j
+  Leads i j = (steps : List Visit) × IsPath g i steps j
 
   leads_here : (i : ℕ) → Leads i i
   leads_here i = ([], refl)
@@ -244,22 +244,22 @@ module _ (g : List Node) where
   leads_on i j k p q = (p.0 ++ q.0, path_join g p.0 q.0 i j k p.1 q.1)
 
   leads_next : (i : ℕ) (a : Label) (x : ℕ) → slice_get g i ≡ Some (node a (Next x)) → Leads i x
-  leads_next i a x h = (step i a ∷ [], (node a (Next x), h, refl, x, refl, refl))
+  leads_next i a x h = (visit i a ∷ [], (node a (Next x), h, refl, x, refl, refl))
 
   leads_first : (i : ℕ) (a : Label) (x y : ℕ) → slice_get g i ≡ Some (node a (Branch x y)) → Leads i x
-  leads_first i a x y h = (step i a ∷ [], (node a (Branch x y), h, refl, x, inl refl, refl))
+  leads_first i a x y h = (visit i a ∷ [], (node a (Branch x y), h, refl, x, inl refl, refl))
 
   leads_second : (i : ℕ) (a : Label) (x y : ℕ) → slice_get g i ≡ Some (node a (Branch x y)) → Leads i y
-  leads_second i a x y h = (step i a ∷ [], (node a (Branch x y), h, refl, y, inr refl, refl))
+  leads_second i a x y h = (visit i a ∷ [], (node a (Branch x y), h, refl, y, inr refl, refl))
 
-  through : (c : Statements) (n next : ℕ) → HasAt g n (nodes_of c n next) → Leads (entry_of c n next) next
+  through : (c : TextView) (n next : ℕ) → HasAt g n (nodes_of c n next) → Leads (entry_of c n next) next
   through c n next has = let t = some_trace c n in (t.0, walks g c n next t.0 has t.1)
 
   -- from each node of a block to its end, and to each node from its entry
   abbrev Both : ℕ → ℕ → ℕ → Type 0
   Both entry i next = Leads entry i × Leads i next
 
-  both : (c : Statements) (n next i : ℕ) → HasAt g n (nodes_of c n next) → n ≤ i → i < n + node_count c → Both (entry_of c n next) i next
+  both : (c : TextView) (n next i : ℕ) → HasAt g n (nodes_of c n next) → n ≤ i → i < n + node_count c → Both (entry_of c n next) i next
   both Stop n next i has le lt = absurd (omega arith)
   both (Do a rest) n next i has le lt =
       let after = entry_of rest (n + 1) next in
@@ -317,16 +317,16 @@ module _ (g : List Node) where
         ]
       ]
 
-pub is_connected : (c : Statements) (g : List Node) → g ≡ nodes_of c 0 (node_count c) → IsConnected g
+pub is_connected : (c : TextView) (g : List Node) → g ≡ nodes_of c 0 (node_count c) → IsConnected g
 is_connected c g is =
     let len : node_count c ≡ length g = omega (arith, ap length is, length-nodes_of c 0 (node_count c)) in
     let has : HasAt g 0 (nodes_of c 0 (node_count c)) = subst (λ l. HasAt l 0 (nodes_of c 0 (node_count c))) (sym is) (has_all (nodes_of c 0 (node_count c)) []) in
     let all = λ (i : ℕ) (lt : i < length g). both g c 0 (node_count c) i has (omega arith) (omega arith) in
     record {
-      reached = λ i lt. subst (λ k. (steps : List Step) × IsPath g k steps i) (entry_zero c) (all i lt).0;
-      exits = λ i lt. subst (λ k. (steps : List Step) × IsPath g i steps k) len (all i lt).1;
+      reached = λ i lt. subst (λ k. (steps : List Visit) × IsPath g k steps i) (entry_zero c) (all i lt).0;
+      exits = λ i lt. subst (λ k. (steps : List Visit) × IsPath g i steps k) len (all i lt).1;
     }
 
 -- from the entry to the exit
-pub leads_over : (c : Statements) (g : List Node) → g ≡ nodes_of c 0 (node_count c) → (steps : List Step) × IsPath g 0 steps (length g)
+pub leads_over : (c : TextView) (g : List Node) → g ≡ nodes_of c 0 (node_count c) → (steps : List Visit) × IsPath g 0 steps (length g)
 leads_over c g is = let t = some_trace c 0 in (t.0, (paths_from_zero c g is t.0).1 t.1)

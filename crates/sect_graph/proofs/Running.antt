@@ -5,7 +5,7 @@ use Rattle.std.proofs.lemmas.Bool.{cases_lt}
 use Rattle.std.proofs.lemmas.Option.{slice_get_past}
 use Rattle.std.proofs.lemmas.Bool.Decides.{nat_tests}
 use Rattle.sect_types.specs.declared.action.Condition.{Condition}
-use Rattle.sect_types.specs.Statements.{Statements, Stop, Do, Choose, Loop, Section, joined}
+use Rattle.sect_types.specs.Statements.{TextView, Stop, Do, Choose, Loop, Section, joined}
 use Rattle.sect_types.specs.Traces.{node_count}
 use Rattle.sect_graph.specs.declared.flow.Node.{Node}
 use Rattle.sect_graph.specs.Layout.{entry_of, nodes_of}
@@ -19,7 +19,7 @@ not_less : (m n : ℕ) → n ≤ m → nat_lt m n ≡ false
 not_less m n h = grind (arith, nat_tests)
 
 -- behind the last node k is to run
-past : (c : Statements) (j : ℕ) (k : Statements) → node_count c ≤ j → rest_before c j k ≡ k
+past : (c : TextView) (j : ℕ) (k : TextView) → node_count c ≤ j → rest_before c j k ≡ k
 past Stop j k h = refl
 past (Do a r) zero k h = absurd (omega arith)
 past (Do a r) (suc j) k h = past r j k (omega arith)
@@ -33,11 +33,11 @@ past (Section i p r) zero k h = absurd (omega arith)
 past (Section i p r) (suc j) k h = past r j k (omega arith)
 
 -- what is to run at the nodes from n on is what the statements say
-abbrev Says : (ℕ → Statements) → Statements → ℕ → Statements → Type 0
+abbrev Says : (ℕ → TextView) → TextView → ℕ → TextView → Type 0
 Says rest c n k = (j : ℕ) → j < node_count c → rest (n + j) ≡ rest_before c j k
 
 -- at the entry of statements they are to run
-at_entry : (rest : ℕ → Statements) (c : Statements) (n next : ℕ) (k : Statements) → Says rest c n k → rest next ≡ k → rest (entry_of c n next) ≡ joined c k
+at_entry : (rest : ℕ → TextView) (c : TextView) (n next : ℕ) (k : TextView) → Says rest c n k → rest next ≡ k → rest (entry_of c n next) ≡ joined c k
 at_entry rest Stop n next k says on = on
 at_entry rest (Do a r) n next k says on = ap rest (omega arith) ∙ says 0 (omega arith)
 at_entry rest (Choose t p q r) n next k says on = ap rest (omega arith) ∙ says 0 (omega arith)
@@ -48,17 +48,17 @@ same : (g : List Node) (i : ℕ) (x y : Node) → slice_get g i ≡ Some x → s
 same g i x y e f = cc
 
 -- what is to run at the nodes of the parts of an `if`
-says_holds : (rest : ℕ → Statements) (t : Condition) (p q r : Statements) (n : ℕ) (k : Statements) → Says rest (Choose t p q r) n k → Says rest p (n + 1) (joined r k)
+says_holds : (rest : ℕ → TextView) (t : Condition) (p q r : TextView) (n : ℕ) (k : TextView) → Says rest (Choose t p q r) n k → Says rest p (n + 1) (joined r k)
 says_holds rest t p q r n k says i lt =
     ap rest (omega arith) ∙ says (suc i) (omega arith) ∙ rw (less i (node_count p) lt) refl
 
-says_fails : (rest : ℕ → Statements) (t : Condition) (p q r : Statements) (n : ℕ) (k : Statements) → Says rest (Choose t p q r) n k → Says rest q (n + 1 + node_count p) (joined r k)
+says_fails : (rest : ℕ → TextView) (t : Condition) (p q r : TextView) (n : ℕ) (k : TextView) → Says rest (Choose t p q r) n k → Says rest q (n + 1 + node_count p) (joined r k)
 says_fails rest t p q r n k says i lt =
     let e : node_count p + i - node_count p ≡ i = omega arith in
     ap rest (omega arith) ∙ says (suc (node_count p + i)) (omega arith)
     ∙ rw (not_less (node_count p + i) (node_count p) (omega arith), e, less i (node_count q) lt) refl
 
-says_behind : (rest : ℕ → Statements) (t : Condition) (p q r : Statements) (n : ℕ) (k : Statements) → Says rest (Choose t p q r) n k → Says rest r (n + 1 + node_count p + node_count q) k
+says_behind : (rest : ℕ → TextView) (t : Condition) (p q r : TextView) (n : ℕ) (k : TextView) → Says rest (Choose t p q r) n k → Says rest r (n + 1 + node_count p + node_count q) k
 says_behind rest t p q r n k says i lt =
     let e : node_count p + node_count q + i - node_count p ≡ node_count q + i = omega arith in
     let f : node_count q + i - node_count q ≡ i = omega arith in
@@ -66,11 +66,11 @@ says_behind rest t p q r n k says i lt =
     ∙ rw (not_less (node_count p + node_count q + i) (node_count p) (omega arith), e, not_less (node_count q + i) (node_count q) (omega arith), f) refl
 
 -- and of a `while`
-says_body : (rest : ℕ → Statements) (t : Condition) (p r : Statements) (n : ℕ) (k : Statements) → Says rest (Loop t p r) n k → Says rest p (n + 1) (Loop t p (joined r k))
+says_body : (rest : ℕ → TextView) (t : Condition) (p r : TextView) (n : ℕ) (k : TextView) → Says rest (Loop t p r) n k → Says rest p (n + 1) (Loop t p (joined r k))
 says_body rest t p r n k says i lt =
     ap rest (omega arith) ∙ says (suc i) (omega arith) ∙ rw (less i (node_count p) lt) refl
 
-says_past : (rest : ℕ → Statements) (t : Condition) (p r : Statements) (n : ℕ) (k : Statements) → Says rest (Loop t p r) n k → Says rest r (n + 1 + node_count p) k
+says_past : (rest : ℕ → TextView) (t : Condition) (p r : TextView) (n : ℕ) (k : TextView) → Says rest (Loop t p r) n k → Says rest r (n + 1 + node_count p) k
 says_past rest t p r n k says i lt =
     let e : node_count p + i - node_count p ≡ i = omega arith in
     ap rest (omega arith) ∙ says (suc (node_count p + i)) (omega arith)
@@ -82,7 +82,7 @@ within g j x at = elim (cases_lt j (length g)) [
   | inr ge ↦ (let e : slice_get g j ≡ None = slice_get_past g j ge in absurd cc)
 ]
 
-begins : (g : List Node) (rest : ℕ → Statements) (c : Statements) (n next : ℕ) (k : Statements) → HasAt g n (nodes_of c n next)
+begins : (g : List Node) (rest : ℕ → TextView) (c : TextView) (n next : ℕ) (k : TextView) → HasAt g n (nodes_of c n next)
     → Says rest c n k → rest next ≡ k
     → (j : ℕ) → j < node_count c → (x : Node) → slice_get g (n + j) ≡ Some x → Begins rest x (rest_before c j k)
 begins g rest Stop n next k has says on j lt x at = absurd (omega arith)
@@ -147,21 +147,21 @@ begins g rest (Loop t p r) n next k has says on (suc j) lt x at =
           (begins g rest r end next k has_r (says_past rest t p r n k says) on (j - node_count p) (omega arith) x (subst (λ i. slice_get g i ≡ Some x) (omega arith) at))
     ]
 
-joined_stop : (c : Statements) → joined c Stop ≡ c
+joined_stop : (c : TextView) → joined c Stop ≡ c
 joined_stop Stop = refl
 joined_stop (Do a r) = ap (Do a) (joined_stop r)
 joined_stop (Choose t p q r) = ap (Choose t p q) (joined_stop r)
 joined_stop (Loop t p r) = ap (Loop t p) (joined_stop r)
 joined_stop (Section i p r) = ap (Section i p) (joined_stop r)
 
-at_start : (c : Statements) → rest_at c 0 ≡ joined c Stop
+at_start : (c : TextView) → rest_at c 0 ≡ joined c Stop
 at_start Stop = refl
 at_start (Do a r) = refl
 at_start (Choose t p q r) = refl
 at_start (Loop t p r) = refl
 at_start (Section i p r) = refl
 
-pub runs_rests : (c : Statements) (g : List Node) → g ≡ nodes_of c 0 (node_count c) → RunsRests c g
+pub runs_rests : (c : TextView) (g : List Node) → g ≡ nodes_of c 0 (node_count c) → RunsRests c g
 runs_rests c g is =
     let len : length g ≡ node_count c = ap length is ∙ length-nodes_of c 0 (node_count c) in
     let has : HasAt g 0 (nodes_of c 0 (node_count c)) = subst (λ l. HasAt l 0 (nodes_of c 0 (node_count c))) (sym is) (has_all (nodes_of c 0 (node_count c)) []) in

@@ -1,7 +1,7 @@
 -- The control-flow graphs of a program.
 use Rattle.std.specs.Prelude.{◌≡◌, ℕ, ◌≤◌, List, Some, slice_get, length}
-use Rattle.sect_types.specs.Statements.{Statements}
-use Rattle.sect_types.specs.Sections.{SectionOf, sections_of}
+use Rattle.sect_types.specs.Statements.{TextView}
+use Rattle.sect_types.specs.Sections.{SectionView, sections_of}
 use Rattle.sect_types.specs.Traces.{node_count}
 use Rattle.sect_graph.specs.declared.flow.Node.{Node}
 use Rattle.sect_graph.specs.Paths.{LeadsTo, PathsAreTraces, PathsAreRests, IsConnected}
@@ -9,7 +9,7 @@ use Rattle.sect_graph.specs.Rests.{RunsRests}
 
 -- the nodes are the graph of the text: its paths are the traces, each node runs the first step of what is left there, and
 -- control goes on to a node or to the exit
-pub record IsGraphOf (text : Statements) (g : List Node) : Type 0 where
+pub record IsGraphOf (text : TextView) (g : List Node) : Type 0 where
   pub paths : PathsAreTraces text g
   pub rests : PathsAreRests text g
   pub connected : IsConnected g
@@ -18,13 +18,13 @@ pub record IsGraphOf (text : Statements) (g : List Node) : Type 0 where
   pub within : (i j : ℕ) (x : Node) → slice_get g i ≡ Some x → LeadsTo x j → j ≤ length g
 
 -- a graph for each thread, and one for each section
-pub record Graphs : Type 0 where
+pub record GraphView : Type 0 where
   pub threads : List (List Node)
   pub sections : List (List Node)
 
 -- they are those of a program with these texts
-pub record AreGraphs (texts : List Statements) (g : Graphs) : Type 0 where
+pub record AreGraphs (texts : List TextView) (g : GraphView) : Type 0 where
   pub thread_count : length g.threads ≡ length texts
   pub section_count : length g.sections ≡ length (sections_of texts)
-  pub threads : (t : ℕ) (text : Statements) (flow : List Node) → slice_get texts t ≡ Some text → slice_get g.threads t ≡ Some flow → IsGraphOf text flow
-  pub sections : (i : ℕ) (s : SectionOf) (flow : List Node) → slice_get (sections_of texts) i ≡ Some s → slice_get g.sections i ≡ Some flow → IsGraphOf s.body flow
+  pub threads : (t : ℕ) (text : TextView) (flow : List Node) → slice_get texts t ≡ Some text → slice_get g.threads t ≡ Some flow → IsGraphOf text flow
+  pub sections : (i : ℕ) (s : SectionView) (flow : List Node) → slice_get (sections_of texts) i ≡ Some s → slice_get g.sections i ≡ Some flow → IsGraphOf s.body flow

@@ -1,14 +1,14 @@
 -- How the nodes of a text lie one after another.
 use Rattle.std.specs.Prelude.{ℕ, ◌+◌, List, [], ◌∷◌, ◌++◌}
 use Rattle.sect_types.specs.declared.action.Label.TheVariants.{Act, Test, Section as WholeSection}
-use Rattle.sect_types.specs.Statements.{Statements, Stop, Do, Choose, Loop, Section}
+use Rattle.sect_types.specs.Statements.{TextView, Stop, Do, Choose, Loop, Section}
 use Rattle.sect_types.specs.Traces.{node_count}
 use Rattle.sect_graph.specs.declared.flow.Node.{Node}
 use Rattle.sect_graph.specs.declared.flow.Successors.TheVariants.{Next, Branch}
 use Rattle.sect_graph.specs.Paths.{node}
 
 -- where a text is entered whose first node is numbered n, if it has one, and that goes on to next
-abbrev pub entry_of : Statements → ℕ → ℕ → ℕ
+abbrev pub entry_of : TextView → ℕ → ℕ → ℕ
 entry_of Stop n next = next
 entry_of (Do a rest) n next = n
 entry_of (Choose t p q rest) n next = n
@@ -16,7 +16,7 @@ entry_of (Loop t p rest) n next = n
 entry_of (Section i p rest) n next = n
 
 -- the nodes of a text that begins at n and goes on to next
-abbrev pub nodes_of : Statements → ℕ → ℕ → List Node
+abbrev pub nodes_of : TextView → ℕ → ℕ → List Node
 nodes_of Stop n next = []
 nodes_of (Do a rest) n next =
     let after = entry_of rest (n + 1) next in
@@ -35,5 +35,5 @@ nodes_of (Section i p rest) n next =
     node (WholeSection i) (Next after) ∷ nodes_of rest (n + 1) next
 
 -- the nodes of a whole text, whose exit is numbered last
-abbrev pub flow_nodes : Statements → List Node
+abbrev pub flow_nodes : TextView → List Node
 flow_nodes text = nodes_of text 0 (node_count text)

@@ -20,9 +20,9 @@ pub struct Graph {
 }
 
 impl Model for Graph {
-    ghost use Rattle.sect_graph.specs.Graphs.{Graphs};
+    ghost use Rattle.sect_graph.specs.Graphs.{GraphView};
 
-    ghost Value = { Graphs };
+    ghost Value = { GraphView };
 
     ghost view = { λ g. record { threads = g.threads.items; sections = g.sections.items } };
 }

@@ -1,4 +1,4 @@
-//! Graphs of small programs.
+//! GraphView of small programs.
 
 use crate::flow::{Flow, Successors};
 use crate::graph::{Graph, graph_of};

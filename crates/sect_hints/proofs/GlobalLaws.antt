@@ -6,7 +6,7 @@ use Rattle.std.specs.Option.{option_map}
 use Rattle.sect_front.specs.declared.tree.Record.{Record}
 use Rattle.sect_front.specs.declared.tree.GlobalObject.{GlobalObject}
 use Rattle.sect_front.specs.declared.tree.Declaration.{Declaration}
-use Rattle.sect_front.specs.Source.{Source}
+use Rattle.sect_front.specs.TreeView.{TreeView}
 use Rattle.sect_types.specs.declared.rule.Rule.TheVariants.{Twice}
 use Rattle.sect_types.specs.Sight.{has_name, same_name, names_of_globals}
 use Rattle.sect_types.specs.Items.{Item, AGlobal, field_items, record_items, global_items, thread_items}
@@ -46,7 +46,7 @@ repeated rs gs before (g ∷ list) w (suc i) name e h =
     (repeated rs gs (before ++ g.name ∷ []) list w i name e (ap (has_name name) (append_assoc before (g.name ∷ []) (take i (names_of_globals list))) ∙ h))
 
 -- so the globals of a typed tree have different names
-pub different : (t : Source) → IsTyped t → AreDifferent (names_of_globals t.globals)
+pub different : (t : TreeView) → IsTyped t → AreDifferent (names_of_globals t.globals)
 unfolding HasTwice
 different t typed i name e = by (has_name name (take i (names_of_globals t.globals))) refl
   where

@@ -5,7 +5,7 @@ use Rattle.std.proofs.lemmas.Option.{slice_get_within}
 use Rattle.std.proofs.lemmas.Bool.{cases_lt}
 use Rattle.std.specs.Prelude.{slice_index_or}
 use Rattle.sect_front.specs.declared.tree.Record.{Record}
-use Rattle.sect_types.specs.Programs.{Numbered, IsOfTree}
+use Rattle.sect_types.specs.Programs.{ProgramView, IsOfTree}
 use Rattle.sect_hints.specs.declared.fault.Rule.{Rule}
 use Rattle.sect_hints.specs.declared.fault.Rule.TheVariants.{HintTwice, NoSuchGlobal, GuardIsGuarded}
 use Rattle.sect_hints.specs.declared.fault.HintFault.{HintFault}
@@ -15,16 +15,16 @@ use Rattle.sect_hints.specs.Verdicts.{IsFirstBroken, Finds}
 use Rattle.sect_hints.proofs.HintLaws.{records_counted, hints_at, unbroken}
 
 -- the first i records break no rule, and the list has their guards
-pub record ArePassed (p : Numbered) (i : ℕ) (list : List (Option ℕ)) : Type 0 where
+pub record ArePassed (p : ProgramView) (i : ℕ) (list : List (Option ℕ)) : Type 0 where
   pub as_many : length list ≡ i
   pub each : (r : ℕ) → r < i → Finds p (hints_of p r) (Ok (get_or list r None))
 
 -- the hints that were looked at are the record's
-at_hints : (p : Numbered) (i : ℕ) (d : Record) (hints : List (List ℕ)) (rs : List Record) → rs ≡ p.source.records → i < length rs → hints ≡ (get_or rs i d).hints → hints ≡ hints_of p i
+at_hints : (p : ProgramView) (i : ℕ) (d : Record) (hints : List (List ℕ)) (rs : List Record) → rs ≡ p.source.records → i < length rs → hints ≡ (get_or rs i d).hints → hints ≡ hints_of p i
 at_hints p i d hints rs same h e = e ∙ (sym (hints_at rs i d h) ∙ ap (λ l. slice_index_or (map (λ (x : Record). x.hints) l) i []) same)
 
 -- one record more has been passed
-pub one_passed : (p : Numbered) (i : ℕ) (d : Record) (hints : List (List ℕ)) (guard : Option ℕ) (rs : List Record) (list more : List (Option ℕ)) → rs ≡ p.source.records
+pub one_passed : (p : ProgramView) (i : ℕ) (d : Record) (hints : List (List ℕ)) (guard : Option ℕ) (rs : List Record) (list more : List (Option ℕ)) → rs ≡ p.source.records
     → i < length rs → hints ≡ (get_or rs i d).hints → Finds p hints (Ok guard) → more ≡ list ++ guard ∷ [] → ArePassed p i list → ArePassed p (i + 1) more
 one_passed p i d hints guard rs list more same h e found grown so_far = record {
   as_many = omega (arith, ap length grown, length-append list (guard ∷ []), so_far.as_many);
@@ -46,7 +46,7 @@ one_passed p i d hints guard rs list more same h e found grown so_far = record {
     ]
 
 -- a rule that is broken at the next record is the first
-pub first_fault : (p : Numbered) (i : ℕ) (d : Record) (hints : List (List ℕ)) (rule : Rule) (rs : List Record) (list : List (Option ℕ)) → rs ≡ p.source.records
+pub first_fault : (p : ProgramView) (i : ℕ) (d : Record) (hints : List (List ℕ)) (rule : Rule) (rs : List Record) (list : List (Option ℕ)) → rs ≡ p.source.records
     → i < length rs → hints ≡ (get_or rs i d).hints → Finds p hints (Err rule) → ArePassed p i list → IsFirstFault p i rule
 first_fault p i d hints rule rs list same h e found so_far =
     let here : IsFirstBroken p (hints_of p i) rule = subst (λ hs. IsFirstBroken p hs rule) (at_hints p i d hints rs same h e) found in
@@ -59,7 +59,7 @@ first_fault p i d hints rule rs list same h e found so_far =
     ]
 
 -- the refusal says so
-pub judged : (p : Numbered) (i : ℕ) (rule : Rule) (fault : HintFault) → fault ≡ hint_fault rule i → IsFirstFault p i rule → Judges {A = ℕ} p (Err fault)
+pub judged : (p : ProgramView) (i : ℕ) (rule : Rule) (fault : HintFault) → fault ≡ hint_fault rule i → IsFirstFault p i rule → Judges {A = ℕ} p (Err fault)
 judged p i HintTwice fault e h = subst (λ f. Judges {A = ℕ} p (Err f)) (sym e) h
 judged p i NoSuchGlobal fault e h = subst (λ f. Judges {A = ℕ} p (Err f)) (sym e) h
 judged p i GuardIsGuarded fault e h = subst (λ f. Judges {A = ℕ} p (Err f)) (sym e) h
@@ -71,41 +71,41 @@ past (x ∷ rs) zero h = absurd (omega arith)
 past (x ∷ rs) (suc r) h = past rs r (omega arith)
 
 -- the loop's end has all records behind it
-pub all_passed : (p : Numbered) (i : ℕ) (rs : List Record) (list end : List (Option ℕ)) → rs ≡ p.source.records → i ≤ length rs → length rs ≤ i → end ≡ list → ArePassed p i list
+pub all_passed : (p : ProgramView) (i : ℕ) (rs : List Record) (list end : List (Option ℕ)) → rs ≡ p.source.records → i ≤ length rs → length rs ≤ i → end ≡ list → ArePassed p i list
     → ArePassed p (length p.source.records) end
 all_passed p i rs list end same below above e passed =
     let number : i ≡ length p.source.records = omega (arith, ap length same) in
     subst (λ n. ArePassed p n end) number (subst (ArePassed p i) (sym e) passed)
 
 -- then the list has what is found at each record, also past the last
-found_at : (p : Numbered) (list : List (Option ℕ)) → ArePassed p (length p.source.records) list → (r : ℕ) → Finds p (hints_of p r) (Ok (get_or list r None))
+found_at : (p : ProgramView) (list : List (Option ℕ)) → ArePassed p (length p.source.records) list → (r : ℕ) → Finds p (hints_of p r) (Ok (get_or list r None))
 found_at p list passed r = elim (cases_lt r (length p.source.records)) [
   | inl there ↦ passed.each r there
   | inr beyond ↦ subst (λ g. Finds p (hints_of p r) (Ok g)) (sym (get_or_past list r None (omega (arith, passed.as_many)))) (past p.source.records r beyond)
 ]
 
 -- no rule is broken
-pub all_obey : (p : Numbered) (list : List (Option ℕ)) → ArePassed p (length p.source.records) list → ObeysHints p
+pub all_obey : (p : ProgramView) (list : List (Option ℕ)) → ArePassed p (length p.source.records) list → ObeysHints p
 all_obey p list passed r q broken = unbroken p (hints_of p r) (get_or list r None) (found_at p list passed r) q broken
 
 -- a lone hint that is a global's name gives that global, and no hint gives none
-some_found : (p : Numbered) (hints : List (List ℕ)) (name : List ℕ) (g : ℕ) (guard : Option ℕ) → hints ≡ name ∷ [] → global_of p name ≡ Some g → Finds p hints (Ok guard) → guard ≡ Some g
+some_found : (p : ProgramView) (hints : List (List ℕ)) (name : List ℕ) (g : ℕ) (guard : Option ℕ) → hints ≡ name ∷ [] → global_of p name ≡ Some g → Finds p hints (Ok guard) → guard ≡ Some g
 some_found p hints name g None e named none = let clash : [] ≡ name ∷ [] = sym none ∙ e in absurd cc
 some_found p hints name g (Some other) e named (its_name, is, its) =
     let alike : its_name ∷ [] ≡ name ∷ [] = sym is ∙ e in
     let same : its_name ≡ name = cc in
     sym its.named ∙ (ap (global_of p) same ∙ named)
 
-none_found : (p : Numbered) (hints : List (List ℕ)) (guard : Option ℕ) → hints ≡ [] → Finds p hints (Ok guard) → guard ≡ None
+none_found : (p : ProgramView) (hints : List (List ℕ)) (guard : Option ℕ) → hints ≡ [] → Finds p hints (Ok guard) → guard ≡ None
 none_found p hints None e found = refl
 none_found p hints (Some g) e (name, is, its) = let clash : [] ≡ name ∷ [] = sym e ∙ is in absurd cc
 
 -- what was found for the guard that the list has
-told : (p : Numbered) (list : List (Option ℕ)) (r : ℕ) (guard : Option ℕ) → ArePassed p (length p.source.records) list → get_or list r None ≡ guard → Finds p (hints_of p r) (Ok guard)
+told : (p : ProgramView) (list : List (Option ℕ)) (r : ℕ) (guard : Option ℕ) → ArePassed p (length p.source.records) list → get_or list r None ≡ guard → Finds p (hints_of p r) (Ok guard)
 told p list r guard passed e = subst (λ g. Finds p (hints_of p r) (Ok g)) e (found_at p list passed r)
 
 -- the list has the guards
-pub all_guards : (p : Numbered) (list : List (Option ℕ)) → IsOfTree p → ArePassed p (length p.source.records) list → AreGuards p list
+pub all_guards : (p : ProgramView) (list : List (Option ℕ)) → IsOfTree p → ArePassed p (length p.source.records) list → AreGuards p list
 all_guards p list of_tree passed = record {
   as_many = passed.as_many ∙ sym (records_counted p of_tree);
   guarded = λ r g. (is_guard r g, gives_guard r g);
@@ -119,7 +119,7 @@ all_guards p list of_tree passed = record {
     gives_guard r g (name, e, named) = some_found p (hints_of p r) name g (get_or list r None) e named (found_at p list passed r)
 
 -- and none of them is guarded itself
-pub all_unguarded : (p : Numbered) (list : List (Option ℕ)) → ArePassed p (length p.source.records) list → AreUnguarded p list
+pub all_unguarded : (p : ProgramView) (list : List (Option ℕ)) → ArePassed p (length p.source.records) list → AreUnguarded p list
 all_unguarded p list passed r g e =
     let its = (told p list r (Some g) passed e).2 in
     record {

@@ -1,6 +1,6 @@
 -- The refusals.
 use Rattle.std.specs.Prelude.{◌≡◌, ◌⊎◌, ℕ, Result, Ok, Err, ⊤}
-use Rattle.sect_types.specs.Programs.{Numbered}
+use Rattle.sect_types.specs.Programs.{ProgramView}
 use Rattle.sect_hints.specs.declared.fault.Rule.{Rule}
 use Rattle.sect_hints.specs.declared.fault.Rule.TheVariants as rule
 use Rattle.sect_hints.specs.declared.fault.HintFault.{HintFault}
@@ -14,7 +14,7 @@ hint_fault rule.NoSuchGlobal r = NoSuchGlobal r
 hint_fault rule.GuardIsGuarded r = GuardIsGuarded r
 
 -- an answer is given where no rule is broken, and a refusal names the first record at fault and its first rule
-abbrev pub Judges : {A : Type 0} → Numbered → Result A HintFault → Type 0
+abbrev pub Judges : {A : Type 0} → ProgramView → Result A HintFault → Type 0
 Judges p (Ok a) = ObeysHints p
 Judges p (Err Memory) = ⊤
 Judges p (Err (NoSuchGlobal r)) = IsFirstFault p r rule.NoSuchGlobal

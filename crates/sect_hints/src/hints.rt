@@ -16,7 +16,7 @@ use sect_front::name::Name;
 use sect_types::program::Program;
 use std::alloc::Global;
 
-// The guard that a lone hint names.
+/// The guard that a lone hint names.
 fn guard_named(program: &Program, names: &IndexSet<Name>, name: &Name) -> Result<u16, Rule>
     requires { names.now.keys ≡ names_of_globals program.now.source.globals }
     ensures { FindsNamed program.now name.now result }
@@ -34,7 +34,7 @@ fn guard_named(program: &Program, names: &IndexSet<Name>, name: &Name) -> Result
     }
 }
 
-// The guard of a record with these hints.
+/// The guard of a record with these hints.
 fn guard_of(program: &Program, names: &IndexSet<Name>, hints: &[Name]) -> Result<Option<u16>, Rule>
     requires { names.now.keys ≡ names_of_globals program.now.source.globals }
     ensures { Finds program.now hints.now result }
@@ -65,7 +65,7 @@ pub fn guards(alloc: Global, program: &Program) -> Result<Guards, HintFault>
     judge(alloc, program)
 }
 
-// The same, by what it finds.
+/// The same, by what it finds.
 fn judge(alloc: Global, program: &Program) -> Result<Guards, HintFault>
     ensures judges { Judges program.now result }
     ensures guards { IfOk result (AreGuards program.now) }

@@ -8,7 +8,7 @@ use std::alloc::Global;
 use std::process::Abort;
 use std::test::Fail;
 
-// The guards of a text, or the fault.
+/// The guards of a text, or the fault.
 fn answer(alloc: Global, text: &[u8]) -> Result<Result<Guards, HintFault>, Fail> {
     let tree = match parse(alloc, text) {
         Ok(tree) => tree,
@@ -21,7 +21,7 @@ fn answer(alloc: Global, text: &[u8]) -> Result<Result<Guards, HintFault>, Fail>
     Ok(guards(alloc, &program))
 }
 
-// The text has these guards, and one record past the last has none.
+/// The text has these guards, and one record past the last has none.
 fn gives(
     rt: &(impl Abort + AllocGlobal),
     text: &[u8],
@@ -41,7 +41,7 @@ fn gives(
     Ok(())
 }
 
-// The text is refused with this line.
+/// The text is refused with this line.
 fn refuses(rt: &(impl Abort + AllocGlobal), text: &[u8], expected: &str) -> Result<(), Fail> {
     match answer(rt.alloc(), text)? {
         Ok(_) => Err(Fail::from("not refused")),
@@ -53,7 +53,7 @@ fn refuses(rt: &(impl Abort + AllocGlobal), text: &[u8], expected: &str) -> Resu
     }
 }
 
-// A lock for all cells.
+/// A lock for all cells.
 #[test]
 fn guarded_cells(rt: HostRuntime) -> Result<(), Fail> {
     gives(
@@ -105,7 +105,7 @@ fn made_cells(rt: HostRuntime) -> Result<(), Fail> {
     )
 }
 
-// In one record a second hint comes first, whatever the hints say, and then a name that no global has.
+/// In one record a second hint comes first, whatever the hints say, and then a name that no global has.
 #[test]
 fn order_in_a_record(rt: HostRuntime) -> Result<(), Fail> {
     refuses(
@@ -126,7 +126,7 @@ fn order_in_a_record(rt: HostRuntime) -> Result<(), Fail> {
     )
 }
 
-// The first record at fault is named, whatever the faults are.
+/// The first record at fault is named, whatever the faults are.
 #[test]
 fn order_of_records(rt: HostRuntime) -> Result<(), Fail> {
     refuses(
@@ -143,7 +143,7 @@ fn order_of_records(rt: HostRuntime) -> Result<(), Fail> {
     )
 }
 
-// Each record may have a guard of its own, and one global may guard many.
+/// Each record may have a guard of its own, and one global may guard many.
 #[test]
 fn guards_of_many(rt: HostRuntime) -> Result<(), Fail> {
     gives(&rt, b"", &[])?;

@@ -8,7 +8,7 @@ use Rattle.sect_types.specs.Lists.{Has}
 use Rattle.sect_types.proofs.Membership.{Has-get_or}
 use Rattle.sect_graph.specs.declared.flow.Node.{Node}
 use Rattle.sect_names.specs.declared.lock.Lock.{Lock}
-use Rattle.sect_names.specs.Schemes.{SchemeOf}
+use Rattle.sect_names.specs.Schemes.{SchemeView}
 use Rattle.sect_names.specs.Carrying.{Generated, CarriedBack}
 use Rattle.sect_infer.specs.declared.need.Need.{Need}
 use Rattle.sect_infer.specs.Needs.{need, IsSeed, CarriesTo, Grows, AreBefore}
@@ -26,7 +26,7 @@ node_at {X} f g j x e = go (slice_get g j) refl e
 pub same_node : (g : List Node) (j : ℕ) (y z : Node) → slice_get g j ≡ Some y → slice_get g j ≡ Some z → y ≡ z
 same_node g j y z e f = cc
 
-module _ (s : SchemeOf) (t : ℕ) (g : List Node) where
+module _ (s : SchemeView) (t : ℕ) (g : List Node) where
   -- the seeds at the nodes below j
   abbrev pub SeedsBelow : ℕ → Need → Type 0
   SeedsBelow j x = (x.node < j) × IsSeed s t g x

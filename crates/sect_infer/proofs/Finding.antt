@@ -5,11 +5,11 @@ use Rattle.std.proofs.lemmas.Bool.{cases_lt}
 use Rattle.std.proofs.lemmas.Option.{slice_get_within, get_or_from_slice_get}
 use Rattle.std.proofs.Math.ListN.{get_or-eq_default}
 use Rattle.sect_types.specs.Lists.{Has}
-use Rattle.sect_types.specs.Statements.{Statements}
+use Rattle.sect_types.specs.Statements.{TextView}
 use Rattle.sect_graph.specs.declared.flow.Node.{Node}
 use Rattle.sect_graph.specs.Graphs.{IsGraphOf}
 use Rattle.sect_names.specs.declared.lock.Lock.{Lock}
-use Rattle.sect_names.specs.Schemes.{SchemeOf}
+use Rattle.sect_names.specs.Schemes.{SchemeView}
 use Rattle.sect_names.specs.Locks.{IsLockOf}
 use Rattle.sect_names.specs.Order.{AreMaximal}
 use Rattle.sect_infer.specs.declared.need.Need.{Need}
@@ -18,7 +18,7 @@ use Rattle.sect_infer.specs.Sets.{LocksOf, AreFound, AreLocksOf}
 use Rattle.sect_infer.proofs.Working.{derived_lock}
 use Rattle.sect_infer.proofs.Meaning.{derived_from, least}
 
-module _ (s : SchemeOf) (t : ℕ) (g : List Node) where
+module _ (s : SchemeView) (t : ℕ) (g : List Node) where
   module _ (lawful : AreLawful s t g) where
     module _ (kept : List Need) (exact : (x : Need) → Has kept x ↔ IsDerived s t g x) (count : ℕ) (counted : count ≡ length g) (nodes : List (List Lock)) (by_node : AreByNode count kept nodes) where
       -- the locks of a node; no node is past the last
@@ -48,7 +48,7 @@ module _ (s : SchemeOf) (t : ℕ) (g : List Node) where
         (derived_lock s t g lawful d.0 (need 0 l) d.1).1
 
   -- the locks that are found for the graph of a section's body are the section's
-  pub locks_found : (body : Statements) → IsGraphOf body g → (locks : LocksOf) → AreFound s t g locks → AreLocksOf s (record { thread = t; body = body }) g locks
+  pub locks_found : (body : TextView) → IsGraphOf body g → (locks : LocksOf) → AreFound s t g locks → AreLocksOf s (record { thread = t; body = body }) g locks
   locks_found body graph locks found = record {
     needed = record {
       count = found.count;

@@ -3,13 +3,13 @@ use Rattle.std.proofs.Common.{◌≡◌, ◌↔◌, inl, inr, ℕ, zero, suc, �
 use Rattle.std.specs.Prelude.{slice_get}
 use Rattle.std.proofs.lemmas.Option.{slice_get_within}
 use Rattle.sect_types.specs.Lists.{Has}
-use Rattle.sect_types.specs.Statements.{Statements}
-use Rattle.sect_types.specs.Traces.{Step, step}
+use Rattle.sect_types.specs.Statements.{TextView}
+use Rattle.sect_types.specs.Traces.{Visit, visit}
 use Rattle.sect_graph.specs.declared.flow.Node.{Node}
 use Rattle.sect_graph.specs.Paths.{IsPath, IsConnected}
 use Rattle.sect_graph.specs.Graphs.{IsGraphOf}
 use Rattle.sect_names.specs.declared.lock.Lock.{Lock}
-use Rattle.sect_names.specs.Schemes.{SchemeOf}
+use Rattle.sect_names.specs.Schemes.{SchemeView}
 use Rattle.sect_names.specs.Carrying.{Generated, CarriedBack}
 use Rattle.sect_names.specs.Needed.{CarriedOver, GeneratedFirst, IsNeededOn, IsNeeded, IsNeededFrom, IsLeast}
 use Rattle.sect_names.specs.Order.{AreMaximal}
@@ -17,15 +17,15 @@ use Rattle.sect_names.proofs.Telling.{lock_cases}
 use Rattle.sect_infer.specs.declared.need.Need.{Need}
 use Rattle.sect_infer.specs.Needs.{need, Derived, IsDerived}
 
-module _ (s : SchemeOf) (t : ℕ) (g : List Node) where
+module _ (s : SchemeView) (t : ℕ) (g : List Node) where
   -- needed along some path from the node to the exit
   abbrev pub IsNeededAlong : ℕ → Lock → Type 0
-  IsNeededAlong j l = (steps : List Step) × IsPath g j steps (length g) × IsNeededOn s t steps l
+  IsNeededAlong j l = (steps : List Visit) × IsPath g j steps (length g) × IsNeededOn s t steps l
 
   -- a path from a node begins with what the node does
-  path_begins : (j : ℕ) (y : Node) (steps : List Step) → slice_get g j ≡ Some y → IsPath g j steps (length g) → (post : List Step) × (steps ≡ step j y.label ∷ post)
+  path_begins : (j : ℕ) (y : Node) (steps : List Visit) → slice_get g j ≡ Some y → IsPath g j steps (length g) → (post : List Visit) × (steps ≡ visit j y.label ∷ post)
   path_begins j y [] at p = absurd (let w = slice_get_within g j y at in omega (arith, w, p))
-  path_begins j y (a ∷ steps) at p = let same : p.0 ≡ y = (let e = p.1 in cc) in (steps, ap (λ b. b ∷ steps) (p.2 ∙ ap (λ z. step j z.label) same))
+  path_begins j y (a ∷ steps) at p = let same : p.0 ≡ y = (let e = p.1 in cc) in (steps, ap (λ b. b ∷ steps) (p.2 ∙ ap (λ z. visit j z.label) same))
 
   derived_along : IsConnected g → (k : ℕ) (x : Need) → Derived s t g k x → IsNeededAlong x.node x.lock
   derived_along con zero x h =
@@ -36,10 +36,10 @@ module _ (s : SchemeOf) (t : ℕ) (g : List Node) where
       let c = h.2 in
       let q = derived_along con k h.0 h.1 in
       let n = q.2 in
-      let a = step x.node c.0.label in
+      let a = visit x.node c.0.label in
       (a ∷ q.0, (c.0, c.1, refl, h.0.node, c.2, q.1), (a ∷ n.0, n.1, n.2, ap (λ l. a ∷ l) n.3, n.4, (h.0.lock, n.5, c.3)))
 
-  along_derived : (before : List Step) (j : ℕ) (steps rest : List Step) (x l : Lock) → IsPath g j steps (length g) → steps ≡ before ++ rest → GeneratedFirst s t [] rest x → CarriedOver s t before x l → IsDerived s t g (need j l)
+  along_derived : (before : List Visit) (j : ℕ) (steps rest : List Visit) (x l : Lock) → IsPath g j steps (length g) → steps ≡ before ++ rest → GeneratedFirst s t [] rest x → CarriedOver s t before x l → IsDerived s t g (need j l)
   along_derived [] j steps [] x l p e h c = absurd h
   along_derived [] j steps (a ∷ rest) x l p e h c =
       let q = subst (λ z. IsPath g j z (length g)) e p in
@@ -58,7 +58,7 @@ module _ (s : SchemeOf) (t : ℕ) (g : List Node) where
     λ h. (let n = h.2 in along_derived n.0 j h.0 n.1 n.2 l h.1 n.3 n.4 n.5),
   )
 
-  module _ (body : Statements) (graph : IsGraphOf body g) where
+  module _ (body : TextView) (graph : IsGraphOf body g) where
     -- the needs of a node are those of the rests of traces that begin there
     pub derived_from : (j : ℕ) (l : Lock) → j ≤ length g → IsDerived s t g (need j l) ↔ IsNeededFrom s t body g j l
     derived_from j l within =

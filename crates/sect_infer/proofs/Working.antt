@@ -9,7 +9,7 @@ use Rattle.std.proofs.lemmas.Option.{slice_get_within, get_or_from_slice_get, sl
 use Rattle.sect_types.specs.Lists.{Has}
 use Rattle.sect_types.proofs.Membership.{Has-left, Has-slice_get}
 use Rattle.sect_graph.specs.declared.flow.Node.{Node}
-use Rattle.sect_names.specs.Schemes.{SchemeOf}
+use Rattle.sect_names.specs.Schemes.{SchemeView}
 use Rattle.sect_names.specs.Locks.{IsLockOf}
 use Rattle.sect_names.proofs.Finiteness.{Has-map, Has-flat_map, below, Has-below, all_locks, finite_locks}
 use Rattle.sect_names.proofs.Telling.{any_tells}
@@ -24,10 +24,10 @@ Has-index [] x h = absurd h
 Has-index (y ∷ xs) x h = elim h [ inl e ↦ (0, ap (λ z. Some z) e) | inr k ↦ (let r = Has-index xs x k in (suc r.0, r.1)) ]
 
 -- every lock of the program at every node
-pub all_needs : SchemeOf → List Node → List Need
+pub all_needs : SchemeView → List Node → List Need
 all_needs s g = flat_map (λ j. map (need j) (all_locks s)) (below (length g))
 
-module _ (s : SchemeOf) (t : ℕ) (g : List Node) where
+module _ (s : SchemeView) (t : ℕ) (g : List Node) where
   -- what is kept, where the needs before `done` have been carried back
   pub record IsWorklist (kept : List Need) (done : ℕ) : Type 0 where
     pub seeds : (x : Need) → IsSeed s t g x → Has kept x

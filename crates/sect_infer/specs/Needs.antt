@@ -4,7 +4,7 @@ use Rattle.sect_types.specs.Lists.{Has}
 use Rattle.sect_graph.specs.declared.flow.Node.{Node}
 use Rattle.sect_graph.specs.Paths.{LeadsTo}
 use Rattle.sect_names.specs.declared.lock.Lock.{Lock}
-use Rattle.sect_names.specs.Schemes.{SchemeOf}
+use Rattle.sect_names.specs.Schemes.{SchemeView}
 use Rattle.sect_names.specs.Locks.{IsLockOf}
 use Rattle.sect_names.specs.Carrying.{Generated, CarriedBack}
 use Rattle.sect_infer.specs.declared.need.Need.{Need}
@@ -13,19 +13,19 @@ abbrev pub need : ℕ → Lock → Need
 need j l = record { node = j; lock = l }
 
 -- the node generates the lock
-abbrev pub IsSeed : SchemeOf → ℕ → List Node → Need → Type 0
+abbrev pub IsSeed : SchemeView → ℕ → List Node → Need → Type 0
 IsSeed s t g x = (y : Node) × (slice_get g x.node ≡ Some y) × Generated s t y.label x.lock
 
 -- control may go on from the one node to the other, and the lock that is needed there is carried back to this one
-abbrev pub CarriesTo : SchemeOf → ℕ → List Node → Need → Need → Type 0
+abbrev pub CarriesTo : SchemeView → ℕ → List Node → Need → Need → Type 0
 CarriesTo s t g n x = (y : Node) × (slice_get g x.node ≡ Some y) × LeadsTo y n.node × CarriedBack s t y.label n.lock x.lock
 
 -- it is carried back over so many edges
-abbrev pub Derived : SchemeOf → ℕ → List Node → ℕ → Need → Type 0
+abbrev pub Derived : SchemeView → ℕ → List Node → ℕ → Need → Type 0
 Derived s t g zero x = IsSeed s t g x
 Derived s t g (suc k) x = (n : Need) × Derived s t g k n × CarriesTo s t g n x
 
-abbrev pub IsDerived : SchemeOf → ℕ → List Node → Need → Type 0
+abbrev pub IsDerived : SchemeView → ℕ → List Node → Need → Type 0
 IsDerived s t g x = (k : ℕ) × Derived s t g k x
 
 -- needs with this property are put behind others, where they were not there
@@ -44,7 +44,7 @@ pub record AreAllBefore (g : List Node) (lists : List (List ℕ)) : Type 0 where
   pub each : (m : ℕ) → m < length g → AreBefore g m (slice_index_or lists m [])
 
 -- the locks that the nodes generate and carry back are the program's
-pub record AreLawful (s : SchemeOf) (t : ℕ) (g : List Node) : Type 0 where
+pub record AreLawful (s : SchemeView) (t : ℕ) (g : List Node) : Type 0 where
   pub generated : (j : ℕ) (y : Node) → slice_get g j ≡ Some y → (l : Lock) → Generated s t y.label l → IsLockOf s l
   pub carried : (j : ℕ) (y : Node) → slice_get g j ≡ Some y → (l r : Lock) → IsLockOf s l → CarriedBack s t y.label l r → IsLockOf s r
 

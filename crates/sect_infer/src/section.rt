@@ -2,7 +2,7 @@
 
 ghost use Rattle.std.specs.Prelude.{◌≡◌, ◌<◌, ℕ, List, [], length, slice_get, slice_index_or, Some, IfOk};
 ghost use Rattle.sect_types.specs.Lists.{Has};
-ghost use Rattle.sect_types.specs.Sections.{SectionOf, sections_of};
+ghost use Rattle.sect_types.specs.Sections.{SectionView, sections_of};
 ghost use Rattle.sect_graph.specs.declared.flow.Node.{Node};
 ghost use Rattle.sect_names.specs.declared.lock.Lock.{Lock};
 ghost use Rattle.sect_names.specs.Locks.{IsLockOf};
@@ -22,7 +22,7 @@ use std::alloc::{AllocError, Global};
 /// growth was refused.
 pub fn infer(alloc: Global, scheme: &Scheme, section: u16) -> Result<Sets, AllocError>
     requires { section < length (sections_of scheme.now.program.texts) }
-    ensures locks { (of : SectionOf) (g : List Node) → slice_get (sections_of scheme.now.program.texts) section ≡ Some of
+    ensures locks { (of : SectionView) (g : List Node) → slice_get (sections_of scheme.now.program.texts) section ≡ Some of
         → slice_get scheme.now.graphs.sections section ≡ Some g → IfOk result (AreLocksOf scheme.now of g) }
     ensures lawful { IfOk result (λ sets. (lock : Lock) → Has sets.entry lock → IsLockOf scheme.now lock) }
 {
@@ -33,9 +33,9 @@ pub fn infer(alloc: Global, scheme: &Scheme, section: u16) -> Result<Sets, Alloc
     found(alloc, scheme, thread, flow)
 }
 
-// What the nodes of a section's graph generate and carry back are locks of the program, which the clause says.
+/// What the nodes of a section's graph generate and carry back are locks of the program, which the clause says.
 fn only_the_programs(scheme: &Scheme, section: u16)
-    ensures { (of : SectionOf) (g : List Node) → slice_get (sections_of scheme.now.program.texts) section ≡ Some of
+    ensures { (of : SectionView) (g : List Node) → slice_get (sections_of scheme.now.program.texts) section ≡ Some of
         → slice_get scheme.now.graphs.sections section ≡ Some g → AreLawful scheme.now of.thread g }
 {
     scheme.rules();
@@ -44,8 +44,8 @@ fn only_the_programs(scheme: &Scheme, section: u16)
     steps_of_sections();
 }
 
-// The locks of a graph whose nodes need locks of the program alone: at each node those that are derived there, at the
-// entry the maximal ones of the first node.
+/// The locks of a graph whose nodes need locks of the program alone: at each node those that are derived there, at the
+/// entry the maximal ones of the first node.
 fn found(alloc: Global, scheme: &Scheme, thread: u16, flow: &Flow) -> Result<Sets, AllocError>
     requires { AreLawful scheme.now thread flow.now }
     ensures found { IfOk result (AreFound scheme.now thread flow.now) }
@@ -57,7 +57,7 @@ fn found(alloc: Global, scheme: &Scheme, thread: u16, flow: &Flow) -> Result<Set
     Ok(Sets::of(nodes, entry))
 }
 
-// The maximal locks of the first node; none where there is no node.
+/// The maximal locks of the first node; none where there is no node.
 fn entry_of(alloc: Global, scheme: &Scheme, nodes: &NodeLocks) -> Result<Vec<Lock>, AllocError>
     ensures { IfOk result (λ entry. AreMaximal scheme.now (slice_index_or nodes.now 0 []) entry.items) }
 {

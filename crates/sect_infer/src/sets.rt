@@ -81,7 +81,7 @@ pub fn by_node(alloc: Global, count: u16, kept: &IndexSet<Need>) -> Result<NodeL
     Ok(locks)
 }
 
-// Adds the lock of a need to those of its node.
+/// Adds the lock of a need to those of its node.
 fn put_need(locks: &mut NodeLocks, need: &Need) -> Result<(), AllocError>
     requires { need.now.node < length locks.old }
     ensures count { OnOk result (length locks.new ≡ length locks.old) }

@@ -15,57 +15,57 @@ use sect_types::check_types;
 use std::process::Abort;
 use std::test::Fail;
 
-// The one global is class 0, and the one `new` class 1.
+/// The one global is class 0, and the one `new` class 1.
 const LIST: &[u8] = b"record Node { int val; Node next; } global Node head; \
 thread sum { Node p; int v; int s; atomic { p = head.next; \
 while (p != null) { v = p.val; s = s + v; p = p.next; } print s; } } \
 thread push { Node n; Node p; int v; v = 5; \
 atomic { n = new Node; n.val = v; p = head.next; n.next = p; head.next = n; } }";
 
-// `x` may denote a, `y` a and b, `z` and `w` c; class 0 is a and b, class 1 is c.
+/// `x` may denote a, `y` a and b, `z` and `w` c; class 0 is a and b, class 1 is c.
 const SHARED: &[u8] = b"record Node { int val; Node next; } \
 global Node a; global Node b; global Node c; \
 thread t { Node x; Node y; Node z; Node w; x = a; y = b; z = c; if (1 == 2) { y = a; } \
 atomic { x.next = z; w = y.next; w.val = 1; } }";
 
-// `p` and `p.next` are of class 0, that of a and b; `p.next.next` has no class.
+/// `p` and `p.next` are of class 0, that of a and b; `p.next.next` has no class.
 const CHAIN: &[u8] = b"record Node { int val; Node next; } global Node a; global Node b; \
 thread s { Node p; int v; atomic { a.next = b; } p = a; \
 atomic { while (p != null) { v = p.val; p = p.next; } a.val = 1; } } \
 thread r { Node q; int v; q = b; atomic { v = q.val; print v; } }";
 
-// A loop whose body ends with a branch.
+/// A loop whose body ends with a branch.
 const TURNS: &[u8] = b"record A { int f; } global A a; global A b; \
 thread t { int x; atomic { while (x < 3) { x = a.f; if (x == 1) { b.f = x; } } } }";
 
-// Either branch has a global of its own.
+/// Either branch has a global of its own.
 const EITHER: &[u8] = b"record A { int f; } global A a; global A b; \
 thread t { int x; atomic { if (x == 1) { x = a.f; } else { b.f = x; } x = 2; } }";
 
-// In all programs with references these are the field `next`.
+/// In all programs with references these are the field `next`.
 const NEXT: Field = Field { of: 0, number: 1 };
 
-// The scheme of a text.
+/// The scheme of a text.
 fn scheme(rt: &impl AllocGlobal, text: &[u8], k: u16) -> Result<Scheme, Fail> {
     let program = check_types(rt.alloc(), parse(rt.alloc(), text)?)?;
     Ok(scheme_of(rt.alloc(), program, k)?)
 }
 
-// The locks of a section of a text.
+/// The locks of a section of a text.
 fn sets(rt: &(impl Abort + AllocGlobal), text: &[u8], k: u16, section: u16) -> Result<Sets, Fail> {
     let scheme = scheme(rt, text, k)?;
     assert!(rt; section < scheme.program().section_count());
     Ok(infer(rt.alloc(), &scheme, section)?)
 }
 
-// A lock: on a class, or on the path of a variable and so many times the field `next`.
+/// A lock: on a class, or on the path of a variable and so many times the field `next`.
 #[derive(Clone, Copy)]
 enum Wanted {
     All(u16, Right),
     At(Variable, usize, Effect),
 }
 
-// The lock that is wanted.
+/// The lock that is wanted.
 fn lock(rt: &(impl Abort + AllocGlobal), wanted: Wanted) -> Result<Lock, Fail> {
     match wanted {
         All(class, right) => Ok(Lock::Class(class, right)),
@@ -78,7 +78,7 @@ fn lock(rt: &(impl Abort + AllocGlobal), wanted: Wanted) -> Result<Lock, Fail> {
     }
 }
 
-// These are the locks at the entry, in this order.
+/// These are the locks at the entry, in this order.
 fn takes(rt: &(impl Abort + AllocGlobal), sets: &Sets, wanted: &[Wanted]) -> Result<(), Fail> {
     let mut locks = Vec::new(rt.alloc());
     for each in wanted {
@@ -88,7 +88,7 @@ fn takes(rt: &(impl Abort + AllocGlobal), sets: &Sets, wanted: &[Wanted]) -> Res
     Ok(())
 }
 
-// These are the locks that are needed from a node on, in whatever order.
+/// These are the locks that are needed from a node on, in whatever order.
 fn needs(
     rt: &(impl Abort + AllocGlobal),
     sets: &Sets,
@@ -105,7 +105,7 @@ fn needs(
     Ok(())
 }
 
-// A section of a text has so many nodes, takes these locks at its entry, and needs those from some of its nodes on.
+/// A section of a text has so many nodes, takes these locks at its entry, and needs those from some of its nodes on.
 fn holds(
     rt: &(impl Abort + AllocGlobal),
     (text, k, section): (&[u8], u16, u16),
@@ -124,7 +124,7 @@ fn holds(
 
 const HEAD: Variable = Global(0);
 
-// The list from a variable on is read.
+/// The list from a variable on is read.
 const fn walked(base: Variable) -> [Wanted; 4] {
     [
         All(1, Right::Read),
@@ -168,7 +168,7 @@ fn an_object_is_made(rt: HostRuntime) -> Result<(), Fail> {
     )
 }
 
-// The variables of the program whose paths may be one.
+/// The variables of the program whose paths may be one.
 const X: Variable = Local(0, 0);
 
 const Y: Variable = Local(0, 1);
@@ -235,7 +235,7 @@ fn a_list_that_ends_by_its_class(rt: HostRuntime) -> Result<(), Fail> {
     )
 }
 
-// The locks of the two programs with branches.
+/// The locks of the two programs with branches.
 const BOTH: [Wanted; 2] = [At(Global(0), 0, Read), At(Global(1), 0, Write)];
 
 #[test]

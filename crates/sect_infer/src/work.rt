@@ -15,7 +15,7 @@ use sect_graph::flow::Flow;
 use sect_names::{Lock, Scheme};
 use std::alloc::{AllocError, Global};
 
-// What the nodes generate.
+/// What the nodes generate.
 fn seeds(
     alloc: Global,
     scheme: &Scheme,
@@ -33,7 +33,7 @@ fn seeds(
     Ok(kept)
 }
 
-// Keeps what is needed for one need at the nodes from which control may go on to its own.
+/// Keeps what is needed for one need at the nodes from which control may go on to its own.
 fn carry(
     alloc: Global,
     scheme: &Scheme,
@@ -52,7 +52,7 @@ fn carry(
     Ok(())
 }
 
-// Keeps what is needed at a node where this lock is needed after it.
+/// Keeps what is needed at a node where this lock is needed after it.
 fn carry_to(
     alloc: Global,
     scheme: &Scheme,
@@ -71,7 +71,7 @@ fn carry_to(
     Ok(())
 }
 
-// Keeps what is needed for the need at an index.
+/// Keeps what is needed for the need at an index.
 fn advance(
     alloc: Global,
     scheme: &Scheme,

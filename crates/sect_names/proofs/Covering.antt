@@ -7,7 +7,7 @@ use Rattle.sect_names.specs.declared.lock.Right.{Right}
 use Rattle.sect_names.specs.declared.lock.Right.TheVariants as right
 use Rattle.sect_names.specs.declared.lock.Lock.{Lock}
 use Rattle.sect_names.specs.declared.lock.Lock.TheVariants as lock
-use Rattle.sect_names.specs.Schemes.{SchemeOf}
+use Rattle.sect_names.specs.Schemes.{SchemeView}
 use Rattle.sect_names.specs.Locks.{Allows, Grants, Includes, Covers, IsCoverOrder}
 
 allows_refl : (e : Effect) → Allows e e
@@ -66,7 +66,7 @@ includes_antisym right.Make right.Make h k = refl
 includes_antisym right.Make right.Read h k = absurd h
 includes_antisym right.Make right.Write h k = absurd h
 
-module _ (s : SchemeOf) where
+module _ (s : SchemeView) where
   pub covers_refl : (l : Lock) → Covers s l l
   covers_refl (lock.Path p e) = (refl, allows_refl e)
   covers_refl (lock.Class c r) = (refl, includes_refl r)

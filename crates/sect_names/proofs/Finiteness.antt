@@ -5,7 +5,7 @@ use Rattle.std.specs.List.{flat_map}
 use Rattle.std.proofs.lemmas.Bool.{cases_eq}
 use Rattle.std.proofs.lemmas.Option.{slice_get_within, get_or_from_slice_get}
 use Rattle.sect_types.specs.Lists.{Has}
-use Rattle.sect_types.specs.Programs.{Numbered}
+use Rattle.sect_types.specs.Programs.{ProgramView}
 use Rattle.sect_types.specs.declared.action.Field.{Field}
 use Rattle.sect_types.proofs.Membership.{Has-left, Has-right}
 use Rattle.sect_points.specs.declared.flow.Variable.{Variable}
@@ -15,7 +15,7 @@ use Rattle.sect_names.specs.declared.lock.Effect.TheVariants as effect
 use Rattle.sect_names.specs.declared.lock.Right.TheVariants as right
 use Rattle.sect_names.specs.declared.lock.Lock.{Lock}
 use Rattle.sect_names.specs.declared.lock.Lock.TheVariants as lock
-use Rattle.sect_names.specs.Schemes.{SchemeOf}
+use Rattle.sect_names.specs.Schemes.{SchemeView}
 use Rattle.sect_names.specs.Locks.{depth, IsVariable, IsField, IsPathOf, IsLockOf}
 
 pub Has-map : {X Y : Type 0} (f : X → Y) (xs : List X) (x : X) → Has xs x → Has (map f xs) (f x)
@@ -39,13 +39,13 @@ Has-below zero i h = absurd (omega arith)
 Has-below (suc n) i h = elim (cases_eq n i) [ inl e ↦ inl e | inr other ↦ inr (Has-below n i (omega arith)) ]
 
 -- the variables of a program
-abbrev locals_of_thread : Numbered → ℕ → List Variable
+abbrev locals_of_thread : ProgramView → ℕ → List Variable
 locals_of_thread p t = map (Local t) (below (length (slice_index_or p.locals t [])))
 
-abbrev all_variables : Numbered → List Variable
+abbrev all_variables : ProgramView → List Variable
 all_variables p = map Global (below (length p.globals)) ++ flat_map (locals_of_thread p) (below (length p.locals))
 
-Has-variables : (p : Numbered) (v : Variable) → IsVariable p v → Has (all_variables p) v
+Has-variables : (p : ProgramView) (v : Variable) → IsVariable p v → Has (all_variables p) v
 Has-variables p (Global g) h = Has-left (map Global (below (length p.globals))) (flat_map (locals_of_thread p) (below (length p.locals))) (Global g) (Has-map Global (below (length p.globals)) g (Has-below (length p.globals) g h))
 Has-variables p (Local t x) (there, h) =
     Has-right (map Global (below (length p.globals))) (flat_map (locals_of_thread p) (below (length p.locals))) (Local t x)
@@ -56,13 +56,13 @@ Has-variables p (Local t x) (there, h) =
 abbrev field_at : ℕ → ℕ → Field
 field_at r n = record { of = r; number = n }
 
-abbrev fields_of_record : Numbered → ℕ → List Field
+abbrev fields_of_record : ProgramView → ℕ → List Field
 fields_of_record p r = map (field_at r) (below (length (slice_index_or p.records r [])))
 
-abbrev all_fields : Numbered → List Field
+abbrev all_fields : ProgramView → List Field
 all_fields p = flat_map (fields_of_record p) (below (length p.records))
 
-Has-fields : (p : Numbered) (f : Field) → IsField p f → Has (all_fields p) f
+Has-fields : (p : ProgramView) (f : Field) → IsField p f → Has (all_fields p) f
 Has-fields p f (ts, at, h) =
     let within : f.number < length (slice_index_or p.records f.of []) = omega (arith, h, ap length (get_or_from_slice_get p.records f.of ts [] at)) in
     Has-flat_map (fields_of_record p) (below (length p.records)) f.of f (Has-below (length p.records) f.of (slice_get_within p.records f.of ts at))
@@ -72,11 +72,11 @@ Has-fields p f (ts, at, h) =
 abbrev longer_by : List Field → Place → List Place
 longer_by fields q = map (dot q) fields
 
-abbrev all_paths : Numbered → ℕ → List Place
+abbrev all_paths : ProgramView → ℕ → List Place
 all_paths p zero = map var (all_variables p)
 all_paths p (suc k) = map var (all_variables p) ++ flat_map (longer_by (all_fields p)) (all_paths p k)
 
-Has-paths : (p : Numbered) (k : ℕ) (q : Place) → IsPathOf p q → depth q ≤ k → Has (all_paths p k) q
+Has-paths : (p : ProgramView) (k : ℕ) (q : Place) → IsPathOf p q → depth q ≤ k → Has (all_paths p k) q
 Has-paths p zero (var v) h few = Has-map var (all_variables p) v (Has-variables p v h)
 Has-paths p zero (dot q f) h few = absurd (omega arith)
 Has-paths p (suc k) (var v) h few =
@@ -92,22 +92,22 @@ abbrev on_class : ℕ → List Lock
 on_class c = lock.Class c right.Read ∷ lock.Class c right.Write ∷ lock.Class c right.Make ∷ []
 
 -- the locks of the program on paths of at most k fields, and on the classes of its sites
-pub all_locks : SchemeOf → List Lock
+pub all_locks : SchemeView → List Lock
 all_locks s = flat_map on_path (all_paths s.program s.most) ++ flat_map on_class (below (length s.classes.numbers))
 
-on_paths : (s : SchemeOf) (q : Place) (l : Lock) → IsPathOf s.program q → depth q ≤ s.most → Has (on_path q) l → Has (all_locks s) l
+on_paths : (s : SchemeView) (q : Place) (l : Lock) → IsPathOf s.program q → depth q ≤ s.most → Has (on_path q) l → Has (all_locks s) l
 unfolding all_locks
 on_paths s q l there short h =
     Has-left (flat_map on_path (all_paths s.program s.most)) (flat_map on_class (below (length s.classes.numbers))) l
     (Has-flat_map on_path (all_paths s.program s.most) q l (Has-paths s.program s.most q there short) h)
 
-on_classes : (s : SchemeOf) (c : ℕ) (l : Lock) → c < length s.classes.numbers → Has (on_class c) l → Has (all_locks s) l
+on_classes : (s : SchemeView) (c : ℕ) (l : Lock) → c < length s.classes.numbers → Has (on_class c) l → Has (all_locks s) l
 unfolding all_locks
 on_classes s c l there h =
     Has-right (flat_map on_path (all_paths s.program s.most)) (flat_map on_class (below (length s.classes.numbers))) l
     (Has-flat_map on_class (below (length s.classes.numbers)) c l (Has-below (length s.classes.numbers) c there) h)
 
-pub finite_locks : (s : SchemeOf) (l : Lock) → IsLockOf s l → Has (all_locks s) l
+pub finite_locks : (s : SchemeView) (l : Lock) → IsLockOf s l → Has (all_locks s) l
 finite_locks s (lock.Path q effect.Read) h = on_paths s q (lock.Path q effect.Read) h.0 h.1 (inl refl)
 finite_locks s (lock.Path q effect.Write) h = on_paths s q (lock.Path q effect.Write) h.0 h.1 (inr (inl refl))
 finite_locks s (lock.Class c right.Read) h = on_classes s c (lock.Class c right.Read) h (inl refl)

@@ -13,7 +13,7 @@ use Rattle.sect_points.specs.Places.{Place, var, dot}
 use Rattle.sect_points.specs.Partitions.{Parted, HasClass}
 use Rattle.sect_points.specs.PathClasses.{Agree, ArePathClasses, KeepsClasses, variable_of, variable_in}
 use Rattle.sect_points.specs.Statements.{placed}
-use Rattle.sect_names.specs.Schemes.{SchemeOf, IsScheme}
+use Rattle.sect_names.specs.Schemes.{SchemeView, IsScheme}
 use Rattle.sect_names.specs.Carrying.{Replaced, BeforeStore, BeforeAssignment, BeforeAction}
 use Rattle.sect_names.specs.Laws.{IsProgramStep, KeepsItsClass}
 
@@ -74,7 +74,7 @@ agree_before c laws t (action.Load x b f) keeps p q h = agree_copied c laws (Loc
 agree_before c laws t (action.Store b f v) keeps p q h = agree_stored c laws (variable_of t b) f (variable_in t v) keeps p q h
 agree_before c laws t (action.Print v) keeps p q is = agree_itself c laws p q is
 
-pub keeps_its_class : (s : SchemeOf) → IsScheme s → (t : ℕ) (step : Label) → IsProgramStep s t step → KeepsItsClass s t step
+pub keeps_its_class : (s : SchemeView) → IsScheme s → (t : ℕ) (step : Label) → IsProgramStep s t step → KeepsItsClass s t step
 keeps_its_class s scheme t (label.Act a) there p q h = agree_before s.classes scheme.paths t a (scheme.kept (placed t a) there) p q h
 keeps_its_class s scheme t (label.Test d) there p q is = agree_itself s.classes scheme.paths p q is
 keeps_its_class s scheme t (label.Section i) there p q is = agree_itself s.classes scheme.paths p q is

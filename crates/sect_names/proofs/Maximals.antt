@@ -6,7 +6,7 @@ use Rattle.sect_names.specs.declared.lock.Right.{Right}
 use Rattle.sect_names.specs.declared.lock.Right.TheVariants as right
 use Rattle.sect_names.specs.declared.lock.Lock.{Lock}
 use Rattle.sect_names.specs.declared.lock.Lock.TheVariants as lock
-use Rattle.sect_names.specs.Schemes.{SchemeOf}
+use Rattle.sect_names.specs.Schemes.{SchemeView}
 use Rattle.sect_names.specs.Locks.{Covers, CoveredBy, IsOutdone}
 use Rattle.sect_names.specs.Order.{AreInOrder, AreMaximal}
 use Rattle.sect_names.proofs.Covering.{covers_refl, covers_trans}
@@ -31,7 +31,7 @@ rank-most (lock.Class c right.Write) = omega arith
 class_climbs : (c d : ℕ) (r q : Right) → c ≡ d → (lock.Class c r ≡ lock.Class d q → ⊥) → r ≡ q → ⊥
 class_climbs c d r q e n f = n (ap (λ k. lock.Class k r) e ∙ ap (lock.Class d) f)
 
-climbs : (s : SchemeOf) (big l : Lock) → Covers s big l → (big ≡ l → ⊥) → rank l < rank big
+climbs : (s : SchemeView) (big l : Lock) → Covers s big l → (big ≡ l → ⊥) → rank l < rank big
 unfolding rank
 climbs s (lock.Path p effect.Read) (lock.Path q effect.Read) h n = absurd (n (ap (λ o. lock.Path o effect.Read) h.0))
 climbs s (lock.Path p effect.Read) (lock.Path q effect.Write) h n = absurd h.1
@@ -53,7 +53,7 @@ climbs s (lock.Class c right.Write) (lock.Class d right.Read) h n = omega arith
 climbs s (lock.Class c right.Write) (lock.Class d right.Make) h n = omega arith
 climbs s (lock.Class c right.Write) (lock.Class d right.Write) h n = absurd (class_climbs c d right.Write right.Write h.0 n refl)
 
-module _ (s : SchemeOf) (given kept : List Lock) (told : (x : Lock) → Has given x → Has kept x ⊎ IsOutdone s given x) where
+module _ (s : SchemeView) (given kept : List Lock) (told : (x : Lock) → Has given x → Has kept x ⊎ IsOutdone s given x) where
   -- above each lock of the list stands one that is kept
   covered : (n : ℕ) (l : Lock) → 3 ≤ rank l + n → Has given l → CoveredBy s kept l
   covered zero l high h = elim (told l h) [
@@ -67,7 +67,7 @@ module _ (s : SchemeOf) (given kept : List Lock) (told : (x : Lock) → Has give
         (over.0, over.1, covers_trans s over.0 out.0 l over.2 out.2)
   ]
 
-pub are_maximal : (s : SchemeOf) (given kept : List Lock) → ((x : Lock) → Has given x → Has kept x ⊎ IsOutdone s given x) → Makes (λ (x y : Lock). (y ≡ x) × (IsOutdone s given x → ⊥)) given kept → AreInOrder kept → AreMaximal s given kept
+pub are_maximal : (s : SchemeView) (given kept : List Lock) → ((x : Lock) → Has given x → Has kept x ⊎ IsOutdone s given x) → Makes (λ (x y : Lock). (y ≡ x) × (IsOutdone s given x → ⊥)) given kept → AreInOrder kept → AreMaximal s given kept
 are_maximal s given kept told made order = record {
   kept_are = λ l. (
     λ h. (let m = (made l).0 h in (subst (Has given) (sym m.2.0) m.1, λ out. m.2.1 (subst (IsOutdone s given) m.2.0 out))),

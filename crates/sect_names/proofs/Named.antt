@@ -1,26 +1,26 @@
 -- What locks name is there.
 use Rattle.std.proofs.Common.{◌≡◌, ℕ, ◌<◌, inl, inr, List, [], ◌∷◌, length, get_or, sym, subst}
 use Rattle.sect_types.specs.Lists.{Has}
-use Rattle.sect_types.specs.Programs.{Numbered}
+use Rattle.sect_types.specs.Programs.{ProgramView}
 use Rattle.sect_types.proofs.Membership.{Has-cases, Has-get_or}
 use Rattle.sect_types.specs.declared.action.Field.{Field}
 use Rattle.sect_points.specs.Places.{Place, var, dot, base_of, fields_of}
 use Rattle.sect_names.specs.declared.lock.Lock.{Lock}
 use Rattle.sect_names.specs.declared.lock.Lock.TheVariants as lock
-use Rattle.sect_names.specs.Schemes.{SchemeOf}
+use Rattle.sect_names.specs.Schemes.{SchemeView}
 use Rattle.sect_names.specs.Locks.{IsVariable, IsField, IsPathOf, IsLockOf}
 use Rattle.sect_names.specs.Printing.{IsNamed, AreNamed}
 
 -- a lock of the program names what is there
-pub named_lock : (s : SchemeOf) (l : Lock) → IsLockOf s l → IsNamed s.program l
+pub named_lock : (s : SchemeView) (l : Lock) → IsLockOf s l → IsNamed s.program l
 named_lock s (lock.Class c r) is = tt
 named_lock s (lock.Path q e) is = is.0
 
-pub base_there : (p : Numbered) (q : Place) → IsPathOf p q → IsVariable p (base_of q)
+pub base_there : (p : ProgramView) (q : Place) → IsPathOf p q → IsVariable p (base_of q)
 base_there p (var v) is = is
 base_there p (dot q f) is = base_there p q is.0
 
-pub field_there : (p : Numbered) (q : Place) (f : Field) → IsPathOf p q → Has (fields_of q) f → IsField p f
+pub field_there : (p : ProgramView) (q : Place) (f : Field) → IsPathOf p q → Has (fields_of q) f → IsField p f
 field_there p (var v) f is has = absurd has
 field_there p (dot q g) f is has = elim (Has-cases (fields_of q) (g ∷ []) f has) [
   | inl a ↦ field_there p q f is.0 a
@@ -28,11 +28,11 @@ field_there p (dot q g) f is has = elim (Has-cases (fields_of q) (g ∷ []) f ha
 ]
 
 -- each item of a list of the path's fields
-pub item_there : (p : Numbered) (q : Place) (fs : List Field) → fs ≡ fields_of q → IsPathOf p q → (i : ℕ) (d : Field) → i < length fs → IsField p (get_or fs i d)
+pub item_there : (p : ProgramView) (q : Place) (fs : List Field) → fs ≡ fields_of q → IsPathOf p q → (i : ℕ) (d : Field) → i < length fs → IsField p (get_or fs i d)
 item_there p q fs are is i d lt = field_there p q (get_or fs i d) is (subst (λ (xs : List Field). Has xs (get_or fs i d)) are (Has-get_or fs i d lt))
 
 -- each lock of a list behind its first
-pub other_there : (p : Numbered) (first : Lock) (locks others : List Lock) → locks ≡ first ∷ others → AreNamed p locks → (i : ℕ) (x : Lock) → i < length others → x ≡ get_or others i x → IsNamed p x
+pub other_there : (p : ProgramView) (first : Lock) (locks others : List Lock) → locks ≡ first ∷ others → AreNamed p locks → (i : ℕ) (x : Lock) → i < length others → x ≡ get_or others i x → IsNamed p x
 other_there p first locks others are named i x lt is =
     let at : Has others x = subst (Has others) (sym is) (Has-get_or others i x lt) in
     named x (subst (λ (ls : List Lock). Has ls x) (sym are) (inr at))

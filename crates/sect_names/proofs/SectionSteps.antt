@@ -4,11 +4,11 @@ use Rattle.std.specs.Prelude.{⊤, slice_get}
 use Rattle.std.proofs.lemmas.Option.{slice_get_within}
 use Rattle.sect_types.specs.Lists.{Has}
 use Rattle.sect_types.specs.Environments.{Environment}
-use Rattle.sect_types.specs.Statements.{Statements, Stop, Do, Choose, Loop, Section, section_bodies}
-use Rattle.sect_types.specs.Sections.{SectionOf, sections_from, sections_of}
+use Rattle.sect_types.specs.Statements.{TextView, Stop, Do, Choose, Loop, Section, section_bodies}
+use Rattle.sect_types.specs.Sections.{SectionView, sections_from, sections_of}
 use Rattle.sect_types.specs.Programs.{environment_at}
 use Rattle.sect_types.specs.Sound.{IsSound, AreSound, IsSoundAction}
-use Rattle.sect_types.specs.Traces.{Step, step, Rounds, IsTrace, node_count}
+use Rattle.sect_types.specs.Traces.{Visit, visit, Rounds, IsTrace, node_count}
 use Rattle.sect_types.specs.declared.types.ValueType.{ValueType}
 use Rattle.sect_types.specs.declared.action.Action.{Action}
 use Rattle.sect_types.specs.declared.action.Condition.{Condition}
@@ -22,11 +22,11 @@ use Rattle.sect_graph.specs.Graphs.{IsGraphOf}
 use Rattle.sect_graph.proofs.Paths.{path_join}
 use Rattle.sect_points.specs.Flow.{actions_of}
 use Rattle.sect_points.specs.Statements.{placed, placed_from}
-use Rattle.sect_names.specs.Schemes.{SchemeOf, IsScheme}
+use Rattle.sect_names.specs.Schemes.{SchemeView, IsScheme}
 use Rattle.sect_names.specs.Laws.{IsProgramStep, IsSoundStep, StandsIn}
 use Rattle.sect_names.proofs.Finiteness.{Has-map}
 
--- a statement that the step does is one of these
+-- a statement that the visit does is one of these
 abbrev IsAmong : List Action → Label → Type 0
 IsAmong list (label.Act a) = Has list a
 IsAmong list (label.Test c) = ⊤
@@ -42,24 +42,24 @@ among_right xs ys (label.Act a) h = Has-right xs ys a h
 among_right xs ys (label.Test c) h = tt
 among_right xs ys (label.Section i) h = tt
 
--- each step does one of these
-abbrev AreAmong : List Action → List Step → Type 0
-AreAmong list steps = (s : Step) → Has steps s → IsAmong list s.label
+-- each visit does one of these
+abbrev AreAmong : List Action → List Visit → Type 0
+AreAmong list steps = (s : Visit) → Has steps s → IsAmong list s.label
 
-joined_among : (list : List Action) (xs ys : List Step) → AreAmong list xs → AreAmong list ys → AreAmong list (xs ++ ys)
+joined_among : (list : List Action) (xs ys : List Visit) → AreAmong list xs → AreAmong list ys → AreAmong list (xs ++ ys)
 joined_among list xs ys a b s h = elim (Has-cases xs ys s h) [ inl k ↦ a s k | inr k ↦ b s k ]
 
-next_among : (list : List Action) (n : ℕ) (l : Label) (steps : List Step) → IsAmong list l → AreAmong list steps → AreAmong list (step n l ∷ steps)
-next_among list n l steps a b s h = elim h [ inl e ↦ subst (λ (x : Step). IsAmong list x.label) e a | inr k ↦ b s k ]
+next_among : (list : List Action) (n : ℕ) (l : Label) (steps : List Visit) → IsAmong list l → AreAmong list steps → AreAmong list (visit n l ∷ steps)
+next_among list n l steps a b s h = elim h [ inl e ↦ subst (λ (x : Visit). IsAmong list x.label) e a | inr k ↦ b s k ]
 
-rounds_among : (list : List Action) (n : ℕ) (t : Condition) (IsRound : List Step → Type 0) → ((steps : List Step) → IsRound steps → AreAmong list steps)
-    → (rounds : ℕ) (steps : List Step) → Rounds n t IsRound rounds steps → AreAmong list steps
+rounds_among : (list : List Action) (n : ℕ) (t : Condition) (IsRound : List Visit → Type 0) → ((steps : List Visit) → IsRound steps → AreAmong list steps)
+    → (rounds : ℕ) (steps : List Visit) → Rounds n t IsRound rounds steps → AreAmong list steps
 rounds_among list n t IsRound body zero steps is = subst (AreAmong list) (sym is) (next_among list n (label.Test t) [] tt (λ s h. absurd h))
 rounds_among list n t IsRound body (suc rounds) steps (round, tail, is, one, more) =
     subst (AreAmong list) (sym is) (next_among list n (label.Test t) (round ++ tail) tt (joined_among list round tail (body round one) (rounds_among list n t IsRound body rounds tail more)))
 
 -- the steps of a trace do statements of the text
-trace_among : (text : Statements) (n : ℕ) (steps : List Step) → IsTrace text n steps → AreAmong (actions_of text) steps
+trace_among : (text : TextView) (n : ℕ) (steps : List Visit) → IsTrace text n steps → AreAmong (actions_of text) steps
 trace_among Stop n steps is = subst (AreAmong []) (sym is) (λ s h. absurd h)
 trace_among (Do a r) n steps (tail, is, rest) =
     let more : AreAmong (a ∷ actions_of r) tail = λ s h. among_right (a ∷ []) (actions_of r) s.label (trace_among r (n + 1) tail rest s h) in
@@ -75,7 +75,7 @@ trace_among (Choose t p q r) n steps (side, tail, is, through, rest) =
     subst (AreAmong list) (sym is) (next_among list n (label.Test t) (side ++ tail) tt (joined_among list side tail first more))
 trace_among (Loop t p r) n steps (rounds, front, tail, is, around, rest) =
     let list = actions_of p ++ actions_of r in
-    let body : (round : List Step) → IsTrace p (n + 1) round → AreAmong list round = λ round k s h.
+    let body : (round : List Visit) → IsTrace p (n + 1) round → AreAmong list round = λ round k s h.
     among_left (actions_of p) (actions_of r) s.label (trace_among p (n + 1) round k s h) in
     let more : AreAmong list tail = λ s h. among_right (actions_of p) (actions_of r) s.label (trace_among r (n + 1 + node_count p) tail rest s h) in
     subst (AreAmong list) (sym is) (joined_among list front tail (rounds_among list n t (IsTrace p (n + 1)) body rounds front around) more)
@@ -85,23 +85,23 @@ trace_among (Section i p r) n steps (tail, is, rest) =
     subst (AreAmong list) (sym is) (next_among list n (label.Section i) tail tt more)
 
 -- each node of a graph does a statement of the text, since some path from the entry to the exit goes through it
-node_among : (text : Statements) (g : List Node) → IsGraphOf text g → (j : ℕ) (x : Node) → slice_get g j ≡ Some x → IsAmong (actions_of text) x.label
+node_among : (text : TextView) (g : List Node) → IsGraphOf text g → (j : ℕ) (x : Node) → slice_get g j ≡ Some x → IsAmong (actions_of text) x.label
 node_among text g graph j x at =
     let within = slice_get_within g j x at in
     let there = graph.connected.reached j within in
     let on = graph.connected.exits j within in
     by there.0 on.0 there.1 on.1
   where
-    by : (before rest : List Step) → IsPath g 0 before j → IsPath g j rest (length g) → IsAmong (actions_of text) x.label
+    by : (before rest : List Visit) → IsPath g 0 before j → IsPath g j rest (length g) → IsAmong (actions_of text) x.label
     by before [] p q = absurd (omega (arith, q, slice_get_within g j x at))
     by before (s ∷ rest) p q =
         let trace = (graph.paths (before ++ s ∷ rest)).0 (path_join g before (s ∷ rest) 0 j (length g) p q) in
         let among = trace_among text 0 (before ++ s ∷ rest) trace s (Has-right before (s ∷ rest) s (inl refl)) in
         let same : q.0 ≡ x = let e : Some q.0 ≡ Some x = sym q.1 ∙ at in cc in
-        subst (λ (y : Node). IsAmong (actions_of text) y.label) same (subst (λ (z : Step). IsAmong (actions_of text) z.label) q.2 among)
+        subst (λ (y : Node). IsAmong (actions_of text) y.label) same (subst (λ (z : Visit). IsAmong (actions_of text) z.label) q.2 among)
 
 -- the statements of a sound text are sound
-sound_action : (e : Environment) (inside : Bool) (text : Statements) → IsSound e inside text → (a : Action) → Has (actions_of text) a → IsSoundAction e a
+sound_action : (e : Environment) (inside : Bool) (text : TextView) → IsSound e inside text → (a : Action) → Has (actions_of text) a → IsSoundAction e a
 sound_action e inside Stop sound a h = absurd h
 sound_action e inside (Do b r) sound a h = elim h [ inl is ↦ subst (IsSoundAction e) is sound.0 | inr k ↦ sound_action e inside r sound.2 a k ]
 sound_action e inside (Choose t p q r) sound a h = elim (Has-cases (actions_of p) (actions_of q ++ actions_of r) a h) [
@@ -118,7 +118,7 @@ sound_action e inside (Section i p r) sound a h = elim (Has-cases (actions_of p)
 ]
 
 -- the statements of a section stand in its text
-body_actions : (text body : Statements) → Has (section_bodies text) body → (a : Action) → Has (actions_of body) a → Has (actions_of text) a
+body_actions : (text body : TextView) → Has (section_bodies text) body → (a : Action) → Has (actions_of body) a → Has (actions_of text) a
 body_actions Stop body h a k = absurd h
 body_actions (Do b r) body h a k = inr (body_actions r body h a k)
 body_actions (Choose t p q r) body h a k = elim (Has-cases (section_bodies p) (section_bodies q ++ section_bodies r) body h) [
@@ -138,30 +138,30 @@ body_actions (Section i p r) body h a k = elim h [
 ]
 
 -- those of a program's section are the program's
-abbrev section_with : ℕ → Statements → SectionOf
+abbrev section_with : ℕ → TextView → SectionView
 section_with t body = record { thread = t; body = body }
 
-section_placed : (t : ℕ) (texts : List Statements) (section : SectionOf) → Has (sections_from t texts) section → (a : Action) → Has (actions_of section.body) a
+section_placed : (t : ℕ) (texts : List TextView) (section : SectionView) → Has (sections_from t texts) section → (a : Action) → Has (actions_of section.body) a
     → Has (placed_from t texts) (placed section.thread a)
 section_placed t [] section h a k = absurd h
 section_placed t (text ∷ texts) section h a k = elim (Has-cases (map (section_with t) (section_bodies text)) (sections_from (t + 1) texts) section h) [
   | inl h ↦
       let from = Has-unmap (section_with t) (section_bodies text) section h in
-      let stands = body_actions text from.0 from.1 a (subst (λ (x : SectionOf). Has (actions_of x.body) a) (sym from.2) k) in
+      let stands = body_actions text from.0 from.1 a (subst (λ (x : SectionView). Has (actions_of x.body) a) (sym from.2) k) in
       Has-left (map (placed t) (actions_of text)) (placed_from (t + 1) texts) (placed section.thread a)
-      (subst (λ (x : SectionOf). Has (map (placed t) (actions_of text)) (placed x.thread a)) from.2 (Has-map (placed t) (actions_of text) a stands))
+      (subst (λ (x : SectionView). Has (map (placed t) (actions_of text)) (placed x.thread a)) from.2 (Has-map (placed t) (actions_of text) a stands))
   | inr h ↦ Has-right (map (placed t) (actions_of text)) (placed_from (t + 1) texts) (placed section.thread a) (section_placed (t + 1) texts section h a k)
 ]
 
 -- each text of a sound program has its thread's locals
-as_many_locals : (records : List (List ValueType)) (globals : List ℕ) (locals : List (List ValueType)) (texts : List Statements) → AreSound records globals locals texts → length texts ≡ length locals
+as_many_locals : (records : List (List ValueType)) (globals : List ℕ) (locals : List (List ValueType)) (texts : List TextView) → AreSound records globals locals texts → length texts ≡ length locals
 as_many_locals records globals [] [] sound = refl
 as_many_locals records globals [] (text ∷ texts) sound = absurd sound
 as_many_locals records globals (ls ∷ locals) [] sound = absurd sound
 as_many_locals records globals (ls ∷ locals) (text ∷ texts) sound = let e = as_many_locals records globals locals texts sound.1 in omega arith
 
 -- what a node of a section's graph does is the program's
-pub section_step : (s : SchemeOf) → IsScheme s → (section : SectionOf) (x : Node) → StandsIn s section x → IsProgramStep s section.thread x.label
+pub section_step : (s : SchemeView) → IsScheme s → (section : SectionView) (x : Node) → StandsIn s section x → IsProgramStep s section.thread x.label
 section_step s scheme section x (i, g, j, at, graph_at, node_at) =
     by x.label (node_among section.body g (scheme.graphed.sections i section g at graph_at) j x node_at)
   where
@@ -171,8 +171,8 @@ section_step s scheme section x (i, g, j, at, graph_at, node_at) =
     by (label.Section n) h = tt
 
 -- and sound
-pub section_step_sound : (s : SchemeOf) → IsScheme s → AreSound s.program.records s.program.globals s.program.locals s.program.texts
-    → (section : SectionOf) (x : Node) → StandsIn s section x → IsSoundStep s.program section.thread x.label
+pub section_step_sound : (s : SchemeView) → IsScheme s → AreSound s.program.records s.program.globals s.program.locals s.program.texts
+    → (section : SectionView) (x : Node) → StandsIn s section x → IsSoundStep s.program section.thread x.label
 section_step_sound s scheme sound section x (i, g, j, at, graph_at, node_at) =
     by x.label (node_among section.body g (scheme.graphed.sections i section g at graph_at) j x node_at)
   where
@@ -184,8 +184,8 @@ section_step_sound s scheme sound section x (i, g, j, at, graph_at, node_at) =
     by (label.Test c) h = tt
     by (label.Section n) h = tt
 
-pub section_thread : (s : SchemeOf) → AreSound s.program.records s.program.globals s.program.locals s.program.texts
-    → (i : ℕ) (section : SectionOf) → slice_get (sections_of s.program.texts) i ≡ Some section → section.thread < length s.program.locals
+pub section_thread : (s : SchemeView) → AreSound s.program.records s.program.globals s.program.locals s.program.texts
+    → (i : ℕ) (section : SectionView) → slice_get (sections_of s.program.texts) i ≡ Some section → section.thread < length s.program.locals
 section_thread s sound i section at =
     let within = (section_sound s.program.records s.program.globals s.program.locals s.program.texts i section sound at).0 in
     let many = as_many_locals s.program.records s.program.globals s.program.locals s.program.texts sound in

@@ -4,7 +4,7 @@ use Rattle.std.specs.Prelude.{slice_get, slice_index, slice_index_or}
 use Rattle.std.proofs.lemmas.Bool.{cases_lt}
 use Rattle.std.proofs.lemmas.List.{get_or_past}
 use Rattle.std.proofs.lemmas.Option.{slice_get_within, get_or_from_slice_get}
-use Rattle.sect_types.specs.Programs.{Numbered, environment_at}
+use Rattle.sect_types.specs.Programs.{ProgramView, environment_at}
 use Rattle.sect_types.specs.Sound.{reference_to, type_at, type_in, field_type, HasType, IsSoundAction}
 use Rattle.sect_types.specs.declared.types.ValueType.{ValueType}
 use Rattle.sect_types.specs.declared.types.ValueType.TheVariants.{Refers}
@@ -26,7 +26,7 @@ use Rattle.sect_names.specs.declared.lock.Effect.{Effect}
 use Rattle.sect_names.specs.declared.lock.Effect.TheVariants as effect
 use Rattle.sect_names.specs.declared.lock.Lock.{Lock}
 use Rattle.sect_names.specs.declared.lock.Lock.TheVariants as lock
-use Rattle.sect_names.specs.Schemes.{SchemeOf, IsScheme, guard_of}
+use Rattle.sect_names.specs.Schemes.{SchemeView, IsScheme, guard_of}
 use Rattle.sect_names.specs.Locks.{IsVariable, IsField, IsPathOf, IsLockOf}
 use Rattle.sect_names.specs.Carrying.{locked_for, Accesses, Makes, GeneratedBy, Generated, Replaced, BeforeStore, BeforeAssignment, BeforeAction, Before, LockOn, CarriedBack}
 use Rattle.sect_names.specs.Laws.{IsSoundStep}
@@ -49,7 +49,7 @@ class_below c parted site n at =
     let least = number_within c.numbers parted.least (site + 1) site (omega arith) within in
     omega (arith, within, least, get_or_from_slice_get c.numbers site n 0 at)
 
-module _ (p : Numbered) where
+module _ (p : ProgramView) where
   local_there : (t x : ℕ) (ty : ValueType) → slice_get (slice_index_or p.locals t []) x ≡ Some ty → IsVariable p (Local t x)
   local_there t x ty at =
       let within = slice_get_within (slice_index_or p.locals t []) x ty at in
@@ -117,7 +117,7 @@ module _ (p : Numbered) where
   path_there c t (label.Test d) sound q r h is = subst (IsPathOf p) (sym is) h
   path_there c t (label.Section i) sound q r h is = subst (IsPathOf p) (sym is) h
 
-module _ (s : SchemeOf) (scheme : IsScheme s) where
+module _ (s : SchemeView) (scheme : IsScheme s) where
   -- the variable whose lock stands for an object is there
   locked_there : (r : ℕ) (v : Variable) → IsVariable s.program v → IsVariable s.program (locked_for (guard_of s.guards r) v)
   locked_there r v h = by (guard_of s.guards r) refl

@@ -1,7 +1,7 @@
 -- Least sets in canonical order are one.
 use Rattle.std.proofs.Common.{◌≡◌, ◌↔◌, ◌⊎◌, ℕ, ◌<◌, List, [], ◌∷◌, inl, inr, refl, sym, ap, ◌∙◌, subst, arith}
 use Rattle.sect_types.specs.Lists.{Has}
-use Rattle.sect_types.specs.Statements.{Statements}
+use Rattle.sect_types.specs.Statements.{TextView}
 use Rattle.sect_types.specs.declared.action.Field.{Field}
 use Rattle.sect_points.specs.declared.flow.Variable.{Variable}
 use Rattle.sect_points.specs.declared.flow.Variable.TheVariants.{Global, Local}
@@ -12,7 +12,7 @@ use Rattle.sect_names.specs.declared.lock.Right.{Right}
 use Rattle.sect_names.specs.declared.lock.Right.TheVariants as right
 use Rattle.sect_names.specs.declared.lock.Lock.{Lock}
 use Rattle.sect_names.specs.declared.lock.Lock.TheVariants as lock
-use Rattle.sect_names.specs.Schemes.{SchemeOf}
+use Rattle.sect_names.specs.Schemes.{SchemeView}
 use Rattle.sect_names.specs.Locks.{Covers}
 use Rattle.sect_names.specs.Needed.{IsLeast}
 use Rattle.sect_names.specs.Order.{VariableBefore, FieldBefore, FieldsBefore, PathBefore, EffectBefore, RightBefore, LockBefore, AreInOrder}
@@ -98,7 +98,7 @@ same_lists (x ∷ xs) (y ∷ ys) a b to from =
     tail_from first l h (inl e) = let c = subst (LockBefore y) (sym (sym first ∙ e)) (b.0 l h) in absurd (lock_once y y c c)
     tail_from first l h (inr k) = k
 
-module _ (s : SchemeOf) (t : ℕ) (body : Statements) where
+module _ (s : SchemeView) (t : ℕ) (body : TextView) where
   -- each lock of one least set is in the other
   within : (xs ys : List Lock) → IsLeast s t body xs → IsLeast s t body ys → (l : Lock) → Has xs l → Has ys l
   within xs ys x y l h =

@@ -19,11 +19,11 @@ use Rattle.sect_names.specs.declared.lock.Right.{Right}
 use Rattle.sect_names.specs.declared.lock.Right.TheVariants as right
 use Rattle.sect_names.specs.declared.lock.Lock.{Lock}
 use Rattle.sect_names.specs.declared.lock.Lock.TheVariants as lock
-use Rattle.sect_names.specs.Schemes.{SchemeOf, guard_of}
+use Rattle.sect_names.specs.Schemes.{SchemeView, guard_of}
 use Rattle.sect_names.specs.Locks.{depth}
 
 -- the path has some class: it isn't always null
-abbrev pub IsClassed : SchemeOf → Place → Type 0
+abbrev pub IsClassed : SchemeView → Place → Type 0
 IsClassed s p = (n : ℕ) × HasClass s.classes p n
 
 -- the variable whose lock stands for an object of record r that the variable v denotes
@@ -32,16 +32,16 @@ locked_for None v = v
 locked_for (Some g) v = Global g
 
 -- an access to the object of a variable needs the lock of that object, or of its record's guard
-abbrev pub Accesses : SchemeOf → Variable → ℕ → Effect → Lock → Type 0
+abbrev pub Accesses : SchemeView → Variable → ℕ → Effect → Lock → Type 0
 Accesses s v r e l = IsClassed s (var v) × (l ≡ lock.Path (var (locked_for (guard_of s.guards r) v)) e)
 
 -- making an object needs the right to make objects of its class, or to write its record's guard
-abbrev pub Makes : SchemeOf → Option ℕ → ℕ → Lock → Type 0
+abbrev pub Makes : SchemeView → Option ℕ → ℕ → Lock → Type 0
 Makes s None i l = (n : ℕ) × (slice_get s.classes.numbers i ≡ Some n) × (l ≡ lock.Class n right.Make)
 Makes s (Some g) i l = l ≡ lock.Path (var (Global g)) effect.Write
 
 -- what a statement of thread t needs of itself
-abbrev pub GeneratedBy : SchemeOf → ℕ → Action → Lock → Type 0
+abbrev pub GeneratedBy : SchemeView → ℕ → Action → Lock → Type 0
 GeneratedBy s t (action.Assign x v) l = ⊥
 GeneratedBy s t (action.Compute x v o w) l = ⊥
 GeneratedBy s t (action.New x r i) l = Makes s (guard_of s.guards r) i l
@@ -49,7 +49,7 @@ GeneratedBy s t (action.Load x b f) l = Accesses s (variable_of t b) f.of effect
 GeneratedBy s t (action.Store b f v) l = Accesses s (variable_of t b) f.of effect.Write l
 GeneratedBy s t (action.Print v) l = ⊥
 
-abbrev pub Generated : SchemeOf → ℕ → Label → Lock → Type 0
+abbrev pub Generated : SchemeView → ℕ → Label → Lock → Type 0
 Generated s t (label.Act a) l = GeneratedBy s t a l
 Generated s t (label.Test c) l = ⊥
 Generated s t (label.Section i) l = ⊥
@@ -108,12 +108,12 @@ right_for effect.Read = right.Read
 right_for effect.Write = right.Write
 
 -- the lock on a path: that of its class where the path has more than k fields, and none where it has no class
-abbrev pub LockOn : SchemeOf → Effect → Place → Lock → Type 0
+abbrev pub LockOn : SchemeView → Effect → Place → Lock → Type 0
 LockOn s e p l =
     (n : ℕ) × HasClass s.classes p n
     × (((depth p ≤ s.most) × (l ≡ lock.Path p e)) ⊎ ((s.most < depth p) × (l ≡ lock.Class n (right_for e))))
 
 -- what is needed before the step, in thread t, where the first lock is needed after it
-abbrev pub CarriedBack : SchemeOf → ℕ → Label → Lock → Lock → Type 0
+abbrev pub CarriedBack : SchemeView → ℕ → Label → Lock → Lock → Type 0
 CarriedBack s t step (lock.Class c r) l = l ≡ lock.Class c r
 CarriedBack s t step (lock.Path p e) l = (q : Place) × Before s.classes t step p q × LockOn s e q l

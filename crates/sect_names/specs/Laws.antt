@@ -1,8 +1,8 @@
 -- The steps of a program, and what the carrying of locks over them keeps.
 use Rattle.std.specs.Prelude.{◌≡◌, ℕ, ⊤, List, Some, slice_get}
 use Rattle.sect_types.specs.Lists.{Has}
-use Rattle.sect_types.specs.Programs.{Numbered, environment_at}
-use Rattle.sect_types.specs.Sections.{SectionOf, sections_of}
+use Rattle.sect_types.specs.Programs.{ProgramView, environment_at}
+use Rattle.sect_types.specs.Sections.{SectionView, sections_of}
 use Rattle.sect_types.specs.Sound.{IsSoundAction}
 use Rattle.sect_types.specs.declared.action.Label.{Label}
 use Rattle.sect_types.specs.declared.action.Label.TheVariants.{Act, Test, Section}
@@ -11,33 +11,33 @@ use Rattle.sect_points.specs.Places.{Place}
 use Rattle.sect_points.specs.PathClasses.{Agree}
 use Rattle.sect_points.specs.Statements.{placed, statements_of}
 use Rattle.sect_names.specs.declared.lock.Lock.{Lock}
-use Rattle.sect_names.specs.Schemes.{SchemeOf}
+use Rattle.sect_names.specs.Schemes.{SchemeView}
 use Rattle.sect_names.specs.Locks.{Covers}
 use Rattle.sect_names.specs.Carrying.{Before, CarriedBack}
 
 -- a statement of thread t is one of the program's
-abbrev pub IsProgramStep : SchemeOf → ℕ → Label → Type 0
+abbrev pub IsProgramStep : SchemeView → ℕ → Label → Type 0
 IsProgramStep s t (Act a) = Has (statements_of s.program) (placed t a)
 IsProgramStep s t (Test c) = ⊤
 IsProgramStep s t (Section i) = ⊤
 
 -- a statement of thread t agrees with the declarations
-abbrev pub IsSoundStep : Numbered → ℕ → Label → Type 0
+abbrev pub IsSoundStep : ProgramView → ℕ → Label → Type 0
 IsSoundStep p t (Act a) = IsSoundAction (environment_at p t) a
 IsSoundStep p t (Test c) = ⊤
 IsSoundStep p t (Section i) = ⊤
 
 -- what may denote before the step what a path denotes after it has no class but the path's
-abbrev pub KeepsItsClass : SchemeOf → ℕ → Label → Type 0
+abbrev pub KeepsItsClass : SchemeView → ℕ → Label → Type 0
 KeepsItsClass s t step = (p q : Place) → Before s.classes t step p q → Agree s.classes q p
 
 -- what a lock covers after the step, it covers before it: each of both carried back
-abbrev pub RespectsCover : SchemeOf → ℕ → Label → Type 0
+abbrev pub RespectsCover : SchemeView → ℕ → Label → Type 0
 RespectsCover s t step =
     (l big r : Lock) → Covers s big l → CarriedBack s t step l r → (over : Lock) × CarriedBack s t step big over × Covers s over r
 
 -- the node stands in the graph of this section of the program
-abbrev pub StandsIn : SchemeOf → SectionOf → Node → Type 0
+abbrev pub StandsIn : SchemeView → SectionView → Node → Type 0
 StandsIn s section x =
     (i : ℕ) × (g : List Node) × (j : ℕ) × (slice_get (sections_of s.program.texts) i ≡ Some section)
     × (slice_get s.graphs.sections i ≡ Some g) × (slice_get g j ≡ Some x)

@@ -1,7 +1,7 @@
 -- The locks of a program, and which lock covers which.
 use Rattle.std.specs.Prelude.{◌≡◌, ◌≤◌, ◌<◌, ◌+◌, ℕ, ⊤, List, [], length, slice_index_or, slice_get, Some}
 use Rattle.sect_types.specs.Lists.{Has}
-use Rattle.sect_types.specs.Programs.{Numbered}
+use Rattle.sect_types.specs.Programs.{ProgramView}
 use Rattle.sect_types.specs.declared.action.Field.{Field}
 use Rattle.sect_types.specs.declared.types.ValueType.{ValueType}
 use Rattle.sect_points.specs.declared.flow.Variable.{Variable}
@@ -14,7 +14,7 @@ use Rattle.sect_names.specs.declared.lock.Right.{Right}
 use Rattle.sect_names.specs.declared.lock.Right.TheVariants as right
 use Rattle.sect_names.specs.declared.lock.Lock.{Lock}
 use Rattle.sect_names.specs.declared.lock.Lock.TheVariants as lock
-use Rattle.sect_names.specs.Schemes.{SchemeOf}
+use Rattle.sect_names.specs.Schemes.{SchemeView}
 
 -- how many fields a path has
 abbrev pub depth : Place → ℕ
@@ -22,21 +22,21 @@ depth (var v) = 0
 depth (dot p f) = depth p + 1
 
 -- the variable is there
-abbrev pub IsVariable : Numbered → Variable → Type 0
+abbrev pub IsVariable : ProgramView → Variable → Type 0
 IsVariable p (Global g) = g < length p.globals
 IsVariable p (Local t x) = (t < length p.locals) × (x < length (slice_index_or p.locals t []))
 
 -- the field is there
-abbrev pub IsField : Numbered → Field → Type 0
+abbrev pub IsField : ProgramView → Field → Type 0
 IsField p f = (ts : List ValueType) × (slice_get p.records f.of ≡ Some ts) × (f.number < length ts)
 
 -- the variable and the fields of the path are there
-abbrev pub IsPathOf : Numbered → Place → Type 0
+abbrev pub IsPathOf : ProgramView → Place → Type 0
 IsPathOf p (var v) = IsVariable p v
 IsPathOf p (dot q f) = IsPathOf p q × IsField p f
 
 -- the lock is one of the program's: on a class of its sites, or on a path of at most k fields
-abbrev pub IsLockOf : SchemeOf → Lock → Type 0
+abbrev pub IsLockOf : SchemeView → Lock → Type 0
 IsLockOf s (lock.Class c r) = c < length s.classes.numbers
 IsLockOf s (lock.Path p e) = IsPathOf s.program p × (depth p ≤ s.most)
 
@@ -64,22 +64,22 @@ Includes right.Make right.Read = ⊥
 Includes right.Make right.Write = ⊥
 
 -- the first lock covers the second: who holds it may do all that the other allows
-abbrev pub Covers : SchemeOf → Lock → Lock → Type 0
+abbrev pub Covers : SchemeView → Lock → Lock → Type 0
 Covers s (lock.Path p e) (lock.Path q f) = (p ≡ q) × Allows e f
 Covers s (lock.Class c r) (lock.Path q f) = HasClass s.classes q c × Grants r f
 Covers s (lock.Class c r) (lock.Class d q) = (c ≡ d) × Includes r q
 Covers s (lock.Path p e) (lock.Class d q) = ⊥
 
 -- some lock of the list covers it
-abbrev pub CoveredBy : SchemeOf → List Lock → Lock → Type 0
+abbrev pub CoveredBy : SchemeView → List Lock → Lock → Type 0
 CoveredBy s locks l = (big : Lock) × Has locks big × Covers s big l
 
 -- covering is a partial order
-pub record IsCoverOrder (s : SchemeOf) : Type 0 where
+pub record IsCoverOrder (s : SchemeView) : Type 0 where
   pub itself : (l : Lock) → Covers s l l
   pub along : (x y z : Lock) → Covers s x y → Covers s y z → Covers s x z
   pub back : (x y : Lock) → Covers s x y → Covers s y x → x ≡ y
 
 -- another lock of the list covers it
-abbrev pub IsOutdone : SchemeOf → List Lock → Lock → Type 0
+abbrev pub IsOutdone : SchemeView → List Lock → Lock → Type 0
 IsOutdone s locks l = (big : Lock) × Has locks big × Covers s big l × (big ≡ l → ⊥)

@@ -11,7 +11,7 @@ use Rattle.sect_names.specs.declared.lock.Right.{Right}
 use Rattle.sect_names.specs.declared.lock.Right.TheVariants as right
 use Rattle.sect_names.specs.declared.lock.Lock.{Lock}
 use Rattle.sect_names.specs.declared.lock.Lock.TheVariants as lock
-use Rattle.sect_names.specs.Schemes.{SchemeOf}
+use Rattle.sect_names.specs.Schemes.{SchemeView}
 use Rattle.sect_names.specs.Locks.{IsOutdone, CoveredBy}
 
 -- globals in order, then the locals of each thread in order
@@ -62,7 +62,7 @@ AreInOrder [] = ⊤
 AreInOrder (l ∷ locks) = ((m : Lock) → Has locks m → LockBefore l m) × AreInOrder locks
 
 -- these are the locks of a list that no other of them covers, in canonical order; they cover the whole list
-pub record AreMaximal (s : SchemeOf) (given kept : List Lock) : Type 0 where
+pub record AreMaximal (s : SchemeView) (given kept : List Lock) : Type 0 where
   pub kept_are : (l : Lock) → Has kept l ↔ (Has given l × (IsOutdone s given l → ⊥))
   pub covering : (l : Lock) → Has given l → CoveredBy s kept l
   pub in_order : AreInOrder kept

@@ -2,10 +2,10 @@
 use Rattle.std.specs.Prelude.{ℕ, ⊤, List, [], ◌∷◌, ◌++◌, map, slice_index_or, codes}
 use Rattle.std.specs.List.{flat_map}
 use Rattle.std.specs.Fmt.{decimal}
-use Rattle.sect_front.specs.Source.{Source}
+use Rattle.sect_front.specs.TreeView.{TreeView}
 use Rattle.sect_front.specs.declared.tree.Thread.{Thread}
 use Rattle.sect_types.specs.Lists.{Has}
-use Rattle.sect_types.specs.Programs.{Numbered}
+use Rattle.sect_types.specs.Programs.{ProgramView}
 use Rattle.sect_types.specs.Sight.{names_of_globals, names_of_declared, all_fields}
 use Rattle.sect_types.specs.declared.action.Field.{Field}
 use Rattle.sect_points.specs.declared.flow.Variable.{Variable}
@@ -20,11 +20,11 @@ use Rattle.sect_names.specs.declared.lock.Lock.TheVariants as lock
 use Rattle.sect_names.specs.Locks.{IsPathOf}
 
 -- what the lock names is there
-abbrev pub IsNamed : Numbered → Lock → Type 0
+abbrev pub IsNamed : ProgramView → Lock → Type 0
 IsNamed p (lock.Class c r) = ⊤
 IsNamed p (lock.Path q e) = IsPathOf p q
 
-abbrev pub AreNamed : Numbered → List Lock → Type 0
+abbrev pub AreNamed : ProgramView → List Lock → Type 0
 AreNamed p locks = (l : Lock) → Has locks l → IsNamed p l
 
 -- the names of the locals of each thread
@@ -32,15 +32,15 @@ abbrev pub all_locals : List Thread → List (List (List ℕ))
 all_locals ts = map (λ (t : Thread). names_of_declared t.locals) ts
 
 -- a variable is called by its name alone
-abbrev pub variable_name : Source → Variable → List ℕ
+abbrev pub variable_name : TreeView → Variable → List ℕ
 variable_name t (Global g) = slice_index_or (names_of_globals t.globals) g []
 variable_name t (Local u x) = slice_index_or (slice_index_or (all_locals t.threads) u []) x []
 
-abbrev pub field_name : Source → Field → List ℕ
+abbrev pub field_name : TreeView → Field → List ℕ
 field_name t f = slice_index_or (slice_index_or (all_fields t.records) f.of []) f.number []
 
 -- the variable, then a point and the name of each field
-abbrev pub path_text : Source → Place → List ℕ
+abbrev pub path_text : TreeView → Place → List ℕ
 path_text t p = variable_name t (base_of p) ++ flat_map (λ f. codes "." ++ field_name t f) (fields_of p)
 
 abbrev pub effect_text : Effect → List ℕ
@@ -52,11 +52,11 @@ right_text right.Read = codes "R"
 right_text right.Write = codes "W"
 right_text right.Make = codes "M"
 
-abbrev pub lock_text : Source → Lock → List ℕ
+abbrev pub lock_text : TreeView → Lock → List ℕ
 lock_text t (lock.Class c r) = right_text r ++ codes " class " ++ decimal c
 lock_text t (lock.Path p e) = effect_text e ++ codes " " ++ path_text t p
 
 -- the texts of the locks with a comma and a blank between them, or `none`
-abbrev pub locks_text : Source → List Lock → List ℕ
+abbrev pub locks_text : TreeView → List Lock → List ℕ
 locks_text t [] = codes "none"
 locks_text t (l ∷ locks) = lock_text t l ++ flat_map (λ m. codes ", " ++ lock_text t m) locks

@@ -1,7 +1,7 @@
 -- What lock inference knows of a program.
 use Rattle.std.specs.Prelude.{◌≡◌, ◌≤◌, ℕ, List, Option, None, length, slice_index_or}
 use Rattle.sect_types.specs.Lists.{Has}
-use Rattle.sect_types.specs.Programs.{Numbered, sites_of}
+use Rattle.sect_types.specs.Programs.{ProgramView, sites_of}
 use Rattle.sect_points.specs.Partitions.{Parted, IsParted}
 use Rattle.sect_points.specs.PathClasses.{ArePathClasses, KeepsClasses}
 use Rattle.sect_points.specs.Sets.{InSets}
@@ -9,22 +9,22 @@ use Rattle.sect_points.specs.declared.flow.Placed.{Placed}
 use Rattle.sect_points.specs.Flow.{IsLeastFlow}
 use Rattle.sect_points.specs.Statements.{statements_of}
 use Rattle.sect_hints.specs.Hints.{AreGuards, AreUnguarded}
-use Rattle.sect_graph.specs.Graphs.{Graphs, AreGraphs}
+use Rattle.sect_graph.specs.Graphs.{GraphView, AreGraphs}
 
 -- the program, the most fields of a path, the classes of its sites, the guard of each record, the control-flow graphs
-pub record SchemeOf : Type 0 where
-  pub program : Numbered
+pub record SchemeView : Type 0 where
+  pub program : ProgramView
   pub most : ℕ
   pub classes : Parted
   pub guards : List (Option ℕ)
-  pub graphs : Graphs
+  pub graphs : GraphView
 
 -- the global that guards a record, if any
 abbrev pub guard_of : List (Option ℕ) → ℕ → Option ℕ
 guard_of guards r = slice_index_or guards r None
 
 -- what a scheme keeps: k is at most 3, these are the program's least sets with their classes, its guards and its graphs
-pub record IsScheme (s : SchemeOf) : Type 0 where
+pub record IsScheme (s : SchemeView) : Type 0 where
   pub most : s.most ≤ 3
   pub parted : IsParted s.classes
   pub sites : s.classes.sets.sites ≡ length (sites_of s.program.globals s.program.texts)

@@ -29,7 +29,7 @@ impl Effect {
     }
 }
 
-// A path alone.
+/// A path alone.
 fn alone(alloc: Global, path: Path) -> Result<Vec<Path>, AllocError>
     ensures { IfOk result (λ paths. paths.items ≡ path ∷ []) }
 {
@@ -38,7 +38,7 @@ fn alone(alloc: Global, path: Path) -> Result<Vec<Path>, AllocError>
     Ok(paths)
 }
 
-// The path that begins with `start` in place of the variable `x`, where it begins with that.
+/// The path that begins with `start` in place of the variable `x`, where it begins with that.
 fn rebased(x: Variable, start: &Path, path: &Path) -> Result<Path, AllocError>
     ensures { IfOk result (λ r. (q : Place) → (q ≡ r) ↔ Replaced x (Some start.now) path.now q) }
 {
@@ -49,7 +49,7 @@ fn rebased(x: Variable, start: &Path, path: &Path) -> Result<Path, AllocError>
     }
 }
 
-// The path, unless it begins with the variable `x`.
+/// The path, unless it begins with the variable `x`.
 fn unless_based(alloc: Global, x: Variable, path: &Path) -> Result<Vec<Path>, AllocError>
     ensures { IfOk result (λ paths. (q : Place) → Has paths.items q ↔ Replaced x None path.now q) }
 {
@@ -60,7 +60,7 @@ fn unless_based(alloc: Global, x: Variable, path: &Path) -> Result<Vec<Path>, Al
     }
 }
 
-// The paths with one field more, but `z.f` itself.
+/// The paths with one field more, but `z.f` itself.
 fn with_field(
     alloc: Global,
     z: Variable,
@@ -79,15 +79,15 @@ fn with_field(
     Ok(longer)
 }
 
-// Whether the path with this field more is `z.f` itself.
+/// Whether the path with this field more is `z.f` itself.
 fn is_stored(z: Variable, f: Field, field: Field, path: &Path) -> bool
     ensures { IsTrue result ↔ ((field ≡ f) × (path.now ≡ var z)) }
 {
     field == f && path.is_variable(z)
 }
 
-// The paths that may denote before the store `z.f = w` what a beginning with one field more denotes after it, where
-// these may denote what the beginning does.
+/// The paths that may denote before the store `z.f = w` what a beginning with one field more denotes after it, where
+/// these may denote what the beginning does.
 fn over_field(
     scheme: &Scheme,
     alloc: Global,
@@ -107,7 +107,7 @@ fn over_field(
     Ok(over)
 }
 
-// What the field of a path may denote because of the store `z.f = w`.
+/// What the field of a path may denote because of the store `z.f = w`.
 fn value_read(
     scheme: &Scheme,
     z: Variable,
@@ -125,7 +125,7 @@ fn value_read(
     }
 }
 
-// Whether a path and a variable have a class, and it is one.
+/// Whether a path and a variable have a class, and it is one.
 fn are_of_one_class(scheme: &Scheme, path: &Path, variable: Variable) -> bool
     ensures { IsTrue result ↔ AreOfOneClass scheme.now.classes path.now (var variable) }
 {
@@ -135,7 +135,7 @@ fn are_of_one_class(scheme: &Scheme, path: &Path, variable: Variable) -> bool
     }
 }
 
-// The paths that may denote before the store `z.f = w` what this path denotes after it.
+/// The paths that may denote before the store `z.f = w` what this path denotes after it.
 fn before_store(
     scheme: &Scheme,
     alloc: Global,
@@ -181,7 +181,7 @@ impl Scheme {
         }
     }
 
-    // The paths that may denote before a node what this path denotes after it.
+    /// The paths that may denote before a node what this path denotes after it.
     fn before(
         &self,
         alloc: Global,
@@ -216,7 +216,7 @@ impl Scheme {
         }
     }
 
-    // The locks with this effect on these paths.
+    /// The locks with this effect on these paths.
     fn locks_on(
         &self,
         alloc: Global,
@@ -234,7 +234,7 @@ impl Scheme {
         Ok(locks)
     }
 
-    // The lock with this effect on a path, if it has a class.
+    /// The lock with this effect on a path, if it has a class.
     fn lock_on(&self, effect: Effect, path: &Path) -> Result<Option<Lock>, AllocError>
         ensures { IfOk result (λ lock. (l : Lock) → (lock ≡ Some l) ↔ LockOn self.now effect path.now l) }
     {
@@ -244,7 +244,7 @@ impl Scheme {
         }
     }
 
-    // The lock with this effect on a path of this class: that of the class where the path has more than k fields.
+    /// The lock with this effect on a path of this class: that of the class where the path has more than k fields.
     fn lock_in(&self, class: u16, effect: Effect, path: &Path) -> Result<Lock, AllocError>
         ensures short { IfOk result (λ l. depth path.now ≤ self.now.most → l ≡ lock.Path path.now effect) }
         ensures long { IfOk result (λ l. self.now.most < depth path.now → l ≡ lock.Class class (right_for effect)) }
@@ -256,7 +256,7 @@ impl Scheme {
     }
 }
 
-// The paths that may denote before `target = value` what this path denotes after it.
+/// The paths that may denote before `target = value` what this path denotes after it.
 fn before_assignment(
     alloc: Global,
     thread: u16,

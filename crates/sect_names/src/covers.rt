@@ -1,7 +1,7 @@
 //! Which lock covers which.
 
 ghost use Rattle.std.specs.Prelude.{◌≡◌, ◌↔◌, IsTrue};
-ghost use Rattle.sect_names.specs.Schemes.{SchemeOf};
+ghost use Rattle.sect_names.specs.Schemes.{SchemeView};
 ghost use Rattle.sect_names.specs.Locks.{Allows, Grants, Includes, Covers, IsCoverOrder};
 
 use crate::lock::{Effect, Lock, Right};
@@ -60,5 +60,5 @@ impl Scheme {
 /// Covering is a partial order, whatever the scheme.
 #[tactic(auto, using(crate::proofs::Covering::cover_order))]
 pub fn covering_is_an_order()
-    ensures { (s : SchemeOf) → IsCoverOrder s }
+    ensures { (s : SchemeView) → IsCoverOrder s }
 {}

@@ -35,7 +35,7 @@ impl Scheme {
         }
     }
 
-    // The lock for an access to the object of a variable, which is one of this record.
+    /// The lock for an access to the object of a variable, which is one of this record.
     fn access(&self, alloc: Global, variable: Variable, of: u16, effect: Effect) -> Option<Lock>
         ensures { (lock : Lock) → (result ≡ Some lock) ↔ Accesses self.now variable of effect lock }
     {
@@ -48,7 +48,7 @@ impl Scheme {
         }
     }
 
-    // The lock for making an object of this record at a site.
+    /// The lock for making an object of this record at a site.
     fn making(&self, alloc: Global, of: u16, site: u16) -> Option<Lock>
         ensures { (lock : Lock) → (result ≡ Some lock) ↔ Makes self.now (guard_of self.now.guards of) site lock }
     {

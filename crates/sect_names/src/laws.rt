@@ -2,56 +2,56 @@
 
 ghost use Rattle.std.specs.Prelude.{◌≡◌, ◌<◌, ℕ, List, length};
 ghost use Rattle.sect_types.specs.Lists.{Has};
-ghost use Rattle.sect_types.specs.Sections.{SectionOf};
+ghost use Rattle.sect_types.specs.Sections.{SectionView};
 ghost use Rattle.sect_types.specs.Sound.{AreSound};
 ghost use Rattle.sect_types.specs.declared.action.Label.{Label};
 ghost use Rattle.sect_graph.specs.declared.flow.Node.{Node};
 ghost use Rattle.sect_names.specs.declared.lock.Lock.{Lock};
-ghost use Rattle.sect_names.specs.Schemes.{SchemeOf, IsScheme};
+ghost use Rattle.sect_names.specs.Schemes.{SchemeView, IsScheme};
 ghost use Rattle.sect_names.specs.Locks.{IsLockOf};
 ghost use Rattle.sect_names.specs.Carrying.{Generated, CarriedBack};
-ghost use Rattle.sect_types.specs.Statements.{Statements};
+ghost use Rattle.sect_types.specs.Statements.{TextView};
 ghost use Rattle.sect_names.specs.Needed.{IsLeast};
 ghost use Rattle.sect_names.specs.Order.{AreInOrder};
 ghost use Rattle.sect_names.specs.Laws.{IsProgramStep, IsSoundStep, KeepsItsClass, RespectsCover, StandsIn};
 
 /// A path that may denote before a step of the program what another denotes after it has no class but that one's.
 pub fn carried_paths_keep_their_class()
-    ensures { (s : SchemeOf) → IsScheme s → (t : ℕ) (step : Label) → IsProgramStep s t step → KeepsItsClass s t step }
+    ensures { (s : SchemeView) → IsScheme s → (t : ℕ) (step : Label) → IsProgramStep s t step → KeepsItsClass s t step }
 {}
 
 /// Where a lock covers another after a step of the program, what it is carried back to covers what the other is.
 pub fn carrying_back_respects_covering()
-    ensures { (s : SchemeOf) → IsScheme s → (t : ℕ) (step : Label) → IsProgramStep s t step → RespectsCover s t step }
+    ensures { (s : SchemeView) → IsScheme s → (t : ℕ) (step : Label) → IsProgramStep s t step → RespectsCover s t step }
 {}
 
 /// The locks of a program on paths of at most k fields and on the classes of its sites are finitely many: one list has
 /// them all.
 pub fn locks_are_finitely_many()
-    ensures { (s : SchemeOf) → (all : List Lock) × ((l : Lock) → IsLockOf s l → Has all l) }
+    ensures { (s : SchemeView) → (all : List Lock) × ((l : Lock) → IsLockOf s l → Has all l) }
 {}
 
 /// What a sound step needs of itself is a lock of the program, and what a lock of the program is carried back to over
 /// such a step is one again.
 pub fn locks_stay_the_programs()
-    ensures generated { (s : SchemeOf) → IsScheme s → (t : ℕ) (step : Label) → IsSoundStep s.program t step
+    ensures generated { (s : SchemeView) → IsScheme s → (t : ℕ) (step : Label) → IsSoundStep s.program t step
         → (l : Lock) → Generated s t step l → IsLockOf s l }
-    ensures carried { (s : SchemeOf) → IsScheme s → (t : ℕ) (step : Label) → IsSoundStep s.program t step
+    ensures carried { (s : SchemeView) → IsScheme s → (t : ℕ) (step : Label) → IsSoundStep s.program t step
         → (l r : Lock) → IsLockOf s l → CarriedBack s t step l r → IsLockOf s r }
 {}
 
 /// What a node of a section's graph does is a statement of the program or looks at a condition, and where the program is
 /// sound, it agrees with the declarations that the section's thread sees.
 pub fn steps_of_sections()
-    ensures program { (s : SchemeOf) → IsScheme s → (section : SectionOf) (x : Node) → StandsIn s section x
+    ensures program { (s : SchemeView) → IsScheme s → (section : SectionView) (x : Node) → StandsIn s section x
         → IsProgramStep s section.thread x.label }
-    ensures sound { (s : SchemeOf) → IsScheme s → AreSound s.program.records s.program.globals s.program.locals s.program.texts
-        → (section : SectionOf) (x : Node) → StandsIn s section x
+    ensures sound { (s : SchemeView) → IsScheme s → AreSound s.program.records s.program.globals s.program.locals s.program.texts
+        → (section : SectionView) (x : Node) → StandsIn s section x
         → IsSoundStep s.program section.thread x.label × (section.thread < length s.program.locals) }
 {}
 
 /// A section has one least lock set in canonical order.
 pub fn least_sets_are_one()
-    ensures { (s : SchemeOf) (t : ℕ) (body : Statements) (locks others : List Lock) → IsLeast s t body locks
+    ensures { (s : SchemeView) (t : ℕ) (body : TextView) (locks others : List Lock) → IsLeast s t body locks
         → IsLeast s t body others → AreInOrder locks → AreInOrder others → locks ≡ others }
 {}

@@ -17,7 +17,7 @@ pub use covers::covering_is_an_order;
 pub use fault::SchemeFault;
 pub use lock::{Effect, Lock, Right};
 pub use path::Path;
-pub use scheme::{MOST_FIELDS, Scheme, check_k, scheme_of};
+pub use scheme::{MOST_PATH_FIELDS, Scheme, check_k, scheme_of};
 
 #[cfg(test)]
 mod tests;

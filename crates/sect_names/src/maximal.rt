@@ -16,14 +16,14 @@ use indexmap::IndexSet;
 use std::alloc::{AllocError, Global};
 use std::collections::BTreeSet;
 
-// Whether a set has a lock.
+/// Whether a set has a lock.
 fn has(locks: &IndexSet<Lock>, lock: &Lock) -> bool
     ensures { IsTrue result ↔ Has locks.now.keys lock.now }
 {
     locks.contains(lock)
 }
 
-// Whether a set has a lock on this class that allows the effect on each of its objects.
+/// Whether a set has a lock on this class that allows the effect on each of its objects.
 fn has_class(locks: &IndexSet<Lock>, class: u16, effect: Effect) -> bool
     ensures { IsTrue result ↔ ((right : Right) × Grants right effect × Has locks.now.keys (lock.Class class right)) }
 {
@@ -31,7 +31,7 @@ fn has_class(locks: &IndexSet<Lock>, class: u16, effect: Effect) -> bool
         || effect == Effect::Read && has(locks, &Lock::Class(class, Right::Read))
 }
 
-// Whether a set has the lock to write this path, which outdoes that to read it.
+/// Whether a set has the lock to write this path, which outdoes that to read it.
 fn has_write(locks: &IndexSet<Lock>, path: &Path, effect: Effect) -> Result<bool, AllocError>
     ensures { IfOk result (λ it. IsTrue it ↔ ((effect ≡ effects.Read) × Has locks.now.keys (lock.Path path.now effects.Write))) }
 {
@@ -54,7 +54,7 @@ impl Scheme {
         Ok(kept.into_iter().collect(alloc)?)
     }
 
-    // Whether another lock of the set covers this one.
+    /// Whether another lock of the set covers this one.
     fn is_outdone(&self, locks: &IndexSet<Lock>, lock: &Lock) -> Result<bool, AllocError>
         ensures { IfOk result (λ outdone. IsTrue outdone ↔ IsOutdone self.now locks.now.keys lock.now) }
     {
@@ -69,7 +69,7 @@ impl Scheme {
         }
     }
 
-    // Whether a set has a lock on the class of this path that allows the effect on each of its objects.
+    /// Whether a set has a lock on the class of this path that allows the effect on each of its objects.
     fn has_class_of(&self, locks: &IndexSet<Lock>, path: &Path, effect: Effect) -> bool
         ensures { IsTrue result ↔ ((class : ℕ) × HasClass self.now.classes path.now class × ((right : Right) × Grants right effect × Has locks.now.keys (lock.Class class right))) }
     {

@@ -22,7 +22,7 @@ use std::alloc::Global;
 use std::marker::Model;
 
 /// The most fields that a path may be allowed.
-pub const MOST_FIELDS: u16 = 3;
+pub const MOST_PATH_FIELDS: u16 = 3;
 
 /// A typed program whose hints obey the rules, and how many fields a path may have: with the classes of its sites, the
 /// guards of its records and its control-flow graphs.
@@ -37,13 +37,13 @@ pub struct Scheme {
 
 impl Model for Scheme {
     ghost use Rattle.std.specs.Coded.{codes};
-    ghost use Rattle.sect_front.specs.Syntax.{body_code};
+    ghost use Rattle.sect_front.specs.Coding.{block_code};
     ghost use Rattle.sect_types.specs.Statements.{statements_code};
-    ghost use Rattle.sect_names.specs.Schemes.{SchemeOf, IsScheme};
+    ghost use Rattle.sect_names.specs.Schemes.{SchemeView, IsScheme};
 
-    ghost Value = { SchemeOf };
+    ghost Value = { SchemeView };
 
-    ghost coded = { Prim.hlevel (codes, body_code, statements_code) };
+    ghost coded = { Prim.hlevel (codes, block_code, statements_code) };
 
     ghost view = { λ s. record { program = s.program; most = s.k; classes = s.classes; guards = s.guards; graphs = s.graph } };
 
@@ -55,7 +55,7 @@ pub fn check_k(k: u16) -> Result<(), SchemeFault>
     ensures ok { OnOk result (k ≤ 3) }
     ensures err { IfErr result (λ fault. (fault ≡ BadK) × (3 < k)) }
 {
-    if k > MOST_FIELDS {
+    if k > MOST_PATH_FIELDS {
         return Err(SchemeFault::BadK);
     }
     Ok(())

@@ -4,7 +4,7 @@ mod carrying;
 mod covering;
 mod printing;
 
-use crate::{Effect, Lock, MOST_FIELDS, Path, Right, Scheme, SchemeFault, check_k, scheme_of};
+use crate::{Effect, Lock, MOST_PATH_FIELDS, Path, Right, Scheme, SchemeFault, check_k, scheme_of};
 use sect_front::parse;
 use sect_points::flow::Variable;
 use sect_types::action::Field;
@@ -12,23 +12,23 @@ use sect_types::{Program, check_types};
 use std::process::Abort;
 use std::test::Fail;
 
-// A lock: on a class, or on the path of a variable and so many times the field `next`.
+/// A lock: on a class, or on the path of a variable and so many times the field `next`.
 #[derive(Clone, Copy)]
 enum Wanted {
     All(u16, Right),
     At(Variable, usize, Effect),
 }
 
-// In all programs with references these are the field `next`.
+/// In all programs with references these are the field `next`.
 const NEXT: Field = Field { of: 0, number: 1 };
 
-// `x` may denote a, `y` a and b, `z` and `w` c; class 0 is a and b, class 1 is c. What `w.next` denotes is null.
+/// `x` may denote a, `y` a and b, `z` and `w` c; class 0 is a and b, class 1 is c. What `w.next` denotes is null.
 const SHARED: &[u8] = b"record Node { int val; Node next; } \
 global Node a; global Node b; global Node c; \
 thread t { Node x; Node y; Node z; Node w; x = a; y = b; z = c; if (1 == 2) { y = a; } \
 atomic { x.next = z; w = y.next; w.val = 1; } }";
 
-// The lock that is wanted.
+/// The lock that is wanted.
 fn lock(rt: &(impl Abort + AllocGlobal), wanted: Wanted) -> Result<Lock, Fail> {
     match wanted {
         Wanted::All(class, right) => Ok(Lock::Class(class, right)),
@@ -41,7 +41,7 @@ fn lock(rt: &(impl Abort + AllocGlobal), wanted: Wanted) -> Result<Lock, Fail> {
     }
 }
 
-// The locks that are wanted.
+/// The locks that are wanted.
 fn locks(rt: &(impl Abort + AllocGlobal), wanted: &[Wanted]) -> Result<Vec<Lock>, Fail> {
     let mut locks = Vec::new(rt.alloc());
     for each in wanted {
@@ -50,7 +50,7 @@ fn locks(rt: &(impl Abort + AllocGlobal), wanted: &[Wanted]) -> Result<Vec<Lock>
     Ok(locks)
 }
 
-// The locks, in whatever order.
+/// The locks, in whatever order.
 fn are_these(rt: &impl Abort, found: &[Lock], expected: &[Lock]) {
     assert_eq!(rt; found.len(), expected.len());
     for lock in expected {
@@ -58,17 +58,17 @@ fn are_these(rt: &impl Abort, found: &[Lock], expected: &[Lock]) {
     }
 }
 
-// The program of a text.
+/// The program of a text.
 fn program(rt: &impl AllocGlobal, text: &[u8]) -> Result<Program, Fail> {
     Ok(check_types(rt.alloc(), parse(rt.alloc(), text)?)?)
 }
 
-// The scheme of a text.
+/// The scheme of a text.
 fn scheme(rt: &impl AllocGlobal, text: &[u8], k: u16) -> Result<Scheme, Fail> {
     Ok(scheme_of(rt.alloc(), program(rt, text)?, k)?)
 }
 
-// The text has a scheme with this k and these guards.
+/// The text has a scheme with this k and these guards.
 fn has_scheme(
     rt: &(impl Abort + AllocGlobal),
     text: &[u8],
@@ -85,7 +85,7 @@ fn has_scheme(
     Ok(())
 }
 
-// The text is refused with this line.
+/// The text is refused with this line.
 fn refuses(
     rt: &(impl Abort + AllocGlobal),
     text: &[u8],
@@ -102,7 +102,7 @@ fn refuses(
     }
 }
 
-// One lock for all cells.
+/// One lock for all cells.
 const GUARDED: &[u8] = b"record Lock { int n; } record Cell protected_by g { int val; Cell next; } \
 global Lock g; global Cell c; global Cell d; \
 thread t { int v; atomic { c.val = 1; v = d.val; } }";
@@ -124,7 +124,7 @@ thread t { Cell x; atomic { x = new Cell; x.val = 1; } }";
 #[test]
 fn guarded_cells(rt: HostRuntime) -> Result<(), Fail> {
     has_scheme(&rt, GUARDED, 0, &[None, Some(0)])?;
-    has_scheme(&rt, GUARDED, MOST_FIELDS, &[None, Some(0)])
+    has_scheme(&rt, GUARDED, MOST_PATH_FIELDS, &[None, Some(0)])
 }
 
 #[test]
@@ -134,7 +134,7 @@ fn wrong_hints(rt: HostRuntime) -> Result<(), Fail> {
     refuses(&rt, GUARDED_TWICE, 2, "22 HintTwice record 1")
 }
 
-// The number of fields is judged before the hints.
+/// The number of fields is judged before the hints.
 #[test]
 fn paths_of_four_fields(rt: HostRuntime) -> Result<(), Fail> {
     refuses(&rt, GUARDED_TWICE, 4, "60 BadK")?;

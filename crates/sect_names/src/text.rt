@@ -69,7 +69,7 @@ pub fn put_lock(text: &mut String, program: &Program, lock: &Lock) -> Result<(),
     Ok(())
 }
 
-// Adds a path to a text.
+/// Adds a path to a text.
 fn put_path(text: &mut String, program: &Program, path: &Path) -> Result<(), AllocError>
     requires { IsPathOf program.now path.now }
     ensures { OnOk result (string_bytes text.new ≡ string_bytes text.old ++ path_text program.now.source path.now) }
@@ -81,7 +81,7 @@ fn put_path(text: &mut String, program: &Program, path: &Path) -> Result<(), All
     Ok(())
 }
 
-// The name of a variable.
+/// The name of a variable.
 fn variable_name(program: &Program, variable: Variable) -> &Name
     requires { IsVariable program.now variable }
     ensures { result.now ≡ variable_name program.now.source variable }
@@ -96,7 +96,7 @@ fn variable_name(program: &Program, variable: Variable) -> &Name
     }
 }
 
-// The name of a field.
+/// The name of a field.
 fn field_name(program: &Program, field: Field) -> &Name
     requires { IsField program.now field }
     ensures { result.now ≡ field_name program.now.source field }

@@ -286,7 +286,7 @@ impl Arena {
     }
 }
 
-// Makes room for one more node.
+/// Makes room for one more node.
 fn reserve_node(
     nodes: &mut Vec<Grant>,
     queues: &mut Lists,
@@ -306,7 +306,7 @@ fn reserve_node(
     chains.reserve()
 }
 
-// One more node, which is free.
+/// One more node, which is free.
 fn push_node(nodes: &mut Vec<Grant>, queues: &mut Lists, chains: &mut Lists)
     requires room { vec_len nodes.old < vec_capacity nodes.old }
     requires queues_room { 0 < queues.old.room }
@@ -326,7 +326,7 @@ fn push_node(nodes: &mut Vec<Grant>, queues: &mut Lists, chains: &mut Lists)
     chains.add_number(0);
 }
 
-// One more key, with no holders and no waiters.
+/// One more key, with no holders and no waiters.
 fn push_key(keys: &mut Keys, queues: &mut Lists, key: Key) -> Result<(), AllocError>
     requires queues { ArePlaced queues.old }
     requires new { place_in key keys.old ≡ length keys.old }
@@ -347,14 +347,14 @@ fn push_key(keys: &mut Keys, queues: &mut Lists, key: Key) -> Result<(), AllocEr
     Ok(())
 }
 
-// Whether this holder lets the thread's mode in.
+/// Whether this holder lets the thread's mode in.
 fn lets(holder: Grant, thread: u16, mode: Mode) -> bool
     ensures { result ≡ ((holder.thread == thread) || are_compatible holder.mode mode) }
 {
     holder.thread == thread || compatible(holder.mode, mode)
 }
 
-// Whether each other holder in a list lets a thread join.
+/// Whether each other holder in a list lets a thread join.
 fn all_let_in(nodes: &[Grant], queues: &Lists, list: usize, thread: u16, mode: Mode) -> bool
     requires list { list < length queues.now.lists }
     requires nodes { length nodes.now ≡ queues.now.size }
@@ -373,7 +373,7 @@ fn all_let_in(nodes: &[Grant], queues: &Lists, list: usize, thread: u16, mode: M
     true
 }
 
-// The mode in which a list has a thread.
+/// The mode in which a list has a thread.
 fn mode_among(nodes: &[Grant], queues: &Lists, list: usize, thread: u16) -> Option<Mode>
     requires list { list < length queues.now.lists }
     requires nodes { length nodes.now ≡ queues.now.size }

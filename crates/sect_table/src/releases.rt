@@ -7,7 +7,7 @@ use crate::arena::Arena;
 use crate::claims::Grant;
 use sect_modes::Key;
 
-// The first waiters of a key come to hold it, as far as the holders let them.
+/// The first waiters of a key come to hold it, as far as the holders let them.
 fn let_in(arena: &mut Arena, grants: &mut Vec<Grant>, key: Key, at: usize)
     requires sound { IsSound arena.old }
     requires number { at ≡ number_of key arena.old.entries }

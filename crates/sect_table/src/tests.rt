@@ -47,7 +47,7 @@ fn spares(rt: &impl Abort, table: &Table, wanted: usize) {
     assert_eq!(rt; table.spare(), wanted);
 }
 
-// The last release granted key A to these.
+/// The last release granted key A to these.
 fn granted(rt: &impl Abort, grants: &Grants, wanted: &[(u16, Mode)]) {
     assert_eq!(rt; grants.as_slice().len(), wanted.len());
     for (grant, (thread, mode)) in grants.as_slice().iter().zip(wanted.iter()) {

@@ -4,7 +4,7 @@ use Rattle.sect_front.specs.declared.tree.Primitive as leaf
 use Rattle.sect_front.specs.declared.tree.Primitive.TheVariants as primitive
 use Rattle.sect_front.specs.declared.tree.Kind.TheVariants as kind
 use Rattle.sect_front.specs.declared.tree.Operator.{Operator}
-use Rattle.sect_front.specs.Syntax.{Form, Primitive, If, IfElse, While, Atomic, Body, End, Then}
+use Rattle.sect_front.specs.Syntax.{StatementView, Primitive, If, IfElse, While, Atomic, BlockView, End, Then}
 use Rattle.sect_types.specs.declared.rule.Rule.{Rule}
 use Rattle.sect_types.specs.declared.action.Action.{Action}
 use Rattle.sect_types.specs.declared.resolve.Denoted.{Denoted}
@@ -16,14 +16,14 @@ use Rattle.sect_types.specs.Sight.{Sight, place, names_of_records, base_of, oper
 use Rattle.sect_types.specs.Resolve.{right, same_kind, takes, primitive_of, assign_of, compute_of, new_of, load_of, store_of, print_of, looked_of}
 use Rattle.sect_types.specs.Items.{TestHead, AtomicHead}
 use Rattle.sect_types.specs.Rules.{Counts, after_primitive, after_head}
-use Rattle.sect_types.specs.Statements.{Statements, Stop, Do, Choose, Loop, Section, section_bodies, statement_count, made_by, made_in}
-use Rattle.sect_types.specs.Numbered.{action_in, after_form, after_body, numbered_form, numbered_body}
+use Rattle.sect_types.specs.Statements.{TextView, Stop, Do, Choose, Loop, Section, section_bodies, statement_count, made_by, made_in}
+use Rattle.sect_types.specs.Numbered.{action_in, after_statement, after_block, numbered_statement, numbered_block}
 use Rattle.sect_types.specs.Environments.{Environment}
 use Rattle.sect_types.specs.Sound.{IsSoundAction, IsSound}
 use Rattle.sect_types.specs.Sections.{AreNumbered, IsSite, AreSited}
 
 -- in a section there is no section
-none_inside : (e : Environment) (p : Statements) → IsSound e true p → section_bodies p ≡ []
+none_inside : (e : Environment) (p : TextView) → IsSound e true p → section_bodies p ≡ []
 none_inside e Stop h = refl
 none_inside e (Do a k) (h, here, rest) = none_inside e k rest
 none_inside e (Choose c p q k) (h, first, second, rest) =
@@ -32,7 +32,7 @@ none_inside e (Loop c p k) (h, first, rest) = ap (λ l. l ++ section_bodies k) (
 none_inside e (Section i p k) (h, first, rest) = absurd (true≢false h)
 
 -- from the counts c the statements p were passed up to k, which left d
-pub record Passes (c d : Counts) (p k : Statements) : Type 0 where
+pub record Passes (c d : Counts) (p k : TextView) : Type 0 where
   pub sections : d.sections + length (section_bodies k) ≡ c.sections + length (section_bodies p)
   pub statements : d.statements + statement_count k ≡ c.statements + statement_count p
   pub sites : d.sites + length (made_in k) ≡ c.sites + length (made_in p)
@@ -109,7 +109,7 @@ after_makes c (primitive.Load x y f) = ap (λ n. record c { statements = c.state
 after_makes c (primitive.Store y f v) = ap (λ n. record c { statements = c.statements + 1; sites = n }) (omega arith)
 after_makes c (primitive.Print v) = ap (λ n. record c { statements = c.statements + 1; sites = n }) (omega arith)
 
-primitive_passes : (e : Environment) (s : Sight) (c : Counts) (p : leaf.Primitive) (k : Statements) → IsSoundAction e (action_in (primitive_of s c.sites p))
+primitive_passes : (e : Environment) (s : Sight) (c : Counts) (p : leaf.Primitive) (k : TextView) → IsSoundAction e (action_in (primitive_of s c.sites p))
     → Passes c (after_primitive c p) (Do (action_in (primitive_of s c.sites p)) k) k
 primitive_passes e s c p k sound =
     let made = action_makes e (makes p) c.sites (primitive_of s c.sites p) (primitive_makes s c.sites p) sound in
@@ -122,12 +122,12 @@ primitive_passes e s c p k sound =
 
 -- the counts after a statement are those of its numbers
 mutual
-  pub form_passes : (e : Environment) (s : Sight) (inside : Bool) (c : Counts) (f : Form) (k : Statements) → IsSound e inside (numbered_form s c f k)
-      → Passes c (after_form c f) (numbered_form s c f k) k
+  pub form_passes : (e : Environment) (s : Sight) (inside : Bool) (c : Counts) (f : StatementView) (k : TextView) → IsSound e inside (numbered_statement s c f k)
+      → Passes c (after_statement c f) (numbered_statement s c f k) k
   form_passes e s inside c (Primitive p) k (h, here, rest) = primitive_passes e s c p k h
   form_passes e s inside c (If t a) k (h, first, second, rest) =
       let ih = body_passes e s inside (after_head c (TestHead t)) a first in
-      let p = numbered_body s (after_head c (TestHead t)) a in
+      let p = numbered_block s (after_head c (TestHead t)) a in
       record {
         sections = omega (arith, ih.sections, length-append (section_bodies p) (section_bodies k));
         statements = omega (arith, ih.statements);
@@ -135,9 +135,9 @@ mutual
       }
   form_passes e s inside c (IfElse t a b) k (h, first, second, rest) =
       let ih = body_passes e s inside (after_head c (TestHead t)) a first in
-      let ij = body_passes e s inside (after_body (after_head c (TestHead t)) a) b second in
-      let p = numbered_body s (after_head c (TestHead t)) a in
-      let q = numbered_body s (after_body (after_head c (TestHead t)) a) b in
+      let ij = body_passes e s inside (after_block (after_head c (TestHead t)) a) b second in
+      let p = numbered_block s (after_head c (TestHead t)) a in
+      let q = numbered_block s (after_block (after_head c (TestHead t)) a) b in
       record {
         sections = omega (arith, ih.sections, ij.sections, length-append (section_bodies p) (section_bodies q ++ section_bodies k), length-append (section_bodies q) (section_bodies k));
         statements = omega (arith, ih.statements, ij.statements);
@@ -145,7 +145,7 @@ mutual
       }
   form_passes e s inside c (While t a) k (h, first, rest) =
       let ih = body_passes e s inside (after_head c (TestHead t)) a first in
-      let p = numbered_body s (after_head c (TestHead t)) a in
+      let p = numbered_block s (after_head c (TestHead t)) a in
       record {
         sections = omega (arith, ih.sections, length-append (section_bodies p) (section_bodies k));
         statements = omega (arith, ih.statements);
@@ -153,20 +153,20 @@ mutual
       }
   form_passes e s inside c (Atomic a) k (h, first, rest) =
       let ih = body_passes e s true (after_head c AtomicHead) a first in
-      let p = numbered_body s (after_head c AtomicHead) a in
+      let p = numbered_block s (after_head c AtomicHead) a in
       record {
         sections = omega (arith, ih.sections, ap length (none_inside e p first));
         statements = omega (arith, ih.statements);
         sites = omega (arith, ih.sites, length-append (made_in p) (made_in k));
       }
 
-  pub body_passes : (e : Environment) (s : Sight) (inside : Bool) (c : Counts) (b : Body) → IsSound e inside (numbered_body s c b)
-      → Passes c (after_body c b) (numbered_body s c b) Stop
+  pub body_passes : (e : Environment) (s : Sight) (inside : Bool) (c : Counts) (b : BlockView) → IsSound e inside (numbered_block s c b)
+      → Passes c (after_block c b) (numbered_block s c b) Stop
   body_passes e s inside c End h = record { sections = refl; statements = refl; sites = refl }
   body_passes e s inside c (Then f b) h =
-      let k = numbered_body s (after_form c f) b in
+      let k = numbered_block s (after_statement c f) b in
       let here = form_passes e s inside c f k h in
-      let ih = body_passes e s inside (after_form c f) b (form_rest e s inside c f k h) in
+      let ih = body_passes e s inside (after_statement c f) b (form_rest e s inside c f k h) in
       record {
         sections = ih.sections ∙ here.sections;
         statements = ih.statements ∙ here.statements;
@@ -174,7 +174,7 @@ mutual
       }
 
   -- what follows a statement is sound
-  pub form_rest : (e : Environment) (s : Sight) (inside : Bool) (c : Counts) (f : Form) (k : Statements) → IsSound e inside (numbered_form s c f k) → IsSound e inside k
+  pub form_rest : (e : Environment) (s : Sight) (inside : Bool) (c : Counts) (f : StatementView) (k : TextView) → IsSound e inside (numbered_statement s c f k) → IsSound e inside k
   form_rest e s inside c (Primitive p) k (h, here, rest) = rest
   form_rest e s inside c (If t a) k (h, first, second, rest) = rest
   form_rest e s inside c (IfElse t a b) k (h, first, second, rest) = rest
@@ -183,8 +183,8 @@ mutual
 
 -- the sections and sites of a statement are numbered from its counts on
 mutual
-  pub form_numbered : (e : Environment) (s : Sight) (inside : Bool) (c : Counts) (f : Form) (k : Statements) → IsSound e inside (numbered_form s c f k)
-      → AreNumbered (after_form c f).sections k → AreNumbered c.sections (numbered_form s c f k)
+  pub form_numbered : (e : Environment) (s : Sight) (inside : Bool) (c : Counts) (f : StatementView) (k : TextView) → IsSound e inside (numbered_statement s c f k)
+      → AreNumbered (after_statement c f).sections k → AreNumbered c.sections (numbered_statement s c f k)
   form_numbered e s inside c (Primitive p) k (h, here, rest) g = subst (λ n. AreNumbered n k) (ap (λ (d : Counts). d.sections) (after_makes c p)) g
   form_numbered e s inside c (If t a) k (h, first, second, rest) g =
       let d = after_head c (TestHead t) in
@@ -193,9 +193,9 @@ mutual
   form_numbered e s inside c (IfElse t a b) k (h, first, second, rest) g =
       let d = after_head c (TestHead t) in
       let ih = body_passes e s inside d a first in
-      let ij = body_passes e s inside (after_body d a) b second in (
+      let ij = body_passes e s inside (after_block d a) b second in (
         body_numbered e s inside d a first,
-        subst (λ n. AreNumbered n (numbered_body s (after_body d a) b)) (omega (arith, ih.sections)) (body_numbered e s inside (after_body d a) b second),
+        subst (λ n. AreNumbered n (numbered_block s (after_block d a) b)) (omega (arith, ih.sections)) (body_numbered e s inside (after_block d a) b second),
         subst (λ n. AreNumbered n k) (omega (arith, ih.sections, ij.sections)) g,
       )
   form_numbered e s inside c (While t a) k (h, first, rest) g =
@@ -205,17 +205,17 @@ mutual
   form_numbered e s inside c (Atomic a) k (h, first, rest) g =
       let d = after_head c AtomicHead in
       let ih = body_passes e s true d a first in
-      (refl, subst (λ n. AreNumbered n k) (omega (arith, ih.sections, ap length (none_inside e (numbered_body s d a) first))) g)
+      (refl, subst (λ n. AreNumbered n k) (omega (arith, ih.sections, ap length (none_inside e (numbered_block s d a) first))) g)
 
-  pub body_numbered : (e : Environment) (s : Sight) (inside : Bool) (c : Counts) (b : Body) → IsSound e inside (numbered_body s c b) → AreNumbered c.sections (numbered_body s c b)
+  pub body_numbered : (e : Environment) (s : Sight) (inside : Bool) (c : Counts) (b : BlockView) → IsSound e inside (numbered_block s c b) → AreNumbered c.sections (numbered_block s c b)
   body_numbered e s inside c End h = tt
   body_numbered e s inside c (Then f b) h =
-      let k = numbered_body s (after_form c f) b in
-      form_numbered e s inside c f k h (body_numbered e s inside (after_form c f) b (form_rest e s inside c f k h))
+      let k = numbered_block s (after_statement c f) b in
+      form_numbered e s inside c f k h (body_numbered e s inside (after_statement c f) b (form_rest e s inside c f k h))
 
 mutual
-  pub form_sited : (e : Environment) (s : Sight) (inside : Bool) (c : Counts) (f : Form) (k : Statements) → IsSound e inside (numbered_form s c f k)
-      → AreSited (after_form c f).sites k → AreSited c.sites (numbered_form s c f k)
+  pub form_sited : (e : Environment) (s : Sight) (inside : Bool) (c : Counts) (f : StatementView) (k : TextView) → IsSound e inside (numbered_statement s c f k)
+      → AreSited (after_statement c f).sites k → AreSited c.sites (numbered_statement s c f k)
   form_sited e s inside c (Primitive p) k (h, here, rest) g =
       let made = action_makes e (makes p) c.sites (primitive_of s c.sites p) (primitive_makes s c.sites p) h in
       (made.1, subst (λ n. AreSited n k) (ap (λ (d : Counts). d.sites) (after_makes c p) ∙ ap (λ n. c.sites + n) (sym made.0)) g)
@@ -226,9 +226,9 @@ mutual
   form_sited e s inside c (IfElse t a b) k (h, first, second, rest) g =
       let d = after_head c (TestHead t) in
       let ih = body_passes e s inside d a first in
-      let ij = body_passes e s inside (after_body d a) b second in (
+      let ij = body_passes e s inside (after_block d a) b second in (
         body_sited e s inside d a first,
-        subst (λ n. AreSited n (numbered_body s (after_body d a) b)) (omega (arith, ih.sites)) (body_sited e s inside (after_body d a) b second),
+        subst (λ n. AreSited n (numbered_block s (after_block d a) b)) (omega (arith, ih.sites)) (body_sited e s inside (after_block d a) b second),
         subst (λ n. AreSited n k) (omega (arith, ih.sites, ij.sites)) g,
       )
   form_sited e s inside c (While t a) k (h, first, rest) g =
@@ -240,8 +240,8 @@ mutual
       let ih = body_passes e s true d a first in
       (body_sited e s true d a first, subst (λ n. AreSited n k) (omega (arith, ih.sites)) g)
 
-  pub body_sited : (e : Environment) (s : Sight) (inside : Bool) (c : Counts) (b : Body) → IsSound e inside (numbered_body s c b) → AreSited c.sites (numbered_body s c b)
+  pub body_sited : (e : Environment) (s : Sight) (inside : Bool) (c : Counts) (b : BlockView) → IsSound e inside (numbered_block s c b) → AreSited c.sites (numbered_block s c b)
   body_sited e s inside c End h = tt
   body_sited e s inside c (Then f b) h =
-      let k = numbered_body s (after_form c f) b in
-      form_sited e s inside c f k h (body_sited e s inside (after_form c f) b (form_rest e s inside c f k h))
+      let k = numbered_block s (after_statement c f) b in
+      form_sited e s inside c f k h (body_sited e s inside (after_statement c f) b (form_rest e s inside c f k h))

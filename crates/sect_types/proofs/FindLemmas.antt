@@ -3,7 +3,7 @@ use Rattle.std.proofs.Common.{◌≡◌, ℕ, zero, suc, ◌+◌, ◌<◌, ◌�
 use Rattle.std.specs.Option.{option_or}
 use Rattle.sect_types.proofs.Lists.{drop_next}
 use Rattle.std.proofs.lemmas.List.{drop_all}
-use Rattle.sect_types.specs.Statements.{Statements, Stop, weight, section_body}
+use Rattle.sect_types.specs.Statements.{TextView, Stop, weight, section_body}
 use Rattle.sect_types.specs.Texts.{step_then, statements_of}
 use Rattle.sect_types.specs.declared.text.Step.{Step}
 use Rattle.sect_types.specs.declared.text.Step.TheVariants as step
@@ -17,7 +17,7 @@ or_again None y z = refl
 or_again (Some a) y z = refl
 
 -- a section is this statement or in it, or it follows
-first_or_rest : (n : ℕ) (st : Step) (k : Statements) → section_body n (step_then st k) ≡ option_or (section_body n (step_then st Stop)) (section_body n k)
+first_or_rest : (n : ℕ) (st : Step) (k : TextView) → section_body n (step_then st k) ≡ option_or (section_body n (step_then st Stop)) (section_body n k)
 first_or_rest n (step.Do a) k = refl
 first_or_rest n (step.If t p q) k =
     or_again (section_body n p) (section_body n q) (section_body n k)
@@ -41,7 +41,7 @@ weight_at (step.While t p ∷ ss) (suc i) d h = omega (arith, weight_at ss i d (
 weight_at (step.Section j p ∷ ss) (suc i) d h = omega (arith, weight_at ss i d (omega arith))
 
 -- in the steps from i on there is what is sought in the whole text
-pub record IsSought (n : ℕ) (text : Statements) (ss : List Step) (i : ℕ) : Type 0 where
+pub record IsSought (n : ℕ) (text : TextView) (ss : List Step) (i : ℕ) : Type 0 where
   pub whole : statements_of ss ≡ text
   pub same : section_body n text ≡ section_body n (statements_of (drop i ss))
 
@@ -51,20 +51,20 @@ next_of n ss i x h e =
     ap (λ l. section_body n (statements_of l)) (drop_next ss i x h e)
     ∙ first_or_rest n x (statements_of (drop (i + 1) ss))
 
-pub begins : (n : ℕ) (text : Statements) (ss : List Step) → statements_of ss ≡ text → IsSought n text ss 0
+pub begins : (n : ℕ) (text : TextView) (ss : List Step) → statements_of ss ≡ text → IsSought n text ss 0
 begins n text ss e = record { whole = e; same = ap (section_body n) (sym e) }
 
-pub not_here : (n : ℕ) (text : Statements) (ss : List Step) (i : ℕ) (x : Step) → i < length ss → x ≡ get_or ss i x → None ≡ section_body n (step_then x Stop)
+pub not_here : (n : ℕ) (text : TextView) (ss : List Step) (i : ℕ) (x : Step) → i < length ss → x ≡ get_or ss i x → None ≡ section_body n (step_then x Stop)
     → IsSought n text ss i → IsSought n text ss (i + 1)
 not_here n text ss i x h e none so_far = record {
   whole = so_far.whole;
   same = so_far.same ∙ (next_of n ss i x h e ∙ ap (λ y. option_or y (section_body n (statements_of (drop (i + 1) ss)))) (sym none));
 }
 
-pub here : (n : ℕ) (text : Statements) (ss : List Step) (i : ℕ) (x : Step) (body : Statements) → i < length ss → x ≡ get_or ss i x → Some body ≡ section_body n (step_then x Stop)
+pub here : (n : ℕ) (text : TextView) (ss : List Step) (i : ℕ) (x : Step) (body : TextView) → i < length ss → x ≡ get_or ss i x → Some body ≡ section_body n (step_then x Stop)
     → IsSought n text ss i → Some body ≡ section_body n text
 here n text ss i x body h e found so_far =
     sym (so_far.same ∙ (next_of n ss i x h e ∙ ap (λ y. option_or y (section_body n (statements_of (drop (i + 1) ss)))) (sym found)))
 
-pub nowhere : (n : ℕ) (text : Statements) (ss : List Step) (i : ℕ) → length ss ≤ i → IsSought n text ss i → None ≡ section_body n text
+pub nowhere : (n : ℕ) (text : TextView) (ss : List Step) (i : ℕ) → length ss ≤ i → IsSought n text ss i → None ≡ section_body n text
 nowhere n text ss i h so_far = sym (so_far.same ∙ ap (λ l. section_body n (statements_of l)) (drop_all i ss h))

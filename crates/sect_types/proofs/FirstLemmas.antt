@@ -5,7 +5,7 @@ use Rattle.sect_front.specs.declared.tree.Record.{Record}
 use Rattle.sect_front.specs.declared.tree.GlobalObject.{GlobalObject}
 use Rattle.sect_types.specs.declared.rule.Rule.{Rule}
 use Rattle.sect_types.specs.declared.rule.Rule.TheVariants.{Unknown, Twice, WrongType, SharedOutside, Nested, TooMany}
-use Rattle.sect_front.specs.Source.{Source}
+use Rattle.sect_front.specs.TreeView.{TreeView}
 use Rattle.std.specs.Result.{IsErrAnd, IsOkUnless}
 use Rattle.sect_types.specs.declared.rule.TypeFault.{TypeFault}
 use Rattle.sect_types.specs.declared.rule.TypeFault.TheVariants.{Memory}
@@ -172,13 +172,13 @@ fault_says rs gs list n r e = by (subst (Says rs gs none_yet list) e (judge_says
     by (i, at, is) = let same : i ≡ n = omega arith in subst (λ k. IsFirstFrom rs gs none_yet list k r) same is
 
 -- a typed tree is refused for memory alone
-pub refused_typed : (t : Source) (new : Counts) (f : Fault)
+pub refused_typed : (t : TreeView) (new : Counts) (f : Fault)
     → Walks {A = ℕ} (sight t.records t.globals []) (λ w. record_items [] t.records (global_items [] t.globals (thread_items [] t.threads w))) none_yet new (Err f) → IsTyped t
     → type_fault f ≡ Memory
 refused_typed t new fault.Memory walks typed = refl
 refused_typed t new (fault.Broken i r) walks typed = absurd (typed i r (fault_says t.records t.globals (items t) i r (walks [])).broken)
 
-pub only_memory : {A : Type 0} (t : Source) (start new : Counts) (f : Fault) (r : Result A TypeFault) → start ≡ none_yet
+pub only_memory : {A : Type 0} (t : TreeView) (start new : Counts) (f : Fault) (r : Result A TypeFault) → start ≡ none_yet
     → Walks {A = ℕ} (sight t.records t.globals []) (λ w. record_items [] t.records (global_items [] t.globals (thread_items [] t.threads w))) start new (Err f)
     → IsErrAnd r (λ e. e ≡ type_fault f) → IsTyped t → IsOkUnless r Memory
 only_memory t start new f (Ok a) e walks h typed = absurd h

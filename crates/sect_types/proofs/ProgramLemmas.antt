@@ -11,24 +11,24 @@ use Rattle.sect_front.specs.declared.tree.Record.{Record}
 use Rattle.sect_front.specs.declared.tree.GlobalObject.{GlobalObject}
 use Rattle.sect_front.specs.declared.tree.Declaration.{Declaration}
 use Rattle.sect_front.specs.declared.tree.Thread.{Thread}
-use Rattle.sect_front.specs.Source.{Source}
+use Rattle.sect_front.specs.TreeView.{TreeView}
 use Rattle.sect_types.specs.declared.types.ValueType.{ValueType}
 use Rattle.sect_types.specs.Sight.{names_of_records, has_name, place}
 use Rattle.sect_types.specs.Rules.{Counts, sight, knows_kind}
-use Rattle.sect_types.specs.Statements.{Statements, section_bodies, made_in}
-use Rattle.sect_types.specs.Numbered.{numbered_body, within_thread, after_thread, after_threads, numbered_threads}
+use Rattle.sect_types.specs.Statements.{TextView, section_bodies, made_in}
+use Rattle.sect_types.specs.Numbered.{numbered_block, within_thread, after_thread, after_threads, numbered_threads}
 use Rattle.sect_types.specs.Listing.{after_records, all_known, fields_fine, locals_fine, globals_known}
 use Rattle.sect_types.specs.Environments.{record_number, type_of, types_of, field_types, global_records, local_types, environment, IsInRange}
 use Rattle.sect_types.specs.Threads.{AreThreadsSound}
-use Rattle.sect_types.specs.Sections.{SectionOf, sections_from, sections_of, AllNumbered, AllSited}
+use Rattle.sect_types.specs.Sections.{SectionView, sections_from, sections_of, AllNumbered, AllSited}
 use Rattle.sect_types.specs.First.{none_yet}
-use Rattle.sect_types.specs.Programs.{Numbered, numbered_by, before_threads, texts_of, total_statements, all_made, sites_of, IsWellNumbered, IsCounted}
+use Rattle.sect_types.specs.Programs.{ProgramView, numbered_by, before_threads, texts_of, total_statements, all_made, sites_of, IsWellNumbered, IsCounted}
 use Rattle.sect_types.proofs.SoundLemmas.{both, place_within}
 use Rattle.sect_types.proofs.Keeps.{records_keep}
 use Rattle.sect_types.proofs.CountLemmas.{body_passes, body_numbered, body_sited}
 
 -- the numbers of the threads' texts, from the counts c on to d
-record AreCounted (c d : Counts) (texts : List Statements) : Type 0 where
+record AreCounted (c d : Counts) (texts : List TextView) : Type 0 where
   sections : (t : ℕ) → d.sections ≡ c.sections + length (sections_from t texts)
   statements : d.statements ≡ c.statements + total_statements texts
   sites : d.sites ≡ c.sites + length (all_made texts)
@@ -40,20 +40,20 @@ threads_counted : (rs : List Record) (gs : List GlobalObject) (c : Counts) (ts :
 threads_counted rs gs c [] h = record { sections = λ t. omega arith; statements = omega arith; sites = omega arith; numbered = tt; sited = tt }
 threads_counted rs gs c (t ∷ ts) (here, more) =
     let e = environment (sight rs gs t.locals) in
-    let p = numbered_body (sight rs gs t.locals) (within_thread c t) t.body in
+    let p = numbered_block (sight rs gs t.locals) (within_thread c t) t.body in
     let ps = numbered_threads rs gs (after_thread c t) ts in
     let passes = body_passes e (sight rs gs t.locals) false (within_thread c t) t.body here in
     let ih = threads_counted rs gs (after_thread c t) ts more in
     record {
       sections = λ n.
-          omega (arith, ih.sections (n + 1), passes.sections, length-append (map (λ (b : Statements). the_section n b) (section_bodies p)) (sections_from (n + 1) ps), length-map (section_bodies p) (the_section n));
+          omega (arith, ih.sections (n + 1), passes.sections, length-append (map (λ (b : TextView). the_section n b) (section_bodies p)) (sections_from (n + 1) ps), length-map (section_bodies p) (the_section n));
       statements = omega (arith, ih.statements, passes.statements);
       sites = omega (arith, ih.sites, passes.sites, length-append (made_in p) (all_made ps));
       numbered = (body_numbered e (sight rs gs t.locals) false (within_thread c t) t.body here, subst (λ n. AllNumbered n ps) (omega (arith, passes.sections)) ih.numbered);
       sited = (body_sited e (sight rs gs t.locals) false (within_thread c t) t.body here, subst (λ n. AllSited n ps) (omega (arith, passes.sites)) ih.sited);
     }
   where
-    the_section : ℕ → Statements → SectionOf
+    the_section : ℕ → TextView → SectionView
     the_section n b = record { thread = n; body = b }
 
 at_most : (m n : ℕ) → nat_le m n ≡ true → m ≤ n
@@ -117,25 +117,25 @@ as_many_texts : (rs : List Record) (gs : List GlobalObject) (c : Counts) (ts : L
 as_many_texts rs gs c [] = refl
 as_many_texts rs gs c (t ∷ ts) = omega (arith, as_many_texts rs gs (after_thread c t) ts)
 
-abbrev own_records : Source → List (List ValueType)
+abbrev own_records : TreeView → List (List ValueType)
 own_records t = field_types (names_of_records t.records) t.records
 
-abbrev own_globals : Source → List ℕ
+abbrev own_globals : TreeView → List ℕ
 own_globals t = global_records (names_of_records t.records) t.globals
 
-abbrev own_locals : Source → List (List ValueType)
+abbrev own_locals : TreeView → List (List ValueType)
 own_locals t = local_types (names_of_records t.records) t.threads
 
-abbrev own : Source → Numbered
+abbrev own : TreeView → ProgramView
 own t = numbered_by t (own_records t) (own_globals t) (own_locals t) (texts_of t)
 
 -- each reference has one of n records
-record AreThereIn (t : Source) (n : ℕ) : Type 0 where
+record AreThereIn (t : TreeView) (n : ℕ) : Type 0 where
   of_fields : All (λ (ts : List ValueType). All (IsInRange n) ts) (own_records t)
   of_globals : All (λ (r : ℕ). r < n) (own_globals t)
   of_locals : All (λ (ts : List ValueType). All (IsInRange n) ts) (own_locals t)
 
-own_parts : (t : Source) (end : Counts) → IsCounted t (texts_of t) end → end.sections ≤ 256 → end.sites ≤ 1024 → end.statements ≤ 4096
+own_parts : (t : TreeView) (end : Counts) → IsCounted t (texts_of t) end → end.sections ≤ 256 → end.sites ≤ 1024 → end.statements ≤ 4096
     → IsWellNumbered (own t) end.sections end.sites end.statements
 own_parts t end h few_sections few_sites few_statements =
     let names = names_of_records t.records in
@@ -181,7 +181,7 @@ own_parts t end h few_sections few_sites few_statements =
       statement_count = statements_are;
     }
 
-pub well_numbered : (t : Source) (end : Counts) (records : List (List ValueType)) (globals : List ℕ) (locals : List (List ValueType)) (texts : List Statements) (sections sites statements : ℕ)
+pub well_numbered : (t : TreeView) (end : Counts) (records : List (List ValueType)) (globals : List ℕ) (locals : List (List ValueType)) (texts : List TextView) (sections sites statements : ℕ)
     → IsCounted t texts end
     → records ≡ field_types (names_of_records t.records) t.records → globals ≡ global_records (names_of_records t.records) t.globals → locals ≡ local_types (names_of_records t.records) t.threads
     → sections ≡ end.sections → sites ≡ end.sites → statements ≡ end.statements → sections ≤ 256 → sites ≤ 1024 → statements ≤ 4096
@@ -190,8 +190,8 @@ well_numbered t end records globals locals texts sections sites statements h e f
     subst (λ (a : List (List ValueType)). IsWellNumbered (numbered_by t a globals locals texts) sections sites statements) (sym e)
     (subst (λ (a : List ℕ). IsWellNumbered (numbered_by t (own_records t) a locals texts) sections sites statements) (sym f)
     (subst (λ (a : List (List ValueType)). IsWellNumbered (numbered_by t (own_records t) (own_globals t) a texts) sections sites statements) (sym g)
-    (subst (λ (a : List Statements). IsWellNumbered (numbered_by t (own_records t) (own_globals t) (own_locals t) a) sections sites statements) (sym h.texts_are)
+    (subst (λ (a : List TextView). IsWellNumbered (numbered_by t (own_records t) (own_globals t) (own_locals t) a) sections sites statements) (sym h.texts_are)
     (subst (λ n. IsWellNumbered (own t) n sites statements) (sym i)
     (subst (λ n. IsWellNumbered (own t) end.sections n statements) (sym j)
     (subst (λ n. IsWellNumbered (own t) end.sections end.sites n) (sym k)
-    (own_parts t end (subst (λ (a : List Statements). IsCounted t a end) h.texts_are h) (omega arith) (omega arith) (omega arith))))))))
+    (own_parts t end (subst (λ (a : List TextView). IsCounted t a end) h.texts_are h) (omega arith) (omega arith) (omega arith))))))))

@@ -4,8 +4,8 @@ use Rattle.std.specs.Option.{option_or, option_map}
 use Rattle.std.proofs.lemmas.List.{length-map}
 use Rattle.std.proofs.lemmas.Option.{slice_get-map}
 use Rattle.std.proofs.lemmas.Bool.Decides.{nat_tests}
-use Rattle.sect_types.specs.Statements.{Statements, Stop, Do, Choose, Loop, Section as TheSection, section_body, section_bodies}
-use Rattle.sect_types.specs.Sections.{SectionOf, sections_from, sections_of, AreNumbered, AllNumbered, found_in, section_from}
+use Rattle.sect_types.specs.Statements.{TextView, Stop, Do, Choose, Loop, Section as TheSection, section_body, section_bodies}
+use Rattle.sect_types.specs.Sections.{SectionView, sections_from, sections_of, AreNumbered, AllNumbered, found_in, section_from}
 use Rattle.sect_types.specs.declared.section.Section.{Section}
 use Rattle.sect_types.specs.Found.{section_shown, section_in}
 
@@ -23,7 +23,7 @@ same_number i m j e = grind (arith, nat_tests)
 other_number : (i m j : ℕ) → i ≡ m → nat_eq i (m + suc j) ≡ false
 other_number i m j e = grind (arith, nat_tests)
 
-body_at : (p : Statements) (m j : ℕ) → AreNumbered m p → section_body (m + j) p ≡ slice_get (section_bodies p) j
+body_at : (p : TextView) (m j : ℕ) → AreNumbered m p → section_body (m + j) p ≡ slice_get (section_bodies p) j
 body_at Stop m j h = refl
 body_at (Do a k) m j h = body_at k m j h
 body_at (Choose c p q k) m j (first, second, rest) =
@@ -39,20 +39,20 @@ body_at (TheSection i p k) m zero (same, rest) = ap (λ b. if b then Some p else
 body_at (TheSection i p k) m (suc j) (same, rest) =
     ap (λ b. if b then Some p else section_body (m + suc j) k) (other_number i m j same) ∙ (ap (λ n. section_body n k) (omega arith) ∙ body_at k (m + 1) j rest)
 
-found_or : (t : ℕ) (o : Option Statements) (other : Option SectionOf) → found_in t o other ≡ option_or (option_map (λ (b : Statements). record { thread = t; body = b }) o) other
+found_or : (t : ℕ) (o : Option TextView) (other : Option SectionView) → found_in t o other ≡ option_or (option_map (λ (b : TextView). record { thread = t; body = b }) o) other
 found_or t None other = refl
 found_or t (Some b) other = refl
 
-section_at : (ps : List Statements) (t m j : ℕ) → AllNumbered m ps → section_from (m + j) t ps ≡ slice_get (sections_from t ps) j
+section_at : (ps : List TextView) (t m j : ℕ) → AllNumbered m ps → section_from (m + j) t ps ≡ slice_get (sections_from t ps) j
 section_at [] t m j h = refl
 section_at (p ∷ ps) t m j (here, more) =
     ap (λ o. found_in t o (section_from (m + j) (t + 1) ps)) (body_at p m j here)
     ∙ (found_or t (slice_get (section_bodies p) j) (section_from (m + j) (t + 1) ps)
-    ∙ (ap (λ o. option_or o (section_from (m + j) (t + 1) ps)) (sym (slice_get-map (λ (b : Statements). record { thread = t; body = b }) (section_bodies p) j))
-    ∙ append_at (map (λ (b : Statements). record { thread = t; body = b }) (section_bodies p)) (sections_from (t + 1) ps) (λ n. section_from n (t + 1) ps) m j
-    (λ i. ap (λ n. section_from n (t + 1) ps) (omega (arith, length-map {B = SectionOf} (section_bodies p) (λ (b : Statements). record { thread = t; body = b }))) ∙ section_at ps (t + 1) (m + length (section_bodies p)) i more)))
+    ∙ (ap (λ o. option_or o (section_from (m + j) (t + 1) ps)) (sym (slice_get-map (λ (b : TextView). record { thread = t; body = b }) (section_bodies p) j))
+    ∙ append_at (map (λ (b : TextView). record { thread = t; body = b }) (section_bodies p)) (sections_from (t + 1) ps) (λ n. section_from n (t + 1) ps) m j
+    (λ i. ap (λ n. section_from n (t + 1) ps) (omega (arith, length-map {B = SectionView} (section_bodies p) (λ (b : TextView). record { thread = t; body = b }))) ∙ section_at ps (t + 1) (m + length (section_bodies p)) i more)))
 
-pub section_of_number : (ps : List Statements) (n : ℕ) → AllNumbered 0 ps → section_from n 0 ps ≡ slice_get (sections_of ps) n
+pub section_of_number : (ps : List TextView) (n : ℕ) → AllNumbered 0 ps → section_from n 0 ps ≡ slice_get (sections_of ps) n
 section_of_number ps n h = ap (λ k. section_from k 0 ps) (omega arith) ∙ section_at ps 0 0 n h
 
 not_past : {A : Type 0} (xs : List A) (n : ℕ) → n < length xs → None ≡ slice_get xs n → ⊥
@@ -61,12 +61,12 @@ not_past (x ∷ xs) zero h e = cc
 not_past (x ∷ xs) (suc n) h e = not_past xs n (omega arith) e
 
 -- what a look through all texts gives for a section's number
-pub found : (ps : List Statements) (n : ℕ) (r : Option Section) → AllNumbered 0 ps → section_in r ≡ section_from n 0 ps → n < length (sections_of ps)
+pub found : (ps : List TextView) (n : ℕ) (r : Option Section) → AllNumbered 0 ps → section_in r ≡ section_from n 0 ps → n < length (sections_of ps)
     → (s : Section) × (r ≡ Some s) × (slice_get (sections_of ps) n ≡ Some (section_shown s))
 found ps n None h e k = absurd (not_past (sections_of ps) n k (e ∙ section_of_number ps n h))
 found ps n (Some s) h e k = (s, refl, sym (e ∙ section_of_number ps n h))
 
 -- the texts from the thread on have what is sought in all
-pub record IsSoughtIn (n : ℕ) (all : List Statements) (thread i : ℕ) : Type 0 where
+pub record IsSoughtIn (n : ℕ) (all : List TextView) (thread i : ℕ) : Type 0 where
   pub counted : thread ≡ i
   pub same : section_from n 0 all ≡ section_from n thread (drop i all)

@@ -3,13 +3,13 @@ use Rattle.std.proofs.Common.{◌≡◌, ℕ, zero, suc, ◌+◌, ◌<◌, List,
 use Rattle.std.specs.Prelude.{slice_get}
 use Rattle.sect_types.specs.Lists.{Has}
 use Rattle.sect_types.specs.Environments.{Environment}
-use Rattle.sect_types.specs.Statements.{Statements, Stop, Do, Choose, Loop, Section, section_bodies}
-use Rattle.sect_types.specs.Sections.{SectionOf, sections_from, sections_of}
+use Rattle.sect_types.specs.Statements.{TextView, Stop, Do, Choose, Loop, Section, section_bodies}
+use Rattle.sect_types.specs.Sections.{SectionView, sections_from, sections_of}
 use Rattle.sect_types.specs.Sound.{IsSound, AreSound}
 use Rattle.sect_types.specs.declared.types.ValueType.{ValueType}
 use Rattle.sect_types.proofs.Membership.{Has-cases, Has-slice_get, Has-unmap}
 
-body_sound : (e : Environment) (p : Statements) (b : Statements) → IsSound e false p → Has (section_bodies p) b → IsSound e true b
+body_sound : (e : Environment) (p : TextView) (b : TextView) → IsSound e false p → Has (section_bodies p) b → IsSound e true b
 body_sound e Stop b s h = absurd h
 body_sound e (Do a k) b s h = body_sound e k b s.2 h
 body_sound e (Choose c p q k) b s h = elim (Has-cases (section_bodies p) (section_bodies q ++ section_bodies k) b h) [
@@ -28,15 +28,15 @@ body_sound e (Section i p k) b s h = elim h [ inl is ↦ subst (IsSound e true) 
 abbrev with_locals : List (List ValueType) → List ℕ → List ValueType → Environment
 with_locals records globals ls = record { records = records; globals = globals; locals = ls }
 
-sections_sound : (records : List (List ValueType)) (globals : List ℕ) (locals : List (List ValueType)) (texts : List Statements) (t : ℕ) (s : SectionOf)
+sections_sound : (records : List (List ValueType)) (globals : List ℕ) (locals : List (List ValueType)) (texts : List TextView) (t : ℕ) (s : SectionView)
     → AreSound records globals locals texts → Has (sections_from t texts) s
     → (j : ℕ) × (s.thread ≡ t + j) × (j < length texts) × IsSound (with_locals records globals (get_or locals j [])) true s.body
 sections_sound records globals locals [] t s sound h = absurd h
 sections_sound records globals [] (p ∷ ps) t s sound h = absurd sound
 sections_sound records globals (ls ∷ more) (p ∷ ps) t s sound h =
-    elim (Has-cases (map (λ (b : Statements). record { thread = t; body = b }) (section_bodies p)) (sections_from (t + 1) ps) s h) [
+    elim (Has-cases (map (λ (b : TextView). record { thread = t; body = b }) (section_bodies p)) (sections_from (t + 1) ps) s h) [
       | inl h ↦
-          let m = Has-unmap (λ (b : Statements). section_with t b) (section_bodies p) s h in
+          let m = Has-unmap (λ (b : TextView). section_with t b) (section_bodies p) s h in
           let there : IsSound (with_locals records globals ls) true m.0 = body_sound (with_locals records globals ls) p m.0 sound.0 m.1 in
           (zero, sym (ap (λ x. x.thread) m.2) ∙ omega arith, omega arith, subst (IsSound (with_locals records globals ls) true) (ap (λ x. x.body) m.2) there)
       | inr h ↦
@@ -44,10 +44,10 @@ sections_sound records globals (ls ∷ more) (p ∷ ps) t s sound h =
           (suc r.0, omega (arith, r.1), omega (arith, r.2), r.3)
     ]
   where
-    section_with : ℕ → Statements → SectionOf
+    section_with : ℕ → TextView → SectionView
     section_with t b = record { thread = t; body = b }
 
-pub section_sound : (records : List (List ValueType)) (globals : List ℕ) (locals : List (List ValueType)) (texts : List Statements) (n : ℕ) (s : SectionOf)
+pub section_sound : (records : List (List ValueType)) (globals : List ℕ) (locals : List (List ValueType)) (texts : List TextView) (n : ℕ) (s : SectionView)
     → AreSound records globals locals texts → slice_get (sections_of texts) n ≡ Some s
     → (s.thread < length texts) × IsSound (with_locals records globals (get_or locals s.thread [])) true s.body
 section_sound records globals locals texts n s sound at =
@@ -55,11 +55,11 @@ section_sound records globals locals texts n s sound at =
     let is : r.0 ≡ s.thread = omega (arith, r.1) in
     (omega (arith, r.1, r.2), subst (λ j. IsSound (with_locals records globals (get_or locals j [])) true s.body) is r.3)
 
-pub text_sound : (records : List (List ValueType)) (globals : List ℕ) (locals : List (List ValueType)) (texts : List Statements) (t : ℕ) (p : Statements)
+pub text_sound : (records : List (List ValueType)) (globals : List ℕ) (locals : List (List ValueType)) (texts : List TextView) (t : ℕ) (p : TextView)
     → AreSound records globals locals texts → slice_get texts t ≡ Some p → IsSound (with_locals records globals (get_or locals t [])) false p
 text_sound records globals locals [] t p sound at = absurd cc
 text_sound records globals [] (q ∷ texts) t p sound at = absurd sound
 text_sound records globals (ls ∷ locals) (q ∷ texts) zero p sound at =
     let same : q ≡ p = cc in
-    subst (λ (x : Statements). IsSound (with_locals records globals ls) false x) same sound.0
+    subst (λ (x : TextView). IsSound (with_locals records globals ls) false x) same sound.0
 text_sound records globals (ls ∷ locals) (q ∷ texts) (suc t) p sound at = text_sound records globals locals texts t p sound.1 at

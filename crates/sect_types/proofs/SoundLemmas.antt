@@ -39,7 +39,7 @@ use Rattle.sect_types.specs.Items.{PrimitiveHead}
 use Rattle.sect_types.specs.Rules.{shares}
 use Rattle.sect_types.specs.Environments.{Environment, environment, record_number, type_of, types_of}
 use Rattle.sect_types.specs.Sound.{reference_to, type_at, type_in, field_type, HasType, IsSoundAction, AreComparable, IsSoundCondition, is_shared, IsSound}
-use Rattle.sect_types.specs.Statements.{Statements, Stop, Do, Choose, Loop, Section, joined}
+use Rattle.sect_types.specs.Statements.{TextView, Stop, Do, Choose, Loop, Section, joined}
 
 at_map : {A B : Type 0} (f : A → B) (xs : List A) (i : ℕ) (x : A) → slice_get xs i ≡ Some x → slice_get (map f xs) i ≡ Some (f x)
 at_map f xs i x e = slice_get-map f xs i ∙ ap (option_map f) e
@@ -297,7 +297,7 @@ primitive_stands s site p shared inside a e same h =
     (subst (λ b. Fits (environment s) b a) (sym same) (subst (λ r. IfOk r (Fits (environment s) (shares (PrimitiveHead p)))) e (primitive_sound s site p))) h
 
 -- statements that are sound, one after another, are sound
-pub joined_sound : (e : Environment) (inside : Bool) (a b : Statements) → IsSound e inside a → IsSound e inside b → IsSound e inside (joined a b)
+pub joined_sound : (e : Environment) (inside : Bool) (a b : TextView) → IsSound e inside a → IsSound e inside b → IsSound e inside (joined a b)
 joined_sound e inside Stop b h g = g
 joined_sound e inside (Do a r) b (h, here, k) g = (h, here, joined_sound e inside r b k g)
 joined_sound e inside (Choose c p q r) b (h, p_sound, q_sound, k) g = (h, p_sound, q_sound, joined_sound e inside r b k g)

@@ -2,7 +2,7 @@
 use Rattle.std.specs.Prelude.{◌≡◌, ℕ, zero, suc, ◌≤◌, true, List, [], ◌∷◌, Result, Ok, Err, ⊤}
 use Rattle.sect_front.specs.declared.tree.Record.{Record}
 use Rattle.sect_front.specs.declared.tree.GlobalObject.{GlobalObject}
-use Rattle.sect_front.specs.Source.{Source}
+use Rattle.sect_front.specs.TreeView.{TreeView}
 use Rattle.sect_types.specs.declared.rule.Rule.{Rule}
 use Rattle.sect_types.specs.declared.rule.Rule.TheVariants.{Unknown, Twice, WrongType, SharedOutside, Nested, TooMany}
 use Rattle.sect_types.specs.declared.rule.TypeFault.{TypeFault}
@@ -20,11 +20,11 @@ abbrev pub none_yet : Counts
 none_yet = record { declared = 0; statements = 0; sites = 0; sections = 0 }
 
 -- the rule is broken at the item of that number
-abbrev pub Breaks : Source → ℕ → Rule → Type 0
+abbrev pub Breaks : TreeView → ℕ → Rule → Type 0
 Breaks t i r = BreaksFrom t.records t.globals none_yet (items t) i r
 
 -- no rule is broken at any item
-abbrev pub IsTyped : Source → Type 0
+abbrev pub IsTyped : TreeView → Type 0
 IsTyped t = (i : ℕ) (r : Rule) → Breaks t i r → ⊥
 
 -- the number of a rule
@@ -42,11 +42,11 @@ pub record IsFirstFrom (rs : List Record) (gs : List GlobalObject) (c : Counts) 
   pub first : (j : ℕ) (q : Rule) → BreaksFrom rs gs c list j q → i ≤ j
   pub least : (q : Rule) → BreaksFrom rs gs c list i q → number_of_rule r ≤ number_of_rule q
 
-abbrev pub IsFirstFault : Source → ℕ → Rule → Type 0
+abbrev pub IsFirstFault : TreeView → ℕ → Rule → Type 0
 IsFirstFault t i r = IsFirstFrom t.records t.globals none_yet (items t) i r
 
 -- a program is given for a typed tree alone, and a refusal names the first item at fault and its least rule
-abbrev pub Judges : {A : Type 0} → Source → Result A TypeFault → Type 0
+abbrev pub Judges : {A : Type 0} → TreeView → Result A TypeFault → Type 0
 Judges t (Ok a) = IsTyped t
 Judges t (Err fault.Memory) = ⊤
 Judges t (Err (fault.Unknown i)) = IsFirstFault t i Unknown

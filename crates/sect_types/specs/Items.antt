@@ -7,8 +7,8 @@ use Rattle.sect_front.specs.declared.tree.Record.{Record}
 use Rattle.sect_front.specs.declared.tree.GlobalObject.{GlobalObject}
 use Rattle.sect_front.specs.declared.tree.Declaration.{Declaration}
 use Rattle.sect_front.specs.declared.tree.Thread.{Thread}
-use Rattle.sect_front.specs.Source.{Source}
-use Rattle.sect_front.specs.Syntax.{Form, Primitive, If, IfElse, While, Atomic, Body, End, Then}
+use Rattle.sect_front.specs.TreeView.{TreeView}
+use Rattle.sect_front.specs.Syntax.{StatementView, Primitive, If, IfElse, While, Atomic, BlockView, End, Then}
 
 -- a statement without its blocks
 pub data Head : Type 0 where
@@ -27,16 +27,16 @@ pub data Item : Type 0 where
 
 abbrev mutual
   -- the items of a statement, before those of what follows
-  pub form_items : List Declaration → Bool → Form → List Item → List Item
-  form_items ls inside (Primitive p) w = AStatement (PrimitiveHead p) ls inside ∷ w
-  form_items ls inside (If t a) w = AStatement (TestHead t) ls inside ∷ body_items ls inside a w
-  form_items ls inside (IfElse t a b) w = AStatement (TestHead t) ls inside ∷ body_items ls inside a (body_items ls inside b w)
-  form_items ls inside (While t a) w = AStatement (TestHead t) ls inside ∷ body_items ls inside a w
-  form_items ls inside (Atomic a) w = AStatement AtomicHead ls inside ∷ body_items ls true a w
+  pub statement_items : List Declaration → Bool → StatementView → List Item → List Item
+  statement_items ls inside (Primitive p) w = AStatement (PrimitiveHead p) ls inside ∷ w
+  statement_items ls inside (If t a) w = AStatement (TestHead t) ls inside ∷ block_items ls inside a w
+  statement_items ls inside (IfElse t a b) w = AStatement (TestHead t) ls inside ∷ block_items ls inside a (block_items ls inside b w)
+  statement_items ls inside (While t a) w = AStatement (TestHead t) ls inside ∷ block_items ls inside a w
+  statement_items ls inside (Atomic a) w = AStatement AtomicHead ls inside ∷ block_items ls true a w
 
-  pub body_items : List Declaration → Bool → Body → List Item → List Item
-  body_items ls inside End w = w
-  body_items ls inside (Then s b) w = form_items ls inside s (body_items ls inside b w)
+  pub block_items : List Declaration → Bool → BlockView → List Item → List Item
+  block_items ls inside End w = w
+  block_items ls inside (Then s b) w = statement_items ls inside s (block_items ls inside b w)
 
 abbrev pub field_items : List (List ℕ) → List Declaration → List Item → List Item
 field_items before [] w = w
@@ -57,8 +57,8 @@ local_items before (d ∷ ds) w = ALocal d.kind d.name before ∷ local_items (b
 abbrev pub thread_items : List (List ℕ) → List Thread → List Item → List Item
 thread_items before [] w = w
 thread_items before (t ∷ ts) w =
-    AThread t.name before ∷ local_items [] t.locals (body_items t.locals false t.body (thread_items (before ++ t.name ∷ []) ts w))
+    AThread t.name before ∷ local_items [] t.locals (block_items t.locals false t.body (thread_items (before ++ t.name ∷ []) ts w))
 
 -- the items of a text
-abbrev pub items : Source → List Item
+abbrev pub items : TreeView → List Item
 items t = record_items [] t.records (global_items [] t.globals (thread_items [] t.threads []))

@@ -1,7 +1,7 @@
 -- A typed tree by numbers.
 use Rattle.std.specs.Prelude.{◌+◌, List, [], ◌∷◌, length, Result, Ok, Err}
 use Rattle.sect_front.specs.declared.tree.Comparison.TheVariants as comparison
-use Rattle.sect_front.specs.Syntax.{Form, Primitive, If, IfElse, While, Atomic, Body, End, Then}
+use Rattle.sect_front.specs.Syntax.{StatementView, Primitive, If, IfElse, While, Atomic, BlockView, End, Then}
 use Rattle.sect_types.specs.declared.rule.Rule.{Rule}
 use Rattle.sect_types.specs.declared.action.Value.TheVariants as value
 use Rattle.sect_types.specs.declared.action.Condition.{Condition}
@@ -14,7 +14,7 @@ use Rattle.sect_front.specs.declared.tree.Record.{Record}
 use Rattle.sect_front.specs.declared.tree.GlobalObject.{GlobalObject}
 use Rattle.sect_front.specs.declared.tree.Thread.{Thread}
 use Rattle.sect_types.specs.Rules.{Counts, after_primitive, after_head, sight}
-use Rattle.sect_types.specs.Statements.{Statements, Stop, Do, Choose, Loop, Section}
+use Rattle.sect_types.specs.Statements.{TextView, Stop, Do, Choose, Loop, Section}
 
 -- where the statement isn't typed this says nothing
 abbrev pub action_in : Result Action Rule → Action
@@ -26,42 +26,42 @@ condition_in (Ok c) = c
 condition_in (Err r) = record { left = value.Null; comparison = comparison.Equal; right = value.Null }
 
 abbrev mutual
-  pub after_form : Counts → Form → Counts
-  after_form c (Primitive p) = after_primitive c p
-  after_form c (If t a) = after_body (after_head c (TestHead t)) a
-  after_form c (IfElse t a b) = after_body (after_body (after_head c (TestHead t)) a) b
-  after_form c (While t a) = after_body (after_head c (TestHead t)) a
-  after_form c (Atomic a) = after_body (after_head c AtomicHead) a
+  pub after_statement : Counts → StatementView → Counts
+  after_statement c (Primitive p) = after_primitive c p
+  after_statement c (If t a) = after_block (after_head c (TestHead t)) a
+  after_statement c (IfElse t a b) = after_block (after_block (after_head c (TestHead t)) a) b
+  after_statement c (While t a) = after_block (after_head c (TestHead t)) a
+  after_statement c (Atomic a) = after_block (after_head c AtomicHead) a
 
-  pub after_body : Counts → Body → Counts
-  after_body c End = c
-  after_body c (Then s b) = after_body (after_form c s) b
+  pub after_block : Counts → BlockView → Counts
+  after_block c End = c
+  after_block c (Then s b) = after_block (after_statement c s) b
 
 abbrev mutual
   -- a statement by numbers, and what follows it
-  pub numbered_form : Sight → Counts → Form → Statements → Statements
-  numbered_form s c (Primitive p) k = Do (action_in (primitive_of s c.sites p)) k
-  numbered_form s c (If t a) k = Choose (condition_in (test_of s t)) (numbered_body s (after_head c (TestHead t)) a) Stop k
-  numbered_form s c (IfElse t a b) k =
-      Choose (condition_in (test_of s t)) (numbered_body s (after_head c (TestHead t)) a) (numbered_body s (after_body (after_head c (TestHead t)) a) b) k
-  numbered_form s c (While t a) k = Loop (condition_in (test_of s t)) (numbered_body s (after_head c (TestHead t)) a) k
-  numbered_form s c (Atomic a) k = Section c.sections (numbered_body s (after_head c AtomicHead) a) k
+  pub numbered_statement : Sight → Counts → StatementView → TextView → TextView
+  numbered_statement s c (Primitive p) k = Do (action_in (primitive_of s c.sites p)) k
+  numbered_statement s c (If t a) k = Choose (condition_in (test_of s t)) (numbered_block s (after_head c (TestHead t)) a) Stop k
+  numbered_statement s c (IfElse t a b) k =
+      Choose (condition_in (test_of s t)) (numbered_block s (after_head c (TestHead t)) a) (numbered_block s (after_block (after_head c (TestHead t)) a) b) k
+  numbered_statement s c (While t a) k = Loop (condition_in (test_of s t)) (numbered_block s (after_head c (TestHead t)) a) k
+  numbered_statement s c (Atomic a) k = Section c.sections (numbered_block s (after_head c AtomicHead) a) k
 
-  pub numbered_body : Sight → Counts → Body → Statements
-  numbered_body s c End = Stop
-  numbered_body s c (Then f b) = numbered_form s c f (numbered_body s (after_form c f) b)
+  pub numbered_block : Sight → Counts → BlockView → TextView
+  numbered_block s c End = Stop
+  numbered_block s c (Then f b) = numbered_statement s c f (numbered_block s (after_statement c f) b)
 
 -- where a thread's statements begin, and where the thread ends
 abbrev pub within_thread : Counts → Thread → Counts
 within_thread c t = record c { declared = c.declared + 1 + length t.locals }
 
 abbrev pub after_thread : Counts → Thread → Counts
-after_thread c t = after_body (within_thread c t) t.body
+after_thread c t = after_block (within_thread c t) t.body
 
 -- the texts of the threads
-abbrev pub numbered_threads : List Record → List GlobalObject → Counts → List Thread → List Statements
+abbrev pub numbered_threads : List Record → List GlobalObject → Counts → List Thread → List TextView
 numbered_threads rs gs c [] = []
-numbered_threads rs gs c (t ∷ ts) = numbered_body (sight rs gs t.locals) (within_thread c t) t.body ∷ numbered_threads rs gs (after_thread c t) ts
+numbered_threads rs gs c (t ∷ ts) = numbered_block (sight rs gs t.locals) (within_thread c t) t.body ∷ numbered_threads rs gs (after_thread c t) ts
 
 abbrev pub after_threads : Counts → List Thread → Counts
 after_threads c [] = c

@@ -1,10 +1,10 @@
 -- Programs.
 use Rattle.std.specs.Prelude.{◌≡◌, ◌≤◌, ◌<◌, ℕ, ◌+◌, List, [], ◌∷◌, ◌++◌, true, length, All, slice_index_or}
-use Rattle.sect_front.specs.Source.{Source}
+use Rattle.sect_front.specs.TreeView.{TreeView}
 use Rattle.sect_types.specs.declared.types.ValueType.{ValueType}
 use Rattle.sect_types.specs.Sight.{names_of_records}
 use Rattle.sect_types.specs.Rules.{Counts}
-use Rattle.sect_types.specs.Statements.{Statements, statement_count, made_in}
+use Rattle.sect_types.specs.Statements.{TextView, statement_count, made_in}
 use Rattle.sect_types.specs.Numbered.{numbered_threads, after_threads}
 use Rattle.sect_types.specs.Listing.{after_records, fields_fine, globals_known, locals_fine}
 use Rattle.sect_types.specs.Environments.{Environment, field_types, global_records, local_types, IsInRange}
@@ -14,44 +14,44 @@ use Rattle.sect_types.specs.Sections.{sections_of, AllNumbered, AllSited}
 use Rattle.sect_types.specs.First.{none_yet, IsTyped}
 
 -- what stands before the first thread
-abbrev pub before_threads : Source → Counts
+abbrev pub before_threads : TreeView → Counts
 before_threads t =
     let c = after_records none_yet t.records in
     record c { declared = c.declared + length t.globals; sites = c.sites + length t.globals }
 
 -- the texts of the threads, by number
-abbrev pub texts_of : Source → List Statements
+abbrev pub texts_of : TreeView → List TextView
 texts_of t = numbered_threads t.records t.globals (before_threads t) t.threads
 
 -- a program: its tree; the types of the fields of each record; the record of each global; the types of the locals of
 -- each thread; the text of each thread
-pub record Numbered : Type 0 where
-  pub source : Source
+pub record ProgramView : Type 0 where
+  pub source : TreeView
   pub records : List (List ValueType)
   pub globals : List ℕ
   pub locals : List (List ValueType)
-  pub texts : List Statements
+  pub texts : List TextView
 
 -- what the statements of a thread see
-abbrev pub environment_at : Numbered → ℕ → Environment
+abbrev pub environment_at : ProgramView → ℕ → Environment
 environment_at p t = record { records = p.records; globals = p.globals; locals = slice_index_or p.locals t [] }
 
 -- how many statements the texts have together
-abbrev pub total_statements : List Statements → ℕ
+abbrev pub total_statements : List TextView → ℕ
 total_statements [] = 0
 total_statements (p ∷ ps) = statement_count p + total_statements ps
 
 -- the records of the `new` statements of the texts, in text order
-abbrev pub all_made : List Statements → List ℕ
+abbrev pub all_made : List TextView → List ℕ
 all_made [] = []
 all_made (p ∷ ps) = made_in p ++ all_made ps
 
 -- the record of each site: of the globals, then of the `new` statements in text order
-abbrev pub sites_of : List ℕ → List Statements → List ℕ
+abbrev pub sites_of : List ℕ → List TextView → List ℕ
 sites_of globals texts = globals ++ all_made texts
 
 -- the counts are within the limits
-pub record IsWithinLimits (p : Numbered) : Type 0 where
+pub record IsWithinLimits (p : ProgramView) : Type 0 where
   pub few_records : length p.records ≤ 64
   pub few_fields : All (λ (ts : List ValueType). length ts ≤ 16) p.records
   pub few_globals : length p.globals ≤ 256
@@ -63,20 +63,20 @@ pub record IsWithinLimits (p : Numbered) : Type 0 where
   pub few_sites : length (sites_of p.globals p.texts) ≤ 1024
 
 -- each reference has its record
-pub record AreRecordsThere (p : Numbered) : Type 0 where
+pub record AreRecordsThere (p : ProgramView) : Type 0 where
   pub of_fields : All (λ (ts : List ValueType). All (IsInRange (length p.records)) ts) p.records
   pub of_globals : All (λ (r : ℕ). r < length p.records) p.globals
   pub of_locals : All (λ (ts : List ValueType). All (IsInRange (length p.records)) ts) p.locals
 
 -- the numbers are those of the tree
-pub record IsOfTree (p : Numbered) : Type 0 where
+pub record IsOfTree (p : ProgramView) : Type 0 where
   pub records_are : p.records ≡ field_types (names_of_records p.source.records) p.source.records
   pub globals_are : p.globals ≡ global_records (names_of_records p.source.records) p.source.globals
   pub locals_are : p.locals ≡ local_types (names_of_records p.source.records) p.source.threads
   pub texts_are : p.texts ≡ texts_of p.source
 
 -- what the tree's typing means for the numbers
-pub record IsWellNumbered (p : Numbered) (sections sites statements : ℕ) : Type 0 where
+pub record IsWellNumbered (p : ProgramView) (sections sites statements : ℕ) : Type 0 where
   pub of_tree : IsOfTree p
   pub sound : AreSound p.records p.globals p.locals p.texts
   pub records_there : AreRecordsThere p
@@ -87,16 +87,16 @@ pub record IsWellNumbered (p : Numbered) (sections sites statements : ℕ) : Typ
   pub site_count : sites ≡ length (sites_of p.globals p.texts)
   pub statement_count : statements ≡ total_statements p.texts
 
-abbrev pub numbered_by : Source → List (List ValueType) → List ℕ → List (List ValueType) → List Statements → Numbered
+abbrev pub numbered_by : TreeView → List (List ValueType) → List ℕ → List (List ValueType) → List TextView → ProgramView
 numbered_by source records globals locals texts = record { source = source; records = records; globals = globals; locals = locals; texts = texts }
 
 -- its tree is typed, and the numbers are the tree's
-pub record IsProgram (p : Numbered) (sections sites statements : ℕ) : Type 0 where
+pub record IsProgram (p : ProgramView) (sections sites statements : ℕ) : Type 0 where
   pub typed : IsTyped p.source
   pub numbers : IsWellNumbered p sections sites statements
 
 -- what a walk through all items has told: the counts at its end, the texts, and that all is few and known
-pub record IsCounted (t : Source) (texts : List Statements) (end : Counts) : Type 0 where
+pub record IsCounted (t : TreeView) (texts : List TextView) (end : Counts) : Type 0 where
   pub texts_are : texts ≡ texts_of t
   pub sound : AreThreadsSound t.records t.globals t.threads texts
   pub end_is : end ≡ after_threads (before_threads t) t.threads

@@ -9,7 +9,7 @@ use Rattle.sect_front.specs.declared.tree.Comparison.{Comparison}
 use Rattle.sect_front.specs.declared.tree.Record.{Record}
 use Rattle.sect_front.specs.declared.tree.GlobalObject.{GlobalObject}
 use Rattle.sect_front.specs.declared.tree.Declaration.{Declaration}
-use Rattle.sect_front.specs.Source.{Source}
+use Rattle.sect_front.specs.TreeView.{TreeView}
 use Rattle.sect_types.specs.declared.rule.Rule.{Rule}
 use Rattle.sect_types.specs.declared.rule.Rule.TheVariants.{Unknown, Twice, WrongType, SharedOutside, Nested, TooMany}
 use Rattle.sect_types.specs.declared.resolve.Denoted.{Denoted}
@@ -73,7 +73,7 @@ abbrev pub sight : List Record → List GlobalObject → List Declaration → Si
 sight rs gs ls = record { records = rs; globals = gs; locals = ls }
 
 -- what is declared, before any locals
-abbrev pub declared_in : Source → Sight
+abbrev pub declared_in : TreeView → Sight
 declared_in t = sight t.records t.globals []
 
 abbrev pub unknown : List Record → List GlobalObject → Item → Bool

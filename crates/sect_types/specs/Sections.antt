@@ -1,25 +1,25 @@
 -- The numbers of sections and sites.
 use Rattle.std.specs.Prelude.{◌≡◌, ℕ, ◌+◌, ⊤, List, [], ◌∷◌, ◌++◌, map, length, Option, Some, None}
-use Rattle.sect_types.specs.Statements.{Statements, Stop, Do, Choose, Loop, Section, section_bodies, section_body, made_by, made_in}
+use Rattle.sect_types.specs.Statements.{TextView, Stop, Do, Choose, Loop, Section, section_bodies, section_body, made_by, made_in}
 use Rattle.sect_types.specs.declared.action.Action.{Action}
 use Rattle.sect_types.specs.declared.action.Action.TheVariants as action
 
 -- a section: the number of its thread, and its body
-pub record SectionOf : Type 0 where
+pub record SectionView : Type 0 where
   pub thread : ℕ
-  pub body : Statements
+  pub body : TextView
 
 -- the sections of these texts in text order, where the first text is that of thread t
-abbrev pub sections_from : ℕ → List Statements → List SectionOf
+abbrev pub sections_from : ℕ → List TextView → List SectionView
 sections_from t [] = []
-sections_from t (p ∷ ps) = map (λ (b : Statements). record { thread = t; body = b }) (section_bodies p) ++ sections_from (t + 1) ps
+sections_from t (p ∷ ps) = map (λ (b : TextView). record { thread = t; body = b }) (section_bodies p) ++ sections_from (t + 1) ps
 
 -- the sections of a program with these texts, by number
-abbrev pub sections_of : List Statements → List SectionOf
+abbrev pub sections_of : List TextView → List SectionView
 sections_of texts = sections_from 0 texts
 
 -- the sections of a text have the numbers from n on, in text order
-abbrev pub AreNumbered : ℕ → Statements → Type 0
+abbrev pub AreNumbered : ℕ → TextView → Type 0
 AreNumbered n Stop = ⊤
 AreNumbered n (Do a k) = AreNumbered n k
 AreNumbered n (Choose t p q k) =
@@ -37,26 +37,26 @@ IsSite n (action.Store b f v) = ⊤
 IsSite n (action.Print v) = ⊤
 
 -- the `new` statements of a text have the sites from n on, in text order
-abbrev pub AreSited : ℕ → Statements → Type 0
+abbrev pub AreSited : ℕ → TextView → Type 0
 AreSited n Stop = ⊤
 AreSited n (Do a k) = IsSite n a × AreSited (n + length (made_by a)) k
 AreSited n (Choose t p q k) = AreSited n p × AreSited (n + length (made_in p)) q × AreSited (n + length (made_in p) + length (made_in q)) k
 AreSited n (Loop t p k) = AreSited n p × AreSited (n + length (made_in p)) k
 AreSited n (Section i p k) = AreSited n p × AreSited (n + length (made_in p)) k
 
-abbrev pub AllSited : ℕ → List Statements → Type 0
+abbrev pub AllSited : ℕ → List TextView → Type 0
 AllSited n [] = ⊤
 AllSited n (p ∷ ps) = AreSited n p × AllSited (n + length (made_in p)) ps
 
-abbrev pub AllNumbered : ℕ → List Statements → Type 0
+abbrev pub AllNumbered : ℕ → List TextView → Type 0
 AllNumbered n [] = ⊤
 AllNumbered n (p ∷ ps) = AreNumbered n p × AllNumbered (n + length (section_bodies p)) ps
 
-abbrev pub found_in : ℕ → Option Statements → Option SectionOf → Option SectionOf
+abbrev pub found_in : ℕ → Option TextView → Option SectionView → Option SectionView
 found_in t (Some b) other = Some (record { thread = t; body = b })
 found_in t None other = other
 
 -- the section whose statement has the number n, where the first text is that of thread t
-abbrev pub section_from : ℕ → ℕ → List Statements → Option SectionOf
+abbrev pub section_from : ℕ → ℕ → List TextView → Option SectionView
 section_from n t [] = None
 section_from n t (p ∷ ps) = found_in t (section_body n p) (section_from n (t + 1) ps)

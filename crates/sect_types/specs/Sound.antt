@@ -1,4 +1,4 @@
--- Statements that agree with the declarations by number.
+-- TextView that agree with the declarations by number.
 use Rattle.std.specs.Prelude.{◌≡◌, ◌<◌, ℕ, length, ⊤, Bool, true, false, List, [], ◌∷◌, Option, Some, None, slice_get}
 use Rattle.sect_front.specs.declared.tree.Comparison.{Comparison}
 use Rattle.sect_front.specs.declared.tree.Comparison.TheVariants as comparison
@@ -12,7 +12,7 @@ use Rattle.sect_types.specs.declared.action.Field.{Field}
 use Rattle.sect_types.specs.declared.action.Condition.{Condition}
 use Rattle.sect_types.specs.declared.action.Action.{Action}
 use Rattle.sect_types.specs.declared.action.Action.TheVariants as action
-use Rattle.sect_types.specs.Statements.{Statements, Stop, Do, Choose, Loop, Section}
+use Rattle.sect_types.specs.Statements.{TextView, Stop, Do, Choose, Loop, Section}
 use Rattle.sect_types.specs.Environments.{Environment}
 
 abbrev pub reference_to : Option ℕ → Option ValueType
@@ -78,7 +78,7 @@ StandsRight false a = is_shared a ≡ false
 
 -- each statement is sound and stands right, and no section stands in a section; `inside` says that the statements
 -- themselves stand in one
-abbrev pub IsSound : Environment → Bool → Statements → Type 0
+abbrev pub IsSound : Environment → Bool → TextView → Type 0
 IsSound e inside Stop = ⊤
 IsSound e inside (Do a k) = IsSoundAction e a × StandsRight inside a × IsSound e inside k
 IsSound e inside (Choose c p q k) = IsSoundCondition e c × IsSound e inside p × IsSound e inside q × IsSound e inside k
@@ -86,7 +86,7 @@ IsSound e inside (Loop c p k) = IsSoundCondition e c × IsSound e inside p × Is
 IsSound e inside (Section i p k) = (inside ≡ false) × IsSound e true p × IsSound e inside k
 
 -- each text is sound for the locals of its thread
-abbrev pub AreSound : List (List ValueType) → List ℕ → List (List ValueType) → List Statements → Type 0
+abbrev pub AreSound : List (List ValueType) → List ℕ → List (List ValueType) → List TextView → Type 0
 AreSound records globals [] [] = ⊤
 AreSound records globals (ls ∷ more) (p ∷ ps) =
     IsSound (record { records = records; globals = globals; locals = ls }) false p × AreSound records globals more ps

@@ -10,20 +10,20 @@ use Rattle.sect_types.specs.declared.action.Condition.{Condition}
 use Rattle.sect_types.specs.contracts.action.Action.{the_row as action_row}
 use Rattle.sect_types.specs.contracts.action.Condition.{the_row as condition_row}
 
-pub data Statements : Type 0 where
+pub data TextView : Type 0 where
   -- the end
-  Stop : Statements
+  Stop : TextView
   -- a statement without a block, and what follows it
-  Do : Action → Statements → Statements
+  Do : Action → TextView → TextView
   -- an `if`: what is done where the condition holds, what where it doesn't, and what follows
-  Choose : Condition → Statements → Statements → Statements → Statements
+  Choose : Condition → TextView → TextView → TextView → TextView
   -- a `while`: its body, and what follows it
-  Loop : Condition → Statements → Statements → Statements
+  Loop : Condition → TextView → TextView → TextView
   -- a section: its number, its body, and what follows it
-  Section : ℕ → Statements → Statements → Statements
+  Section : ℕ → TextView → TextView → TextView
 
 -- the statements, then k
-abbrev pub joined : Statements → Statements → Statements
+abbrev pub joined : TextView → TextView → TextView
 joined Stop k = k
 joined (Do a r) k = Do a (joined r k)
 joined (Choose t p q r) k = Choose t p q (joined r k)
@@ -31,7 +31,7 @@ joined (Loop t p r) k = Loop t p (joined r k)
 joined (Section i p r) k = Section i p (joined r k)
 
 -- how many blocks there are
-abbrev pub weight : Statements → ℕ
+abbrev pub weight : TextView → ℕ
 weight Stop = 0
 weight (Do a r) = weight r
 weight (Choose t p q r) = weight p + weight q + 1 + weight r
@@ -39,7 +39,7 @@ weight (Loop t p r) = weight p + 1 + weight r
 weight (Section i p r) = weight p + 1 + weight r
 
 -- the bodies of the sections, in text order
-abbrev pub section_bodies : Statements → List Statements
+abbrev pub section_bodies : TextView → List TextView
 section_bodies Stop = []
 section_bodies (Do a r) = section_bodies r
 section_bodies (Choose t p q r) = section_bodies p ++ (section_bodies q ++ section_bodies r)
@@ -47,7 +47,7 @@ section_bodies (Loop t p r) = section_bodies p ++ section_bodies r
 section_bodies (Section i p r) = p ∷ section_bodies r
 
 -- the body of the section of that number
-abbrev pub section_body : ℕ → Statements → Option Statements
+abbrev pub section_body : ℕ → TextView → Option TextView
 section_body n Stop = None
 section_body n (Do a r) = section_body n r
 section_body n (Choose t p q r) = option_or (section_body n p) (option_or (section_body n q) (section_body n r))
@@ -55,7 +55,7 @@ section_body n (Loop t p r) = option_or (section_body n p) (section_body n r)
 section_body n (Section i p r) = if nat_eq i n then Some p else section_body n r
 
 -- how many statements there are; an `if`, a `while` and a section count too
-abbrev pub statement_count : Statements → ℕ
+abbrev pub statement_count : TextView → ℕ
 statement_count Stop = 0
 statement_count (Do a r) = 1 + statement_count r
 statement_count (Choose t p q r) = 1 + statement_count p + statement_count q + statement_count r
@@ -67,7 +67,7 @@ made_by (action.New x r site) = r ∷ []
 made_by _ = []
 
 -- the records of the `new` statements, in text order
-abbrev pub made_in : Statements → List ℕ
+abbrev pub made_in : TextView → List ℕ
 made_in Stop = []
 made_in (Do a r) = made_by a ++ made_in r
 made_in (Choose t p q r) = made_in p ++ (made_in q ++ made_in r)
@@ -75,7 +75,7 @@ made_in (Loop t p r) = made_in p ++ made_in r
 made_in (Section i p r) = made_in p ++ made_in r
 
 -- a tree of numbers for each, by which a proof tells them apart
-abbrev stored : Statements → Gv
+abbrev stored : TextView → Gv
 stored Stop = gcons (gnum 0) gnil
 stored (Do a r) = gcons (gnum 1) (gcons (action_row.coded.code a) (stored r))
 stored (Choose t p q r) = gcons (gnum 2) (gcons (condition_row.coded.code t) (gcons (stored p) (gcons (stored q) (stored r))))
@@ -94,7 +94,7 @@ abbrev number : Gv → ℕ
 number (gnum n) = n
 number _ = 0
 
-same_statements : (a b : Statements) → stored a ≡ stored b → a ≡ b
+same_statements : (a b : TextView) → stored a ≡ stored b → a ≡ b
 same_statements Stop Stop e = refl
 same_statements (Do a r) (Do b s) e =
     λ i. Do (action_row.coded.inj a b (ap (λ g. head (tail g)) e) i) (same_statements r s (ap (λ g. tail (tail g)) e) i)
@@ -106,5 +106,5 @@ same_statements (Section m p r) (Section n q s) e =
     λ i. Section (ap (λ g. number (head (tail g))) e i) (same_statements p q (ap (λ g. head (tail (tail g))) e) i) (same_statements r s (ap (λ g. tail (tail (tail g))) e) i)
 same_statements _ _ e = absurd (omega (arith, ap (λ g. number (head g)) e))
 
-pub statements_code : Coded Statements
+pub statements_code : Coded TextView
 statements_code = record { code = stored; inj = same_statements }

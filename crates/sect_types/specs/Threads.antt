@@ -6,19 +6,19 @@ use Rattle.sect_front.specs.declared.tree.Thread.{Thread}
 use Rattle.sect_types.specs.Sight.{names_of_records}
 use Rattle.sect_types.specs.Items.{Item, thread_items}
 use Rattle.sect_types.specs.Rules.{Counts, judge}
-use Rattle.sect_types.specs.Statements.{Statements}
+use Rattle.sect_types.specs.Statements.{TextView}
 use Rattle.sect_types.specs.Numbered.{numbered_threads, after_threads}
 use Rattle.sect_types.specs.Listing.{locals_fine}
 use Rattle.sect_types.specs.Environments.{field_types, global_records, local_types}
 use Rattle.sect_types.specs.Sound.{AreSound}
 
 -- the texts of these threads are sound
-abbrev pub AreThreadsSound : List Record → List GlobalObject → List Thread → List Statements → Type 0
+abbrev pub AreThreadsSound : List Record → List GlobalObject → List Thread → List TextView → Type 0
 AreThreadsSound rs gs ts texts =
     AreSound (field_types (names_of_records rs) rs) (global_records (names_of_records rs) gs) (local_types (names_of_records rs) ts) texts
 
 -- the threads `rest` of `all` are left
-pub record AreThreads (rs : List Record) (gs : List GlobalObject) (all rest : List Thread) (names : List (List ℕ)) (texts : List Statements) (old now : Counts) : Type 0 where
+pub record AreThreads (rs : List Record) (gs : List GlobalObject) (all rest : List Thread) (names : List (List ℕ)) (texts : List TextView) (old now : Counts) : Type 0 where
   pub walks : (w : List Item) → judge rs gs old (thread_items [] all w) ≡ judge rs gs now (thread_items names rest w)
   pub numbered : texts ++ numbered_threads rs gs now rest ≡ numbered_threads rs gs old all
   pub counts : after_threads now rest ≡ after_threads old all
@@ -26,4 +26,4 @@ pub record AreThreads (rs : List Record) (gs : List GlobalObject) (all rest : Li
   pub long : length names + length rest ≡ length all
   pub room : now.declared ≤ 1344 + 65 * length names
   pub fine : locals_fine (names_of_records rs) all ≡ locals_fine (names_of_records rs) rest
-  pub sound : (more : List Statements) → AreThreadsSound rs gs rest more → AreThreadsSound rs gs all (texts ++ more)
+  pub sound : (more : List TextView) → AreThreadsSound rs gs rest more → AreThreadsSound rs gs all (texts ++ more)

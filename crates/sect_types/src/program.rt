@@ -2,7 +2,7 @@
 
 ghost use Rattle.std.specs.Prelude.{List, IsOkUnless, ◌≡◌, ◌≤◌, ◌<◌, ◌+◌, ◌++◌, ◌∷◌, [], true, false, IfOk, OnOk, Some, length, slice_get};
 ghost use Rattle.sect_types.specs.Sight.{names_of_records, names_of_globals, all_fields};
-ghost use Rattle.sect_types.specs.Items.{AThread, items, record_items, global_items, local_items, body_items, thread_items};
+ghost use Rattle.sect_types.specs.Items.{AThread, items, record_items, global_items, local_items, block_items, thread_items};
 ghost use Rattle.sect_types.specs.Rules.{sight, declared_in};
 ghost use Rattle.sect_types.specs.Walks.{Walks};
 ghost use Rattle.sect_types.specs.Listing.{Knows, all_known, fields_fine, globals_known, locals_fine};
@@ -12,7 +12,7 @@ ghost use Rattle.sect_types.specs.declared.types.ValueType.{ValueType};
 ghost use Rattle.sect_types.specs.declared.rule.TypeFault.TheVariants.{Memory};
 ghost use Rattle.sect_types.specs.Sections.{sections_of, AllNumbered, AllSited};
 ghost use Rattle.sect_types.specs.Found.{section_shown};
-ghost use Rattle.sect_types.specs.Numbered.{numbered_body, within_thread, after_thread, after_threads, numbered_threads};
+ghost use Rattle.sect_types.specs.Numbered.{numbered_block, within_thread, after_thread, after_threads, numbered_threads};
 ghost use Rattle.sect_types.specs.First.{Judges, none_yet, IsTyped};
 ghost use Rattle.sect_types.specs.Threads.{AreThreadsSound};
 ghost use Rattle.sect_types.specs.Programs.{IsWellNumbered, IsWithinLimits, AreRecordsThere, IsOfTree, IsCounted, environment_at, numbered_by, sites_of, total_statements};
@@ -54,10 +54,10 @@ fn whole_thread(
     requires globals { shown.now.global_names.now ≡ names_of_globals tree.now.globals }
     requires room { spot.old.declared + 65 < 6000 }
     ensures walks { Walks (declared_in tree.now) (λ w. AThread thread.now.name names.old
-        ∷ local_items [] thread.now.locals (body_items thread.now.locals false
+        ∷ local_items [] thread.now.locals (block_items thread.now.locals false
         thread.now.body w)) spot.old spot.new result }
     ensures names { OnOk result (names.new ≡ names.old ++ thread.now.name ∷ []) }
-    ensures text { IfOk result (λ text. text ≡ numbered_body
+    ensures text { IfOk result (λ text. text ≡ numbered_block
         (sight tree.now.records tree.now.globals thread.now.locals) (within_thread spot.old
         thread.now) thread.now.body) }
     ensures spot { OnOk result (spot.new ≡ after_thread spot.old thread.now) }
@@ -203,13 +203,13 @@ pub struct Program {
 
 impl Model for Program {
     ghost use Rattle.std.specs.Coded.{codes};
-    ghost use Rattle.sect_front.specs.Syntax.{body_code};
+    ghost use Rattle.sect_front.specs.Coding.{block_code};
     ghost use Rattle.sect_types.specs.Statements.{statements_code};
-    ghost use Rattle.sect_types.specs.Programs.{Numbered, numbered_by, IsProgram};
+    ghost use Rattle.sect_types.specs.Programs.{ProgramView, numbered_by, IsProgram};
 
-    ghost Value = { Numbered };
+    ghost Value = { ProgramView };
 
-    ghost coded = { Prim.hlevel (codes, body_code, statements_code) };
+    ghost coded = { Prim.hlevel (codes, block_code, statements_code) };
 
     ghost view = { λ p. numbered_by p.tree p.records.items p.globals.items p.locals.items p.texts.items };
 

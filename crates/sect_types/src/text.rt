@@ -7,7 +7,7 @@ use crate::action::{Action, Condition};
 use std::alloc::{AllocError, Global};
 use std::marker::Model;
 
-/// Statements, one after another.
+/// TextView, one after another.
 #[cycle(text)]
 #[derive(Drop)]
 pub struct Text {
@@ -27,9 +27,9 @@ pub enum Step {
 }
 
 impl Model for Text {
-    ghost use Rattle.sect_types.specs.Statements.{Statements, statements_code};
+    ghost use Rattle.sect_types.specs.Statements.{TextView, statements_code};
 
-    ghost Value = { Statements };
+    ghost Value = { TextView };
 
     ghost coded = { statements_code };
 

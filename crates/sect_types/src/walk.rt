@@ -2,16 +2,16 @@
 
 ghost use Rattle.std.specs.Prelude.{◌≡◌, ◌∷◌, ◌&&◌, List, IfOk, OnOk, IfErr, false, not};
 ghost use Rattle.sect_types.specs.Sight.{Sight};
-ghost use Rattle.sect_types.specs.Items.{PrimitiveHead, TestHead, AtomicHead, AStatement, form_items, body_items};
+ghost use Rattle.sect_types.specs.Items.{PrimitiveHead, TestHead, AtomicHead, AStatement, statement_items, block_items};
 ghost use Rattle.sect_types.specs.Rules.{rule_of, full, shares, after_primitive, after_head};
 ghost use Rattle.sect_types.specs.Walks.{Walks, rule_in, then_rest};
-ghost use Rattle.sect_types.specs.Statements.{Statements, Stop, Do};
+ghost use Rattle.sect_types.specs.Statements.{TextView, Stop, Do};
 ghost use Rattle.sect_types.specs.Environments.{environment};
 ghost use Rattle.sect_types.specs.Sound.{IsSound, IsSoundCondition};
 ghost use Rattle.sect_types.specs.Texts.{step_then};
-ghost use Rattle.sect_types.specs.Numbered.{action_in, condition_in, after_form, after_body, numbered_form, numbered_body};
+ghost use Rattle.sect_types.specs.Numbered.{action_in, condition_in, after_statement, after_block, numbered_statement, numbered_block};
 ghost use Rattle.sect_types.specs.Resolve.{primitive_of, test_of};
-ghost use Rattle.sect_front.specs.Trees.{form_of};
+ghost use Rattle.sect_front.specs.Trees.{statement_of};
 
 use crate::action::{Action, Condition};
 use crate::rule::{Fault, Rule};
@@ -161,11 +161,11 @@ fn walk_statement(
     inside: bool,
     statement: &Statement,
 ) -> Result<Step, Fault>
-    ensures walks { Walks scope.now (form_items scope.now.locals inside (form_of statement.now))
+    ensures walks { Walks scope.now (statement_items scope.now.locals inside (statement_of statement.now))
         spot.old spot.new result }
-    ensures step { IfOk result (λ step. (k : Statements) → step_then step k
-        ≡ numbered_form scope.now spot.old (form_of statement.now) k) }
-    ensures spot { OnOk result (spot.new ≡ after_form spot.old (form_of statement.now)) }
+    ensures step { IfOk result (λ step. (k : TextView) → step_then step k
+        ≡ numbered_statement scope.now spot.old (statement_of statement.now) k) }
+    ensures spot { OnOk result (spot.new ≡ after_statement spot.old (statement_of statement.now)) }
     ensures sound { IfOk result
         (λ step. IsSound (environment scope.now) inside (step_then step Stop)) }
 {
@@ -207,10 +207,10 @@ pub fn walk_block(
     inside: bool,
     block: &Block,
 ) -> Result<Text, Fault>
-    ensures walks { Walks scope.now (body_items scope.now.locals inside block.now)
+    ensures walks { Walks scope.now (block_items scope.now.locals inside block.now)
         spot.old spot.new result }
-    ensures text { IfOk result (λ text. text ≡ numbered_body scope.now spot.old block.now) }
-    ensures spot { OnOk result (spot.new ≡ after_body spot.old block.now) }
+    ensures text { IfOk result (λ text. text ≡ numbered_block scope.now spot.old block.now) }
+    ensures spot { OnOk result (spot.new ≡ after_block spot.old block.now) }
     ensures sound { IfOk result (λ text. IsSound (environment scope.now) inside text) }
 {
     let mut text = Text::new(alloc);

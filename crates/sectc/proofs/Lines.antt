@@ -5,21 +5,21 @@ use Rattle.std.proofs.lemmas.Bool.{cases_lt}
 use Rattle.std.proofs.lemmas.List.{append_assoc, append-nil, get_or_append_left}
 use Rattle.std.proofs.Math.Seq.{get_or-append_seam}
 use Rattle.std.proofs.lemmas.Option.{slice_get_within, slice_get-get_or, get_or_from_slice_get}
-use Rattle.sect_front.specs.Source.{Source}
-use Rattle.sect_types.specs.Sections.{SectionOf, sections_of}
+use Rattle.sect_front.specs.TreeView.{TreeView}
+use Rattle.sect_types.specs.Sections.{SectionView, sections_of}
 use Rattle.sect_names.specs.declared.lock.Lock.{Lock}
-use Rattle.sect_names.specs.Schemes.{SchemeOf}
+use Rattle.sect_names.specs.Schemes.{SchemeView}
 use Rattle.sectc.specs.Listing.{section_line, lines_from, IsLeastInOrder, AreLeast, IsListing}
 
 -- one more line stands behind the others
-lines_more : (t : Source) (i : ℕ) (sets : List (List Lock)) (locks : List Lock) → lines_from t i (sets ++ locks ∷ []) ≡ lines_from t i sets ++ section_line t (i + length sets) locks
+lines_more : (t : TreeView) (i : ℕ) (sets : List (List Lock)) (locks : List Lock) → lines_from t i (sets ++ locks ∷ []) ≡ lines_from t i sets ++ section_line t (i + length sets) locks
 lines_more t i [] locks = append-nil (section_line t i locks) ∙ ap (λ n. section_line t n locks) (omega arith)
 lines_more t i (first ∷ sets) locks =
     ap (λ r. section_line t i first ++ r) (lines_more t (i + 1) sets locks ∙ ap (λ n. lines_from t (i + 1) sets ++ section_line t n locks) (omega arith))
     ∙ sym (append_assoc (section_line t i first) (lines_from t (i + 1) sets) (section_line t (i + length (first ∷ sets)) locks))
 
 -- the least sets of the first sections, and that of the next
-least_more : (s : SchemeOf) (sets : List (List Lock)) → AreLeast s sets → (of : SectionOf) → slice_get (sections_of s.program.texts) (length sets) ≡ Some of
+least_more : (s : SchemeView) (sets : List (List Lock)) → AreLeast s sets → (of : SectionView) → slice_get (sections_of s.program.texts) (length sets) ≡ Some of
     → (locks : List Lock) → IsLeastInOrder s of locks → AreLeast s (sets ++ locks ∷ [])
 least_more s sets each of at locks least = λ j other here at_j there. elim (cases_lt j (length sets)) [
   | inl before ↦ each j other here at_j (slice_get-get_or sets j [] before
@@ -32,7 +32,7 @@ least_more s sets each of at locks least = λ j other here at_j there. elim (cas
       rw (sym same, sym section) least)
 ]
 
-pub no_line : (s : SchemeOf) → IsListing s 0 []
+pub no_line : (s : SchemeView) → IsListing s 0 []
 no_line s = record {
   sets = [];
   each = λ i of locks at there. absurd (let a = slice_get_within [] i locks there in omega (arith, a));
@@ -41,7 +41,7 @@ no_line s = record {
 }
 
 -- a listing of the first sections, and the line of the next
-pub line_more : (s : SchemeOf) (i : ℕ) (old new : List ℕ) → IsListing s i old → (of : SectionOf) → slice_get (sections_of s.program.texts) i ≡ Some of
+pub line_more : (s : SchemeView) (i : ℕ) (old new : List ℕ) → IsListing s i old → (of : SectionView) → slice_get (sections_of s.program.texts) i ≡ Some of
     → (locks : List Lock) → IsLeastInOrder s of locks → new ≡ old ++ section_line s.program.source i locks → IsListing s (i + 1) new
 line_more s i old new had of at locks least is = record {
   sets = had.sets ++ locks ∷ [];

@@ -1,33 +1,33 @@
 -- What the command `locks` prints: a line for each section.
 use Rattle.std.specs.Prelude.{◌≡◌, ℕ, ◌+◌, List, [], ◌∷◌, ◌++◌, Some, length, slice_get, codes}
 use Rattle.std.specs.Fmt.{decimal}
-use Rattle.sect_front.specs.Source.{Source}
-use Rattle.sect_types.specs.Sections.{SectionOf, sections_of}
+use Rattle.sect_front.specs.TreeView.{TreeView}
+use Rattle.sect_types.specs.Sections.{SectionView, sections_of}
 use Rattle.sect_names.specs.declared.lock.Lock.{Lock}
-use Rattle.sect_names.specs.Schemes.{SchemeOf}
+use Rattle.sect_names.specs.Schemes.{SchemeView}
 use Rattle.sect_names.specs.Needed.{IsLeast}
 use Rattle.sect_names.specs.Order.{AreInOrder}
 use Rattle.sect_names.specs.Printing.{locks_text}
 
 -- the line of a section: its number and its locks
-abbrev pub section_line : Source → ℕ → List Lock → List ℕ
+abbrev pub section_line : TreeView → ℕ → List Lock → List ℕ
 section_line t i locks = codes "section " ++ decimal i ++ codes ": " ++ locks_text t locks ++ codes "\n"
 
 -- the lines of sections with these locks, the first of which has this number
-abbrev pub lines_from : Source → ℕ → List (List Lock) → List ℕ
+abbrev pub lines_from : TreeView → ℕ → List (List Lock) → List ℕ
 lines_from t i [] = []
 lines_from t i (locks ∷ others) = section_line t i locks ++ lines_from t (i + 1) others
 
 -- the least set of locks that protects the section, in canonical order
-abbrev pub IsLeastInOrder : SchemeOf → SectionOf → List Lock → Type 0
+abbrev pub IsLeastInOrder : SchemeView → SectionView → List Lock → Type 0
 IsLeastInOrder s of locks = IsLeast s of.thread of.body locks × AreInOrder locks
 
 -- each of these is the least set of the section of its number
-abbrev pub AreLeast : SchemeOf → List (List Lock) → Type 0
-AreLeast s sets = (i : ℕ) (of : SectionOf) (locks : List Lock) → slice_get (sections_of s.program.texts) i ≡ Some of → slice_get sets i ≡ Some locks → IsLeastInOrder s of locks
+abbrev pub AreLeast : SchemeView → List (List Lock) → Type 0
+AreLeast s sets = (i : ℕ) (of : SectionView) (locks : List Lock) → slice_get (sections_of s.program.texts) i ≡ Some of → slice_get sets i ≡ Some locks → IsLeastInOrder s of locks
 
 -- these are the lines of the first sections, with the least set of each
-pub record IsListing (s : SchemeOf) (count : ℕ) (text : List ℕ) : Type 0 where
+pub record IsListing (s : SchemeView) (count : ℕ) (text : List ℕ) : Type 0 where
   pub sets : List (List Lock)
   pub each : AreLeast s sets
   pub counted : length sets ≡ count

@@ -2,10 +2,10 @@
 
 ghost use Rattle.std.specs.Prelude.{◌≡◌, ◌<◌, ◌++◌, List, Some, length, slice_get, IfOk, IfErr, OnOk, IsOkUnless};
 ghost use Rattle.std.specs.String.{string_bytes};
-ghost use Rattle.sect_types.specs.Programs.{Numbered};
-ghost use Rattle.sect_types.specs.Sections.{SectionOf, sections_of};
+ghost use Rattle.sect_types.specs.Programs.{ProgramView};
+ghost use Rattle.sect_types.specs.Sections.{SectionView, sections_of};
 ghost use Rattle.sect_names.specs.declared.lock.Lock.{Lock};
-ghost use Rattle.sect_names.specs.Schemes.{SchemeOf};
+ghost use Rattle.sect_names.specs.Schemes.{SchemeView};
 ghost use Rattle.sectc.specs.declared.refusal.Refusal.TheVariants.{Memory};
 ghost use Rattle.sectc.specs.Listing.{IsLeastInOrder, IsListing, section_line};
 ghost use Rattle.sectc.specs.Answers.{IsTypedText, IsAccepted, IsAnswer, GivesProgram, IsRefused, IsDue};
@@ -25,7 +25,7 @@ pub fn locks(alloc: Global, source: &[u8], k: u16) -> Result<String, Refusal>
     // The text is accepted, and each section has a line with the least set of locks that protects it.
     ensures answers { IfOk result (λ text. IsAnswer source.now k (string_bytes text)) }
     // A text that is accepted is answered, unless memory runs out.
-    ensures only { (s : SchemeOf) → IsAccepted source.now k s → IsOkUnless result Memory }
+    ensures only { (s : SchemeView) → IsAccepted source.now k s → IsOkUnless result Memory }
     // A refusal is due, and it is the first that is.
     ensures refuses { IfErr result (IsDue source.now k) }
 {
@@ -39,7 +39,7 @@ pub fn locks(alloc: Global, source: &[u8], k: u16) -> Result<String, Refusal>
 /// The program of a source text.
 fn program_of(alloc: Global, source: &[u8]) -> Result<Program, Refusal>
     ensures answers { IfOk result (IsTypedText source.now) }
-    ensures only { (p : Numbered) → IsTypedText source.now p → GivesProgram p result }
+    ensures only { (p : ProgramView) → IsTypedText source.now p → GivesProgram p result }
     ensures refuses { IfErr result (IsRefused source.now) }
 {
     let tree = parse(alloc, source)?;
@@ -67,7 +67,7 @@ fn put_section(
     section: u16,
 ) -> Result<(), AllocError>
     requires { section < length (sections_of scheme.now.program.texts) }
-    ensures { OnOk result ((of : SectionOf) → slice_get (sections_of scheme.now.program.texts) section ≡ Some of
+    ensures { OnOk result ((of : SectionView) → slice_get (sections_of scheme.now.program.texts) section ≡ Some of
         → (locks : List Lock) × IsLeastInOrder scheme.now of locks
         × (string_bytes text.new ≡ string_bytes text.old ++ section_line scheme.now.program.source section locks)) }
 {

@@ -3,7 +3,7 @@ use crate::{print, tokens_of};
 use std::alloc::AllocError;
 use std::test::Fail;
 
-// Programs of all forms, named by what they show.
+/// Programs of all forms, named by what they show.
 const PROGRAMS: [(&str, &[u8]); 12] = [
     ("an empty section", b"thread e { atomic { } }"),
     (
@@ -88,7 +88,7 @@ fn every_beginning_of_a_program(rt: HostRuntime) -> Result<(), Fail> {
     Ok(())
 }
 
-// Texts that are refused, and the line that says why.
+/// Texts that are refused, and the line that says why.
 const REFUSALS: [(&[u8], &[u8]); 27] = [
     (b"thread t } $", b"1 BadByte line 1"),
     (b"thread\n\n #", b"1 BadByte line 3"),
@@ -143,7 +143,7 @@ fn refuses_with_number_and_line(rt: HostRuntime) -> Result<(), Fail> {
     Ok(())
 }
 
-// A thread with so many blocks in one another, its own braces counted, and a line for each.
+/// A thread with so many blocks in one another, its own braces counted, and a line for each.
 fn nested(alloc: Global, depth: usize) -> Result<Vec<u8>, AllocError> {
     let mut text = Vec::new(alloc);
     text.extend_from_slice(b"thread t {")?;

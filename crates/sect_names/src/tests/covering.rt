@@ -21,7 +21,7 @@ const Z: Variable = Local(0, 2);
 
 const W: Variable = Local(0, 3);
 
-// Which of the locks a lock covers.
+/// Which of the locks a lock covers.
 fn row(rt: &impl AllocGlobal, scheme: &Scheme, locks: &[Lock], big: &Lock) -> Result<String, Fail> {
     let mut text = String::new(rt.alloc());
     for small in locks {
@@ -30,7 +30,7 @@ fn row(rt: &impl AllocGlobal, scheme: &Scheme, locks: &[Lock], big: &Lock) -> Re
     Ok(text)
 }
 
-// Which of these locks the first one covers.
+/// Which of these locks the first one covers.
 fn covers(
     rt: &(impl Abort + AllocGlobal),
     scheme: &Scheme,
@@ -44,7 +44,7 @@ fn covers(
     Ok(())
 }
 
-// The lines of the table of these locks.
+/// The lines of the table of these locks.
 fn covers_all(
     rt: &(impl Abort + AllocGlobal),
     scheme: &Scheme,
@@ -57,7 +57,7 @@ fn covers_all(
     Ok(())
 }
 
-// The locks along the table, and a line for each lock that is asked about.
+/// The locks along the table, and a line for each lock that is asked about.
 const ALONG: &[Wanted] = &[
     All(0, Right::Read),
     All(0, Right::Write),
@@ -87,7 +87,7 @@ fn the_table_of_locks(rt: HostRuntime) -> Result<(), Fail> {
     covers_all(&rt, &scheme(&rt, SHARED, 2)?, ALONG, TABLE)
 }
 
-// A set of the locks that are wanted.
+/// A set of the locks that are wanted.
 fn set(rt: &(impl Abort + AllocGlobal), wanted: &[Wanted]) -> Result<IndexSet<Lock>, Fail> {
     let mut locks = IndexSet::new(rt.alloc());
     for each in wanted {
@@ -96,7 +96,7 @@ fn set(rt: &(impl Abort + AllocGlobal), wanted: &[Wanted]) -> Result<IndexSet<Lo
     Ok(locks)
 }
 
-// Of these locks those are left, in this order.
+/// Of these locks those are left, in this order.
 fn leaves(
     rt: &(impl Abort + AllocGlobal),
     scheme: &Scheme,
@@ -111,7 +111,7 @@ fn leaves(
     Ok(())
 }
 
-// The first locks leave the second.
+/// The first locks leave the second.
 fn leave_all(
     rt: &(impl Abort + AllocGlobal),
     scheme: &Scheme,
@@ -176,7 +176,7 @@ fn what_is_left(rt: HostRuntime) -> Result<(), Fail> {
     leave_all(&rt, &scheme(&rt, SHARED, 2)?, LEFT)
 }
 
-// Each comes before the next.
+/// Each comes before the next.
 fn rise<T: Ord>(rt: &impl Abort, items: &[T]) {
     for pair in items.windows(2) {
         assert!(rt; pair[0] < pair[1]);
@@ -185,7 +185,7 @@ fn rise<T: Ord>(rt: &impl Abort, items: &[T]) {
     }
 }
 
-// The paths of these variables with so many times the field `next`.
+/// The paths of these variables with so many times the field `next`.
 fn paths(rt: &(impl Abort + AllocGlobal), wanted: &[(Variable, usize)]) -> Result<Vec<Path>, Fail> {
     let mut paths = Vec::new(rt.alloc());
     let next = [NEXT, NEXT, NEXT];

@@ -1,5 +1,5 @@
 use Rattle.std.proofs.Common.{◌≡◌, ◌<◌, length}
-use Rattle.sect_front.specs.Recognition.{decimal_from}
+use Rattle.sect_front.specs.steps.Recognition.{decimal_from}
 use Rattle.sect_front.proofs.lexer.decimal.Given as goal
 
 abbrev pub invariant-loop-first : goal.invariant-loop-first

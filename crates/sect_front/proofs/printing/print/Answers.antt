@@ -1,7 +1,7 @@
 use Rattle.std.proofs.Common.{◌++◌, ◌∙◌, ap, sym}
 use Rattle.std.specs.List.{list_all}
 use Rattle.sect_front.specs.Spelling.{is_proper}
-use Rattle.sect_front.specs.Spread.{spread}
+use Rattle.sect_front.specs.steps.Spread.{spread}
 use Rattle.sect_front.proofs.Printed.{printed}
 use Rattle.sect_front.proofs.printing.print.Goals as goal
 

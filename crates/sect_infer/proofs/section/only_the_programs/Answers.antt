@@ -1,6 +1,6 @@
 use Rattle.std.proofs.Common.{◌≡◌, ℕ, Some, subst}
 use Rattle.std.specs.Prelude.{slice_get}
-use Rattle.sect_types.specs.Programs.{Numbered}
+use Rattle.sect_types.specs.Programs.{ProgramView}
 use Rattle.sect_types.specs.Sound.{AreSound}
 use Rattle.sect_graph.specs.declared.flow.Node.{Node}
 use Rattle.sect_names.specs.Laws.{IsSoundStep}
@@ -9,7 +9,7 @@ use Rattle.sect_infer.proofs.section.only_the_programs.Goals as goal
 pub returns : goal.returns
 returns c = λ of g section_at graph_at.
     let s = c.args.scheme.now in
-    let sound = subst (λ (p : Numbered). AreSound p.records p.globals p.locals p.texts) c.program.ensures c.typing.ensures.sound in
+    let sound = subst (λ (p : ProgramView). AreSound p.records p.globals p.locals p.texts) c.program.ensures c.typing.ensures.sound in
     let step : (j : ℕ) (y : Node) → slice_get g j ≡ Some y → IsSoundStep s.program of.thread y.label
     = λ j y at. (c.steps_of_sections.ensures.sound s c.rules.ensures sound of y (c.args.section, g, j, section_at, graph_at, at)).0 in
     record {

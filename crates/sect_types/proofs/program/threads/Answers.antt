@@ -1,6 +1,6 @@
 use Rattle.std.proofs.Common.{[], ◌∷◌, ◌++◌, ◌+◌, drop, arith, false}
 use Rattle.sect_types.specs.Rules.{sight}
-use Rattle.sect_types.specs.Items.{AThread, local_items, body_items, thread_items}
+use Rattle.sect_types.specs.Items.{AThread, local_items, block_items, thread_items}
 use Rattle.sect_types.proofs.Records.{fault_after}
 use Rattle.sect_types.proofs.ThreadLemmas.{go_on, fault_next}
 use Rattle.sect_types.proofs.program.threads.Goals as goal
@@ -8,7 +8,7 @@ use Rattle.sect_types.proofs.program.threads.Goals as goal
 pub returns-in-Err-clause-walks : goal.returns-in-Err-clause-walks
 returns-in-Err-clause-walks c =
     fault_after (sight c.args.tree.now.records c.args.tree.now.globals []) (thread_items [] c.args.tree.now.threads)
-    (λ w. AThread c.thread-item.result.name c.loop-thread.names ∷ local_items [] c.thread-item.result.locals (body_items c.thread-item.result.locals false c.thread-item.result.body w))
+    (λ w. AThread c.thread-item.result.name c.loop-thread.names ∷ local_items [] c.thread-item.result.locals (block_items c.thread-item.result.locals false c.thread-item.result.body w))
     (thread_items (c.loop-thread.names ++ c.thread-item.result.name ∷ []) (drop (c.loop-thread.thread-index + 1) c.threads-thread-items.result.now))
     c.args.spot.now c.loop-thread.spot c.whole_thread.new.spot c.in-Err.fault
     (fault_next c.args.tree.now.records c.args.tree.now.globals c.args.tree.now.threads c.threads-thread-items.result.now c.loop-thread.thread-index c.thread-item.result c.loop-thread.names c.loop-thread.texts.items c.args.spot.now c.loop-thread.spot (omega arith) c.thread-item.is c.loop-thread.invariant)

@@ -1,11 +1,11 @@
 use Rattle.std.proofs.Common.{arith, ap}
-use Rattle.sect_front.specs.Trees.{form_of, form_size, body_size}
+use Rattle.sect_front.specs.Trees.{statement_of, statement_size, block_size}
 use Rattle.sect_types.proofs.Passing.{size_at, kept, ends}
 use Rattle.sect_types.proofs.walk.+walk.Goals as goal
 
 pub walk_block-walk_statement-requires : goal.walk_block-walk_statement-requires
 walk_block-walk_statement-requires t c =
-    (omega (arith, size_at c.as_slice-statement-items.result.now c.loop-statement.statement-index c.statement-item.result (omega arith), ap (λ s. form_size (form_of s)) c.statement-item.is, ap body_size c.loop-statement.invariant.whole, c.decreases), tt)
+    (omega (arith, size_at c.as_slice-statement-items.result.now c.loop-statement.statement-index c.statement-item.result (omega arith), ap (λ s. statement_size (statement_of s)) c.statement-item.is, ap block_size c.loop-statement.invariant.whole, c.decreases), tt)
 
 pub walk_block-loop-statement-preserved : goal.walk_block-loop-statement-preserved
 walk_block-loop-statement-preserved t c =

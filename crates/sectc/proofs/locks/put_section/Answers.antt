@@ -4,7 +4,7 @@ use Rattle.std.specs.Fmt.{decimal}
 use Rattle.std.specs.String.{string_bytes}
 use Rattle.std.proofs.lemmas.List.{append_assoc}
 use Rattle.std.proofs.lemmas.Option.{slice_get-get_or}
-use Rattle.sect_types.specs.Programs.{Numbered}
+use Rattle.sect_types.specs.Programs.{ProgramView}
 use Rattle.sect_names.specs.declared.lock.Lock.{Lock}
 use Rattle.sect_names.specs.Printing.{locks_text}
 use Rattle.sectc.proofs.locks.put_section.Goals as goal
@@ -21,7 +21,7 @@ returns c = λ of at.
     let locks = locks_text s.program.source entry in
     let wrote : string_bytes c.write.new.self ≡ old ++ head = c.in_ok-write.ensures.bytes in
     let put : string_bytes c.put_locks.new.text ≡ string_bytes c.write.new.self ++ locks =
-    subst (λ (p : Numbered). string_bytes c.put_locks.new.text ≡ string_bytes c.write.new.self ++ locks_text p.source entry) c.program.ensures (
+    subst (λ (p : ProgramView). string_bytes c.put_locks.new.text ≡ string_bytes c.write.new.self ++ locks_text p.source entry) c.program.ensures (
     subst (λ (ls : List Lock). string_bytes c.put_locks.new.text ≡ string_bytes c.write.new.self ++ locks_text c.program.result.now.source ls) c.entry.ensures c.in_ok-put_locks.ensures) in
     let pushed : string_bytes c.push_str.new.self ≡ string_bytes c.put_locks.new.text ++ codes "\n" = c.in_ok-push_str.ensures.bytes in (
       entry,

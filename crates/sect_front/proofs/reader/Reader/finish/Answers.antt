@@ -1,5 +1,5 @@
 use Rattle.std.proofs.Common.{ap, sym, ◌∙◌}
-use Rattle.sect_front.specs.Read.{finish_of, finish_at}
+use Rattle.sect_front.specs.steps.Read.{finish_of, finish_at}
 use Rattle.sect_front.proofs.reader.Reader.finish.Goals as goal
 
 pub new-requires : goal.new-requires

@@ -1,13 +1,15 @@
 -- The tokens of a part of a tree, before those of what follows it.
 use Rattle.std.specs.Prelude.{List, [], ◌∷◌, ℕ}
-use Rattle.sect_front.specs.Syntax.{Form, Body, Primitive, If, IfElse, While, Atomic, End, Then}
-use Rattle.sect_front.specs.Source.{Source}
+use Rattle.sect_front.specs.Syntax.{StatementView, BlockView, Primitive, If, IfElse, While, Atomic, End, Then}
+use Rattle.sect_front.specs.TreeView.{TreeView}
 use Rattle.sect_front.specs.Grammar.{operand_token, operator_token, comparison_token, kind_token}
 use Rattle.sect_front.specs.declared.token.Token.{Token}
 use Rattle.sect_front.specs.declared.token.Token.TheVariants as token
 use Rattle.sect_front.specs.declared.tree.Primitive as leaf
 use Rattle.sect_front.specs.declared.tree.Primitive.TheVariants as primitive
 use Rattle.sect_front.specs.declared.tree.Test.{Test}
+use Rattle.sect_front.specs.declared.tree.Locking.{Locking}
+use Rattle.sect_front.specs.declared.tree.Locking.TheVariants as locking
 use Rattle.sect_front.specs.declared.tree.Declaration.{Declaration}
 use Rattle.sect_front.specs.declared.tree.Record.{Record}
 use Rattle.sect_front.specs.declared.tree.GlobalObject.{GlobalObject}
@@ -28,18 +30,22 @@ abbrev pub test_tokens : Test → List Token → List Token
 test_tokens t w =
     token.OpenParen ∷ operand_token t.left ∷ comparison_token t.comparison ∷ operand_token t.right ∷ token.CloseParen ∷ w
 
-abbrev mutual
-  pub form_tokens : Form → List Token → List Token
-  form_tokens (Primitive p) w = primitive_tokens p w
-  form_tokens (If t a) w = token.If ∷ test_tokens t (token.OpenBrace ∷ body_tokens a (token.CloseBrace ∷ w))
-  form_tokens (IfElse t a b) w =
-      token.If ∷ test_tokens t (token.OpenBrace ∷ body_tokens a (token.CloseBrace ∷ token.Else ∷ token.OpenBrace ∷ body_tokens b (token.CloseBrace ∷ w)))
-  form_tokens (While t a) w = token.While ∷ test_tokens t (token.OpenBrace ∷ body_tokens a (token.CloseBrace ∷ w))
-  form_tokens (Atomic a) w = token.Atomic ∷ token.OpenBrace ∷ body_tokens a (token.CloseBrace ∷ w)
+abbrev pub locking_tokens : Locking → List Token → List Token
+locking_tokens locking.Inferred w = w
+locking_tokens locking.All w = token.All ∷ w
 
-  pub body_tokens : Body → List Token → List Token
-  body_tokens End w = w
-  body_tokens (Then s b) w = form_tokens s (body_tokens b w)
+abbrev mutual
+  pub statement_tokens : StatementView → List Token → List Token
+  statement_tokens (Primitive p) w = primitive_tokens p w
+  statement_tokens (If t a) w = token.If ∷ test_tokens t (token.OpenBrace ∷ block_tokens a (token.CloseBrace ∷ w))
+  statement_tokens (IfElse t a b) w =
+      token.If ∷ test_tokens t (token.OpenBrace ∷ block_tokens a (token.CloseBrace ∷ token.Else ∷ token.OpenBrace ∷ block_tokens b (token.CloseBrace ∷ w)))
+  statement_tokens (While t a) w = token.While ∷ test_tokens t (token.OpenBrace ∷ block_tokens a (token.CloseBrace ∷ w))
+  statement_tokens (Atomic l a) w = token.Atomic ∷ locking_tokens l (token.OpenBrace ∷ block_tokens a (token.CloseBrace ∷ w))
+
+  pub block_tokens : BlockView → List Token → List Token
+  block_tokens End w = w
+  block_tokens (Then s b) w = statement_tokens s (block_tokens b w)
 
 abbrev pub declarations_tokens : List Declaration → List Token → List Token
 declarations_tokens [] w = w
@@ -59,7 +65,7 @@ global_tokens g w = token.Global ∷ token.Name g.of ∷ token.Name g.name ∷ t
 
 abbrev pub thread_tokens : Thread → List Token → List Token
 thread_tokens t w =
-    token.Thread ∷ token.Name t.name ∷ token.OpenBrace ∷ declarations_tokens t.locals (body_tokens t.body (token.CloseBrace ∷ w))
+    token.Thread ∷ token.Name t.name ∷ token.OpenBrace ∷ declarations_tokens t.locals (block_tokens t.body (token.CloseBrace ∷ w))
 
 abbrev pub records_tokens : List Record → List Token → List Token
 records_tokens [] w = w
@@ -73,5 +79,5 @@ abbrev pub threads_tokens : List Thread → List Token → List Token
 threads_tokens [] w = w
 threads_tokens (t ∷ ts) w = thread_tokens t (threads_tokens ts w)
 
-abbrev pub source_tokens : Source → List Token → List Token
+abbrev pub source_tokens : TreeView → List Token → List Token
 source_tokens s w = records_tokens s.records (globals_tokens s.globals (threads_tokens s.threads w))

@@ -21,6 +21,7 @@ keyword_table =
     (codes "else", token.Else) ∷
     (codes "while", token.While) ∷
     (codes "atomic", token.Atomic) ∷
+    (codes "all", token.All) ∷
     (codes "class", token.Class) ∷ []
 
 -- the token beside these bytes in a table

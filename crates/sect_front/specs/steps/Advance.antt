@@ -11,18 +11,19 @@ use Rattle.sect_front.specs.declared.tree.Operator.TheVariants as operator
 use Rattle.sect_front.specs.declared.tree.Comparison.{Comparison}
 use Rattle.sect_front.specs.declared.tree.Comparison.TheVariants as comparison
 use Rattle.sect_front.specs.declared.tree.Test.{Test}
-use Rattle.sect_front.specs.declared.line.AssignLine.{AssignLine}
-use Rattle.sect_front.specs.declared.line.AssignLine.TheVariants as assign
-use Rattle.sect_front.specs.declared.line.StoreLine.{StoreLine}
-use Rattle.sect_front.specs.declared.line.StoreLine.TheVariants as store
-use Rattle.sect_front.specs.declared.line.BranchLine.{BranchLine}
-use Rattle.sect_front.specs.declared.line.BranchLine.TheVariants as head
-use Rattle.sect_front.specs.declared.line.Line.{Line}
-use Rattle.sect_front.specs.declared.line.Line.TheVariants as line
-use Rattle.sect_front.specs.declared.line.Branch.{Branch}
-use Rattle.sect_front.specs.declared.line.Branch.TheVariants as branch
-use Rattle.sect_front.specs.declared.line.Move.{Move}
-use Rattle.sect_front.specs.declared.line.Move.TheVariants as move
+use Rattle.sect_front.specs.declared.tree.Locking.TheVariants as locking
+use Rattle.sect_front.specs.declared.partial.PartialAssign.{PartialAssign}
+use Rattle.sect_front.specs.declared.partial.PartialAssign.TheVariants as assign
+use Rattle.sect_front.specs.declared.partial.PartialStore.{PartialStore}
+use Rattle.sect_front.specs.declared.partial.PartialStore.TheVariants as store
+use Rattle.sect_front.specs.declared.partial.PartialBranch.{PartialBranch}
+use Rattle.sect_front.specs.declared.partial.PartialBranch.TheVariants as head
+use Rattle.sect_front.specs.declared.partial.PartialHead.{PartialHead}
+use Rattle.sect_front.specs.declared.partial.PartialHead.TheVariants as line
+use Rattle.sect_front.specs.declared.partial.Branch.{Branch}
+use Rattle.sect_front.specs.declared.partial.Branch.TheVariants as branch
+use Rattle.sect_front.specs.declared.partial.Move.{Move}
+use Rattle.sect_front.specs.declared.partial.Move.TheVariants as move
 
 -- the operand that a token is
 abbrev pub operand_of : Token → Option Operand
@@ -45,7 +46,7 @@ comparison_of token.LessEqual = Some comparison.LessOrEqual
 comparison_of _ = None
 
 -- goes on with a part, where there is one
-abbrev pub goes_to : {A : Type 0} → Option A → (A → Line) → Option Move
+abbrev pub goes_to : {A : Type 0} → Option A → (A → PartialHead) → Option Move
 goes_to None f = None
 goes_to (Some v) f = Some (move.To (f v))
 
@@ -57,7 +58,7 @@ abbrev pub first_step : List ℕ → Operand → Token → Option Move
 first_step x v token.Semicolon = Some (move.Whole (primitive.Assign x v))
 first_step x v t = goes_to (operator_of t) (λ o. line.Assign x (assign.AfterOperator v o))
 
-abbrev pub assign_step : List ℕ → AssignLine → Token → Option Move
+abbrev pub assign_step : List ℕ → PartialAssign → Token → Option Move
 assign_step x assign.AfterEqual (token.Name n) = Some (move.To (line.Assign x (assign.AfterFirstName n)))
 assign_step x assign.AfterEqual token.New = Some (move.To (line.Assign x assign.AfterNew))
 assign_step x assign.AfterEqual t = goes_to (operand_of t) (λ v. line.Assign x (assign.AfterFirst v))
@@ -72,7 +73,7 @@ assign_step x (assign.AfterDot y) (token.Name f) = Some (move.To (line.Assign x 
 assign_step x (assign.AfterField y f) t = ends_with (primitive.Load x y f) t
 assign_step _ _ _ = None
 
-abbrev pub store_step : List ℕ → StoreLine → Token → Option Move
+abbrev pub store_step : List ℕ → PartialStore → Token → Option Move
 store_step y store.AfterDot (token.Name f) = Some (move.To (line.Store y (store.AfterField f)))
 store_step y (store.AfterField f) token.Equal = Some (move.To (line.Store y (store.AfterEqual f)))
 store_step y (store.AfterEqual f) t = goes_to (operand_of t) (λ v. line.Store y (store.AfterValue f v))
@@ -83,7 +84,7 @@ abbrev pub opens : Branch → Test → Move
 opens branch.If t = move.OpensThen t
 opens branch.While t = move.OpensWhile t
 
-abbrev pub branch_step : Branch → BranchLine → Token → Option Move
+abbrev pub branch_step : Branch → PartialBranch → Token → Option Move
 branch_step b head.AfterWord token.OpenParen = Some (move.To (line.Branch b head.AfterOpen))
 branch_step b head.AfterOpen t = goes_to (operand_of t) (λ v. line.Branch b (head.AfterLeft v))
 branch_step b (head.AfterLeft v) t = goes_to (comparison_of t) (λ c. line.Branch b (head.AfterComparison v c))
@@ -93,7 +94,7 @@ branch_step b (head.AfterRight t) token.CloseParen = Some (move.To (line.Branch 
 branch_step b (head.AfterClose t) token.OpenBrace = Some (opens b t)
 branch_step _ _ _ = None
 
-abbrev pub advance_of : Line → Token → Option Move
+abbrev pub advance_of : PartialHead → Token → Option Move
 advance_of (line.AfterName x) token.Equal = Some (move.To (line.Assign x assign.AfterEqual))
 advance_of (line.AfterName x) token.Dot = Some (move.To (line.Store x store.AfterDot))
 advance_of (line.Assign x a) t = assign_step x a t
@@ -101,5 +102,7 @@ advance_of (line.Store y s) t = store_step y s t
 advance_of line.AfterPrint t = goes_to (operand_of t) (λ v. line.AfterPrinted v)
 advance_of (line.AfterPrinted v) t = ends_with (primitive.Print v) t
 advance_of (line.Branch b h) t = branch_step b h t
-advance_of line.AfterAtomic token.OpenBrace = Some move.OpensAtomic
+advance_of line.AfterAtomic token.OpenBrace = Some (move.OpensAtomic locking.Inferred)
+advance_of line.AfterAtomic token.All = Some (move.To line.AfterAll)
+advance_of line.AfterAll token.OpenBrace = Some (move.OpensAtomic locking.All)
 advance_of _ _ = None

@@ -1,42 +1,42 @@
 -- One more token.
 use Rattle.std.specs.Prelude.{◌≡◌, List, [], ◌∷◌, Option, Some, None, Result, Ok, Err, ⊤}
-use Rattle.sect_front.specs.Syntax.{Form, Body, Primitive, If, IfElse, While, Atomic, End}
+use Rattle.sect_front.specs.Syntax.{StatementView, BlockView, Primitive, If, IfElse, While, Atomic, End}
 use Rattle.sect_front.specs.Trees.{append}
-use Rattle.sect_front.specs.Stand.{Stand}
-use Rattle.sect_front.specs.Advance.{advance_of}
+use Rattle.sect_front.specs.steps.WithinView.{WithinView}
+use Rattle.sect_front.specs.steps.Advance.{advance_of}
 use Rattle.sect_front.specs.declared.token.Token.{Token}
 use Rattle.sect_front.specs.declared.token.Token.TheVariants as token
-use Rattle.sect_front.specs.declared.line.Line.TheVariants as line
-use Rattle.sect_front.specs.declared.line.Branch.TheVariants as branch
-use Rattle.sect_front.specs.declared.line.BranchLine.TheVariants as head
-use Rattle.sect_front.specs.declared.line.Move.{Move}
-use Rattle.sect_front.specs.declared.line.Move.TheVariants as move
+use Rattle.sect_front.specs.declared.partial.PartialHead.TheVariants as line
+use Rattle.sect_front.specs.declared.partial.Branch.TheVariants as branch
+use Rattle.sect_front.specs.declared.partial.PartialBranch.TheVariants as head
+use Rattle.sect_front.specs.declared.partial.Move.{Move}
+use Rattle.sect_front.specs.declared.partial.Move.TheVariants as move
 use Rattle.sect_front.specs.declared.within.Frame.{Frame}
 use Rattle.sect_front.specs.declared.within.Frame.TheVariants as frame
-use Rattle.sect_front.specs.declared.within.Place.{Place}
-use Rattle.sect_front.specs.declared.within.Place.TheVariants as place
+use Rattle.sect_front.specs.declared.within.Partial.{Partial}
+use Rattle.sect_front.specs.declared.within.Partial.TheVariants as place
 use Rattle.sect_front.specs.declared.within.StepError.{StepError}
 use Rattle.sect_front.specs.declared.within.StepError.TheVariants as error
 
 -- what a token leads to
 pub data Next : Type 0 where
-  Stays : Stand → Next
-  Ends : Body → Next
+  Stays : WithinView → Next
+  Ends : BlockView → Next
   Stuck : Next
 
-abbrev pub stays : List Frame → Body → Place → Next
+abbrev pub stays : List Frame → BlockView → Partial → Next
 stays fs b p = Stays (record { frames = fs; before = b; place = p })
 
 -- a closing brace
-abbrev pub close_step : List Frame → Body → Next
+abbrev pub close_step : List Frame → BlockView → Next
 close_step [] b = Ends b
-close_step (frame.Atomic before ∷ fs) b = stays fs (append before (Atomic b)) place.Start
+close_step (frame.Atomic before l ∷ fs) b = stays fs (append before (Atomic l b)) place.Start
 close_step (frame.While before t ∷ fs) b = stays fs (append before (While t b)) place.Start
 close_step (frame.Then before t ∷ fs) b = stays fs before (place.AfterThen t b)
 close_step (frame.Else before t a ∷ fs) b = stays fs (append before (IfElse t a b)) place.Start
 
 -- a token where a statement may start
-abbrev pub start_step : List Frame → Body → Token → Next
+abbrev pub start_step : List Frame → BlockView → Token → Next
 start_step fs b (token.Name x) = stays fs b (place.Inside (line.AfterName x))
 start_step fs b token.Print = stays fs b (place.Inside line.AfterPrint)
 start_step fs b token.If = stays fs b (place.Inside (line.Branch branch.If head.AfterWord))
@@ -45,36 +45,36 @@ start_step fs b token.Atomic = stays fs b (place.Inside line.AfterAtomic)
 start_step fs b token.CloseBrace = close_step fs b
 start_step fs b _ = Stuck
 
-abbrev pub moved : List Frame → Body → Move → Next
+abbrev pub moved : List Frame → BlockView → Move → Next
 moved fs b (move.To l) = stays fs b (place.Inside l)
 moved fs b (move.Whole p) = stays fs (append b (Primitive p)) place.Start
 moved fs b (move.OpensThen t) = stays (frame.Then b t ∷ fs) End place.Start
 moved fs b (move.OpensWhile t) = stays (frame.While b t ∷ fs) End place.Start
-moved fs b move.OpensAtomic = stays (frame.Atomic b ∷ fs) End place.Start
+moved fs b (move.OpensAtomic l) = stays (frame.Atomic b l ∷ fs) End place.Start
 
-abbrev pub moved_if : List Frame → Body → Option Move → Next
+abbrev pub moved_if : List Frame → BlockView → Option Move → Next
 moved_if fs b None = Stuck
 moved_if fs b (Some m) = moved fs b m
 
-abbrev pub after_then : List Frame → Body → Form → Place → Token → Next
+abbrev pub after_then : List Frame → BlockView → StatementView → Partial → Token → Next
 after_then fs b s p token.Else = stays fs b p
 after_then fs b s p t = start_step fs (append b s) t
 
-abbrev pub after_else : List Frame → Body → Token → Next
+abbrev pub after_else : List Frame → BlockView → Token → Next
 after_else fs b token.OpenBrace = stays fs b place.Start
 after_else fs b _ = Stuck
 
-abbrev pub step_at : List Frame → Body → Place → Token → Next
+abbrev pub step_at : List Frame → BlockView → Partial → Token → Next
 step_at fs b place.Start t = start_step fs b t
 step_at fs b (place.Inside l) t = moved_if fs b (advance_of l t)
 step_at fs b (place.AfterThen v a) t = after_then fs b (If v a) (place.AfterElse v a) t
 step_at fs b (place.AfterElse v a) t = after_else (frame.Else b v a ∷ fs) End t
 
-abbrev pub step_of : Stand → Token → Next
+abbrev pub step_of : WithinView → Token → Next
 step_of s t = step_at s.frames s.before s.place t
 
 -- what a step of the code answers and leaves
-abbrev pub Steps : Result (Option Body) StepError → Stand → Next → Type 0
+abbrev pub Steps : Result (Option BlockView) StepError → WithinView → Next → Type 0
 Steps (Ok None) new next = next ≡ Stays new
 Steps (Ok (Some b)) new next = next ≡ Ends b
 Steps (Err error.Unexpected) new next = next ≡ Stuck

@@ -1,11 +1,11 @@
 -- How far the statements of a thread have been read.
 use Rattle.std.specs.Prelude.{List}
-use Rattle.sect_front.specs.Syntax.{Body}
+use Rattle.sect_front.specs.Syntax.{BlockView}
 use Rattle.sect_front.specs.declared.within.Frame.{Frame}
-use Rattle.sect_front.specs.declared.within.Place.{Place}
+use Rattle.sect_front.specs.declared.within.Partial.{Partial}
 
 -- the open blocks, the innermost first; the statements so far in the innermost; and the statement that is begun
-pub record Stand : Type 0 where
+pub record WithinView : Type 0 where
   pub frames : List Frame
-  pub before : Body
-  pub place : Place
+  pub before : BlockView
+  pub place : Partial

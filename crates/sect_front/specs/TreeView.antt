@@ -5,7 +5,7 @@ use Rattle.sect_front.specs.declared.tree.GlobalObject.{GlobalObject}
 use Rattle.sect_front.specs.declared.tree.Thread.{Thread}
 
 -- its declarations, each kind in text order
-pub record Source : Type 0 where
+pub record TreeView : Type 0 where
   pub records : List Record
   pub globals : List GlobalObject
   pub threads : List Thread

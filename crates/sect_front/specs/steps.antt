@@ -1,0 +1,11 @@
+-- What the contracts of private functions speak of.
+pub mod Advance
+pub mod WithinView
+pub mod Step
+pub mod ReaderView
+pub mod Read
+pub mod Recognition
+pub mod Tokens
+pub mod Writes
+pub mod Spread
+pub mod Verdicts

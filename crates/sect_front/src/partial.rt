@@ -1,0 +1,248 @@
+//! The part of a statement that has been read, up to its `;` or `{`.
+
+ghost use Rattle.std.specs.Prelude.{◌≡◌};
+ghost use Rattle.sect_front.specs.steps.Advance.{advance_of, assign_step, store_step, branch_step, operand_of, operator_of, comparison_of, first_step, ends_with};
+
+use crate::name::Name;
+use crate::token::Token;
+use crate::tree::{Comparison, Locking, Operand, Operator, Primitive, Test};
+
+/// Which statement a test belongs to.
+#[derive(Clone, Copy)]
+pub enum Branch {
+    If,
+    While,
+}
+
+/// What has been read of a statement after its first name and from `=` on.
+#[derive(Clone, Copy)]
+pub enum PartialAssign {
+    AfterEqual,
+    AfterFirstName(Name),
+    AfterFirst(Operand),
+    AfterOperator(Operand, Operator),
+    AfterSecond(Operand, Operator, Operand),
+    AfterNew,
+    AfterRecord(Name),
+    AfterDot(Name),
+    AfterField(Name, Name),
+}
+
+/// What has been read of a statement after its first name and from `.` on.
+#[derive(Clone, Copy)]
+pub enum PartialStore {
+    AfterDot,
+    AfterField(Name),
+    AfterEqual(Name),
+    AfterValue(Name, Operand),
+}
+
+/// What has been read of an `if` or a `while`, up to its block.
+#[derive(Clone, Copy)]
+pub enum PartialBranch {
+    AfterWord,
+    AfterOpen,
+    AfterLeft(Operand),
+    AfterComparison(Operand, Comparison),
+    AfterRight(Test),
+    AfterClose(Test),
+}
+
+/// What has been read of a statement.
+#[derive(Clone, Copy)]
+pub enum PartialHead {
+    AfterName(Name),
+    Assign(Name, PartialAssign),
+    Store(Name, PartialStore),
+    AfterPrint,
+    AfterPrinted(Operand),
+    Branch(Branch, PartialBranch),
+    AfterAtomic,
+    AfterAll,
+}
+
+/// What one more token leads to.
+#[derive(Clone, Copy)]
+pub enum Move {
+    /// The statement goes on.
+    To(PartialHead),
+    /// The statement ends.
+    Whole(Primitive),
+    /// The block of an `if` opens.
+    OpensThen(Test),
+    /// The block of a `while` opens.
+    OpensWhile(Test),
+    /// The block of an `atomic` opens.
+    OpensAtomic(Locking),
+}
+
+fn operand(token: Token) -> Option<Operand>
+    ensures { result ≡ operand_of token }
+{
+    match token {
+        Token::Name(name) => Some(Operand::Name(name)),
+        Token::Number(value) => Some(Operand::Number(value)),
+        Token::Null => Some(Operand::Null),
+        _ => None,
+    }
+}
+
+fn operator(token: Token) -> Option<Operator>
+    ensures { result ≡ operator_of token }
+{
+    match token {
+        Token::Plus => Some(Operator::Add),
+        Token::Minus => Some(Operator::Subtract),
+        Token::Star => Some(Operator::Multiply),
+        _ => None,
+    }
+}
+
+fn comparison(token: Token) -> Option<Comparison>
+    ensures { result ≡ comparison_of token }
+{
+    match token {
+        Token::EqualEqual => Some(Comparison::Equal),
+        Token::NotEqual => Some(Comparison::NotEqual),
+        Token::Less => Some(Comparison::Less),
+        Token::LessEqual => Some(Comparison::LessOrEqual),
+        _ => None,
+    }
+}
+
+/// The statement after one more token, unless none goes on so.
+pub fn advance(line: PartialHead, token: Token) -> Option<Move>
+    ensures { result ≡ advance_of line token }
+{
+    match line {
+        PartialHead::AfterName(x) => match token {
+            Token::Equal => Some(Move::To(PartialHead::Assign(x, PartialAssign::AfterEqual))),
+            Token::Dot => Some(Move::To(PartialHead::Store(x, PartialStore::AfterDot))),
+            _ => None,
+        },
+        PartialHead::Assign(x, assign) => advance_assign(x, assign, token),
+        PartialHead::Store(y, store) => advance_store(y, store, token),
+        PartialHead::AfterPrint => {
+            let v = operand(token)?;
+            Some(Move::To(PartialHead::AfterPrinted(v)))
+        }
+        PartialHead::AfterPrinted(v) => whole(Primitive::Print(v), token),
+        PartialHead::Branch(branch, head) => advance_branch(branch, head, token),
+        PartialHead::AfterAtomic => match token {
+            Token::OpenBrace => Some(Move::OpensAtomic(Locking::Inferred)),
+            Token::All => Some(Move::To(PartialHead::AfterAll)),
+            _ => None,
+        },
+        PartialHead::AfterAll => match token {
+            Token::OpenBrace => Some(Move::OpensAtomic(Locking::All)),
+            _ => None,
+        },
+    }
+}
+
+/// The end of a statement without a block.
+fn whole(primitive: Primitive, token: Token) -> Option<Move>
+    ensures { result ≡ ends_with primitive token }
+{
+    match token {
+        Token::Semicolon => Some(Move::Whole(primitive)),
+        _ => None,
+    }
+}
+
+/// A token of a statement that begins with a name and `=`.
+fn advance_assign(x: Name, assign: PartialAssign, token: Token) -> Option<Move>
+    ensures { result ≡ assign_step x assign token }
+{
+    let to = match assign {
+        PartialAssign::AfterEqual => match token {
+            Token::Name(y) => PartialAssign::AfterFirstName(y),
+            Token::New => PartialAssign::AfterNew,
+            _ => PartialAssign::AfterFirst(operand(token)?),
+        },
+        PartialAssign::AfterFirstName(y) => match token {
+            Token::Dot => PartialAssign::AfterDot(y),
+            _ => return after_first(x, Operand::Name(y), token),
+        },
+        PartialAssign::AfterFirst(v) => return after_first(x, v, token),
+        PartialAssign::AfterOperator(v, o) => PartialAssign::AfterSecond(v, o, operand(token)?),
+        PartialAssign::AfterSecond(v, o, w) => return whole(Primitive::Compute(x, v, o, w), token),
+        PartialAssign::AfterNew => match token {
+            Token::Name(r) => PartialAssign::AfterRecord(r),
+            _ => return None,
+        },
+        PartialAssign::AfterRecord(r) => return whole(Primitive::New(x, r), token),
+        PartialAssign::AfterDot(y) => match token {
+            Token::Name(f) => PartialAssign::AfterField(y, f),
+            _ => return None,
+        },
+        PartialAssign::AfterField(y, f) => return whole(Primitive::Load(x, y, f), token),
+    };
+    Some(Move::To(PartialHead::Assign(x, to)))
+}
+
+/// After the first operand: an operator, or the end.
+fn after_first(x: Name, v: Operand, token: Token) -> Option<Move>
+    ensures { result ≡ first_step x v token }
+{
+    match token {
+        Token::Semicolon => Some(Move::Whole(Primitive::Assign(x, v))),
+        _ => {
+            let o = operator(token)?;
+            Some(Move::To(PartialHead::Assign(x, PartialAssign::AfterOperator(v, o))))
+        }
+    }
+}
+
+/// A token of a statement that begins with a name and `.`.
+fn advance_store(y: Name, store: PartialStore, token: Token) -> Option<Move>
+    ensures { result ≡ store_step y store token }
+{
+    let to = match store {
+        PartialStore::AfterDot => match token {
+            Token::Name(f) => PartialStore::AfterField(f),
+            _ => return None,
+        },
+        PartialStore::AfterField(f) => match token {
+            Token::Equal => PartialStore::AfterEqual(f),
+            _ => return None,
+        },
+        PartialStore::AfterEqual(f) => PartialStore::AfterValue(f, operand(token)?),
+        PartialStore::AfterValue(f, v) => return whole(Primitive::Store(y, f, v), token),
+    };
+    Some(Move::To(PartialHead::Store(y, to)))
+}
+
+/// A token of an `if` or a `while`, up to its block.
+fn advance_branch(branch: Branch, head: PartialBranch, token: Token) -> Option<Move>
+    ensures { result ≡ branch_step branch head token }
+{
+    let to = match head {
+        PartialBranch::AfterWord => match token {
+            Token::OpenParen => PartialBranch::AfterOpen,
+            _ => return None,
+        },
+        PartialBranch::AfterOpen => PartialBranch::AfterLeft(operand(token)?),
+        PartialBranch::AfterLeft(left) => PartialBranch::AfterComparison(left, comparison(token)?),
+        PartialBranch::AfterComparison(left, comparison) => {
+            let right = operand(token)?;
+            PartialBranch::AfterRight(Test {
+                left,
+                comparison,
+                right,
+            })
+        }
+        PartialBranch::AfterRight(test) => match token {
+            Token::CloseParen => PartialBranch::AfterClose(test),
+            _ => return None,
+        },
+        PartialBranch::AfterClose(test) => {
+            return match (token, branch) {
+                (Token::OpenBrace, Branch::If) => Some(Move::OpensThen(test)),
+                (Token::OpenBrace, Branch::While) => Some(Move::OpensWhile(test)),
+                _ => None,
+            };
+        }
+    };
+    Some(Move::To(PartialHead::Branch(branch, to)))
+}

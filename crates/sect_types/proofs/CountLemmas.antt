@@ -151,7 +151,7 @@ mutual
         statements = omega (arith, ih.statements);
         sites = omega (arith, ih.sites, length-append (made_in p) (made_in k));
       }
-  form_passes e s inside c (Atomic a) k (h, first, rest) =
+  form_passes e s inside c (Atomic l a) k (h, first, rest) =
       let ih = body_passes e s true (after_head c AtomicHead) a first in
       let p = numbered_block s (after_head c AtomicHead) a in
       record {
@@ -179,7 +179,7 @@ mutual
   form_rest e s inside c (If t a) k (h, first, second, rest) = rest
   form_rest e s inside c (IfElse t a b) k (h, first, second, rest) = rest
   form_rest e s inside c (While t a) k (h, first, rest) = rest
-  form_rest e s inside c (Atomic a) k (h, first, rest) = rest
+  form_rest e s inside c (Atomic l a) k (h, first, rest) = rest
 
 -- the sections and sites of a statement are numbered from its counts on
 mutual
@@ -202,7 +202,7 @@ mutual
       let d = after_head c (TestHead t) in
       let ih = body_passes e s inside d a first in
       (body_numbered e s inside d a first, subst (λ n. AreNumbered n k) (omega (arith, ih.sections)) g)
-  form_numbered e s inside c (Atomic a) k (h, first, rest) g =
+  form_numbered e s inside c (Atomic l a) k (h, first, rest) g =
       let d = after_head c AtomicHead in
       let ih = body_passes e s true d a first in
       (refl, subst (λ n. AreNumbered n k) (omega (arith, ih.sections, ap length (none_inside e (numbered_block s d a) first))) g)
@@ -235,7 +235,7 @@ mutual
       let d = after_head c (TestHead t) in
       let ih = body_passes e s inside d a first in
       (body_sited e s inside d a first, subst (λ n. AreSited n k) (omega (arith, ih.sites)) g)
-  form_sited e s inside c (Atomic a) k (h, first, rest) g =
+  form_sited e s inside c (Atomic l a) k (h, first, rest) g =
       let d = after_head c AtomicHead in
       let ih = body_passes e s true d a first in
       (body_sited e s true d a first, subst (λ n. AreSited n k) (omega (arith, ih.sites)) g)

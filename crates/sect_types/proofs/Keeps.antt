@@ -19,7 +19,7 @@ mutual
   form_keeps (If t a) c = body_keeps a (after_head c (TestHead t))
   form_keeps (IfElse t a b) c = body_keeps b (after_block (after_head c (TestHead t)) a) ∙ body_keeps a (after_head c (TestHead t))
   form_keeps (While t a) c = body_keeps a (after_head c (TestHead t))
-  form_keeps (Atomic a) c = body_keeps a (after_head c AtomicHead)
+  form_keeps (Atomic l a) c = body_keeps a (after_head c AtomicHead)
 
   pub body_keeps : (b : BlockView) (c : Counts) → (after_block c b).declared ≡ c.declared
   body_keeps End c = refl

@@ -14,3 +14,4 @@ pub mod FindLemmas
 pub mod SectionLemmas
 pub mod Membership
 pub mod SectionSound
+pub mod LockingLemmas

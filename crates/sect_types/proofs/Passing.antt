@@ -3,7 +3,7 @@ use Rattle.std.proofs.Common.{◌≡◌, ℕ, zero, suc, ◌+◌, ◌<◌, ◌�
 use Rattle.sect_types.proofs.Lists.{drop_next}
 use Rattle.std.proofs.lemmas.List.{drop_all}
 use Rattle.sect_front.specs.Syntax.{StatementView, BlockView, Then}
-use Rattle.sect_front.specs.Trees.{statement_of, body_of, statement_size, block_size}
+use Rattle.sect_front.specs.Trees.{statement_of, block_of, statement_size, block_size}
 use Rattle.sect_front.specs.declared.tree.Statement.{Statement}
 use Rattle.sect_types.specs.Sight.{Sight}
 use Rattle.sect_types.specs.Items.{Item, statement_items, block_items}
@@ -71,29 +71,24 @@ goes_on s inside block all rest f old now then text new st so_far walks step cou
   sound = subst (IsSound (environment s) inside) (sym pushed) (joined_sound (environment s) inside text (step_then st Stop) so_far.sound sound);
 }
 
-pub size_at : (ss : List Statement) (i : ℕ) (d : Statement) → i < length ss → statement_size (statement_of (get_or ss i d)) ≤ block_size (body_of ss)
-size_at [] i d h = absurd (omega arith)
-size_at (s ∷ ss) zero d h = omega arith
-size_at (s ∷ ss) (suc i) d h = omega (arith, size_at ss i d (omega arith))
-
 -- the statement at an index comes first of those that are left
-next_of : (ss : List Statement) (i : ℕ) (x : Statement) → i < length ss → x ≡ get_or ss i x → body_of (drop i ss) ≡ Then (statement_of x) (body_of (drop (i + 1) ss))
-next_of ss i x h e = ap body_of (drop_next ss i x h e)
+next_of : (ss : List Statement) (i : ℕ) (x : Statement) → i < length ss → x ≡ get_or ss i x → block_of (drop i ss) ≡ Then (statement_of x) (block_of (drop (i + 1) ss))
+next_of ss i x h e = ap block_of (drop_next ss i x h e)
 
 pub kept : (s : Sight) (inside : Bool) (block : BlockView) (ss : List Statement) (i : ℕ) (x : Statement) (old now then : Counts) (text new : TextView) (st : Step)
     → i < length ss → x ≡ get_or ss i x
-    → IsPassed s inside block (body_of ss) (body_of (drop i ss)) old now text
+    → IsPassed s inside block (block_of ss) (block_of (drop i ss)) old now text
     → ((w : List Item) → judge s.records s.globals now (statement_items s.locals inside (statement_of x) w) ≡ judge s.records s.globals then w)
     → ((k : TextView) → step_then st k ≡ numbered_statement s now (statement_of x) k)
     → then ≡ after_statement now (statement_of x)
     → new ≡ joined text (step_then st Stop)
     → IsSound (environment s) inside (step_then st Stop)
-    → IsPassed s inside block (body_of ss) (body_of (drop (i + 1) ss)) old then new
+    → IsPassed s inside block (block_of ss) (block_of (drop (i + 1) ss)) old then new
 kept s inside block ss i x old now then text new st h e so_far walks step counts pushed sound =
-    goes_on s inside block (body_of ss) (body_of (drop (i + 1) ss)) (statement_of x) old now then text new st
-    (subst (λ rest. IsPassed s inside block (body_of ss) rest old now text) (next_of ss i x h e) so_far) walks step counts pushed sound
+    goes_on s inside block (block_of ss) (block_of (drop (i + 1) ss)) (statement_of x) old now then text new st
+    (subst (λ rest. IsPassed s inside block (block_of ss) rest old now text) (next_of ss i x h e) so_far) walks step counts pushed sound
 
 pub ends : (s : Sight) (inside : Bool) (block : BlockView) (ss : List Statement) (i : ℕ) (old now : Counts) (text : TextView)
-    → length ss ≤ i → IsPassed s inside block (body_of ss) (body_of (drop i ss)) old now text → text ≡ numbered_block s old block
+    → length ss ≤ i → IsPassed s inside block (block_of ss) (block_of (drop i ss)) old now text → text ≡ numbered_block s old block
 ends s inside block ss i old now text h so_far =
-    sym (joined_stop text) ∙ (ap (λ l. joined text (numbered_block s now (body_of l))) (sym (drop_all i ss h)) ∙ so_far.numbers)
+    sym (joined_stop text) ∙ (ap (λ l. joined text (numbered_block s now (block_of l))) (sym (drop_all i ss h)) ∙ so_far.numbers)

@@ -25,6 +25,9 @@ use Rattle.sect_types.specs.First.{none_yet}
 use Rattle.sect_types.specs.Programs.{ProgramView, numbered_by, before_threads, texts_of, total_statements, all_made, sites_of, IsWellNumbered, IsCounted}
 use Rattle.sect_types.proofs.SoundLemmas.{both, place_within}
 use Rattle.sect_types.proofs.Keeps.{records_keep}
+use Rattle.sect_front.specs.declared.tree.Locking.{Locking}
+use Rattle.sect_types.specs.Lockings.{lockings_of}
+use Rattle.sect_types.proofs.LockingLemmas.{threads_many}
 use Rattle.sect_types.proofs.CountLemmas.{body_passes, body_numbered, body_sited}
 
 -- the numbers of the threads' texts, from the counts c on to d
@@ -127,7 +130,7 @@ abbrev own_locals : TreeView → List (List ValueType)
 own_locals t = local_types (names_of_records t.records) t.threads
 
 abbrev own : TreeView → ProgramView
-own t = numbered_by t (own_records t) (own_globals t) (own_locals t) (texts_of t)
+own t = numbered_by t (own_records t) (own_globals t) (own_locals t) (texts_of t) (lockings_of t)
 
 -- each reference has one of n records
 record AreThereIn (t : TreeView) (n : ℕ) : Type 0 where
@@ -160,7 +163,7 @@ own_parts t end h few_sections few_sites few_statements =
     omega (arith, ap (λ (c : Counts). c.sites) h.end_is, counted.sites, no_site, long_globals, length-append (global_records names t.globals) (all_made (texts_of t))) in
     let statements_are : end.statements ≡ total_statements (texts_of t) = omega (arith, ap (λ (c : Counts). c.statements) h.end_is, counted.statements, no_statement) in
     record {
-      of_tree = record { records_are = refl; globals_are = refl; locals_are = refl; texts_are = refl };
+      of_tree = record { records_are = refl; globals_are = refl; locals_are = refl; texts_are = refl; lockings_are = refl };
       sound = h.sound;
       records_there = record { of_fields = there.of_fields; of_globals = there.of_globals; of_locals = there.of_locals };
       limits = record {
@@ -176,22 +179,24 @@ own_parts t end h few_sections few_sites few_statements =
       };
       numbered = subst (λ n. AllNumbered n (texts_of t)) none_declared counted.numbered;
       sited = subst (λ n. AllSited n (texts_of t)) (omega (arith, no_site, long_globals)) counted.sited;
+      as_many_lockings = omega (arith, threads_many t.records t.globals start t.threads 0 []);
       section_count = sections_are;
       site_count = sites_are;
       statement_count = statements_are;
     }
 
-pub well_numbered : (t : TreeView) (end : Counts) (records : List (List ValueType)) (globals : List ℕ) (locals : List (List ValueType)) (texts : List TextView) (sections sites statements : ℕ)
+pub well_numbered : (t : TreeView) (end : Counts) (records : List (List ValueType)) (globals : List ℕ) (locals : List (List ValueType)) (texts : List TextView) (lockings : List Locking) (sections sites statements : ℕ)
     → IsCounted t texts end
     → records ≡ field_types (names_of_records t.records) t.records → globals ≡ global_records (names_of_records t.records) t.globals → locals ≡ local_types (names_of_records t.records) t.threads
-    → sections ≡ end.sections → sites ≡ end.sites → statements ≡ end.statements → sections ≤ 256 → sites ≤ 1024 → statements ≤ 4096
-    → IsWellNumbered (numbered_by t records globals locals texts) sections sites statements
-well_numbered t end records globals locals texts sections sites statements h e f g i j k few_sections few_sites few_statements =
-    subst (λ (a : List (List ValueType)). IsWellNumbered (numbered_by t a globals locals texts) sections sites statements) (sym e)
-    (subst (λ (a : List ℕ). IsWellNumbered (numbered_by t (own_records t) a locals texts) sections sites statements) (sym f)
-    (subst (λ (a : List (List ValueType)). IsWellNumbered (numbered_by t (own_records t) (own_globals t) a texts) sections sites statements) (sym g)
-    (subst (λ (a : List TextView). IsWellNumbered (numbered_by t (own_records t) (own_globals t) (own_locals t) a) sections sites statements) (sym h.texts_are)
+    → lockings ≡ lockings_of t → sections ≡ end.sections → sites ≡ end.sites → statements ≡ end.statements → sections ≤ 256 → sites ≤ 1024 → statements ≤ 4096
+    → IsWellNumbered (numbered_by t records globals locals texts lockings) sections sites statements
+well_numbered t end records globals locals texts lockings sections sites statements h e f g m i j k few_sections few_sites few_statements =
+    subst (λ (a : List (List ValueType)). IsWellNumbered (numbered_by t a globals locals texts lockings) sections sites statements) (sym e)
+    (subst (λ (a : List ℕ). IsWellNumbered (numbered_by t (own_records t) a locals texts lockings) sections sites statements) (sym f)
+    (subst (λ (a : List (List ValueType)). IsWellNumbered (numbered_by t (own_records t) (own_globals t) a texts lockings) sections sites statements) (sym g)
+    (subst (λ (a : List TextView). IsWellNumbered (numbered_by t (own_records t) (own_globals t) (own_locals t) a lockings) sections sites statements) (sym h.texts_are)
+    (subst (λ (a : List Locking). IsWellNumbered (numbered_by t (own_records t) (own_globals t) (own_locals t) (texts_of t) a) sections sites statements) (sym m)
     (subst (λ n. IsWellNumbered (own t) n sites statements) (sym i)
     (subst (λ n. IsWellNumbered (own t) end.sections n statements) (sym j)
     (subst (λ n. IsWellNumbered (own t) end.sections end.sites n) (sym k)
-    (own_parts t end (subst (λ (a : List TextView). IsCounted t a end) h.texts_are h) (omega arith) (omega arith) (omega arith))))))))
+    (own_parts t end (subst (λ (a : List TextView). IsCounted t a end) h.texts_are h) (omega arith) (omega arith) (omega arith)))))))))

@@ -32,7 +32,7 @@ abbrev mutual
   statement_items ls inside (If t a) w = AStatement (TestHead t) ls inside ∷ block_items ls inside a w
   statement_items ls inside (IfElse t a b) w = AStatement (TestHead t) ls inside ∷ block_items ls inside a (block_items ls inside b w)
   statement_items ls inside (While t a) w = AStatement (TestHead t) ls inside ∷ block_items ls inside a w
-  statement_items ls inside (Atomic a) w = AStatement AtomicHead ls inside ∷ block_items ls true a w
+  statement_items ls inside (Atomic l a) w = AStatement AtomicHead ls inside ∷ block_items ls true a w
 
   pub block_items : List Declaration → Bool → BlockView → List Item → List Item
   block_items ls inside End w = w

@@ -18,3 +18,4 @@ pub mod Threads
 pub mod Programs
 pub mod Lists
 pub mod Traces
+pub mod Lockings

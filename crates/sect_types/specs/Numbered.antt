@@ -31,7 +31,7 @@ abbrev mutual
   after_statement c (If t a) = after_block (after_head c (TestHead t)) a
   after_statement c (IfElse t a b) = after_block (after_block (after_head c (TestHead t)) a) b
   after_statement c (While t a) = after_block (after_head c (TestHead t)) a
-  after_statement c (Atomic a) = after_block (after_head c AtomicHead) a
+  after_statement c (Atomic l a) = after_block (after_head c AtomicHead) a
 
   pub after_block : Counts → BlockView → Counts
   after_block c End = c
@@ -45,7 +45,7 @@ abbrev mutual
   numbered_statement s c (IfElse t a b) k =
       Choose (condition_in (test_of s t)) (numbered_block s (after_head c (TestHead t)) a) (numbered_block s (after_block (after_head c (TestHead t)) a) b) k
   numbered_statement s c (While t a) k = Loop (condition_in (test_of s t)) (numbered_block s (after_head c (TestHead t)) a) k
-  numbered_statement s c (Atomic a) k = Section c.sections (numbered_block s (after_head c AtomicHead) a) k
+  numbered_statement s c (Atomic l a) k = Section c.sections (numbered_block s (after_head c AtomicHead) a) k
 
   pub numbered_block : Sight → Counts → BlockView → TextView
   numbered_block s c End = Stop

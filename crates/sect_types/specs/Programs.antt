@@ -5,6 +5,8 @@ use Rattle.sect_types.specs.declared.types.ValueType.{ValueType}
 use Rattle.sect_types.specs.Sight.{names_of_records}
 use Rattle.sect_types.specs.Rules.{Counts}
 use Rattle.sect_types.specs.Statements.{TextView, statement_count, made_in}
+use Rattle.sect_front.specs.declared.tree.Locking.{Locking}
+use Rattle.sect_types.specs.Lockings.{lockings_of}
 use Rattle.sect_types.specs.Numbered.{numbered_threads, after_threads}
 use Rattle.sect_types.specs.Listing.{after_records, fields_fine, globals_known, locals_fine}
 use Rattle.sect_types.specs.Environments.{Environment, field_types, global_records, local_types, IsInRange}
@@ -31,6 +33,7 @@ pub record ProgramView : Type 0 where
   pub globals : List ℕ
   pub locals : List (List ValueType)
   pub texts : List TextView
+  pub lockings : List Locking
 
 -- what the statements of a thread see
 abbrev pub environment_at : ProgramView → ℕ → Environment
@@ -74,6 +77,7 @@ pub record IsOfTree (p : ProgramView) : Type 0 where
   pub globals_are : p.globals ≡ global_records (names_of_records p.source.records) p.source.globals
   pub locals_are : p.locals ≡ local_types (names_of_records p.source.records) p.source.threads
   pub texts_are : p.texts ≡ texts_of p.source
+  pub lockings_are : p.lockings ≡ lockings_of p.source
 
 -- what the tree's typing means for the numbers
 pub record IsWellNumbered (p : ProgramView) (sections sites statements : ℕ) : Type 0 where
@@ -83,12 +87,14 @@ pub record IsWellNumbered (p : ProgramView) (sections sites statements : ℕ) : 
   pub limits : IsWithinLimits p
   pub numbered : AllNumbered 0 p.texts
   pub sited : AllSited (length p.globals) p.texts
+  pub as_many_lockings : length p.lockings ≡ length (sections_of p.texts)
   pub section_count : sections ≡ length (sections_of p.texts)
   pub site_count : sites ≡ length (sites_of p.globals p.texts)
   pub statement_count : statements ≡ total_statements p.texts
 
-abbrev pub numbered_by : TreeView → List (List ValueType) → List ℕ → List (List ValueType) → List TextView → ProgramView
-numbered_by source records globals locals texts = record { source = source; records = records; globals = globals; locals = locals; texts = texts }
+abbrev pub numbered_by : TreeView → List (List ValueType) → List ℕ → List (List ValueType) → List TextView → List Locking → ProgramView
+numbered_by source records globals locals texts lockings =
+    record { source = source; records = records; globals = globals; locals = locals; texts = texts; lockings = lockings }
 
 -- its tree is typed, and the numbers are the tree's
 pub record IsProgram (p : ProgramView) (sections sites statements : ℕ) : Type 0 where

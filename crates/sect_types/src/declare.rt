@@ -7,22 +7,13 @@ ghost use Rattle.sect_types.specs.Rules.{knows_kind as knows, sight, declared_in
 ghost use Rattle.sect_types.specs.Walks.{Walks, rule_in, declared_rule};
 ghost use Rattle.sect_types.specs.Listing.{Knows, after_records, all_known, fields_fine, globals_known};
 
+use crate::limits::{MOST_FIELDS, MOST_GLOBALS, MOST_LOCALS, MOST_RECORDS, MOST_THREADS};
 use crate::names::{NameSet, Names};
 use crate::rule::{Fault, Rule};
 use crate::spot::Spot;
 use sect_front::name::Name;
 use sect_front::tree::{Declaration, GlobalObject, Kind, Record, Thread, Tree};
 use std::alloc::{AllocError, Global};
-
-const MOST_RECORDS: usize = 64;
-
-const MOST_FIELDS: usize = 16;
-
-const MOST_GLOBALS: usize = 256;
-
-const MOST_THREADS: usize = 64;
-
-const MOST_LOCALS: usize = 64;
 
 fn judge_declared(
     names: &Names,

@@ -3,6 +3,8 @@
 
 pub mod action;
 mod declare;
+mod limits;
+mod locking;
 mod names;
 pub mod program;
 mod resolve;

@@ -18,6 +18,8 @@ ghost use Rattle.sect_types.specs.Threads.{AreThreadsSound};
 ghost use Rattle.sect_types.specs.Programs.{IsWellNumbered, IsWithinLimits, AreRecordsThere, IsOfTree, IsCounted, environment_at, numbered_by, sites_of, total_statements};
 
 use crate::declare::{globals, known_records, locals, pass_thread, records};
+use crate::limits::{MOST_SECTIONS, MOST_SITES, MOST_STATEMENTS, MOST_THREADS};
+use crate::locking::lockings;
 use crate::names::{NameSet, Names};
 use crate::rule::{Fault, TypeFault};
 use crate::scope::Scope;
@@ -26,7 +28,7 @@ use crate::spot::Spot;
 use crate::text::Text;
 use crate::types::{Types, field_types, global_records, local_types};
 use crate::walk::walk_block;
-use sect_front::tree::{Thread, Tree};
+use sect_front::tree::{Locking, Thread, Tree};
 use std::alloc::{AllocError, Global};
 use std::marker::Model;
 
@@ -125,9 +127,10 @@ struct Parts {
     globals: Vec<u16>,
     locals: Vec<Types>,
     texts: Vec<Text>,
+    lockings: Vec<Locking>,
     section_count: u16,
     site_count: u16,
-    statement_count: u16,
+    statement_count: u32,
 }
 
 /// What a program keeps beside its tree, once all items have been judged.
@@ -144,17 +147,19 @@ fn number_tree(
     requires locals { locals_fine (names_of_records tree.now.records) tree.now.threads ≡ true }
     requires counted { IsCounted tree.now texts.items spot.now }
     ensures { IfOk result (λ p. IsWellNumbered (numbered_by tree.now
-        p.records.items p.globals.items p.locals.items p.texts.items)
+        p.records.items p.globals.items p.locals.items p.texts.items p.lockings.items)
         p.section_count p.site_count p.statement_count) }
 {
     let records = field_types(alloc, record_names, tree.records())?;
     let globals = global_records(alloc, record_names, tree.globals())?;
     let locals = local_types(alloc, record_names, tree.threads())?;
+    let lockings = lockings(alloc, tree)?;
     Ok(Parts {
         records,
         globals,
         locals,
         texts,
+        lockings,
         section_count: spot.sections(),
         site_count: spot.sites(),
         statement_count: spot.statements(),
@@ -168,7 +173,7 @@ fn judge_tree(alloc: Global, tree: &Tree, spot: &mut Spot) -> Result<Parts, Faul
         (λ w. record_items [] tree.now.records (global_items [] tree.now.globals
         (thread_items [] tree.now.threads w))) spot.old spot.new result }
     ensures parts { IfOk result (λ p. IsWellNumbered (numbered_by tree.now
-        p.records.items p.globals.items p.locals.items p.texts.items)
+        p.records.items p.globals.items p.locals.items p.texts.items p.lockings.items)
         p.section_count p.site_count p.statement_count) }
 {
     let known = known_records(alloc, tree)?;
@@ -196,9 +201,10 @@ pub struct Program {
     globals: Vec<u16>,
     locals: Vec<Types>,
     texts: Vec<Text>,
+    lockings: Vec<Locking>,
     section_count: u16,
     site_count: u16,
-    statement_count: u16,
+    statement_count: u32,
 }
 
 impl Model for Program {
@@ -211,9 +217,9 @@ impl Model for Program {
 
     ghost coded = { Prim.hlevel (codes, block_code, statements_code) };
 
-    ghost view = { λ p. numbered_by p.tree p.records.items p.globals.items p.locals.items p.texts.items };
+    ghost view = { λ p. numbered_by p.tree p.records.items p.globals.items p.locals.items p.texts.items p.lockings.items };
 
-    ghost invariant = { λ p. IsProgram (numbered_by p.tree p.records.items p.globals.items p.locals.items p.texts.items) p.section_count p.site_count p.statement_count };
+    ghost invariant = { λ p. IsProgram (numbered_by p.tree p.records.items p.globals.items p.locals.items p.texts.items p.lockings.items) p.section_count p.site_count p.statement_count };
 }
 
 impl Program {
@@ -235,6 +241,7 @@ impl Program {
         ensures limits { IsWithinLimits self.now }
         ensures sections { AllNumbered 0 self.now.texts }
         ensures sites { AllSited (length self.now.globals) self.now.texts }
+        ensures lockings { length self.now.lockings ≡ length (sections_of self.now.texts) }
     {
         let _ = &self.texts;
     }
@@ -263,7 +270,7 @@ impl Program {
     /// How many threads there are, at most 64.
     pub fn thread_count(&self) -> u16
         ensures count { result ≡ length self.now.texts }
-        ensures few { result ≤ 64 }
+        ensures few { result ≤ MOST_THREADS }
     {
         self.texts.len() as u16
     }
@@ -280,7 +287,7 @@ impl Program {
     /// How many sections there are, at most 256.
     pub fn section_count(&self) -> u16
         ensures count { result ≡ length (sections_of self.now.texts) }
-        ensures few { result ≤ 256 }
+        ensures few { result ≤ MOST_SECTIONS }
     {
         self.section_count
     }
@@ -295,18 +302,26 @@ impl Program {
         find(self.texts.as_slice(), number).unwrap()
     }
 
+    /// Which locks the section of this number takes.
+    pub fn locking(&self, number: u16) -> Locking
+        requires { number < length (sections_of self.now.texts) }
+        ensures { slice_get self.now.lockings number ≡ Some result }
+    {
+        self.lockings[number as usize]
+    }
+
     /// How many sites there are, at most 1024.
     pub fn site_count(&self) -> u16
         ensures count { result ≡ length (sites_of self.now.globals self.now.texts) }
-        ensures few { result ≤ 1024 }
+        ensures few { result ≤ MOST_SITES }
     {
         self.site_count
     }
 
     /// How many statements there are, at most 4096; an `if`, a `while` and a section count too.
-    pub fn statement_count(&self) -> u16
+    pub fn statement_count(&self) -> u32
         ensures count { result ≡ total_statements self.now.texts }
-        ensures few { result ≤ 4096 }
+        ensures few { result ≤ MOST_STATEMENTS }
     {
         self.statement_count
     }
@@ -327,6 +342,7 @@ pub fn check_types(alloc: Global, tree: Tree) -> Result<Program, TypeFault>
         globals: parts.globals,
         locals: parts.locals,
         texts: parts.texts,
+        lockings: parts.lockings,
         section_count: parts.section_count,
         site_count: parts.site_count,
         statement_count: parts.statement_count,

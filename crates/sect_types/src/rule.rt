@@ -25,7 +25,7 @@ pub enum Rule {
 pub enum Fault {
     Memory,
     /// The item of this number, and the least rule that it breaks.
-    Broken(u16, Rule),
+    Broken(u32, Rule),
 }
 
 /// Why a tree has no program. An item is a record, a field, a global, a thread, a local or a statement; items are
@@ -37,22 +37,22 @@ pub enum TypeFault {
     Memory,
     /// The item uses a name that nothing has.
     #[error("10 Unknown item {item}")]
-    Unknown { item: u16 },
+    Unknown { item: u32 },
     /// An earlier declaration has the item's name.
     #[error("11 Twice item {item}")]
-    Twice { item: u16 },
+    Twice { item: u32 },
     /// All names in the item are known, and their types don't agree.
     #[error("12 WrongType item {item}")]
-    WrongType { item: u16 },
+    WrongType { item: u32 },
     /// The item is a load, a store, a `new` or a `print` and stands outside `atomic`.
     #[error("13 SharedOutside item {item}")]
-    SharedOutside { item: u16 },
+    SharedOutside { item: u32 },
     /// The item is an `atomic` inside `atomic`.
     #[error("14 Nested item {item}")]
-    Nested { item: u16 },
+    Nested { item: u32 },
     /// The item is the first of its kind past a limit.
     #[error("15 TooMany item {item}")]
-    TooMany { item: u16 },
+    TooMany { item: u32 },
 }
 
 impl From<AllocError> for Fault {

@@ -4,20 +4,15 @@ ghost use Rattle.std.specs.Prelude.{◌≡◌, ◌+◌, ◌<◌, ◌≤◌, fals
 ghost use Rattle.sect_types.specs.Items.{PrimitiveHead, AtomicHead};
 ghost use Rattle.sect_types.specs.Rules.{full, after_primitive, after_head, place_of};
 
+use crate::limits::{MOST_SECTIONS, MOST_SITES, MOST_STATEMENTS};
 use sect_front::tree::Primitive;
 use std::marker::Model;
-
-const MOST_STATEMENTS: u16 = 4096;
-
-const MOST_SITES: u16 = 1024;
-
-const MOST_SECTIONS: u16 = 256;
 
 /// What stands before the next item: how many declarations, statements, sites and sections.
 #[derive(Drop)]
 pub struct Spot {
-    declared: u16,
-    statements: u16,
+    declared: u32,
+    statements: u32,
     sites: u16,
     sections: u16,
 }
@@ -46,16 +41,16 @@ impl Spot {
     }
 
     /// The number of the next item.
-    pub fn item(&self) -> u16
+    pub fn item(&self) -> u32
         ensures { result ≡ place_of self.now }
     {
         self.declared + self.statements
     }
 
     /// How many statements stand before.
-    pub fn statements(&self) -> u16
+    pub fn statements(&self) -> u32
         ensures count { result ≡ self.now.statements }
-        ensures few { result ≤ 4096 }
+        ensures few { result ≤ MOST_STATEMENTS }
     {
         self.statements
     }
@@ -63,7 +58,7 @@ impl Spot {
     /// How many sites stand before, which is the number of the next one.
     pub fn sites(&self) -> u16
         ensures count { result ≡ self.now.sites }
-        ensures few { result ≤ 1024 }
+        ensures few { result ≤ MOST_SITES }
     {
         self.sites
     }
@@ -71,7 +66,7 @@ impl Spot {
     /// How many sections stand before.
     pub fn sections(&self) -> u16
         ensures count { result ≡ self.now.sections }
-        ensures few { result ≤ 256 }
+        ensures few { result ≤ MOST_SECTIONS }
     {
         self.sections
     }
@@ -88,7 +83,7 @@ impl Spot {
 
     /// Whether an `if` or a `while` passes a limit here.
     pub fn is_full(&self) -> bool
-        ensures { result ≡ nat_le 4096 self.now.statements }
+        ensures { result ≡ nat_le MOST_STATEMENTS self.now.statements }
     {
         self.statements >= MOST_STATEMENTS
     }
@@ -111,7 +106,7 @@ impl Spot {
     /// Passes a global, which is a site too.
     pub fn pass_global(&mut self)
         requires room { self.old.declared < 6000 }
-        requires sites { self.old.sites < 1024 }
+        requires sites { self.old.sites < MOST_SITES }
         ensures { self.new ≡ record self.old {
           declared = self.old.declared + 1;
           sites =
@@ -135,7 +130,7 @@ impl Spot {
 
     /// Passes an `if` or a `while`.
     pub fn pass_test(&mut self)
-        requires { nat_le 4096 self.old.statements ≡ false }
+        requires { nat_le MOST_STATEMENTS self.old.statements ≡ false }
         ensures { self.new ≡ record self.old { statements = self.old.statements + 1 } }
     {
         self.statements += 1;

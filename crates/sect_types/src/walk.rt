@@ -190,7 +190,7 @@ fn walk_statement(
             let body = walk_block(alloc, scope, spot, inside, body)?;
             Ok(Step::While(condition, body))
         }
-        Statement::Atomic(body) => {
+        Statement::Atomic(_, body) => {
             let number = pass_atomic(scope, spot, inside)?;
             let body = walk_block(alloc, scope, spot, true, body)?;
             Ok(Step::Section(number, body))

@@ -1,6 +1,7 @@
 use Rattle.std.proofs.Common.{arith, ap}
 use Rattle.sect_front.specs.Trees.{statement_of, statement_size, block_size}
-use Rattle.sect_types.proofs.Passing.{size_at, kept, ends}
+use Rattle.sect_front.proofs.Bodies.{size_at}
+use Rattle.sect_types.proofs.Passing.{kept, ends}
 use Rattle.sect_types.proofs.walk.+walk.Goals as goal
 
 pub walk_block-walk_statement-requires : goal.walk_block-walk_statement-requires

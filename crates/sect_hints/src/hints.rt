@@ -13,7 +13,7 @@ use crate::globals::names_of;
 use crate::table::Guards;
 use indexmap::IndexSet;
 use sect_front::name::Name;
-use sect_types::program::Program;
+use sect_types::Program;
 use std::alloc::Global;
 
 /// The guard that a lone hint names.

@@ -3,7 +3,7 @@
 use crate::table::Guards;
 use crate::{HintFault, guards};
 use sect_front::parse;
-use sect_types::program::check_types;
+use sect_types::check_types;
 use std::alloc::Global;
 use std::process::Abort;
 use std::test::Fail;

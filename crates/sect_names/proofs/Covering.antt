@@ -68,10 +68,17 @@ includes_antisym right.Make right.Write h k = absurd h
 
 module _ (s : SchemeView) where
   pub covers_refl : (l : Lock) → Covers s l l
+  covers_refl lock.All = tt
   covers_refl (lock.Path p e) = (refl, allows_refl e)
   covers_refl (lock.Class c r) = (refl, includes_refl r)
 
   pub covers_trans : (x y z : Lock) → Covers s x y → Covers s y z → Covers s x z
+  covers_trans lock.All y z h k = tt
+  covers_trans (lock.Path p e) lock.All z h k = absurd h
+  covers_trans (lock.Class c r) lock.All z h k = absurd h
+  covers_trans (lock.Path p e) (lock.Path q f) lock.All h k = absurd k
+  covers_trans (lock.Class c r) (lock.Path q f) lock.All h k = absurd k
+  covers_trans (lock.Class c r) (lock.Class d q) lock.All h k = absurd k
   covers_trans (lock.Path p e) (lock.Path q f) (lock.Path o g) h k = (h.0 ∙ k.0, allows_trans e f g h.1 k.1)
   covers_trans (lock.Path p e) (lock.Path q f) (lock.Class d r) h k = absurd k
   covers_trans (lock.Path p e) (lock.Class c r) z h k = absurd h
@@ -81,6 +88,11 @@ module _ (s : SchemeView) where
   covers_trans (lock.Class c r) (lock.Class d q) (lock.Class e o) h k = (h.0 ∙ k.0, includes_trans r q o h.1 k.1)
 
   pub covers_antisym : (x y : Lock) → Covers s x y → Covers s y x → x ≡ y
+  covers_antisym lock.All lock.All h k = refl
+  covers_antisym lock.All (lock.Path q f) h k = absurd k
+  covers_antisym lock.All (lock.Class d q) h k = absurd k
+  covers_antisym (lock.Path p e) lock.All h k = absurd h
+  covers_antisym (lock.Class c r) lock.All h k = absurd h
   covers_antisym (lock.Path p e) (lock.Path q f) h k = ap (λ o. lock.Path o e) h.0 ∙ ap (lock.Path q) (allows_antisym e f h.1 k.1)
   covers_antisym (lock.Path p e) (lock.Class d r) h k = absurd h
   covers_antisym (lock.Class c r) (lock.Path q f) h k = absurd k

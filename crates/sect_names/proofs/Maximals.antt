@@ -19,20 +19,30 @@ rank (lock.Path p effect.Write) = 1
 rank (lock.Class c right.Read) = 2
 rank (lock.Class c right.Make) = 2
 rank (lock.Class c right.Write) = 3
+rank lock.All = 4
 
-rank-most : (l : Lock) → rank l ≤ 3
+rank-most : (l : Lock) → rank l ≤ 4
 unfolding rank
 rank-most (lock.Path p effect.Read) = omega arith
 rank-most (lock.Path p effect.Write) = omega arith
 rank-most (lock.Class c right.Read) = omega arith
 rank-most (lock.Class c right.Make) = omega arith
 rank-most (lock.Class c right.Write) = omega arith
+rank-most lock.All = omega arith
 
 class_climbs : (c d : ℕ) (r q : Right) → c ≡ d → (lock.Class c r ≡ lock.Class d q → ⊥) → r ≡ q → ⊥
 class_climbs c d r q e n f = n (ap (λ k. lock.Class k r) e ∙ ap (lock.Class d) f)
 
 climbs : (s : SchemeView) (big l : Lock) → Covers s big l → (big ≡ l → ⊥) → rank l < rank big
 unfolding rank
+climbs s lock.All lock.All h n = absurd (n refl)
+climbs s lock.All (lock.Path q effect.Read) h n = omega arith
+climbs s lock.All (lock.Path q effect.Write) h n = omega arith
+climbs s lock.All (lock.Class d right.Read) h n = omega arith
+climbs s lock.All (lock.Class d right.Write) h n = omega arith
+climbs s lock.All (lock.Class d right.Make) h n = omega arith
+climbs s (lock.Path p e) lock.All h n = absurd h
+climbs s (lock.Class c r) lock.All h n = absurd h
 climbs s (lock.Path p effect.Read) (lock.Path q effect.Read) h n = absurd (n (ap (λ o. lock.Path o effect.Read) h.0))
 climbs s (lock.Path p effect.Read) (lock.Path q effect.Write) h n = absurd h.1
 climbs s (lock.Path p effect.Write) (lock.Path q effect.Read) h n = omega arith
@@ -53,9 +63,9 @@ climbs s (lock.Class c right.Write) (lock.Class d right.Read) h n = omega arith
 climbs s (lock.Class c right.Write) (lock.Class d right.Make) h n = omega arith
 climbs s (lock.Class c right.Write) (lock.Class d right.Write) h n = absurd (class_climbs c d right.Write right.Write h.0 n refl)
 
-module _ (s : SchemeView) (given kept : List Lock) (told : (x : Lock) → Has given x → Has kept x ⊎ IsOutdone s given x) where
+module _ (s : SchemeView) (given kept : List Lock) (told : (x : Lock) → Has given x → Has kept x ⊎ IsOutdone s (Has given) x) where
   -- above each lock of the list stands one that is kept
-  covered : (n : ℕ) (l : Lock) → 3 ≤ rank l + n → Has given l → CoveredBy s kept l
+  covered : (n : ℕ) (l : Lock) → 4 ≤ rank l + n → Has given l → CoveredBy s kept l
   covered zero l high h = elim (told l h) [
     | inl k ↦ (l, k, covers_refl s l)
     | inr out ↦ absurd (omega (arith, high, climbs s out.0 l out.2 out.3, rank-most out.0))
@@ -67,12 +77,12 @@ module _ (s : SchemeView) (given kept : List Lock) (told : (x : Lock) → Has gi
         (over.0, over.1, covers_trans s over.0 out.0 l over.2 out.2)
   ]
 
-pub are_maximal : (s : SchemeView) (given kept : List Lock) → ((x : Lock) → Has given x → Has kept x ⊎ IsOutdone s given x) → Makes (λ (x y : Lock). (y ≡ x) × (IsOutdone s given x → ⊥)) given kept → AreInOrder kept → AreMaximal s given kept
+pub are_maximal : (s : SchemeView) (given kept : List Lock) → ((x : Lock) → Has given x → Has kept x ⊎ IsOutdone s (Has given) x) → Makes (λ (x y : Lock). (y ≡ x) × (IsOutdone s (Has given) x → ⊥)) given kept → AreInOrder kept → AreMaximal s (Has given) kept
 are_maximal s given kept told made order = record {
   kept_are = λ l. (
-    λ h. (let m = (made l).0 h in (subst (Has given) (sym m.2.0) m.1, λ out. m.2.1 (subst (IsOutdone s given) m.2.0 out))),
+    λ h. (let m = (made l).0 h in (subst (Has given) (sym m.2.0) m.1, λ out. m.2.1 (subst (IsOutdone s (Has given)) m.2.0 out))),
     λ h. (made l).1 (l, h.0, (refl, h.1)),
   );
-  covering = λ l h. covered s given kept told 3 l (omega arith) h;
+  covering = λ l h. covered s given kept told 4 l (omega arith) h;
   in_order = order;
 }

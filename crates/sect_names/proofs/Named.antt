@@ -13,6 +13,7 @@ use Rattle.sect_names.specs.Printing.{IsNamed, AreNamed}
 
 -- a lock of the program names what is there
 pub named_lock : (s : SchemeView) (l : Lock) → IsLockOf s l → IsNamed s.program l
+named_lock s lock.All is = tt
 named_lock s (lock.Class c r) is = tt
 named_lock s (lock.Path q e) is = is.0
 

@@ -67,6 +67,11 @@ path_level : (p q : Place) → path_cmp p q ≡ Equal → p ≡ q
 path_level p q e = (path_tells p q).0 (path_ties p q ∙ ap is_eq e)
 
 pub lock_before : (l m : Lock) → the_lock_order.cmp l m ≡ Less → LockBefore l m
+lock_before lock.All lock.All h = absurd (true≢false (sym (ap is_lt h)))
+lock_before lock.All (lock.Class d q) h = tt
+lock_before lock.All (lock.Path q f) h = tt
+lock_before (lock.Class c r) lock.All h = absurd (true≢false (sym (ap is_lt h)))
+lock_before (lock.Path p e) lock.All h = absurd (true≢false (sym (ap is_lt h)))
 lock_before (lock.Class c right.Read) (lock.Class d right.Read) e = search rules
 lock_before (lock.Class c right.Read) (lock.Class d right.Write) e = search rules
 lock_before (lock.Class c right.Read) (lock.Class d right.Make) e = search rules

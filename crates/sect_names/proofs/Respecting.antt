@@ -43,6 +43,9 @@ class_covers s c r f q l same grants (n, class, limit) = elim limit [
 ]
 
 pub respects : (s : SchemeView) (t : ℕ) (step : Label) → KeepsItsClass s t step → RespectsCover s t step
+respects s t step keeps l lock.All r covers is = (lock.All, refl, tt)
+respects s t step keeps lock.All (lock.Path q e) r covers is = absurd covers
+respects s t step keeps lock.All (lock.Class d q) r covers is = absurd covers
 respects s t step keeps (lock.Path p f) (lock.Path q e) r (same, allows) (x, before, on) =
     let over = cover_on s e f x r allows on in
     (over.0, (x, subst (λ z. Before s.classes t step z x) (sym same) before, over.1), over.2)

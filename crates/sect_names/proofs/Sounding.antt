@@ -161,5 +161,6 @@ module _ (s : SchemeView) (scheme : IsScheme s) where
 
   -- what a lock of the program is carried back to over a sound step is one too
   pub carried_lock : (t : ℕ) (step : Label) → IsSoundStep s.program t step → (l r : Lock) → IsLockOf s l → CarriedBack s t step l r → IsLockOf s r
+  carried_lock t step sound lock.All r h is = subst (IsLockOf s) (sym is) tt
   carried_lock t step sound (lock.Class c w) r h is = subst (IsLockOf s) (sym is) h
   carried_lock t step sound (lock.Path p e) r h (q, before, on) = lock_on_path e q r (path_there s.program s.classes t step sound p q h.0 before) on

@@ -45,6 +45,11 @@ pub other_variable : (v w : Variable) (b : Bool) → b ≡ the_variable_eq.eq v 
 other_variable v w b e f s = true≢false (sym ((variable_tells v w).1 s) ∙ sym e ∙ f)
 
 pub lock_tells : (l m : Lock) → Decides (the_lock_eq.eq l m) (l ≡ m)
+lock_tells lock.All lock.All = search rules
+lock_tells lock.All (lock.Class d q) = search rules
+lock_tells lock.All (lock.Path q f) = search rules
+lock_tells (lock.Class c r) lock.All = search rules
+lock_tells (lock.Path p e) lock.All = search rules
 lock_tells (lock.Class c r) (lock.Class d q) = search rules
 lock_tells (lock.Class c r) (lock.Path q f) = search rules
 lock_tells (lock.Path p e) (lock.Class d q) = search rules

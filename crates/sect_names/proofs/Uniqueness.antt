@@ -64,6 +64,11 @@ right_once right.Write right.Make a b = b
 right_once right.Make q a b = a
 
 pub lock_once : (l m : Lock) → LockBefore l m → LockBefore m l → ⊥
+lock_once lock.All lock.All a b = a
+lock_once lock.All (lock.Class d q) a b = b
+lock_once lock.All (lock.Path q f) a b = b
+lock_once (lock.Class c r) lock.All a b = a
+lock_once (lock.Path p e) lock.All a b = a
 lock_once (lock.Class c r) (lock.Class d q) (inl a) (inl b) = omega (arith, a, b)
 lock_once (lock.Class c r) (lock.Class d q) (inl a) (inr b) = omega (arith, a, b.0)
 lock_once (lock.Class c r) (lock.Class d q) (inr a) (inl b) = omega (arith, a.0, b)
@@ -98,9 +103,9 @@ same_lists (x ∷ xs) (y ∷ ys) a b to from =
     tail_from first l h (inl e) = let c = subst (LockBefore y) (sym (sym first ∙ e)) (b.0 l h) in absurd (lock_once y y c c)
     tail_from first l h (inr k) = k
 
-module _ (s : SchemeView) (t : ℕ) (body : TextView) where
+module _ (s : SchemeView) (t : ℕ) (last : List Lock) (body : TextView) where
   -- each lock of one least set is in the other
-  within : (xs ys : List Lock) → IsLeast s t body xs → IsLeast s t body ys → (l : Lock) → Has xs l → Has ys l
+  within : (xs ys : List Lock) → IsLeast s t last body xs → IsLeast s t last body ys → (l : Lock) → Has xs l → Has ys l
   within xs ys x y l h =
       let over = x.least ys y.protects l h in
       let back = y.least xs x.protects over.0 over.1 in
@@ -109,5 +114,5 @@ module _ (s : SchemeView) (t : ℕ) (body : TextView) where
       let here = covers_antisym s over.0 back.0 (subst (λ z. Covers s over.0 z) (sym same) over.2) back.2 in
       subst (Has ys) (here ∙ same) over.1
 
-  pub one_least : (xs ys : List Lock) → IsLeast s t body xs → IsLeast s t body ys → AreInOrder xs → AreInOrder ys → xs ≡ ys
+  pub one_least : (xs ys : List Lock) → IsLeast s t last body xs → IsLeast s t last body ys → AreInOrder xs → AreInOrder ys → xs ≡ ys
   one_least xs ys x y a b = same_lists xs ys a b (within xs ys x y) (within ys xs y x)

@@ -115,5 +115,6 @@ LockOn s e p l =
 
 -- what is needed before the step, in thread t, where the first lock is needed after it
 abbrev pub CarriedBack : SchemeView → ℕ → Label → Lock → Lock → Type 0
+CarriedBack s t step lock.All l = l ≡ lock.All
 CarriedBack s t step (lock.Class c r) l = l ≡ lock.Class c r
 CarriedBack s t step (lock.Path p e) l = (q : Place) × Before s.classes t step p q × LockOn s e q l

@@ -35,8 +35,9 @@ abbrev pub IsPathOf : ProgramView → Place → Type 0
 IsPathOf p (var v) = IsVariable p v
 IsPathOf p (dot q f) = IsPathOf p q × IsField p f
 
--- the lock is one of the program's: on a class of its sites, or on a path of at most k fields
+-- the lock is one of the program's: on all, on a class of its sites, or on a path of at most k fields
 abbrev pub IsLockOf : SchemeView → Lock → Type 0
+IsLockOf s lock.All = ⊤
 IsLockOf s (lock.Class c r) = c < length s.classes.numbers
 IsLockOf s (lock.Path p e) = IsPathOf s.program p × (depth p ≤ s.most)
 
@@ -65,6 +66,9 @@ Includes right.Make right.Write = ⊥
 
 -- the first lock covers the second: who holds it may do all that the other allows
 abbrev pub Covers : SchemeView → Lock → Lock → Type 0
+Covers s lock.All l = ⊤
+Covers s (lock.Path p e) lock.All = ⊥
+Covers s (lock.Class c r) lock.All = ⊥
 Covers s (lock.Path p e) (lock.Path q f) = (p ≡ q) × Allows e f
 Covers s (lock.Class c r) (lock.Path q f) = HasClass s.classes q c × Grants r f
 Covers s (lock.Class c r) (lock.Class d q) = (c ≡ d) × Includes r q
@@ -80,6 +84,6 @@ pub record IsCoverOrder (s : SchemeView) : Type 0 where
   pub along : (x y z : Lock) → Covers s x y → Covers s y z → Covers s x z
   pub back : (x y : Lock) → Covers s x y → Covers s y x → x ≡ y
 
--- another lock of the list covers it
-abbrev pub IsOutdone : SchemeView → List Lock → Lock → Type 0
-IsOutdone s locks l = (big : Lock) × Has locks big × Covers s big l × (big ≡ l → ⊥)
+-- another lock with this property covers it
+abbrev pub IsOutdone : SchemeView → (Lock → Type 0) → Lock → Type 0
+IsOutdone s Given l = (big : Lock) × Given big × Covers s big l × (big ≡ l → ⊥)

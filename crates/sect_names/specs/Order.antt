@@ -49,8 +49,13 @@ RightBefore right.Write right.Write = ⊥
 RightBefore right.Write right.Make = ⊤
 RightBefore right.Make r = ⊥
 
--- class locks by class and then by right; then path locks by path and then by effect
+-- the lock on all; class locks by class and then by right; then path locks by path and then by effect
 abbrev pub LockBefore : Lock → Lock → Type 0
+LockBefore lock.All lock.All = ⊥
+LockBefore lock.All (lock.Class d q) = ⊤
+LockBefore lock.All (lock.Path q f) = ⊤
+LockBefore (lock.Class c r) lock.All = ⊥
+LockBefore (lock.Path p e) lock.All = ⊥
 LockBefore (lock.Class c r) (lock.Class d q) = (c < d) ⊎ ((c ≡ d) × RightBefore r q)
 LockBefore (lock.Class c r) (lock.Path p e) = ⊤
 LockBefore (lock.Path p e) (lock.Class c r) = ⊥
@@ -61,8 +66,8 @@ abbrev pub AreInOrder : List Lock → Type 0
 AreInOrder [] = ⊤
 AreInOrder (l ∷ locks) = ((m : Lock) → Has locks m → LockBefore l m) × AreInOrder locks
 
--- these are the locks of a list that no other of them covers, in canonical order; they cover the whole list
-pub record AreMaximal (s : SchemeView) (given kept : List Lock) : Type 0 where
-  pub kept_are : (l : Lock) → Has kept l ↔ (Has given l × (IsOutdone s given l → ⊥))
-  pub covering : (l : Lock) → Has given l → CoveredBy s kept l
+-- these are the locks with a property that no other with it covers, in canonical order; they cover all that have it
+pub record AreMaximal (s : SchemeView) (Given : Lock → Type 0) (kept : List Lock) : Type 0 where
+  pub kept_are : (l : Lock) → Has kept l ↔ (Given l × (IsOutdone s Given l → ⊥))
+  pub covering : (l : Lock) → Given l → CoveredBy s kept l
   pub in_order : AreInOrder kept

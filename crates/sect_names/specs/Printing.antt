@@ -21,6 +21,7 @@ use Rattle.sect_names.specs.Locks.{IsPathOf}
 
 -- what the lock names is there
 abbrev pub IsNamed : ProgramView → Lock → Type 0
+IsNamed p lock.All = ⊤
 IsNamed p (lock.Class c r) = ⊤
 IsNamed p (lock.Path q e) = IsPathOf p q
 
@@ -53,6 +54,7 @@ right_text right.Write = codes "W"
 right_text right.Make = codes "M"
 
 abbrev pub lock_text : TreeView → Lock → List ℕ
+lock_text t lock.All = codes "W all"
 lock_text t (lock.Class c r) = right_text r ++ codes " class " ++ decimal c
 lock_text t (lock.Path p e) = effect_text e ++ codes " " ++ path_text t p
 

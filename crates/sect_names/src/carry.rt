@@ -157,7 +157,7 @@ fn before_store(
 
 impl Scheme {
     /// The locks that are needed before a node of the graph of a thread's section, where this lock is needed after it.
-    /// A class lock stays. A path lock becomes those of the paths that may denote before the node what its path denotes
+    /// The lock on all and class locks stay. A path lock becomes those of the paths that may denote before the node what its path denotes
     /// after it, each the lock of its class where it has more than k fields; a path that has no class needs none.
     pub fn rewrite(
         &self,
@@ -169,7 +169,7 @@ impl Scheme {
         ensures { IfOk result (λ locks. (l : Lock) → Has locks.items l ↔ CarriedBack self.now thread label lock.now l) }
     {
         match lock {
-            Lock::Class(_, _) => {
+            Lock::All | Lock::Class(_, _) => {
                 let mut locks = Vec::new(alloc);
                 locks.push(lock.try_clone()?)?;
                 Ok(locks)

@@ -37,17 +37,20 @@ impl Right {
 }
 
 impl Scheme {
-    /// Whether the lock `big` covers the lock `small`: who holds it may do all that the other allows. A path lock covers
-    /// those of its own path, a class lock those of its class and of the paths of that class.
+    /// Whether the lock `big` covers the lock `small`: who holds it may do all that the other allows. The lock on all
+    /// covers every lock, a path lock those of its own path, a class lock those of its class and of the paths of that
+    /// class.
     pub fn covers(&self, big: &Lock, small: &Lock) -> bool
         ensures { IsTrue result ↔ Covers self.now big.now small.now }
     {
         match big {
+            Lock::All => true,
             Lock::Path(path, effect) => match small {
                 Lock::Path(other, least) => *path == *other && effect.allows(*least),
-                Lock::Class(_, _) => false,
+                Lock::All | Lock::Class(_, _) => false,
             },
             Lock::Class(class, right) => match small {
+                Lock::All => false,
                 Lock::Path(path, effect) => {
                     self.class_of(path) == Some(*class) && right.grants(*effect)
                 }

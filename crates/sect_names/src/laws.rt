@@ -50,8 +50,8 @@ pub fn steps_of_sections()
         → IsSoundStep s.program section.thread x.label × (section.thread < length s.program.locals) }
 {}
 
-/// A section has one least lock set in canonical order.
+/// A section has one least lock set in canonical order, whatever its end generates.
 pub fn least_sets_are_one()
-    ensures { (s : SchemeView) (t : ℕ) (body : TextView) (locks others : List Lock) → IsLeast s t body locks
-        → IsLeast s t body others → AreInOrder locks → AreInOrder others → locks ≡ others }
+    ensures { (s : SchemeView) (t : ℕ) (last : List Lock) (body : TextView) (locks others : List Lock) → IsLeast s t last body locks
+        → IsLeast s t last body others → AreInOrder locks → AreInOrder others → locks ≡ others }
 {}

@@ -20,10 +20,13 @@ pub enum Right {
     Make,
 }
 
-/// A lock: a coarse one on a class, or a fine one on the object of a path. The derived order is the canonical one:
-/// class locks by class, then by right; then path locks by path, then `R` before `W`.
+/// A lock: the one on all objects, a coarse one on a class, or a fine one on the object of a path. The derived order is
+/// the canonical one: the lock on all first; class locks by class, then by right; then path locks by path, then `R`
+/// before `W`.
 #[derive(Drop, PartialEq, Eq, PartialOrd, Ord, Hash)]
 pub enum Lock {
+    /// Allows all on every object: it covers every lock.
+    All,
     Class(u16, Right),
     Path(Path, Effect),
 }
@@ -34,6 +37,7 @@ impl Lock {
         ensures { IfOk result (λ lock. lock ≡ self.now) }
     {
         match self {
+            Lock::All => Ok(Lock::All),
             Lock::Class(class, right) => Ok(Lock::Class(*class, *right)),
             Lock::Path(path, effect) => Ok(Lock::Path(path.try_clone()?, *effect)),
         }

@@ -39,10 +39,10 @@ fn has_write(locks: &IndexSet<Lock>, path: &Path, effect: Effect) -> Result<bool
 }
 
 impl Scheme {
-    /// The locks of a set that no other of them covers, in canonical order: class locks by class, and then to read, to
+    /// The locks of a set that no other of them covers, in canonical order: the lock on all; class locks by class, and then to read, to
     /// write, to make; then path locks by path, one before those that go on from it, and then to read, to write.
     pub fn maximal(&self, alloc: Global, locks: &IndexSet<Lock>) -> Result<Vec<Lock>, AllocError>
-        ensures { IfOk result (λ kept. AreMaximal self.now locks.now.keys kept.items) }
+        ensures { IfOk result (λ kept. AreMaximal self.now (Has locks.now.keys) kept.items) }
     {
         let mut kept = BTreeSet::new(alloc);
         for i in 0..locks.len() {
@@ -56,14 +56,16 @@ impl Scheme {
 
     /// Whether another lock of the set covers this one.
     fn is_outdone(&self, locks: &IndexSet<Lock>, lock: &Lock) -> Result<bool, AllocError>
-        ensures { IfOk result (λ outdone. IsTrue outdone ↔ IsOutdone self.now locks.now.keys lock.now) }
+        ensures { IfOk result (λ outdone. IsTrue outdone ↔ IsOutdone self.now (Has locks.now.keys) lock.now) }
     {
         match lock {
+            Lock::All => Ok(false),
             Lock::Class(class, right) => {
-                Ok(*right != Right::Write && has(locks, &Lock::Class(*class, Right::Write)))
+                let by_write = *right != Right::Write && has(locks, &Lock::Class(*class, Right::Write));
+                Ok(by_write || has(locks, &Lock::All))
             }
             Lock::Path(path, effect) => {
-                let by_class = self.has_class_of(locks, path, *effect);
+                let by_class = self.has_class_of(locks, path, *effect) || has(locks, &Lock::All);
                 Ok(by_class || has_write(locks, path, *effect)?)
             }
         }

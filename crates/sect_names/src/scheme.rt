@@ -38,7 +38,7 @@ pub struct Scheme {
 impl Model for Scheme {
     ghost use Rattle.std.specs.Coded.{codes};
     ghost use Rattle.sect_front.specs.Coding.{block_code};
-    ghost use Rattle.sect_types.specs.Statements.{statements_code};
+    ghost use Rattle.sect_types.specs.Coding.{statements_code};
     ghost use Rattle.sect_names.specs.Schemes.{SchemeView, IsScheme};
 
     ghost Value = { SchemeView };

@@ -60,6 +60,7 @@ pub fn put_lock(text: &mut String, program: &Program, lock: &Lock) -> Result<(),
     ensures { OnOk result (string_bytes text.new ≡ string_bytes text.old ++ lock_text program.now.source lock.now) }
 {
     match lock {
+        Lock::All => text.push_str("W all")?,
         Lock::Class(class, right) => write!(text, "{right} class {class}")?,
         Lock::Path(path, effect) => {
             write!(text, "{effect} ")?;

@@ -10,7 +10,7 @@ ghost use Rattle.sect_points.specs.Statements.{statements_of, IsRoomFor};
 use crate::sets::PointsTo;
 use crate::solving::close;
 use crate::statements::placed_statements;
-use sect_types::program::Program;
+use sect_types::Program;
 use std::alloc::{AllocError, Global};
 
 /// The least sets that are closed under the program's statements, whatever their order: Andersen's inclusions.

@@ -11,9 +11,9 @@ use Rattle.sect_types.specs.declared.rule.TypeFault.{TypeFault}
 use Rattle.sect_types.specs.declared.rule.TypeFault.TheVariants.{Memory}
 use Rattle.sect_types.specs.Faults.{type_fault}
 use Rattle.sect_types.specs.Items.{items, record_items, global_items, thread_items, Item, ARecord, AField, AGlobal, AThread, ALocal, AStatement, PrimitiveHead, TestHead, AtomicHead}
-use Rattle.sect_types.specs.Rules.{Counts, breaks, after, least, rule_of, place_of, judge, unless, Verdict, Fine, Faulty, sight}
+use Rattle.sect_types.specs.Rules.{Counts, breaks, after, least, rule_of, place_of, judge, fault_or, Verdict, Fine, Faulty, sight}
 use Rattle.sect_types.specs.First.{BreaksFrom, number_of_rule, IsFirstFrom, none_yet, IsTyped}
-use Rattle.sect_types.specs.Walks.{Walks}
+use Rattle.sect_types.specs.steps.Walks.{Walks}
 use Rattle.sect_types.specs.declared.rule.Fault.{Fault}
 use Rattle.sect_types.specs.declared.rule.Fault.TheVariants as fault
 
@@ -158,7 +158,7 @@ pub judge_says : (rs : List Record) (gs : List GlobalObject) (c : Counts) (list 
 judge_says rs gs c [] = λ i r h. h
 judge_says rs gs c (item ∷ more) = by (rule_of rs gs c item) (least_is (breaks rs gs c item)) (judge_says rs gs (after c item) more)
   where
-    by : (o : Option Rule) → Least (breaks rs gs c item) o → Says rs gs (after c item) more (judge rs gs (after c item) more) → Says rs gs c (item ∷ more) (unless o (place_of c) (judge rs gs (after c item) more))
+    by : (o : Option Rule) → Least (breaks rs gs c item) o → Says rs gs (after c item) more (judge rs gs (after c item) more) → Says rs gs c (item ∷ more) (fault_or o (place_of c) (judge rs gs (after c item) more))
     by None none rest = later rs gs c item more none (judge rs gs (after c item) more) rest
     by (Some r) (here, least_here) rest = (0, omega arith, record { broken = here; first = λ j q h. omega arith; least = least_here })
 

@@ -19,12 +19,12 @@ use Rattle.sect_types.specs.declared.resolve.Looked.TheVariants as looked
 use Rattle.sect_types.specs.declared.action.Action.{Action}
 use Rattle.sect_types.specs.declared.action.Condition.{Condition}
 use Rattle.sect_types.specs.Sight.{Sight, place, has_name, names_of_records, base_of, operand_of}
-use Rattle.sect_types.specs.Resolve.{right, right_test, same_kind, takes, comparable, assign_of, compute_of, new_of, load_of, store_of, print_of, condition_of, looked_of, primitive_of, test_of}
+use Rattle.sect_types.specs.Resolve.{well_typed, well_typed_test, same_kind, accepts, comparable, assign_of, compute_of, new_of, load_of, store_of, print_of, condition_of, looked_of, primitive_of, test_of}
 use Rattle.sect_front.specs.declared.tree.Record.{Record}
 use Rattle.sect_front.specs.declared.tree.GlobalObject.{GlobalObject}
 use Rattle.sect_types.specs.Items.{PrimitiveHead, TestHead, Item, AStatement}
-use Rattle.sect_types.specs.Rules.{knows_primitive, right_primitive, knows_test, compares, has_field, local_takes, local_is, local_gets, field_takes, is_int, Counts, rule_of, shares, full, after, place_of, judge, unless, Faulty}
-use Rattle.sect_types.specs.Walks.{rule_in, then_rest}
+use Rattle.sect_types.specs.Rules.{knows_primitive, primitive_agrees, knows_test, compares, has_field, local_accepts, local_is, local_gets, field_accepts, is_int, Counts, rule_of, shares, passes_limit, after, place_of, judge, fault_or, Faulty}
+use Rattle.sect_types.specs.steps.Walks.{rule_in, then_rest}
 
 -- 10, else 12, else none
 abbrev pub of_types : Bool → Bool → Option Rule
@@ -32,43 +32,43 @@ of_types false r = Some Unknown
 of_types true true = None
 of_types true false = Some WrongType
 
-right_law : (b : Bool) (a : Action) → rule_in (right b a) ≡ of_types true b
-right_law true a = refl
-right_law false a = refl
+well_typed_law : (b : Bool) (a : Action) → rule_in (well_typed b a) ≡ of_types true b
+well_typed_law true a = refl
+well_typed_law false a = refl
 
-right_test_law : (b : Bool) (c : Condition) → rule_in (right_test b c) ≡ of_types true b
-right_test_law true c = refl
-right_test_law false c = refl
+well_typed_test_law : (b : Bool) (c : Condition) → rule_in (well_typed_test b c) ≡ of_types true b
+well_typed_test_law true c = refl
+well_typed_test_law false c = refl
 
-assign_law : (x : Option Denoted) (v : Option Given) → rule_in (assign_of x v) ≡ of_types (is_some x && is_some v) (local_takes x v)
-assign_law (Some (denoted.Local i k)) (Some v) = right_law (takes k v) _
+assign_law : (x : Option Denoted) (v : Option Given) → rule_in (assign_of x v) ≡ of_types (is_some x && is_some v) (local_accepts x v)
+assign_law (Some (denoted.Local i k)) (Some v) = well_typed_law (accepts k v) _
 assign_law (Some (denoted.Global i r)) (Some v) = refl
 assign_law (Some x) None = refl
 assign_law None v = refl
 
 compute_law : (x : Option Denoted) (v : Option Given) (o : Operator) (w : Option Given) → rule_in (compute_of x v o w) ≡ of_types (is_some x && (is_some v && is_some w)) (local_is x kind.Int && is_int v && is_int w)
-compute_law (Some (denoted.Local i k)) (Some v) o (Some w) = right_law (same_kind k kind.Int && takes kind.Int v && takes kind.Int w) _
+compute_law (Some (denoted.Local i k)) (Some v) o (Some w) = well_typed_law (same_kind k kind.Int && accepts kind.Int v && accepts kind.Int w) _
 compute_law (Some (denoted.Global i r)) (Some v) o (Some w) = refl
 compute_law (Some x) (Some v) o None = refl
 compute_law (Some x) None o w = refl
 compute_law None v o w = refl
 
 new_law : (x : Option Denoted) (r : List ℕ) (n : Option ℕ) (site : ℕ) → rule_in (new_of x r n site) ≡ of_types (is_some x && is_some n) (local_is x (kind.Record r))
-new_law (Some (denoted.Local i k)) r (Some n) site = right_law (same_kind k (kind.Record r)) _
+new_law (Some (denoted.Local i k)) r (Some n) site = well_typed_law (same_kind k (kind.Record r)) _
 new_law (Some (denoted.Global i q)) r (Some n) site = refl
 new_law (Some x) r None site = refl
 new_law None r n site = refl
 
 load_law : (x y : Option Denoted) (f : Looked) → rule_in (load_of x y f) ≡ of_types (is_some x && (is_some y && has_field f)) (local_gets x f)
-load_law (Some (denoted.Local i k)) (Some y) (looked.At f) = right_law (same_kind k f.kind) _
+load_law (Some (denoted.Local i k)) (Some y) (looked.At f) = well_typed_law (same_kind k f.kind) _
 load_law (Some (denoted.Global i q)) (Some y) (looked.At f) = refl
 load_law (Some x) (Some y) looked.OfInt = refl
 load_law (Some x) (Some y) looked.Missing = refl
 load_law (Some x) None f = refl
 load_law None y f = refl
 
-store_law : (y : Option Denoted) (f : Looked) (v : Option Given) → rule_in (store_of y f v) ≡ of_types (is_some y && (has_field f && is_some v)) (field_takes f v)
-store_law (Some y) (looked.At f) (Some v) = right_law (takes f.kind v) _
+store_law : (y : Option Denoted) (f : Looked) (v : Option Given) → rule_in (store_of y f v) ≡ of_types (is_some y && (has_field f && is_some v)) (field_accepts f v)
+store_law (Some y) (looked.At f) (Some v) = well_typed_law (accepts f.kind v) _
 store_law (Some y) looked.OfInt (Some v) = refl
 store_law (Some y) looked.Missing (Some v) = refl
 store_law (Some y) (looked.At f) None = refl
@@ -77,11 +77,11 @@ store_law (Some y) looked.Missing None = refl
 store_law None f v = refl
 
 print_law : (v : Option Given) → rule_in (print_of v) ≡ of_types (is_some v) (is_int v)
-print_law (Some v) = right_law (takes kind.Int v) _
+print_law (Some v) = well_typed_law (accepts kind.Int v) _
 print_law None = refl
 
 condition_law : (v : Option Given) (c : Comparison) (w : Option Given) → rule_in (condition_of v c w) ≡ of_types (is_some v && is_some w) (compares c v w)
-condition_law (Some v) c (Some w) = right_test_law (comparable c v w) _
+condition_law (Some v) c (Some w) = well_typed_test_law (comparable c v w) _
 condition_law (Some v) c None = refl
 condition_law None c w = refl
 
@@ -107,7 +107,7 @@ first_place p (x ∷ xs) = by (p x) (first_place p xs)
 pub placed : (x : List ℕ) (names : List (List ℕ)) → is_some (place x names) ≡ has_name x names
 placed x names = shown (nat_lt (prefix_len (λ y. not (pointwise nat_eq x y)) names) (length names)) _ ∙ first_place (pointwise nat_eq x) names
 
-pub primitive_law : (s : Sight) (site : ℕ) (p : leaf.Primitive) → rule_in (primitive_of s site p) ≡ of_types (knows_primitive s p) (right_primitive s p)
+pub primitive_law : (s : Sight) (site : ℕ) (p : leaf.Primitive) → rule_in (primitive_of s site p) ≡ of_types (knows_primitive s p) (primitive_agrees s p)
 primitive_law s site (primitive.Assign x v) = assign_law (base_of s x) (operand_of s v)
 primitive_law s site (primitive.Compute x v o w) = compute_law (base_of s x) (operand_of s v) o (operand_of s w)
 primitive_law s site (primitive.New x r) =
@@ -127,21 +127,21 @@ least_law true false o m = refl
 
 -- a plain statement
 pub primitive_rule : (s : Sight) (c : Counts) (inside : Bool) (p : leaf.Primitive)
-    → rule_of s.records s.globals c (AStatement (PrimitiveHead p) s.locals inside) ≡ then_rest (rule_in (primitive_of s c.sites p)) (shares (PrimitiveHead p) && not inside) (full c (PrimitiveHead p))
+    → rule_of s.records s.globals c (AStatement (PrimitiveHead p) s.locals inside) ≡ then_rest (rule_in (primitive_of s c.sites p)) (shares (PrimitiveHead p) && not inside) (passes_limit c (PrimitiveHead p))
 primitive_rule s c inside p =
-    least_law (knows_primitive s p) (right_primitive s p) (shares (PrimitiveHead p) && not inside) (full c (PrimitiveHead p))
-    ∙ ap (λ r. then_rest r (shares (PrimitiveHead p) && not inside) (full c (PrimitiveHead p))) (sym (primitive_law s c.sites p))
+    least_law (knows_primitive s p) (primitive_agrees s p) (shares (PrimitiveHead p) && not inside) (passes_limit c (PrimitiveHead p))
+    ∙ ap (λ r. then_rest r (shares (PrimitiveHead p) && not inside) (passes_limit c (PrimitiveHead p))) (sym (primitive_law s c.sites p))
 
 -- a test
 pub test_rule : (s : Sight) (c : Counts) (inside : Bool) (t : Test)
-    → rule_of s.records s.globals c (AStatement (TestHead t) s.locals inside) ≡ then_rest (rule_in (test_of s t)) false (full c (TestHead t))
+    → rule_of s.records s.globals c (AStatement (TestHead t) s.locals inside) ≡ then_rest (rule_in (test_of s t)) false (passes_limit c (TestHead t))
 test_rule s c inside t =
-    least_law (knows_test s t) (compares t.comparison (operand_of s t.left) (operand_of s t.right)) false (full c (TestHead t))
-    ∙ ap (λ r. then_rest r false (full c (TestHead t))) (sym (test_law s t))
+    least_law (knows_test s t) (compares t.comparison (operand_of s t.left) (operand_of s t.right)) false (passes_limit c (TestHead t))
+    ∙ ap (λ r. then_rest r false (passes_limit c (TestHead t))) (sym (test_law s t))
 
 -- an item that breaks nothing is passed, and another is the fault
 pub passed : (rs : List Record) (gs : List GlobalObject) (c d : Counts) (item : Item) → rule_of rs gs c item ≡ None → d ≡ after c item → (w : List Item) → judge rs gs c (item ∷ w) ≡ judge rs gs d w
-passed rs gs c d item e f w = ap (λ r. unless r (place_of c) (judge rs gs (after c item) w)) e ∙ ap (λ x. judge rs gs x w) (sym f)
+passed rs gs c d item e f w = ap (λ r. fault_or r (place_of c) (judge rs gs (after c item) w)) e ∙ ap (λ x. judge rs gs x w) (sym f)
 
 pub faulty : (rs : List Record) (gs : List GlobalObject) (c : Counts) (item : Item) (i : ℕ) (r : Rule) → rule_of rs gs c item ≡ Some r → i ≡ place_of c → (w : List Item) → judge rs gs c (item ∷ w) ≡ Faulty i r
-faulty rs gs c item i r e f w = ap (λ x. unless x (place_of c) (judge rs gs (after c item) w)) e ∙ ap (λ j. Faulty j r) (sym f)
+faulty rs gs c item i r e f w = ap (λ x. fault_or x (place_of c) (judge rs gs (after c item) w)) e ∙ ap (λ j. Faulty j r) (sym f)

@@ -6,7 +6,7 @@ use Rattle.sect_front.specs.Syntax.{StatementView, Primitive, If, IfElse, While,
 use Rattle.sect_types.specs.Items.{TestHead, AtomicHead}
 use Rattle.sect_types.specs.Rules.{Counts, after_head}
 use Rattle.sect_types.specs.Numbered.{after_statement, after_block}
-use Rattle.sect_types.specs.Listing.{after_records}
+use Rattle.sect_types.specs.Numbered.{after_records}
 
 mutual
   form_keeps : (f : StatementView) (c : Counts) → (after_statement c f).declared ≡ c.declared

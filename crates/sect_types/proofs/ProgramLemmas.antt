@@ -17,12 +17,14 @@ use Rattle.sect_types.specs.Sight.{names_of_records, has_name, place}
 use Rattle.sect_types.specs.Rules.{Counts, sight, knows_kind}
 use Rattle.sect_types.specs.Statements.{TextView, section_bodies, made_in}
 use Rattle.sect_types.specs.Numbered.{numbered_block, within_thread, after_thread, after_threads, numbered_threads}
-use Rattle.sect_types.specs.Listing.{after_records, all_known, fields_fine, locals_fine, globals_known}
+use Rattle.sect_types.specs.Numbered.{after_records}
+use Rattle.sect_types.specs.steps.Listing.{all_known, fields_fine, locals_fine, globals_known}
 use Rattle.sect_types.specs.Environments.{record_number, type_of, types_of, field_types, global_records, local_types, environment, IsInRange}
-use Rattle.sect_types.specs.Threads.{AreThreadsSound}
+use Rattle.sect_types.specs.steps.Threads.{AreThreadsSound}
 use Rattle.sect_types.specs.Sections.{SectionView, sections_from, sections_of, AllNumbered, AllSited}
 use Rattle.sect_types.specs.First.{none_yet}
-use Rattle.sect_types.specs.Programs.{ProgramView, numbered_by, before_threads, texts_of, total_statements, all_made, sites_of, IsWellNumbered, IsCounted}
+use Rattle.sect_types.specs.Programs.{ProgramView, numbered_by, before_threads, texts_of, total_statements, all_made, sites_of, IsWellNumbered}
+use Rattle.sect_types.specs.steps.Counted.{IsCounted}
 use Rattle.sect_types.proofs.SoundLemmas.{both, place_within}
 use Rattle.sect_types.proofs.Keeps.{records_keep}
 use Rattle.sect_front.specs.declared.tree.Locking.{Locking}

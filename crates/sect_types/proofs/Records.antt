@@ -9,8 +9,9 @@ use Rattle.sect_types.specs.declared.rule.Fault.TheVariants as fault
 use Rattle.sect_types.specs.Sight.{Sight, names_of_records, names_of_declared, all_fields}
 use Rattle.sect_types.specs.Items.{Item, ARecord, field_items, record_items}
 use Rattle.sect_types.specs.Rules.{Counts, judge}
-use Rattle.sect_types.specs.Walks.{Walks}
-use Rattle.sect_types.specs.Listing.{AreRecords, after_records, all_known, fields_fine}
+use Rattle.sect_types.specs.steps.Walks.{Walks}
+use Rattle.sect_types.specs.Numbered.{after_records}
+use Rattle.sect_types.specs.steps.Listing.{AreRecords, all_known, fields_fine}
 
 pub both_true : (a b : Bool) → a ≡ true → b ≡ true → (a && b) ≡ true
 both_true a b e h = cc

@@ -7,7 +7,7 @@ use Rattle.std.proofs.lemmas.Bool.Decides.{nat_tests}
 use Rattle.sect_types.specs.Statements.{TextView, Stop, Do, Choose, Loop, Section as TheSection, section_body, section_bodies}
 use Rattle.sect_types.specs.Sections.{SectionView, sections_from, sections_of, AreNumbered, AllNumbered, found_in, section_from}
 use Rattle.sect_types.specs.declared.section.Section.{Section}
-use Rattle.sect_types.specs.Found.{section_shown, section_in}
+use Rattle.sect_types.specs.steps.Found.{section_shown, section_in}
 
 -- what is found in the first list, and else in the second, is found in both together
 append_at : {A : Type 0} (xs ys : List A) (h : ℕ → Option A) (m j : ℕ) → ((i : ℕ) → h (m + length xs + i) ≡ slice_get ys i)

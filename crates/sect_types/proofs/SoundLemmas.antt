@@ -34,7 +34,7 @@ use Rattle.sect_types.specs.declared.action.Action.{Action}
 use Rattle.sect_types.specs.declared.action.Action.TheVariants as action
 use Rattle.sect_types.specs.declared.action.Condition.{Condition}
 use Rattle.sect_types.specs.Sight.{Sight, given_by, same_name, base_of, operand_of, kind_of, local_at, local_with, global_at, global_with, or_else, place, names_of_declared, names_of_globals, names_of_records, field_with, field_at, field_in, field_of, field_of_number}
-use Rattle.sect_types.specs.Resolve.{right, right_test, same_kind, is_reference, takes, alike, comparable, base_by, value_at, value_by, assign_of, compute_of, new_of, load_at, load_of, store_at, store_of, print_of, condition_of, field_looked, looked_in, looked_of, primitive_of, test_of}
+use Rattle.sect_types.specs.Resolve.{well_typed, well_typed_test, same_kind, is_reference, accepts, of_one_kind, comparable, base_by, value_at, value_by, assign_of, compute_of, new_of, load_at, load_of, store_at, store_of, print_of, condition_of, field_looked, looked_in, looked_of, primitive_of, test_of}
 use Rattle.sect_types.specs.Items.{PrimitiveHead}
 use Rattle.sect_types.specs.Rules.{shares}
 use Rattle.sect_types.specs.Environments.{Environment, environment, record_number, type_of, types_of}
@@ -105,13 +105,13 @@ denoted_has s (denoted.Global g r) t h = h
 base_has : (s : Sight) (k : Kind) (d : Denoted) → IsThere s d → same_kind k (kind_of d) ≡ true → HasType (environment s) (value_at d) (type_of (names_of_records s.records) k)
 base_has s k d h e = denoted_has s d (type_of (names_of_records s.records) k) (h ∙ ap Some (sym (same_types (names_of_records s.records) k (kind_of d) e)))
 
-takes_has : (s : Sight) (k : Kind) (v : Given) → IsGiven s v → takes k v ≡ true → HasType (environment s) (value_by v) (type_of (names_of_records s.records) k)
-takes_has s kind.Int (given.Number n) h e = tt
-takes_has s kind.Int given.Null h e = absurd (true≢false (sym e))
-takes_has s (kind.Record r) (given.Number n) h e = absurd (true≢false (sym e))
-takes_has s (kind.Record r) given.Null h e = tt
-takes_has s kind.Int (given.Base d) h e = base_has s kind.Int d h e
-takes_has s (kind.Record r) (given.Base d) h e = base_has s (kind.Record r) d h e
+accepts_has : (s : Sight) (k : Kind) (v : Given) → IsGiven s v → accepts k v ≡ true → HasType (environment s) (value_by v) (type_of (names_of_records s.records) k)
+accepts_has s kind.Int (given.Number n) h e = tt
+accepts_has s kind.Int given.Null h e = absurd (true≢false (sym e))
+accepts_has s (kind.Record r) (given.Number n) h e = absurd (true≢false (sym e))
+accepts_has s (kind.Record r) given.Null h e = tt
+accepts_has s kind.Int (given.Base d) h e = base_has s kind.Int d h e
+accepts_has s (kind.Record r) (given.Base d) h e = base_has s (kind.Record r) d h e
 
 pub both : (a b : Bool) → (a && b) ≡ true → (a ≡ true) × (b ≡ true)
 both true true e = (refl, refl)
@@ -122,25 +122,25 @@ both false b e = absurd (true≢false (sym e))
 abbrev Fits : Environment → Bool → Action → Type 0
 Fits e b a = IsSoundAction e a × (is_shared a ≡ b)
 
-right_sound : (e : Environment) (b : Bool) (c : Bool) (a : Action) → (c ≡ true → Fits e b a) → IfOk (right c a) (Fits e b)
-right_sound e b true a h = h refl
-right_sound e b false a h = tt
+well_typed_sound : (e : Environment) (b : Bool) (c : Bool) (a : Action) → (c ≡ true → Fits e b a) → IfOk (well_typed c a) (Fits e b)
+well_typed_sound e b true a h = h refl
+well_typed_sound e b false a h = tt
 
 assign_sound : (s : Sight) (x : Option Denoted) (v : Option Given) → IfSome x (IsThere s) → IfSome v (IsGiven s) → IfOk (assign_of x v) (Fits (environment s) false)
-assign_sound s (Some (denoted.Local i k)) (Some v) p q = right_sound (environment s) false (takes k v) _ (λ e. ((type_of (names_of_records s.records) k, p, takes_has s k v q e), refl))
+assign_sound s (Some (denoted.Local i k)) (Some v) p q = well_typed_sound (environment s) false (accepts k v) _ (λ e. ((type_of (names_of_records s.records) k, p, accepts_has s k v q e), refl))
 assign_sound s (Some (denoted.Global i r)) (Some v) p q = tt
 assign_sound s (Some x) None p q = tt
 assign_sound s None v p q = tt
 
 compute_sound : (s : Sight) (x : Option Denoted) (v : Option Given) (o : Operator) (w : Option Given) → IfSome x (IsThere s) → IfSome v (IsGiven s) → IfSome w (IsGiven s)
     → IfOk (compute_of x v o w) (Fits (environment s) false)
-compute_sound s (Some (denoted.Local i k)) (Some v) o (Some w) p q r = right_sound (environment s) false (same_kind k kind.Int && takes kind.Int v && takes kind.Int w) _ by
+compute_sound s (Some (denoted.Local i k)) (Some v) o (Some w) p q r = well_typed_sound (environment s) false (same_kind k kind.Int && accepts kind.Int v && accepts kind.Int w) _ by
   where
-    by : (same_kind k kind.Int && takes kind.Int v && takes kind.Int w) ≡ true → Fits (environment s) false (action.Compute i (value_by v) o (value_by w))
+    by : (same_kind k kind.Int && accepts kind.Int v && accepts kind.Int w) ≡ true → Fits (environment s) false (action.Compute i (value_by v) o (value_by w))
     by e =
-        let first = both (same_kind k kind.Int && takes kind.Int v) (takes kind.Int w) e in
-        let second = both (same_kind k kind.Int) (takes kind.Int v) first.0 in
-        ((p ∙ ap Some (same_types (names_of_records s.records) k kind.Int second.0), takes_has s kind.Int v q second.1, takes_has s kind.Int w r first.1), refl)
+        let first = both (same_kind k kind.Int && accepts kind.Int v) (accepts kind.Int w) e in
+        let second = both (same_kind k kind.Int) (accepts kind.Int v) first.0 in
+        ((p ∙ ap Some (same_types (names_of_records s.records) k kind.Int second.0), accepts_has s kind.Int v q second.1, accepts_has s kind.Int w r first.1), refl)
 compute_sound s (Some (denoted.Global i t)) (Some v) o (Some w) p q r = tt
 compute_sound s (Some x) (Some v) o None p q r = tt
 compute_sound s (Some x) None o w p q r = tt
@@ -176,7 +176,7 @@ load_field : (s : Sight) (x y : Denoted) (r : ℕ) (o : Option FieldAt) → IsTh
     → IfOk (load_at x y (field_looked o)) (Fits (environment s) true)
 load_field s x y r None p q h = tt
 load_field s (denoted.Local i k) y r (Some f) p q (there, number) =
-    right_sound (environment s) true (same_kind k f.kind) _
+    well_typed_sound (environment s) true (same_kind k f.kind) _
     (λ e. ((type_of (names_of_records s.records) f.kind, q ∙ ap (λ n. Some (Refers n)) (sym number), there, p ∙ ap Some (same_types (names_of_records s.records) k f.kind e)), refl))
 load_field s (denoted.Global g t) y r (Some f) p q h = tt
 
@@ -195,8 +195,8 @@ store_field : (s : Sight) (y : Denoted) (r : ℕ) (o : Option FieldAt) (v : Give
     → IfOk (store_at y (field_looked o) v) (Fits (environment s) true)
 store_field s y r None v q h g = tt
 store_field s y r (Some f) v q (there, number) g =
-    right_sound (environment s) true (takes f.kind v) _
-    (λ e. ((type_of (names_of_records s.records) f.kind, q ∙ ap (λ n. Some (Refers n)) (sym number), there, takes_has s f.kind v g e), refl))
+    well_typed_sound (environment s) true (accepts f.kind v) _
+    (λ e. ((type_of (names_of_records s.records) f.kind, q ∙ ap (λ n. Some (Refers n)) (sym number), there, accepts_has s f.kind v g e), refl))
 
 store_kind : (s : Sight) (y : Denoted) (f : List ℕ) (k : Kind) (v : Given) → type_at (environment s) (base_by y) ≡ Some (type_of (names_of_records s.records) k) → IsGiven s v
     → IfOk (store_at y (looked_in s k f) v) (Fits (environment s) true)
@@ -219,7 +219,7 @@ place_within x names k h = within (nat_lt (prefix_len (λ y. not (pointwise nat_
 new_sound : (s : Sight) (x : Option Denoted) (r : List ℕ) (n : Option ℕ) (site : ℕ) → place r (names_of_records s.records) ≡ n → IfSome x (IsThere s)
     → IfOk (new_of x r n site) (Fits (environment s) true)
 new_sound s (Some (denoted.Local i k)) r (Some n) site e p =
-    right_sound (environment s) true (same_kind k (kind.Record r)) _
+    well_typed_sound (environment s) true (same_kind k (kind.Record r)) _
     (λ h. ((in_range, p ∙ (ap Some (same_types (names_of_records s.records) k (kind.Record r) h) ∙ ap (λ o. Some (Refers (unwrap_or o 0))) e)), refl))
   where
     in_range : n < length (environment s).records
@@ -230,7 +230,7 @@ new_sound s (Some x) r None site e p = tt
 new_sound s None r n site e p = tt
 
 print_sound : (s : Sight) (v : Option Given) → IfSome v (IsGiven s) → IfOk (print_of v) (Fits (environment s) true)
-print_sound s (Some v) q = right_sound (environment s) true (takes kind.Int v) _ (λ e. (takes_has s kind.Int v q e, refl))
+print_sound s (Some v) q = well_typed_sound (environment s) true (accepts kind.Int v) _ (λ e. (accepts_has s kind.Int v q e, refl))
 print_sound s None q = tt
 
 -- a statement by number is sound, and touches shared things exactly where it does by name
@@ -243,37 +243,37 @@ primitive_sound s site (primitive.Load x y f) = load_sound s (base_of s x) (base
 primitive_sound s site (primitive.Store y f v) = store_sound s (base_of s y) f (operand_of s v) (base_there s y) (operand_there s v)
 primitive_sound s site (primitive.Print v) = print_sound s (operand_of s v) (operand_there s v)
 
-right_test_sound : (e : Environment) (b : Bool) (c : Condition) → (b ≡ true → IsSoundCondition e c) → IfOk (right_test b c) (IsSoundCondition e)
-right_test_sound e true c h = h refl
-right_test_sound e false c h = tt
+well_typed_test_sound : (e : Environment) (b : Bool) (c : Condition) → (b ≡ true → IsSoundCondition e c) → IfOk (well_typed_test b c) (IsSoundCondition e)
+well_typed_test_sound e true c h = h refl
+well_typed_test_sound e false c h = tt
 
 -- two operands of which either may be set to the other have one type
-alike_have : (s : Sight) (v w : Given) → IsGiven s v → IsGiven s w → alike v w ≡ true
+of_one_kind_have : (s : Sight) (v w : Given) → IsGiven s v → IsGiven s w → of_one_kind v w ≡ true
     → (t : ValueType) × HasType (environment s) (value_by v) t × HasType (environment s) (value_by w) t
-alike_have s (given.Number n) w p q e = (Int, tt, takes_has s kind.Int w q e)
-alike_have s given.Null (given.Number n) p q e = absurd (true≢false (sym e))
-alike_have s given.Null given.Null p q e = (Refers 0, tt, tt)
-alike_have s given.Null (given.Base d) p q e = by (kind_of d) q e
+of_one_kind_have s (given.Number n) w p q e = (Int, tt, accepts_has s kind.Int w q e)
+of_one_kind_have s given.Null (given.Number n) p q e = absurd (true≢false (sym e))
+of_one_kind_have s given.Null given.Null p q e = (Refers 0, tt, tt)
+of_one_kind_have s given.Null (given.Base d) p q e = by (kind_of d) q e
   where
     by : (k : Kind) → type_at (environment s) (base_by d) ≡ Some (type_of (names_of_records s.records) k) → is_reference k ≡ true
         → (t : ValueType) × HasType (environment s) (value_by given.Null) t × HasType (environment s) (value_at d) t
     by kind.Int h g = absurd (true≢false (sym g))
     by (kind.Record r) h g = (Refers (record_number (names_of_records s.records) r), tt, denoted_has s d _ h)
-alike_have s (given.Base d) w p q e = (type_of (names_of_records s.records) (kind_of d), denoted_has s d _ p, takes_has s (kind_of d) w q e)
+of_one_kind_have s (given.Base d) w p q e = (type_of (names_of_records s.records) (kind_of d), denoted_has s d _ p, accepts_has s (kind_of d) w q e)
 
-integers_have : (s : Sight) (v w : Given) → IsGiven s v → IsGiven s w → (takes kind.Int v && takes kind.Int w) ≡ true
+integers_have : (s : Sight) (v w : Given) → IsGiven s v → IsGiven s w → (accepts kind.Int v && accepts kind.Int w) ≡ true
     → HasType (environment s) (value_by v) Int × HasType (environment s) (value_by w) Int
-integers_have s v w p q e = let h = both (takes kind.Int v) (takes kind.Int w) e in (takes_has s kind.Int v p h.0, takes_has s kind.Int w q h.1)
+integers_have s v w p q e = let h = both (accepts kind.Int v) (accepts kind.Int w) e in (accepts_has s kind.Int v p h.0, accepts_has s kind.Int w q h.1)
 
 comparable_have : (s : Sight) (c : Comparison) (v w : Given) → IsGiven s v → IsGiven s w → comparable c v w ≡ true → AreComparable (environment s) c (value_by v) (value_by w)
-comparable_have s comparison.Equal v w p q e = alike_have s v w p q e
-comparable_have s comparison.NotEqual v w p q e = alike_have s v w p q e
+comparable_have s comparison.Equal v w p q e = of_one_kind_have s v w p q e
+comparable_have s comparison.NotEqual v w p q e = of_one_kind_have s v w p q e
 comparable_have s comparison.Less v w p q e = integers_have s v w p q e
 comparable_have s comparison.LessOrEqual v w p q e = integers_have s v w p q e
 
 condition_sound : (s : Sight) (v : Option Given) (c : Comparison) (w : Option Given) → IfSome v (IsGiven s) → IfSome w (IsGiven s)
     → IfOk (condition_of v c w) (IsSoundCondition (environment s))
-condition_sound s (Some v) c (Some w) p q = right_test_sound (environment s) (comparable c v w) _ (comparable_have s c v w p q)
+condition_sound s (Some v) c (Some w) p q = well_typed_test_sound (environment s) (comparable c v w) _ (comparable_have s c v w p q)
 condition_sound s (Some v) c None p q = tt
 condition_sound s None c w p q = tt
 

@@ -11,11 +11,11 @@ use Rattle.sect_types.specs.declared.rule.Fault.TheVariants as fault
 use Rattle.sect_types.specs.Sight.{Sight, names_of_records}
 use Rattle.sect_types.specs.Items.{Item, AThread, local_items, block_items, thread_items}
 use Rattle.sect_types.specs.Rules.{Counts, judge, sight}
-use Rattle.sect_types.specs.Walks.{Walks}
+use Rattle.sect_types.specs.steps.Walks.{Walks}
 use Rattle.sect_types.specs.Statements.{TextView}
 use Rattle.sect_types.specs.Numbered.{numbered_block, within_thread, after_thread, numbered_threads, after_threads}
-use Rattle.sect_types.specs.Threads.{AreThreads, AreThreadsSound}
-use Rattle.sect_types.specs.Listing.{all_known, locals_fine}
+use Rattle.sect_types.specs.steps.Threads.{AreThreads, AreThreadsSound}
+use Rattle.sect_types.specs.steps.Listing.{all_known, locals_fine}
 use Rattle.sect_types.specs.Environments.{environment}
 use Rattle.sect_types.specs.Sound.{IsSound}
 use Rattle.sect_types.proofs.Records.{both_true, at_most}

@@ -51,6 +51,11 @@ abbrev mutual
   numbered_block s c End = Stop
   numbered_block s c (Then f b) = numbered_statement s c f (numbered_block s (after_statement c f) b)
 
+-- what stands before the next declaration after these records
+abbrev pub after_records : Counts → List Record → Counts
+after_records c [] = c
+after_records c (r ∷ rs) = after_records (record c { declared = c.declared + 1 + length r.fields }) rs
+
 -- where a thread's statements begin, and where the thread ends
 abbrev pub within_thread : Counts → Thread → Counts
 within_thread c t = record c { declared = c.declared + 1 + length t.locals }

@@ -1,17 +1,16 @@
 -- Programs.
 use Rattle.std.specs.Prelude.{◌≡◌, ◌≤◌, ◌<◌, ℕ, ◌+◌, List, [], ◌∷◌, ◌++◌, true, length, All, slice_index_or}
 use Rattle.sect_front.specs.TreeView.{TreeView}
+use Rattle.sect_types.specs.declared.limits.TheConstants.{MOST_RECORDS, MOST_FIELDS, MOST_GLOBALS, MOST_THREADS, MOST_LOCALS, MOST_STATEMENTS, MOST_SITES, MOST_SECTIONS}
 use Rattle.sect_types.specs.declared.types.ValueType.{ValueType}
 use Rattle.sect_types.specs.Sight.{names_of_records}
 use Rattle.sect_types.specs.Rules.{Counts}
 use Rattle.sect_types.specs.Statements.{TextView, statement_count, made_in}
 use Rattle.sect_front.specs.declared.tree.Locking.{Locking}
 use Rattle.sect_types.specs.Lockings.{lockings_of}
-use Rattle.sect_types.specs.Numbered.{numbered_threads, after_threads}
-use Rattle.sect_types.specs.Listing.{after_records, fields_fine, globals_known, locals_fine}
+use Rattle.sect_types.specs.Numbered.{after_records, numbered_threads, after_threads}
 use Rattle.sect_types.specs.Environments.{Environment, field_types, global_records, local_types, IsInRange}
 use Rattle.sect_types.specs.Sound.{AreSound}
-use Rattle.sect_types.specs.Threads.{AreThreadsSound}
 use Rattle.sect_types.specs.Sections.{sections_of, AllNumbered, AllSited}
 use Rattle.sect_types.specs.First.{none_yet, IsTyped}
 
@@ -26,7 +25,7 @@ abbrev pub texts_of : TreeView → List TextView
 texts_of t = numbered_threads t.records t.globals (before_threads t) t.threads
 
 -- a program: its tree; the types of the fields of each record; the record of each global; the types of the locals of
--- each thread; the text of each thread
+-- each thread; the text of each thread; which locks each section takes
 pub record ProgramView : Type 0 where
   pub source : TreeView
   pub records : List (List ValueType)
@@ -55,15 +54,15 @@ sites_of globals texts = globals ++ all_made texts
 
 -- the counts are within the limits
 pub record IsWithinLimits (p : ProgramView) : Type 0 where
-  pub few_records : length p.records ≤ 64
-  pub few_fields : All (λ (ts : List ValueType). length ts ≤ 16) p.records
-  pub few_globals : length p.globals ≤ 256
-  pub few_threads : length p.texts ≤ 64
+  pub few_records : length p.records ≤ MOST_RECORDS
+  pub few_fields : All (λ (ts : List ValueType). length ts ≤ MOST_FIELDS) p.records
+  pub few_globals : length p.globals ≤ MOST_GLOBALS
+  pub few_threads : length p.texts ≤ MOST_THREADS
   pub as_many : length p.locals ≡ length p.texts
-  pub few_locals : All (λ (ts : List ValueType). length ts ≤ 64) p.locals
-  pub few_statements : total_statements p.texts ≤ 4096
-  pub few_sections : length (sections_of p.texts) ≤ 256
-  pub few_sites : length (sites_of p.globals p.texts) ≤ 1024
+  pub few_locals : All (λ (ts : List ValueType). length ts ≤ MOST_LOCALS) p.locals
+  pub few_statements : total_statements p.texts ≤ MOST_STATEMENTS
+  pub few_sections : length (sections_of p.texts) ≤ MOST_SECTIONS
+  pub few_sites : length (sites_of p.globals p.texts) ≤ MOST_SITES
 
 -- each reference has its record
 pub record AreRecordsThere (p : ProgramView) : Type 0 where
@@ -100,15 +99,3 @@ numbered_by source records globals locals texts lockings =
 pub record IsProgram (p : ProgramView) (sections sites statements : ℕ) : Type 0 where
   pub typed : IsTyped p.source
   pub numbers : IsWellNumbered p sections sites statements
-
--- what a walk through all items has told: the counts at its end, the texts, and that all is few and known
-pub record IsCounted (t : TreeView) (texts : List TextView) (end : Counts) : Type 0 where
-  pub texts_are : texts ≡ texts_of t
-  pub sound : AreThreadsSound t.records t.globals t.threads texts
-  pub end_is : end ≡ after_threads (before_threads t) t.threads
-  pub few_records : length t.records ≤ 64
-  pub fine_fields : fields_fine (names_of_records t.records) t.records ≡ true
-  pub few_globals : length t.globals ≤ 256
-  pub known_globals : globals_known (names_of_records t.records) t.globals ≡ true
-  pub few_threads : length t.threads ≤ 64
-  pub fine_locals : locals_fine (names_of_records t.records) t.threads ≡ true

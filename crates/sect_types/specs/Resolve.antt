@@ -37,26 +37,26 @@ is_reference kind.Int = false
 is_reference (kind.Record r) = true
 
 -- a place of that kind can hold it
-abbrev pub takes : Kind → Given → Bool
-takes kind.Int (given.Number n) = true
-takes kind.Int given.Null = false
-takes (kind.Record r) (given.Number n) = false
-takes (kind.Record r) given.Null = true
-takes k (given.Base d) = same_kind k (kind_of d)
+abbrev pub accepts : Kind → Given → Bool
+accepts kind.Int (given.Number n) = true
+accepts kind.Int given.Null = false
+accepts (kind.Record r) (given.Number n) = false
+accepts (kind.Record r) given.Null = true
+accepts k (given.Base d) = same_kind k (kind_of d)
 
 -- the two may be equal
-abbrev pub alike : Given → Given → Bool
-alike (given.Number n) v = takes kind.Int v
-alike given.Null (given.Number n) = false
-alike given.Null given.Null = true
-alike given.Null (given.Base d) = is_reference (kind_of d)
-alike (given.Base d) v = takes (kind_of d) v
+abbrev pub of_one_kind : Given → Given → Bool
+of_one_kind (given.Number n) v = accepts kind.Int v
+of_one_kind given.Null (given.Number n) = false
+of_one_kind given.Null given.Null = true
+of_one_kind given.Null (given.Base d) = is_reference (kind_of d)
+of_one_kind (given.Base d) v = accepts (kind_of d) v
 
 abbrev pub comparable : Comparison → Given → Given → Bool
-comparable comparison.Equal v w = alike v w
-comparable comparison.NotEqual v w = alike v w
-comparable comparison.Less v w = takes kind.Int v && takes kind.Int w
-comparable comparison.LessOrEqual v w = takes kind.Int v && takes kind.Int w
+comparable comparison.Equal v w = of_one_kind v w
+comparable comparison.NotEqual v w = of_one_kind v w
+comparable comparison.Less v w = accepts kind.Int v && accepts kind.Int w
+comparable comparison.LessOrEqual v w = accepts kind.Int v && accepts kind.Int w
 
 abbrev pub base_by : Denoted → Base
 base_by (denoted.Local i k) = base.Local i
@@ -84,12 +84,12 @@ abbrev pub looked_of : Sight → Option Denoted → List ℕ → Looked
 looked_of s None f = looked.Missing
 looked_of s (Some d) f = looked_in s (kind_of d) f
 
-abbrev pub right : Bool → Action → Result Action Rule
-right true a = Ok a
-right false a = Err WrongType
+abbrev pub well_typed : Bool → Action → Result Action Rule
+well_typed true a = Ok a
+well_typed false a = Err WrongType
 
 abbrev pub assign_to : Denoted → Given → Result Action Rule
-assign_to (denoted.Local x k) v = right (takes k v) (action.Assign x (value_by v))
+assign_to (denoted.Local x k) v = well_typed (accepts k v) (action.Assign x (value_by v))
 assign_to (denoted.Global g r) v = Err WrongType
 
 abbrev pub assign_of : Option Denoted → Option Given → Result Action Rule
@@ -98,7 +98,7 @@ assign_of (Some x) None = Err Unknown
 assign_of None v = Err Unknown
 
 abbrev pub compute_to : Denoted → Given → Operator → Given → Result Action Rule
-compute_to (denoted.Local x k) v o w = right (same_kind k kind.Int && takes kind.Int v && takes kind.Int w) (action.Compute x (value_by v) o (value_by w))
+compute_to (denoted.Local x k) v o w = well_typed (same_kind k kind.Int && accepts kind.Int v && accepts kind.Int w) (action.Compute x (value_by v) o (value_by w))
 compute_to (denoted.Global g r) v o w = Err WrongType
 
 abbrev pub compute_of : Option Denoted → Option Given → Operator → Option Given → Result Action Rule
@@ -108,7 +108,7 @@ compute_of (Some x) None o w = Err Unknown
 compute_of None v o w = Err Unknown
 
 abbrev pub new_to : Denoted → List ℕ → ℕ → ℕ → Result Action Rule
-new_to (denoted.Local x k) r n site = right (same_kind k (kind.Record r)) (action.New x n site)
+new_to (denoted.Local x k) r n site = well_typed (same_kind k (kind.Record r)) (action.New x n site)
 new_to (denoted.Global g q) r n site = Err WrongType
 
 abbrev pub new_of : Option Denoted → List ℕ → Option ℕ → ℕ → Result Action Rule
@@ -117,7 +117,7 @@ new_of (Some x) r None site = Err Unknown
 new_of None r n site = Err Unknown
 
 abbrev pub load_to : Denoted → Denoted → FieldAt → Result Action Rule
-load_to (denoted.Local x k) y f = right (same_kind k f.kind) (action.Load x (base_by y) f.field)
+load_to (denoted.Local x k) y f = well_typed (same_kind k f.kind) (action.Load x (base_by y) f.field)
 load_to (denoted.Global g r) y f = Err WrongType
 
 abbrev pub load_at : Denoted → Denoted → Looked → Result Action Rule
@@ -131,7 +131,7 @@ load_of (Some x) None f = Err Unknown
 load_of None y f = Err Unknown
 
 abbrev pub store_at : Denoted → Looked → Given → Result Action Rule
-store_at y (looked.At f) v = right (takes f.kind v) (action.Store (base_by y) f.field (value_by v))
+store_at y (looked.At f) v = well_typed (accepts f.kind v) (action.Store (base_by y) f.field (value_by v))
 store_at y looked.OfInt v = Err WrongType
 store_at y looked.Missing v = Err Unknown
 
@@ -141,7 +141,7 @@ store_of (Some y) f None = Err Unknown
 store_of None f v = Err Unknown
 
 abbrev pub print_of : Option Given → Result Action Rule
-print_of (Some v) = right (takes kind.Int v) (action.Print (value_by v))
+print_of (Some v) = well_typed (accepts kind.Int v) (action.Print (value_by v))
 print_of None = Err Unknown
 
 -- a statement by numbers, where its new object has this site
@@ -153,12 +153,12 @@ primitive_of s site (primitive.Load x y f) = load_of (base_of s x) (base_of s y)
 primitive_of s site (primitive.Store y f v) = store_of (base_of s y) (looked_of s (base_of s y) f) (operand_of s v)
 primitive_of s site (primitive.Print v) = print_of (operand_of s v)
 
-abbrev pub right_test : Bool → Condition → Result Condition Rule
-right_test true c = Ok c
-right_test false c = Err WrongType
+abbrev pub well_typed_test : Bool → Condition → Result Condition Rule
+well_typed_test true c = Ok c
+well_typed_test false c = Err WrongType
 
 abbrev pub condition_of : Option Given → Comparison → Option Given → Result Condition Rule
-condition_of (Some v) c (Some w) = right_test (comparable c v w) (record { left = value_by v; comparison = c; right = value_by w })
+condition_of (Some v) c (Some w) = well_typed_test (comparable c v w) (record { left = value_by v; comparison = c; right = value_by w })
 condition_of (Some v) c None = Err Unknown
 condition_of None c w = Err Unknown
 

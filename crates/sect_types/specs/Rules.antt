@@ -10,6 +10,7 @@ use Rattle.sect_front.specs.declared.tree.Record.{Record}
 use Rattle.sect_front.specs.declared.tree.GlobalObject.{GlobalObject}
 use Rattle.sect_front.specs.declared.tree.Declaration.{Declaration}
 use Rattle.sect_front.specs.TreeView.{TreeView}
+use Rattle.sect_types.specs.declared.limits.TheConstants.{MOST_RECORDS, MOST_FIELDS, MOST_GLOBALS, MOST_THREADS, MOST_LOCALS, MOST_STATEMENTS, MOST_SITES, MOST_SECTIONS}
 use Rattle.sect_types.specs.declared.rule.Rule.{Rule}
 use Rattle.sect_types.specs.declared.rule.Rule.TheVariants.{Unknown, Twice, WrongType, SharedOutside, Nested, TooMany}
 use Rattle.sect_types.specs.declared.resolve.Denoted.{Denoted}
@@ -18,7 +19,7 @@ use Rattle.sect_types.specs.declared.resolve.Given.{Given}
 use Rattle.sect_types.specs.declared.resolve.Looked.{Looked}
 use Rattle.sect_types.specs.declared.resolve.Looked.TheVariants as looked
 use Rattle.sect_types.specs.Sight.{Sight, has_name, names_of_records, names_of_globals, base_of, operand_of}
-use Rattle.sect_types.specs.Resolve.{same_kind, takes, comparable, looked_of}
+use Rattle.sect_types.specs.Resolve.{same_kind, accepts, comparable, looked_of}
 use Rattle.sect_types.specs.Items.{Head, PrimitiveHead, TestHead, AtomicHead, Item, ARecord, AField, AGlobal, AThread, ALocal, AStatement}
 
 -- what stands before an item: declarations, statements, sites, sections
@@ -94,9 +95,9 @@ twice gs (ALocal k x before) = has_name x before || has_name x (names_of_globals
 twice gs (AStatement h ls inside) = false
 
 -- 12: sides that differ in type
-abbrev pub local_takes : Option Denoted → Option Given → Bool
-local_takes (Some (denoted.Local i k)) (Some v) = takes k v
-local_takes _ _ = false
+abbrev pub local_accepts : Option Denoted → Option Given → Bool
+local_accepts (Some (denoted.Local i k)) (Some v) = accepts k v
+local_accepts _ _ = false
 
 abbrev pub local_is : Option Denoted → Kind → Bool
 local_is (Some (denoted.Local i k)) l = same_kind k l
@@ -106,34 +107,34 @@ abbrev pub local_gets : Option Denoted → Looked → Bool
 local_gets x (looked.At f) = local_is x f.kind
 local_gets x _ = false
 
-abbrev pub field_takes : Looked → Option Given → Bool
-field_takes (looked.At f) (Some v) = takes f.kind v
-field_takes _ _ = false
+abbrev pub field_accepts : Looked → Option Given → Bool
+field_accepts (looked.At f) (Some v) = accepts f.kind v
+field_accepts _ _ = false
 
 abbrev pub is_int : Option Given → Bool
 is_int None = false
-is_int (Some v) = takes kind.Int v
+is_int (Some v) = accepts kind.Int v
 
-abbrev pub right_primitive : Sight → leaf.Primitive → Bool
-right_primitive s (primitive.Assign x v) = local_takes (base_of s x) (operand_of s v)
-right_primitive s (primitive.Compute x v o w) = local_is (base_of s x) kind.Int && is_int (operand_of s v) && is_int (operand_of s w)
-right_primitive s (primitive.New x r) = local_is (base_of s x) (kind.Record r)
-right_primitive s (primitive.Load x y f) = local_gets (base_of s x) (looked_of s (base_of s y) f)
-right_primitive s (primitive.Store y f v) = field_takes (looked_of s (base_of s y) f) (operand_of s v)
-right_primitive s (primitive.Print v) = is_int (operand_of s v)
+abbrev pub primitive_agrees : Sight → leaf.Primitive → Bool
+primitive_agrees s (primitive.Assign x v) = local_accepts (base_of s x) (operand_of s v)
+primitive_agrees s (primitive.Compute x v o w) = local_is (base_of s x) kind.Int && is_int (operand_of s v) && is_int (operand_of s w)
+primitive_agrees s (primitive.New x r) = local_is (base_of s x) (kind.Record r)
+primitive_agrees s (primitive.Load x y f) = local_gets (base_of s x) (looked_of s (base_of s y) f)
+primitive_agrees s (primitive.Store y f v) = field_accepts (looked_of s (base_of s y) f) (operand_of s v)
+primitive_agrees s (primitive.Print v) = is_int (operand_of s v)
 
 abbrev pub compares : Comparison → Option Given → Option Given → Bool
 compares c (Some v) (Some w) = comparable c v w
 compares c _ _ = false
 
-abbrev pub right_head : Sight → Head → Bool
-right_head s (PrimitiveHead p) = right_primitive s p
-right_head s (TestHead t) = compares t.comparison (operand_of s t.left) (operand_of s t.right)
-right_head s AtomicHead = true
+abbrev pub head_agrees : Sight → Head → Bool
+head_agrees s (PrimitiveHead p) = primitive_agrees s p
+head_agrees s (TestHead t) = compares t.comparison (operand_of s t.left) (operand_of s t.right)
+head_agrees s AtomicHead = true
 
-abbrev pub wrong : List Record → List GlobalObject → Item → Bool
-wrong rs gs (AStatement h ls inside) = knows_head (sight rs gs ls) h && not (right_head (sight rs gs ls) h)
-wrong rs gs _ = false
+abbrev pub mistyped : List Record → List GlobalObject → Item → Bool
+mistyped rs gs (AStatement h ls inside) = knows_head (sight rs gs ls) h && not (head_agrees (sight rs gs ls) h)
+mistyped rs gs _ = false
 
 -- 13: shared outside a section
 abbrev pub shares : Head → Bool
@@ -157,24 +158,24 @@ nested (AStatement h ls inside) = is_atomic h && inside
 nested _ = false
 
 -- 15: too many
-abbrev pub full : Counts → Head → Bool
-full c (PrimitiveHead (primitive.New x r)) = nat_le 4096 c.statements || nat_le 1024 c.sites
-full c AtomicHead = nat_le 4096 c.statements || nat_le 256 c.sections
-full c _ = nat_le 4096 c.statements
+abbrev pub passes_limit : Counts → Head → Bool
+passes_limit c (PrimitiveHead (primitive.New x r)) = nat_le MOST_STATEMENTS c.statements || nat_le MOST_SITES c.sites
+passes_limit c AtomicHead = nat_le MOST_STATEMENTS c.statements || nat_le MOST_SECTIONS c.sections
+passes_limit c _ = nat_le MOST_STATEMENTS c.statements
 
 abbrev pub too_many : Counts → Item → Bool
-too_many c (ARecord x before) = nat_le 64 (length before)
-too_many c (AField k x before) = nat_le 16 (length before)
-too_many c (AGlobal r x before) = nat_le 256 (length before)
-too_many c (AThread x before) = nat_le 64 (length before)
-too_many c (ALocal k x before) = nat_le 64 (length before)
-too_many c (AStatement h ls inside) = full c h
+too_many c (ARecord x before) = nat_le MOST_RECORDS (length before)
+too_many c (AField k x before) = nat_le MOST_FIELDS (length before)
+too_many c (AGlobal r x before) = nat_le MOST_GLOBALS (length before)
+too_many c (AThread x before) = nat_le MOST_THREADS (length before)
+too_many c (ALocal k x before) = nat_le MOST_LOCALS (length before)
+too_many c (AStatement h ls inside) = passes_limit c h
 
 -- rule by rule
 abbrev pub breaks : List Record → List GlobalObject → Counts → Item → Rule → Bool
 breaks rs gs c item Unknown = unknown rs gs item
 breaks rs gs c item Twice = twice gs item
-breaks rs gs c item WrongType = wrong rs gs item
+breaks rs gs c item WrongType = mistyped rs gs item
 breaks rs gs c item SharedOutside = outside item
 breaks rs gs c item Nested = nested item
 breaks rs gs c item TooMany = too_many c item
@@ -200,17 +201,17 @@ pub data Verdict : Type 0 where
   Fine : Counts → Verdict
   Faulty : ℕ → Rule → Verdict
 
-abbrev pub unless : Option Rule → ℕ → Verdict → Verdict
-unless None i rest = rest
-unless (Some r) i rest = Faulty i r
+abbrev pub fault_or : Option Rule → ℕ → Verdict → Verdict
+fault_or None i rest = rest
+fault_or (Some r) i rest = Faulty i r
 
 abbrev pub judge : List Record → List GlobalObject → Counts → List Item → Verdict
 judge rs gs c [] = Fine c
-judge rs gs c (item ∷ more) = unless (rule_of rs gs c item) (place_of c) (judge rs gs (after c item) more)
+judge rs gs c (item ∷ more) = fault_or (rule_of rs gs c item) (place_of c) (judge rs gs (after c item) more)
 
 -- what the counts may reach
 pub record IsWithin (declared statements sites sections : ℕ) : Type 0 where
   pub few_declared : declared ≤ 6000
-  pub few_statements : statements ≤ 4096
-  pub few_sites : sites ≤ 1024
-  pub few_sections : sections ≤ 256
+  pub few_statements : statements ≤ MOST_STATEMENTS
+  pub few_sites : sites ≤ MOST_SITES
+  pub few_sections : sections ≤ MOST_SECTIONS

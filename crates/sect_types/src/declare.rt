@@ -4,8 +4,9 @@ ghost use Rattle.std.specs.Prelude.{◌≡◌, ◌≤◌, ◌<◌, ◌+◌, ◌+
 ghost use Rattle.sect_types.specs.Sight.{has_name, names_of_records, names_of_globals, names_of_declared, all_fields};
 ghost use Rattle.sect_types.specs.Items.{ARecord, AField, AGlobal, AThread, ALocal, record_items, field_items, global_items, local_items};
 ghost use Rattle.sect_types.specs.Rules.{knows_kind as knows, sight, declared_in};
-ghost use Rattle.sect_types.specs.Walks.{Walks, rule_in, declared_rule};
-ghost use Rattle.sect_types.specs.Listing.{Knows, after_records, all_known, fields_fine, globals_known};
+ghost use Rattle.sect_types.specs.steps.Walks.{Walks, rule_in, declared_rule};
+ghost use Rattle.sect_types.specs.Numbered.{after_records};
+ghost use Rattle.sect_types.specs.steps.Listing.{Knows, all_known, fields_fine, globals_known};
 
 use crate::limits::{MOST_FIELDS, MOST_GLOBALS, MOST_LOCALS, MOST_RECORDS, MOST_THREADS};
 use crate::names::{NameSet, Names};

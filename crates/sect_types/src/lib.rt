@@ -6,9 +6,9 @@ mod declare;
 mod limits;
 mod locking;
 mod names;
-pub mod program;
+mod program;
 mod resolve;
-pub mod rule;
+mod rule;
 mod scope;
 pub mod section;
 mod spot;
@@ -16,8 +16,12 @@ pub mod text;
 pub mod types;
 mod walk;
 
-pub use crate::program::{Program, check_types};
-pub use crate::rule::TypeFault;
+pub use limits::{
+    MOST_FIELDS, MOST_GLOBALS, MOST_LOCALS, MOST_RECORDS, MOST_SECTIONS, MOST_SITES,
+    MOST_STATEMENTS, MOST_THREADS,
+};
+pub use program::{Program, check_types};
+pub use rule::TypeFault;
 
 #[cfg(test)]
 mod tests;

@@ -4,18 +4,19 @@ ghost use Rattle.std.specs.Prelude.{List, IsOkUnless, ◌≡◌, ◌≤◌, ◌<
 ghost use Rattle.sect_types.specs.Sight.{names_of_records, names_of_globals, all_fields};
 ghost use Rattle.sect_types.specs.Items.{AThread, items, record_items, global_items, local_items, block_items, thread_items};
 ghost use Rattle.sect_types.specs.Rules.{sight, declared_in};
-ghost use Rattle.sect_types.specs.Walks.{Walks};
-ghost use Rattle.sect_types.specs.Listing.{Knows, all_known, fields_fine, globals_known, locals_fine};
+ghost use Rattle.sect_types.specs.steps.Walks.{Walks};
+ghost use Rattle.sect_types.specs.steps.Listing.{Knows, all_known, fields_fine, globals_known, locals_fine};
 ghost use Rattle.sect_types.specs.Environments.{environment};
 ghost use Rattle.sect_types.specs.Sound.{IsSound, AreSound};
 ghost use Rattle.sect_types.specs.declared.types.ValueType.{ValueType};
 ghost use Rattle.sect_types.specs.declared.rule.TypeFault.TheVariants.{Memory};
 ghost use Rattle.sect_types.specs.Sections.{sections_of, AllNumbered, AllSited};
-ghost use Rattle.sect_types.specs.Found.{section_shown};
+ghost use Rattle.sect_types.specs.steps.Found.{section_shown};
 ghost use Rattle.sect_types.specs.Numbered.{numbered_block, within_thread, after_thread, after_threads, numbered_threads};
 ghost use Rattle.sect_types.specs.First.{Judges, none_yet, IsTyped};
-ghost use Rattle.sect_types.specs.Threads.{AreThreadsSound};
-ghost use Rattle.sect_types.specs.Programs.{IsWellNumbered, IsWithinLimits, AreRecordsThere, IsOfTree, IsCounted, environment_at, numbered_by, sites_of, total_statements};
+ghost use Rattle.sect_types.specs.steps.Threads.{AreThreadsSound};
+ghost use Rattle.sect_types.specs.steps.Counted.{IsCounted};
+ghost use Rattle.sect_types.specs.Programs.{IsWellNumbered, IsWithinLimits, AreRecordsThere, IsOfTree, environment_at, numbered_by, sites_of, total_statements};
 
 use crate::declare::{globals, known_records, locals, pass_thread, records};
 use crate::limits::{MOST_SECTIONS, MOST_SITES, MOST_STATEMENTS, MOST_THREADS};
@@ -210,7 +211,8 @@ pub struct Program {
 impl Model for Program {
     ghost use Rattle.std.specs.Coded.{codes};
     ghost use Rattle.sect_front.specs.Coding.{block_code};
-    ghost use Rattle.sect_types.specs.Statements.{statements_code};
+    ghost use Rattle.sect_types.specs.Coding.{statements_code};
+    ghost use Rattle.sect_types.specs.steps.Counted.{IsCounted};
     ghost use Rattle.sect_types.specs.Programs.{ProgramView, numbered_by, IsProgram};
 
     ghost Value = { ProgramView };

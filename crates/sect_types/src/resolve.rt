@@ -2,7 +2,7 @@
 
 ghost use Rattle.std.specs.Prelude.{◌≡◌};
 ghost use Rattle.sect_types.specs.Sight.{kind_of as kind_by, same_name};
-ghost use Rattle.sect_types.specs.Resolve.{same_kind as same_kind_by, takes as takes_by, alike as alike_by, comparable as comparable_by, base_by, value_at as value_at_by, value_by, assign_of, compute_of, new_of, load_of, load_to, store_of, print_of, condition_of};
+ghost use Rattle.sect_types.specs.Resolve.{same_kind as same_kind_by, accepts as accepts_by, of_one_kind as of_one_kind_by, comparable as comparable_by, base_by, value_at as value_at_by, value_by, assign_of, compute_of, new_of, load_of, load_to, store_of, print_of, condition_of};
 
 use crate::action::{Action, Base, Condition, Field, Value};
 use crate::rule::Rule;
@@ -66,8 +66,8 @@ pub fn kind_of(denoted: &Denoted) -> Kind
 }
 
 /// Whether a local or a field of this type can be set to the operand.
-pub fn takes(kind: Kind, given: &Given) -> bool
-    ensures { result ≡ takes_by kind given.now }
+pub fn accepts(kind: Kind, given: &Given) -> bool
+    ensures { result ≡ accepts_by kind given.now }
 {
     match given {
         Given::Number(_) => matches!(kind, Kind::Int),
@@ -77,17 +77,17 @@ pub fn takes(kind: Kind, given: &Given) -> bool
 }
 
 /// Whether two operands are both integers, or both references of one record.
-pub fn alike(left: &Given, right: &Given) -> bool
-    ensures { result ≡ alike_by left.now right.now }
+pub fn of_one_kind(left: &Given, right: &Given) -> bool
+    ensures { result ≡ of_one_kind_by left.now right.now }
 {
     match left {
-        Given::Number(_) => takes(Kind::Int, right),
+        Given::Number(_) => accepts(Kind::Int, right),
         Given::Null => match right {
             Given::Number(_) => false,
             Given::Null => true,
             Given::Base(denoted) => matches!(kind_of(denoted), Kind::Record(_)),
         },
-        Given::Base(denoted) => takes(kind_of(denoted), right),
+        Given::Base(denoted) => accepts(kind_of(denoted), right),
     }
 }
 
@@ -96,9 +96,9 @@ pub fn comparable(comparison: Comparison, left: &Given, right: &Given) -> bool
     ensures { result ≡ comparable_by comparison left.now right.now }
 {
     match comparison {
-        Comparison::Equal | Comparison::NotEqual => alike(left, right),
-        Comparison::Less | Comparison::LessOrEqual => takes(Kind::Int, left)
-            && takes(Kind::Int, right),
+        Comparison::Equal | Comparison::NotEqual => of_one_kind(left, right),
+        Comparison::Less | Comparison::LessOrEqual => accepts(Kind::Int, left)
+            && accepts(Kind::Int, right),
     }
 }
 
@@ -142,7 +142,7 @@ pub fn assign(to: Option<Denoted>, from: Option<Given>) -> Result<Action, Rule>
     };
     match to {
         Denoted::Local(target, kind) => {
-            if takes(kind, &from) {
+            if accepts(kind, &from) {
                 Ok(Action::Assign(target, value(&from)))
             } else {
                 Err(Rule::WrongType)
@@ -172,7 +172,10 @@ pub fn compute(
     };
     match to {
         Denoted::Local(target, kind) => {
-            if same_kind(kind, Kind::Int) && takes(Kind::Int, &left) && takes(Kind::Int, &right) {
+            if same_kind(kind, Kind::Int)
+                && accepts(Kind::Int, &left)
+                && accepts(Kind::Int, &right)
+            {
                 Ok(Action::Compute(target, value(&left), operator, value(&right)))
             } else {
                 Err(Rule::WrongType)
@@ -250,7 +253,7 @@ pub fn store(to: Option<Denoted>, field: &Looked, from: Option<Given>) -> Result
         Looked::Missing => Err(Rule::Unknown),
         Looked::OfInt => Err(Rule::WrongType),
         Looked::At(at) => {
-            if takes(at.kind, &from) {
+            if accepts(at.kind, &from) {
                 Ok(Action::Store(base(&to), at.field, value(&from)))
             } else {
                 Err(Rule::WrongType)
@@ -266,7 +269,7 @@ pub fn print(given: Option<Given>) -> Result<Action, Rule>
     let Some(given) = given else {
         return Err(Rule::Unknown);
     };
-    if takes(Kind::Int, &given) {
+    if accepts(Kind::Int, &given) {
         Ok(Action::Print(value(&given)))
     } else {
         Err(Rule::WrongType)

@@ -2,7 +2,7 @@
 
 ghost use Rattle.std.specs.Prelude.{◌≡◌, ◌≤◌, length};
 ghost use Rattle.sect_types.specs.Sections.{section_from};
-ghost use Rattle.sect_types.specs.Found.{section_in};
+ghost use Rattle.sect_types.specs.steps.Found.{section_in};
 
 use crate::text::Text;
 

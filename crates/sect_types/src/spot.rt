@@ -2,7 +2,7 @@
 
 ghost use Rattle.std.specs.Prelude.{◌≡◌, ◌+◌, ◌<◌, ◌≤◌, false, nat_le};
 ghost use Rattle.sect_types.specs.Items.{PrimitiveHead, AtomicHead};
-ghost use Rattle.sect_types.specs.Rules.{full, after_primitive, after_head, place_of};
+ghost use Rattle.sect_types.specs.Rules.{passes_limit, after_primitive, after_head, place_of};
 
 use crate::limits::{MOST_SECTIONS, MOST_SITES, MOST_STATEMENTS};
 use sect_front::tree::Primitive;
@@ -73,7 +73,7 @@ impl Spot {
 
     /// Whether this statement passes a limit here.
     pub fn is_full_for(&self, primitive: &Primitive) -> bool
-        ensures { result ≡ full self.now (PrimitiveHead primitive.now) }
+        ensures { result ≡ passes_limit self.now (PrimitiveHead primitive.now) }
     {
         match primitive {
             Primitive::New(_, _) => self.statements >= MOST_STATEMENTS || self.sites >= MOST_SITES,
@@ -90,7 +90,7 @@ impl Spot {
 
     /// Whether a section passes a limit here.
     pub fn is_full_for_section(&self) -> bool
-        ensures { result ≡ full self.now AtomicHead }
+        ensures { result ≡ passes_limit self.now AtomicHead }
     {
         self.statements >= MOST_STATEMENTS || self.sections >= MOST_SECTIONS
     }
@@ -119,7 +119,7 @@ impl Spot {
 
     /// Passes a statement without a block.
     pub fn pass_primitive(&mut self, primitive: &Primitive)
-        requires { full self.old (PrimitiveHead primitive.now) ≡ false }
+        requires { passes_limit self.old (PrimitiveHead primitive.now) ≡ false }
         ensures { self.new ≡ after_primitive self.old primitive.now }
     {
         if let Primitive::New(_, _) = primitive {
@@ -138,7 +138,7 @@ impl Spot {
 
     /// Passes an `atomic`, and gives the number of its section.
     pub fn pass_section(&mut self) -> u16
-        requires { full self.old AtomicHead ≡ false }
+        requires { passes_limit self.old AtomicHead ≡ false }
         ensures spot { self.new ≡ after_head self.old AtomicHead }
         ensures number { result ≡ self.old.sections }
     {

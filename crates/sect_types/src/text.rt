@@ -27,7 +27,8 @@ pub enum Step {
 }
 
 impl Model for Text {
-    ghost use Rattle.sect_types.specs.Statements.{TextView, statements_code};
+    ghost use Rattle.sect_types.specs.Statements.{TextView};
+    ghost use Rattle.sect_types.specs.Coding.{statements_code};
 
     ghost Value = { TextView };
 

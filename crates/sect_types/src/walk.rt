@@ -3,8 +3,8 @@
 ghost use Rattle.std.specs.Prelude.{◌≡◌, ◌∷◌, ◌&&◌, List, IfOk, OnOk, IfErr, false, not};
 ghost use Rattle.sect_types.specs.Sight.{Sight};
 ghost use Rattle.sect_types.specs.Items.{PrimitiveHead, TestHead, AtomicHead, AStatement, statement_items, block_items};
-ghost use Rattle.sect_types.specs.Rules.{rule_of, full, shares, after_primitive, after_head};
-ghost use Rattle.sect_types.specs.Walks.{Walks, rule_in, then_rest};
+ghost use Rattle.sect_types.specs.Rules.{rule_of, passes_limit, shares, after_primitive, after_head};
+ghost use Rattle.sect_types.specs.steps.Walks.{Walks, rule_in, then_rest};
 ghost use Rattle.sect_types.specs.Statements.{TextView, Stop, Do};
 ghost use Rattle.sect_types.specs.Environments.{environment};
 ghost use Rattle.sect_types.specs.Sound.{IsSound, IsSoundCondition};
@@ -44,8 +44,8 @@ fn judge_primitive(
     ensures rule { rule_in result
         ≡ then_rest (rule_in (primitive_of scope.now spot.now.sites primitive.now))
         (shares (PrimitiveHead primitive.now) && not inside)
-        (full spot.now (PrimitiveHead primitive.now)) }
-    ensures room { OnOk result (full spot.now (PrimitiveHead primitive.now) ≡ false) }
+        (passes_limit spot.now (PrimitiveHead primitive.now)) }
+    ensures room { OnOk result (passes_limit spot.now (PrimitiveHead primitive.now) ≡ false) }
     ensures action { IfOk result (λ a. a
         ≡ action_in (primitive_of scope.now spot.now.sites primitive.now)) }
     ensures sound { IfOk result (λ a. IsSound (environment scope.now) inside (Do a Stop)) }
@@ -64,8 +64,8 @@ fn judge_primitive(
 #[tactic(auto, using(crate::proofs::SoundLemmas::test_stands))]
 fn judge_test(scope: &Scope<'_>, spot: &Spot, test: &Test) -> Result<Condition, Rule>
     ensures rule { rule_in result ≡ then_rest (rule_in (test_of scope.now test.now)) false
-        (full spot.now (TestHead test.now)) }
-    ensures room { OnOk result (full spot.now (TestHead test.now) ≡ false) }
+        (passes_limit spot.now (TestHead test.now)) }
+    ensures room { OnOk result (passes_limit spot.now (TestHead test.now) ≡ false) }
     ensures condition { IfOk result (λ c. c ≡ condition_in (test_of scope.now test.now)) }
     ensures sound { IfOk result (λ c. IsSoundCondition (environment scope.now) c) }
 {
@@ -78,7 +78,7 @@ fn judge_test(scope: &Scope<'_>, spot: &Spot, test: &Test) -> Result<Condition, 
 
 /// The least rule that an `atomic` breaks, if any.
 fn judge_atomic(spot: &Spot, inside: bool) -> Result<(), Rule>
-    ensures room { OnOk result (full spot.now AtomicHead ≡ false) }
+    ensures room { OnOk result (passes_limit spot.now AtomicHead ≡ false) }
     ensures outside { OnOk result (inside ≡ false) }
     ensures rule { (s : Sight) → rule_of s.records s.globals spot.now (AStatement AtomicHead
         s.locals inside) ≡ rule_in result }

@@ -1,5 +1,5 @@
 use Rattle.std.proofs.Common.{◌≤◌, arith, length}
-use Rattle.sect_graph.proofs.GraphView.{nodes_few, count_at, thread_more, sections_more, are_graphs, ends}
+use Rattle.sect_graph.proofs.Graphs.{nodes_few, count_at, thread_more, sections_more, are_graphs, ends}
 use Rattle.sect_graph.proofs.graph.graph_of.Goals as goal
 
 pub flow_of-requires : goal.flow_of-requires

@@ -1,6 +1,6 @@
 use Rattle.std.proofs.Common.{◌≡◌, ◌++◌, drop, map}
 use Rattle.sect_graph.specs.Layout.{flow_nodes}
-use Rattle.sect_graph.proofs.GraphView.{all_bodies}
+use Rattle.sect_graph.proofs.Graphs.{all_bodies}
 use Rattle.sect_graph.proofs.graph.graph_of.Given as goal
 
 abbrev pub invariant-loop-thread : goal.invariant-loop-thread

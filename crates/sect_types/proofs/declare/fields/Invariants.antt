@@ -1,5 +1,5 @@
 use Rattle.std.proofs.Common.{drop}
-use Rattle.sect_types.specs.Listing.{IsListed}
+use Rattle.sect_types.specs.steps.Listing.{IsListed}
 use Rattle.sect_types.proofs.declare.fields.Given as goal
 
 abbrev pub invariant-loop-field : goal.invariant-loop-field

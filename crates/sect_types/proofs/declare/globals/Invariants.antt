@@ -1,5 +1,5 @@
 use Rattle.std.proofs.Common.{drop}
-use Rattle.sect_types.specs.Listing.{AreGlobals}
+use Rattle.sect_types.specs.steps.Listing.{AreGlobals}
 use Rattle.sect_types.proofs.declare.globals.Given as goal
 
 abbrev pub invariant-loop-global : goal.invariant-loop-global

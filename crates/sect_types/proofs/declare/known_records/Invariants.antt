@@ -1,5 +1,5 @@
 use Rattle.std.proofs.Common.{take}
-use Rattle.sect_types.specs.Listing.{Knows}
+use Rattle.sect_types.specs.steps.Listing.{Knows}
 use Rattle.sect_types.proofs.declare.known_records.Given as goal
 
 abbrev pub invariant-loop-of : goal.invariant-loop-of

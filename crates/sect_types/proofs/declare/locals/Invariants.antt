@@ -1,5 +1,5 @@
 use Rattle.std.proofs.Common.{drop}
-use Rattle.sect_types.specs.Listing.{AreLocals}
+use Rattle.sect_types.specs.steps.Listing.{AreLocals}
 use Rattle.sect_types.proofs.declare.locals.Given as goal
 
 abbrev pub invariant-loop-local : goal.invariant-loop-local

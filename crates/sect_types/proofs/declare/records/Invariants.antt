@@ -1,5 +1,5 @@
 use Rattle.std.proofs.Common.{drop}
-use Rattle.sect_types.specs.Listing.{AreRecords}
+use Rattle.sect_types.specs.steps.Listing.{AreRecords}
 use Rattle.sect_types.proofs.declare.records.Given as goal
 
 abbrev pub invariant-loop-of : goal.invariant-loop-of

@@ -1,7 +1,6 @@
 use Rattle.std.proofs.Common.{◌+◌, length, ap, ◌∙◌}
 use Rattle.sect_types.specs.Rules.{Counts}
-use Rattle.sect_types.specs.Listing.{after_records}
-use Rattle.sect_types.specs.Numbered.{numbered_threads, after_threads}
+use Rattle.sect_types.specs.Numbered.{after_records, numbered_threads, after_threads}
 use Rattle.sect_types.proofs.Keeps.{records_keep}
 use Rattle.sect_types.proofs.program.judge_tree.Goals as goal
 

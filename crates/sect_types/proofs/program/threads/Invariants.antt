@@ -1,5 +1,5 @@
 use Rattle.std.proofs.Common.{drop}
-use Rattle.sect_types.specs.Threads.{AreThreads}
+use Rattle.sect_types.specs.steps.Threads.{AreThreads}
 use Rattle.sect_types.proofs.program.threads.Given as goal
 
 abbrev pub invariant-loop-thread : goal.invariant-loop-thread

@@ -1,5 +1,5 @@
 use Rattle.std.proofs.Common.{drop}
-use Rattle.sect_types.specs.Listing.{AreFieldsTyped}
+use Rattle.sect_types.specs.steps.Listing.{AreFieldsTyped}
 use Rattle.sect_types.proofs.types.field_types.Given as goal
 
 abbrev pub invariant-loop-of : goal.invariant-loop-of

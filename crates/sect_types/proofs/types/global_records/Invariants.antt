@@ -1,5 +1,5 @@
 use Rattle.std.proofs.Common.{drop}
-use Rattle.sect_types.specs.Listing.{AreGlobalsNumbered}
+use Rattle.sect_types.specs.steps.Listing.{AreGlobalsNumbered}
 use Rattle.sect_types.proofs.types.global_records.Given as goal
 
 abbrev pub invariant-loop-global : goal.invariant-loop-global

@@ -1,5 +1,5 @@
 use Rattle.std.proofs.Common.{drop}
-use Rattle.sect_types.specs.Listing.{AreLocalsTyped}
+use Rattle.sect_types.specs.steps.Listing.{AreLocalsTyped}
 use Rattle.sect_types.proofs.types.local_types.Given as goal
 
 abbrev pub invariant-loop-thread : goal.invariant-loop-thread

@@ -1,5 +1,5 @@
 use Rattle.std.proofs.Common.{drop}
-use Rattle.sect_types.specs.Listing.{AreTyped}
+use Rattle.sect_types.specs.steps.Listing.{AreTyped}
 use Rattle.sect_types.proofs.types.types_of.Given as goal
 
 abbrev pub invariant-loop-declaration : goal.invariant-loop-declaration

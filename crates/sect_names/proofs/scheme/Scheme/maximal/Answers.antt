@@ -16,7 +16,7 @@ pub loop-i-preserved : goal.loop-i-preserved
 loop-i-preserved c =
     let s = c.args.self.now in
     let xs = c.args.locks.now.keys in
-    let P : Lock → Lock → Type 0 = λ x y. (y ≡ x) × (IsOutdone s xs x → ⊥) in
+    let P : Lock → Lock → Type 0 = λ x y. (y ≡ x) × (IsOutdone s (Has xs) x → ⊥) in
     let i = c.loop-i.i in
     let x = c.index-lock.result.now in
     let within = slice_get_within xs i x c.index-lock.ensures in
@@ -41,7 +41,7 @@ loop-i-preserved c =
           })
       | else-not-branch w ↦ rw w.kept-is (record {
         made = makes_skip P xs i x old within is made (λ y h. h.1 (tells.0 w.if-not-branch.false));
-        told = λ y h. elim (last_of xs i x y within is h) [ inl a ↦ told y a | inr e ↦ inr (subst (IsOutdone s xs) (sym e) (tells.0 w.if-not-branch.false)) ];
+        told = λ y h. elim (last_of xs i x y within is h) [ inl a ↦ told y a | inr e ↦ inr (subst (IsOutdone s (Has xs)) (sym e) (tells.0 w.if-not-branch.false)) ];
       })
     ]
 
@@ -53,4 +53,4 @@ returns c =
     let collected = items_from_collect c.collect.result c.collect.ensures.ran (YieldsList-from_rest {shows = λ x. x} {s = c.into_iter.result} kept c.into_iter.ensures.into_iter_gives.0) in
     let items : c.in_ok-collect.field-0.items ≡ kept = subst (λ r. IfOk r (λ w. w.items ≡ kept)) c.in_ok-collect.was collected in
     let past : length xs ≤ c.loop-i.i = omega (arith, c.len-i-end.ensures.len, c.loop-i-test.false) in
-    rw items (are_maximal s xs kept (λ x h. c.loop-i.invariant.told x (subst (λ l. Has l x) (sym (take_all c.loop-i.i xs past)) h)) (makes_done (λ (x y : Lock). (y ≡ x) × (IsOutdone s xs x → ⊥)) xs c.loop-i.i kept past c.loop-i.invariant.made) (in_order kept c.into_iter.ensures.into_iter_gives.4))
+    rw items (are_maximal s xs kept (λ x h. c.loop-i.invariant.told x (subst (λ l. Has l x) (sym (take_all c.loop-i.i xs past)) h)) (makes_done (λ (x y : Lock). (y ≡ x) × (IsOutdone s (Has xs) x → ⊥)) xs c.loop-i.i kept past c.loop-i.invariant.made) (in_order kept c.into_iter.ensures.into_iter_gives.4))

@@ -1,7 +1,7 @@
 use Rattle.std.proofs.Common.{◌≡◌, ap, sym, refl, ◌∙◌, subst, Some}
 use Rattle.std.specs.Option.{IsSome}
 use Rattle.std.specs.Prelude.{slice_get}
-use Rattle.sect_types.specs.Found.{section_shown}
+use Rattle.sect_types.specs.steps.Found.{section_shown}
 use Rattle.sect_types.specs.Sections.{AllNumbered, section_from, sections_of}
 use Rattle.sect_types.specs.Sound.{AreSound}
 use Rattle.sect_types.specs.Programs.{ProgramView}

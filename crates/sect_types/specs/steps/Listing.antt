@@ -8,6 +8,7 @@ use Rattle.sect_types.specs.declared.types.ValueType.{ValueType}
 use Rattle.sect_types.specs.Environments.{types_of, field_types, global_records, local_types}
 use Rattle.sect_types.specs.Items.{Item, record_items, field_items, global_items, local_items}
 use Rattle.sect_types.specs.Rules.{Counts, judge, knows_kind}
+use Rattle.sect_types.specs.Numbered.{after_records}
 use Rattle.sect_front.specs.declared.tree.Thread.{Thread}
 
 -- the set has the names of these records
@@ -40,10 +41,6 @@ pub record IsListed (rs : List Record) (gs : List GlobalObject) (all rest : List
   pub counts : now ≡ record old { declared = old.declared + length names }
   pub few : length names ≤ 16
   pub known : all_known (names_of_records rs) all ≡ all_known (names_of_records rs) rest
-
-abbrev pub after_records : Counts → List Record → Counts
-after_records c [] = c
-after_records c (r ∷ rs) = after_records (record c { declared = c.declared + 1 + length r.fields }) rs
 
 -- the records `rest` of `all` are left
 pub record AreRecords (gs : List GlobalObject) (all rest : List Record) (names : List (List ℕ)) (fields : List (List (List ℕ))) (old now : Counts) : Type 0 where

@@ -8,7 +8,7 @@ use Rattle.sect_types.specs.Items.{Item, thread_items}
 use Rattle.sect_types.specs.Rules.{Counts, judge}
 use Rattle.sect_types.specs.Statements.{TextView}
 use Rattle.sect_types.specs.Numbered.{numbered_threads, after_threads}
-use Rattle.sect_types.specs.Listing.{locals_fine}
+use Rattle.sect_types.specs.steps.Listing.{locals_fine}
 use Rattle.sect_types.specs.Environments.{field_types, global_records, local_types}
 use Rattle.sect_types.specs.Sound.{AreSound}
 

@@ -21,6 +21,7 @@ use Rattle.sect_graph.proofs.Running.{runs_rests}
 
 pub is_graph : (text : TextView) (g : List Node) → g ≡ flow_nodes text → IsGraphOf text g
 is_graph text g is = record {
+  nodes = is;
   paths = paths_from_zero text g is;
   rests = paths_are_rests text g is;
   connected = is_connected text g is;

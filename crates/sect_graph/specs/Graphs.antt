@@ -6,10 +6,12 @@ use Rattle.sect_types.specs.Traces.{node_count}
 use Rattle.sect_graph.specs.declared.flow.Node.{Node}
 use Rattle.sect_graph.specs.Paths.{LeadsTo, PathsAreTraces, PathsAreRests, IsConnected}
 use Rattle.sect_graph.specs.Rests.{RunsRests}
+use Rattle.sect_graph.specs.Layout.{flow_nodes}
 
--- the nodes are the graph of the text: its paths are the traces, each node runs the first step of what is left there, and
--- control goes on to a node or to the exit
+-- the nodes are the graph of the text: they lie in text order, its paths are the traces, each node runs the first step of
+-- what is left there, and control goes on to a node or to the exit
 pub record IsGraphOf (text : TextView) (g : List Node) : Type 0 where
+  pub nodes : g ≡ flow_nodes text
   pub paths : PathsAreTraces text g
   pub rests : PathsAreRests text g
   pub connected : IsConnected g

@@ -11,7 +11,7 @@ use Rattle.sect_names.specs.declared.lock.Lock.{Lock}
 use Rattle.sect_names.proofs.Making.{last_of, so_far}
 use Rattle.sect_names.proofs.Telling.{any_tells}
 use Rattle.sect_infer.specs.declared.need.Need.{Need}
-use Rattle.sect_infer.specs.Needs.{need, IsAdded, AreByNode}
+use Rattle.sect_infer.specs.steps.Needs.{need, IsAdded, AreByNode}
 
 pub map-set : {X Y : Type 0} (f : X → Y) (xs : List X) (i : ℕ) (x : X) → map f (set xs i x) ≡ set (map f xs) i (f x)
 map-set f [] i x = refl

@@ -11,7 +11,7 @@ use Rattle.sect_names.specs.declared.lock.Lock.{Lock}
 use Rattle.sect_names.specs.Schemes.{SchemeView}
 use Rattle.sect_names.specs.Carrying.{Generated, CarriedBack}
 use Rattle.sect_infer.specs.declared.need.Need.{Need}
-use Rattle.sect_infer.specs.Needs.{need, IsSeed, CarriesTo, Grows, AreBefore}
+use Rattle.sect_infer.specs.steps.Needs.{need, IsSeed, CarriesTo, Grows, AreBefore}
 use Rattle.sect_names.proofs.Making.{last_of, so_far}
 use Rattle.sect_infer.proofs.Growing.{grows_none, grows_as, grows_then, same_need}
 

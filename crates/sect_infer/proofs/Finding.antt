@@ -1,64 +1,173 @@
 -- The locks that are found for a section.
-use Rattle.std.proofs.Common.{◌≡◌, ◌↔◌, ℕ, List, [], length, inl, inr, sym, ◌∙◌, subst, arith}
-use Rattle.std.specs.Prelude.{slice_index_or}
-use Rattle.std.proofs.lemmas.Bool.{cases_lt}
-use Rattle.std.proofs.lemmas.Option.{slice_get_within, get_or_from_slice_get}
-use Rattle.std.proofs.Math.ListN.{get_or-eq_default}
+use Rattle.std.proofs.Common.{◌≡◌, ◌↔◌, ℕ, zero, suc, ◌+◌, ◌<◌, ◌≤◌, List, [], ◌∷◌, ◌++◌, ◌⊎◌, Some, length, length-append, map, inl, inr, refl, sym, ap, ◌∙◌, subst, append-nil, arith}
+use Rattle.std.specs.Prelude.{slice_get, slice_index_or}
+use Rattle.std.proofs.lemmas.Bool.{cases_lt, cases_eq}
+use Rattle.std.proofs.lemmas.Option.{slice_get_within, get_or_from_slice_get, slice_get-get_or}
 use Rattle.sect_types.specs.Lists.{Has}
 use Rattle.sect_types.specs.Statements.{TextView}
+use Rattle.sect_types.specs.Traces.{Visit}
 use Rattle.sect_graph.specs.declared.flow.Node.{Node}
 use Rattle.sect_graph.specs.Graphs.{IsGraphOf}
+use Rattle.sect_graph.specs.Paths.{IsPath}
 use Rattle.sect_names.specs.declared.lock.Lock.{Lock}
+use Rattle.sect_names.specs.declared.lock.Lock.TheVariants as lock
 use Rattle.sect_names.specs.Schemes.{SchemeView}
-use Rattle.sect_names.specs.Locks.{IsLockOf}
+use Rattle.sect_names.specs.Locks.{IsLockOf, Covers}
+use Rattle.sect_names.specs.Needed.{CarriedOver, IsNeededOn, IsNeeded, IsNeededFrom}
 use Rattle.sect_names.specs.Order.{AreMaximal}
+use Rattle.sect_names.proofs.Maximals.{maximal_as, maximal_least}
 use Rattle.sect_infer.specs.declared.need.Need.{Need}
-use Rattle.sect_infer.specs.Needs.{need, IsDerived, AreLawful, AreByNode}
-use Rattle.sect_infer.specs.Sets.{LocksOf, AreFound, AreLocksOf}
+use Rattle.sect_infer.specs.steps.Needs.{need, IsDerived, AreLawful, AreByNode}
+use Rattle.sect_infer.specs.steps.Found.{AreAllMaximal, AreFound, AreAllOnAll}
+use Rattle.sect_infer.specs.Sets.{LocksView, AreNeeded, AreLocksOf}
 use Rattle.sect_infer.proofs.Working.{derived_lock}
-use Rattle.sect_infer.proofs.Meaning.{derived_from, least}
+use Rattle.sect_infer.proofs.Meaning.{derived_from}
+
+-- what a list that is longer by one has at a place
+pub at_longer : {X : Type 0} (xs : List X) (x : X) (i : ℕ) (y : X) → slice_get (xs ++ x ∷ []) i ≡ Some y → (slice_get xs i ≡ Some y) ⊎ ((i ≡ length xs) × (x ≡ y))
+at_longer [] x zero y e = inr (refl, let f : x ≡ y = cc in f)
+at_longer [] x (suc i) y e = absurd cc
+at_longer (z ∷ xs) x zero y e = inl e
+at_longer (z ∷ xs) x (suc i) y e = elim (at_longer xs x i y e) [ inl a ↦ inl a | inr b ↦ inr (ap suc b.0, b.1) ]
+
+-- the first lists have their maximal locks
+pub record AreMaximalSoFar (s : SchemeView) (nodes lists : List (List Lock)) (j : ℕ) : Type 0 where
+  pub count : length lists ≡ j
+  pub each : (i : ℕ) (locks : List Lock) → slice_get lists i ≡ Some locks → AreMaximal s (Has (slice_index_or nodes i [])) locks
+
+pub none_so_far : (s : SchemeView) (nodes : List (List Lock)) → AreMaximalSoFar s nodes [] 0
+none_so_far s nodes = record { count = refl; each = λ i locks at. absurd cc }
+
+pub one_so_far : (s : SchemeView) (nodes lists : List (List Lock)) (j : ℕ) (kept : List Lock) → AreMaximal s (Has (slice_index_or nodes j [])) kept → AreMaximalSoFar s nodes lists j
+    → AreMaximalSoFar s nodes (lists ++ kept ∷ []) (j + 1)
+one_so_far s nodes lists j kept max so = record {
+  count = omega (arith, length-append lists (kept ∷ []), so.count);
+  each = λ i locks at. elim (at_longer lists kept i locks at) [
+    | inl a ↦ so.each i locks a
+    | inr b ↦ subst (λ k. AreMaximal s (Has (slice_index_or nodes k [])) locks) (sym (b.0 ∙ so.count)) (subst (AreMaximal s (Has (slice_index_or nodes j []))) b.1 max)
+  ];
+}
+
+pub all_so_far : (s : SchemeView) (nodes lists : List (List Lock)) (j : ℕ) → j ≡ length nodes → AreMaximalSoFar s nodes lists j → AreAllMaximal s nodes lists
+all_so_far s nodes lists j is so = record { count = so.count ∙ is; each = so.each }
+
+-- so many lists have the lock on all
+pub one_on_all : (lists : List (List Lock)) (n : ℕ) (more : List Lock) → more ≡ lock.All ∷ [] → AreAllOnAll n lists → AreAllOnAll (n + 1) (lists ++ more ∷ [])
+one_on_all lists n more is so = record {
+  counted = omega (arith, length-append lists (more ∷ []), so.counted);
+  each = λ j locks at. elim (at_longer lists more j locks at) [ inl a ↦ so.each j locks a | inr b ↦ sym b.1 ∙ is ];
+}
+
+-- the first of some lists
+pub first_is : (lists : List (List Lock)) → 0 < length lists → slice_get lists 0 ≡ Some (slice_index_or lists 0 [])
+first_is [] some = absurd (omega (arith, some))
+first_is (l ∷ lists) some = refl
 
 module _ (s : SchemeView) (t : ℕ) (g : List Node) where
-  module _ (lawful : AreLawful s t g) where
-    module _ (kept : List Need) (exact : (x : Need) → Has kept x ↔ IsDerived s t g x) (count : ℕ) (counted : count ≡ length g) (nodes : List (List Lock)) (by_node : AreByNode count kept nodes) where
-      -- the locks of a node; no node is past the last
-      found_each : (j : ℕ) (l : Lock) → Has (slice_index_or nodes j []) l ↔ IsDerived s t g (need j l)
-      found_each j l = elim (cases_lt j count) [
-        | inl there ↦ (
-          λ h. (exact (need j l)).0 ((by_node.each j there l).0 h),
-          λ d. (by_node.each j there l).1 ((exact (need j l)).1 d),
-        )
-        | inr past ↦ (
-          λ h. absurd (subst (λ ls. Has ls l) (get_or-eq_default nodes [] (omega (arith, past, by_node.counted))) h),
-          λ d. absurd (omega (arith, past, counted, (derived_lock s t g lawful d.0 (need j l) d.1).0)),
-        )
-      ]
+  module _ (lawful : AreLawful s t g) (kept : List Need) (exact : (x : Need) → Has kept x ↔ IsDerived s t g x) (nodes lists : List (List Lock)) where
+    -- each list has the maximal locks of those that are derived at its node; nothing is derived at the exit
+    pub are_found : AreByNode (length g + 1) kept nodes → AreAllMaximal s nodes lists → AreFound s t g lists
+    are_found by_node all = record {
+      count = all.count ∙ by_node.counted;
+      each = λ j locks at.
+          let there : j < length g + 1 = omega (arith, slice_get_within lists j locks at, all.count, by_node.counted) in
+          maximal_as s (Has (slice_index_or nodes j [])) (λ l. IsDerived s t g (need j l)) locks
+          (λ l. (
+            λ h. (exact (need j l)).0 ((by_node.each j there l).0 h),
+            λ d. (by_node.each j there l).1 ((exact (need j l)).1 d),
+          )) (all.each j locks at);
+    }
 
-      pub are_found : (entry : List Lock) → AreMaximal s (slice_index_or nodes 0 []) entry → AreFound s t g (record { at = nodes; entry = entry })
-      are_found entry max = record {
-        count = by_node.counted ∙ counted;
-        each = found_each;
-        entry = max;
-      }
+  -- the locks at each node are the program's
+  pub found_lawful : AreLawful s t g → (lists : List (List Lock)) → AreFound s t g lists → (j : ℕ) (locks : List Lock) → slice_get lists j ≡ Some locks → (l : Lock) → Has locks l → IsLockOf s l
+  found_lawful lawful lists found j locks at l h =
+      let d = (((found.each j locks at).kept_are l).0 h).0 in
+      (derived_lock s t g lawful d.0 (need j l) d.1).1
 
-    -- the locks at the entry are the program's
-    pub locks_lawful : (locks : LocksOf) → AreFound s t g locks → (l : Lock) → Has locks.entry l → IsLockOf s l
-    locks_lawful locks found l h =
-        let d = (found.each 0 l).0 ((found.entry.kept_are l).0 h).0 in
-        (derived_lock s t g lawful d.0 (need 0 l) d.1).1
+  module _ (last : List Lock) (body : TextView) (graph : IsGraphOf body g) where
+    -- what is needed from the first node on is what is needed at the entry
+    needed_first : (l : Lock) → IsNeededFrom s t last body g 0 l ↔ IsNeeded s t last body l
+    needed_first l = (
+      λ h. (h.0, (graph.paths h.0).0 ((graph.rests 0 (omega arith) h.0).1 h.1), h.2),
+      λ h. (h.0, (graph.rests 0 (omega arith) h.0).0 ((graph.paths h.0).1 h.1), h.2),
+    )
 
-  -- the locks that are found for the graph of a section's body are the section's
-  pub locks_found : (body : TextView) → IsGraphOf body g → (locks : LocksOf) → AreFound s t g locks → AreLocksOf s (record { thread = t; body = body }) g locks
-  locks_found body graph locks found = record {
-    needed = record {
+    -- lists that have what is needed at each node are the section's locks
+    pub locks_of : (locks : LocksView) → slice_get locks.at 0 ≡ Some locks.entry → AreNeeded s t last body g locks.at → AreLocksOf s last (record { thread = t; body = body }) g locks
+    locks_of locks first needed =
+        let max = maximal_as s (IsNeededFrom s t last body g 0) (IsNeeded s t last body) locks.entry needed_first (needed.each 0 locks.entry first) in
+        record {
+          needed = needed;
+          first = first;
+          entry_needed = λ l h. ((max.kept_are l).0 h).0;
+          least = maximal_least s t last body locks.entry max;
+          in_order = max.in_order;
+        }
+
+  module _ (body : TextView) (graph : IsGraphOf body g) where
+    -- what is found is what is needed where the end generates nothing
+    pub found_needed : (lists : List (List Lock)) → AreFound s t g lists → AreNeeded s t [] body g lists
+    found_needed lists found = record {
       count = found.count;
-      each = λ j here at l.
-          let listed : slice_index_or locks.at j [] ≡ here = get_or_from_slice_get locks.at j here [] at in
-          let means = derived_from s t g body graph j l (omega (arith, slice_get_within locks.at j here at, found.count)) in (
-            λ h. means.0 ((found.each j l).0 (subst (λ ls. Has ls l) (sym listed) h)),
-            λ n. subst (λ ls. Has ls l) listed ((found.each j l).1 (means.1 n)),
-          );
-    };
-    least = least s t g body graph (slice_index_or locks.at 0 []) locks.entry (found.each 0) found.entry;
-    in_order = found.entry.in_order;
-  }
+      each = λ j locks at.
+          maximal_as s (λ l. IsDerived s t g (need j l)) (IsNeededFrom s t [] body g j) locks
+          (λ l. derived_from s t g body graph j l (omega (arith, slice_get_within lists j locks at, found.count))) (found.each j locks at);
+    }
+
+    abbrev on_all : List Lock
+    on_all = lock.All ∷ []
+
+    -- the lock on all stays over all steps
+    carried_all : (steps : List Visit) → CarriedOver s t steps lock.All lock.All
+    carried_all [] = refl
+    carried_all (a ∷ steps) = (lock.All, carried_all steps, refl)
+
+    needed_on_all : (steps : List Visit) → IsNeededOn s t on_all steps lock.All
+    needed_on_all steps = (steps, [], lock.All, sym (append-nil steps), inl refl, carried_all steps)
+
+    -- control goes on from each node to the exit
+    goes_on : (j : ℕ) → j ≤ length g → (steps : List Visit) × IsPath g j steps (length g)
+    goes_on j within = elim (cases_lt j (length g)) [
+      | inl there ↦ graph.connected.exits j there
+      | inr past ↦ ([], omega (arith, within, past))
+    ]
+
+    -- where the end generates the lock on all, it is needed from each node on
+    needed_all : (j : ℕ) → j ≤ length g → IsNeededFrom s t on_all body g j lock.All
+    needed_all j within =
+        let p = goes_on j within in
+        (p.0, (graph.rests j within p.0).0 p.1, needed_on_all p.0)
+
+    all_alone : (big : Lock) → Covers s big lock.All → big ≡ lock.All
+    all_alone lock.All c = refl
+    all_alone (lock.Class n r) c = absurd c
+    all_alone (lock.Path p e) c = absurd c
+
+    -- it alone is the maximal one of locks of which it is one
+    maximal_all : (P : Lock → Type 0) → P lock.All → AreMaximal s P on_all
+    maximal_all P there = record {
+      kept_are = λ l. (
+        λ h. elim h [ inl e ↦ subst (λ x. P x × (((big : Lock) × P big × Covers s big x × (big ≡ x → ⊥)) → ⊥)) e (there, λ out. out.3 (all_alone out.0 out.2)) | inr none ↦ absurd none ],
+        λ h. inl (elim (is_all l) [ inl e ↦ sym e | inr other ↦ absurd (h.1 (lock.All, there, tt, λ e. other (sym e))) ]),
+      );
+      covering = λ l p. (lock.All, inl refl, tt);
+      in_order = ((λ m h. absurd h), tt);
+    }
+      where
+        is_all : (l : Lock) → (l ≡ lock.All) ⊎ (l ≡ lock.All → ⊥)
+        is_all lock.All = inl refl
+        is_all (lock.Class n r) = inr (λ e. cc)
+        is_all (lock.Path p e) = inr (λ f. cc)
+
+    -- the lock on all at each node is what is needed where the end generates it
+    pub all_needed : (lists : List (List Lock)) → AreAllOnAll (length g + 1) lists → AreNeeded s t on_all body g lists
+    all_needed lists all = record {
+      count = all.counted;
+      each = λ j locks at.
+          let within : j ≤ length g = omega (arith, slice_get_within lists j locks at, all.counted) in
+          subst (AreMaximal s (IsNeededFrom s t on_all body g j)) (sym (all.each j locks at)) (maximal_all (IsNeededFrom s t on_all body g j) (needed_all j within));
+    }
+
+-- the locks on all are the program's
+pub all_lawful : (s : SchemeView) (n : ℕ) (lists : List (List Lock)) → AreAllOnAll n lists → (j : ℕ) (locks : List Lock) → slice_get lists j ≡ Some locks → (l : Lock) → Has locks l → IsLockOf s l
+all_lawful s n lists all j locks at l h = elim (subst (λ ls. Has ls l) (all.each j locks at) h) [ inl e ↦ subst (IsLockOf s) e tt | inr none ↦ absurd none ]

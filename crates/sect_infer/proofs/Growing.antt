@@ -11,7 +11,7 @@ use Rattle.sect_names.proofs.Making.{last_of, so_far}
 use Rattle.sect_names.proofs.Telling.{lock_tells, any_tells}
 use Rattle.sect_infer.specs.declared.need.Need.{Need}
 use Rattle.sect_infer.specs.contracts.need.NeedPartialEq.TheImpl.{ghosts as the_need_eq}
-use Rattle.sect_infer.specs.Needs.{need, Grows}
+use Rattle.sect_infer.specs.steps.Needs.{need, Grows}
 
 pub need_tells : (x y : Need) → Decides (the_need_eq.eq x y) (x ≡ y)
 need_tells x y = search (rules, lock_tells)

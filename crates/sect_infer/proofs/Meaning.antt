@@ -11,16 +11,14 @@ use Rattle.sect_graph.specs.Graphs.{IsGraphOf}
 use Rattle.sect_names.specs.declared.lock.Lock.{Lock}
 use Rattle.sect_names.specs.Schemes.{SchemeView}
 use Rattle.sect_names.specs.Carrying.{Generated, CarriedBack}
-use Rattle.sect_names.specs.Needed.{CarriedOver, GeneratedFirst, IsNeededOn, IsNeeded, IsNeededFrom, IsLeast}
-use Rattle.sect_names.specs.Order.{AreMaximal}
-use Rattle.sect_names.proofs.Telling.{lock_cases}
+use Rattle.sect_names.specs.Needed.{CarriedOver, GeneratedFirst, IsNeededOn, IsNeededFrom}
 use Rattle.sect_infer.specs.declared.need.Need.{Need}
-use Rattle.sect_infer.specs.Needs.{need, Derived, IsDerived}
+use Rattle.sect_infer.specs.steps.Needs.{need, Derived, IsDerived}
 
 module _ (s : SchemeView) (t : ℕ) (g : List Node) where
   -- needed along some path from the node to the exit
   abbrev pub IsNeededAlong : ℕ → Lock → Type 0
-  IsNeededAlong j l = (steps : List Visit) × IsPath g j steps (length g) × IsNeededOn s t steps l
+  IsNeededAlong j l = (steps : List Visit) × IsPath g j steps (length g) × IsNeededOn s t [] steps l
 
   -- a path from a node begins with what the node does
   path_begins : (j : ℕ) (y : Node) (steps : List Visit) → slice_get g j ≡ Some y → IsPath g j steps (length g) → (post : List Visit) × (steps ≡ visit j y.label ∷ post)
@@ -60,28 +58,9 @@ module _ (s : SchemeView) (t : ℕ) (g : List Node) where
 
   module _ (body : TextView) (graph : IsGraphOf body g) where
     -- the needs of a node are those of the rests of traces that begin there
-    pub derived_from : (j : ℕ) (l : Lock) → j ≤ length g → IsDerived s t g (need j l) ↔ IsNeededFrom s t body g j l
+    pub derived_from : (j : ℕ) (l : Lock) → j ≤ length g → IsDerived s t g (need j l) ↔ IsNeededFrom s t [] body g j l
     derived_from j l within =
         let means = derived_means graph.connected j l in (
           λ h. (let a = means.0 h in (a.0, (graph.rests j within a.0).0 a.1, a.2)),
           λ h. means.1 (h.0, (graph.rests j within h.0).1 h.1, h.2),
         )
-
-    -- those of the first node are those of the traces
-    pub derived_entry : (l : Lock) → IsDerived s t g (need 0 l) ↔ IsNeeded s t body l
-    derived_entry l =
-        let means = derived_means graph.connected 0 l in (
-          λ h. (let a = means.0 h in (a.0, (graph.paths a.0).0 a.1, a.2)),
-          λ h. means.1 (h.0, (graph.paths h.0).1 h.1, h.2),
-        )
-
-    -- the maximal ones of the first node are the least set that protects
-    pub least : (first entry : List Lock) → ((l : Lock) → Has first l ↔ IsDerived s t g (need 0 l)) → AreMaximal s first entry → IsLeast s t body entry
-    least first entry tells max = record {
-      protects = λ l n. max.covering l ((tells l).1 ((derived_entry l).1 n));
-      least = λ others protects l h. protects l ((derived_entry l).0 ((tells l).0 ((max.kept_are l).0 h).0));
-      apart = λ l big h k c. elim (lock_cases big l) [
-        | inl e ↦ e
-        | inr n ↦ absurd (((max.kept_are l).0 h).1 (big, ((max.kept_are big).0 k).0, c, n))
-      ];
-    }

@@ -7,7 +7,7 @@ use Rattle.sect_types.specs.Lists.{Has}
 use Rattle.sect_graph.specs.declared.flow.Node.{Node}
 use Rattle.sect_graph.specs.declared.flow.Successors.{Successors}
 use Rattle.sect_graph.specs.Paths.{LeadsTo, IsSuccessor}
-use Rattle.sect_infer.specs.Needs.{AreAllBefore, IsAdded}
+use Rattle.sect_infer.specs.steps.Needs.{AreAllBefore, IsAdded}
 
 -- each list has the predecessors that are below a node
 pub record AreBeforeSo (g : List Node) (j : ℕ) (lists : List (List ℕ)) : Type 0 where

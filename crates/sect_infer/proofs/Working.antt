@@ -16,7 +16,7 @@ use Rattle.sect_names.proofs.Telling.{any_tells}
 use Rattle.sect_infer.specs.declared.need.Need.{Need}
 use Rattle.sect_infer.specs.contracts.need.NeedPartialEq.TheImpl.{ghosts as the_need_eq}
 use Rattle.sect_infer.specs.contracts.need.NeedEq.TheImpl.Laws.{laws-law as the_need_laws}
-use Rattle.sect_infer.specs.Needs.{need, IsSeed, CarriesTo, Derived, IsDerived, Grows, AreLawful}
+use Rattle.sect_infer.specs.steps.Needs.{need, IsSeed, CarriesTo, Derived, IsDerived, Grows, AreLawful}
 use Rattle.sect_infer.proofs.Growing.{need_tells}
 
 Has-index : {X : Type 0} (xs : List X) (x : X) → Has xs x → (i : ℕ) × (slice_get xs i ≡ Some x)

@@ -1,2 +1,2 @@
-pub mod Needs
 pub mod Sets
+pub mod steps

@@ -2,7 +2,7 @@
 
 ghost use Rattle.std.specs.Prelude.{◌≡◌, IfOk, OnOk};
 ghost use Rattle.sect_types.specs.Lists.{Has};
-ghost use Rattle.sect_infer.specs.Needs.{need, Grows};
+ghost use Rattle.sect_infer.specs.steps.Needs.{need, Grows};
 
 use indexmap::IndexSet;
 use sect_names::Lock;

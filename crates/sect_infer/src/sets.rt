@@ -1,9 +1,9 @@
-//! The locks of a section.
+//! The locks that are needed from each node on.
 
 ghost use Rattle.std.specs.Prelude.{◌≡◌, ◌<◌, ℕ, length, slice_get, slice_index_or, [], Some, IfOk, OnOk};
 ghost use Rattle.sect_types.specs.Lists.{Has};
 ghost use Rattle.sect_infer.specs.declared.need.Need.{Need};
-ghost use Rattle.sect_infer.specs.Needs.{need, IsAdded, AreByNode};
+ghost use Rattle.sect_infer.specs.steps.Needs.{need, IsAdded, AreByNode};
 
 use crate::need::Need;
 use indexmap::IndexSet;
@@ -61,11 +61,11 @@ impl NodeLocks {
     }
 
     /// The locks of a node.
-    pub fn at(&self, node: u16) -> &IndexSet<Lock>
+    pub fn at(&self, node: usize) -> &IndexSet<Lock>
         requires { node < length self.now }
         ensures { slice_get self.now node ≡ Some result.now.keys }
     {
-        &self.lists[node as usize]
+        &self.lists[node]
     }
 }
 
@@ -89,47 +89,4 @@ fn put_need(locks: &mut NodeLocks, need: &Need) -> Result<(), AllocError>
 {
     locks.put(need.node, need.lock.try_clone()?)?;
     Ok(())
-}
-
-/// The locks of a section: those that are needed from each node of its graph on, and those that it takes at its entry,
-/// in canonical order.
-#[derive(Drop)]
-pub struct Sets {
-    nodes: NodeLocks,
-    entry: Vec<Lock>,
-}
-
-impl Model for Sets {
-    ghost use Rattle.std.specs.Coded.{codes};
-    ghost use Rattle.sect_points.specs.Places.{place_code};
-    ghost use Rattle.sect_infer.specs.Sets.{LocksOf};
-
-    ghost Value = { LocksOf };
-
-    ghost coded = { Prim.hlevel (codes, place_code) };
-
-    ghost view = { λ s. record { at = s.nodes; entry = s.entry.items } };
-}
-
-impl Sets {
-    /// These locks.
-    pub(crate) fn of(nodes: NodeLocks, entry: Vec<Lock>) -> Sets
-        ensures { result ≡ record { at = nodes; entry = entry.items } }
-    {
-        Sets { nodes, entry }
-    }
-
-    /// The locks that are needed from each node on.
-    pub fn nodes(&self) -> &NodeLocks
-        ensures { result.now ≡ self.now.at }
-    {
-        &self.nodes
-    }
-
-    /// The locks that the section takes at its entry: the least set that protects, in canonical order.
-    pub fn entry(&self) -> &[Lock]
-        ensures { result.now ≡ self.now.entry }
-    {
-        self.entry.as_slice()
-    }
 }

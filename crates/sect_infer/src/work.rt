@@ -6,7 +6,7 @@ ghost use Rattle.sect_graph.specs.declared.flow.Node.{Node};
 ghost use Rattle.sect_graph.specs.Paths.{LeadsTo};
 ghost use Rattle.sect_names.specs.Carrying.{CarriedBack};
 ghost use Rattle.sect_infer.specs.declared.need.Need.{Need};
-ghost use Rattle.sect_infer.specs.Needs.{IsSeed, CarriesTo, IsDerived, Grows, AreBefore, AreAllBefore, AreLawful};
+ghost use Rattle.sect_infer.specs.steps.Needs.{IsSeed, CarriesTo, IsDerived, Grows, AreBefore, AreAllBefore, AreLawful};
 
 use crate::need::{Need, keep, keep_all};
 use crate::predecessors::{Predecessors, predecessors_of};

@@ -1,6 +1,7 @@
 -- The locks that are kept are the maximal ones.
 use Rattle.std.proofs.Common.{◌≡◌, ◌↔◌, ◌⊎◌, inl, inr, ℕ, zero, suc, ◌+◌, ◌<◌, ◌≤◌, List, refl, subst, sym, ap, ◌∙◌, arith}
 use Rattle.sect_types.specs.Lists.{Has}
+use Rattle.sect_types.specs.Statements.{TextView}
 use Rattle.sect_names.specs.declared.lock.Effect.TheVariants as effect
 use Rattle.sect_names.specs.declared.lock.Right.{Right}
 use Rattle.sect_names.specs.declared.lock.Right.TheVariants as right
@@ -8,8 +9,10 @@ use Rattle.sect_names.specs.declared.lock.Lock.{Lock}
 use Rattle.sect_names.specs.declared.lock.Lock.TheVariants as lock
 use Rattle.sect_names.specs.Schemes.{SchemeView}
 use Rattle.sect_names.specs.Locks.{Covers, CoveredBy, IsOutdone}
+use Rattle.sect_names.specs.Needed.{IsNeeded, IsLeast}
 use Rattle.sect_names.specs.Order.{AreInOrder, AreMaximal}
 use Rattle.sect_names.proofs.Covering.{covers_refl, covers_trans}
+use Rattle.sect_names.proofs.Telling.{lock_cases}
 use Rattle.sect_names.proofs.Making.{Makes}
 
 -- how high a lock stands: another that covers it stands higher
@@ -85,4 +88,26 @@ are_maximal s given kept told made order = record {
   );
   covering = λ l h. covered s given kept told 4 l (omega arith) h;
   in_order = order;
+}
+
+-- the maximal locks with a property are those with another that says the same
+pub maximal_as : (s : SchemeView) (P Q : Lock → Type 0) (kept : List Lock) → ((l : Lock) → P l ↔ Q l) → AreMaximal s P kept → AreMaximal s Q kept
+maximal_as s P Q kept same max = record {
+  kept_are = λ l. (
+    λ h. (let m = (max.kept_are l).0 h in ((same l).0 m.0, λ out. m.1 (out.0, (same out.0).1 out.1, out.2, out.3))),
+    λ h. (max.kept_are l).1 ((same l).1 h.0, λ out. h.1 (out.0, (same out.0).0 out.1, out.2, out.3)),
+  );
+  covering = λ l q. max.covering l ((same l).1 q);
+  in_order = max.in_order;
+}
+
+-- the maximal ones of the locks that a section needs are its least set
+pub maximal_least : (s : SchemeView) (t : ℕ) (last : List Lock) (body : TextView) (kept : List Lock) → AreMaximal s (IsNeeded s t last body) kept → IsLeast s t last body kept
+maximal_least s t last body kept max = record {
+  protects = max.covering;
+  least = λ others protects l h. protects l ((max.kept_are l).0 h).0;
+  apart = λ l big h k c. elim (lock_cases big l) [
+    | inl e ↦ e
+    | inr n ↦ absurd (((max.kept_are l).0 h).1 (big, ((max.kept_are big).0 k).0, c, n))
+  ];
 }

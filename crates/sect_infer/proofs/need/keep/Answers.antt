@@ -1,4 +1,4 @@
-use Rattle.sect_infer.specs.Needs.{need}
+use Rattle.sect_infer.specs.steps.Needs.{need}
 use Rattle.sect_infer.proofs.Growing.{grows_put}
 use Rattle.sect_infer.proofs.need.keep.Goals as goal
 

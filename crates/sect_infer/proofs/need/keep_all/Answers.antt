@@ -1,5 +1,5 @@
 use Rattle.std.proofs.Common.{◌≡◌, ◌<◌, arith, length, subst}
-use Rattle.sect_infer.specs.Needs.{need, Grows}
+use Rattle.sect_infer.specs.steps.Needs.{need, Grows}
 use Rattle.sect_infer.proofs.Growing.{keeps_next}
 use Rattle.sect_infer.proofs.need.keep_all.Goals as goal
 

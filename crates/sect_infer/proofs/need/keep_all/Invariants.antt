@@ -1,6 +1,6 @@
 use Rattle.std.proofs.Common.{◌≡◌, take}
 use Rattle.sect_types.specs.Lists.{Has}
-use Rattle.sect_infer.specs.Needs.{Grows}
+use Rattle.sect_infer.specs.steps.Needs.{Grows}
 use Rattle.sect_infer.proofs.need.keep_all.Given as goal
 
 abbrev pub invariant-loop-lock : goal.invariant-loop-lock

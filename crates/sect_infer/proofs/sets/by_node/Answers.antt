@@ -2,7 +2,7 @@ use Rattle.std.proofs.Common.{◌≤◌, sym, arith, length, subst}
 use Rattle.std.proofs.lemmas.Option.{slice_get_within, get_or_from_slice_get}
 use Rattle.std.proofs.lemmas.List.{take_all}
 use Rattle.sect_types.proofs.Membership.{Has-slice_get}
-use Rattle.sect_infer.specs.Needs.{AreByNode}
+use Rattle.sect_infer.specs.steps.Needs.{AreByNode}
 use Rattle.sect_infer.proofs.Adding.{by_none, by_next}
 use Rattle.sect_infer.proofs.sets.by_node.Goals as goal
 

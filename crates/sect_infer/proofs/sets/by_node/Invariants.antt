@@ -1,5 +1,5 @@
 use Rattle.std.proofs.Common.{take}
-use Rattle.sect_infer.specs.Needs.{AreByNode}
+use Rattle.sect_infer.specs.steps.Needs.{AreByNode}
 use Rattle.sect_infer.proofs.sets.by_node.Given as goal
 
 abbrev pub invariant-loop-i : goal.invariant-loop-i

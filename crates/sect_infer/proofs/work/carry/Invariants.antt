@@ -1,6 +1,6 @@
 use Rattle.std.proofs.Common.{take}
 use Rattle.sect_types.specs.Lists.{Has}
-use Rattle.sect_infer.specs.Needs.{CarriesTo, Grows}
+use Rattle.sect_infer.specs.steps.Needs.{CarriesTo, Grows}
 use Rattle.sect_infer.proofs.work.carry.Given as goal
 
 abbrev pub invariant-loop-node : goal.invariant-loop-node

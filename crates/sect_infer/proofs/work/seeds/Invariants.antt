@@ -1,5 +1,5 @@
 use Rattle.std.proofs.Common.{◌<◌, []}
-use Rattle.sect_infer.specs.Needs.{IsSeed, Grows}
+use Rattle.sect_infer.specs.steps.Needs.{IsSeed, Grows}
 use Rattle.sect_infer.proofs.work.seeds.Given as goal
 
 abbrev pub invariant-loop-node : goal.invariant-loop-node

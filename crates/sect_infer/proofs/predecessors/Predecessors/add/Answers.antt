@@ -2,7 +2,7 @@ use Rattle.std.proofs.Common.{◌≡◌, ◌<◌, ℕ, List, [], ◌∷◌, ◌+
 use Rattle.std.specs.Prelude.{slice_index_or}
 use Rattle.std.proofs.lemmas.List.{get_or-map, length-map}
 use Rattle.sect_infer.proofs.Adding.{map-set, put_at, behind}
-use Rattle.sect_infer.specs.Needs.{IsAdded}
+use Rattle.sect_infer.specs.steps.Needs.{IsAdded}
 use Rattle.sect_infer.proofs.predecessors.Predecessors.add.Goals as goal
 
 pub returns-in_ok-push-clause-added : goal.returns-in_ok-push-clause-added

@@ -9,6 +9,3 @@ mod work;
 
 pub use section::infer;
 pub use sets::Sets;
-
-#[cfg(test)]
-mod tests;

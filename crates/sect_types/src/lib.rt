@@ -16,6 +16,3 @@ mod walk;
 
 pub use crate::program::{Program, check_types};
 pub use crate::rule::TypeFault;
-
-#[cfg(test)]
-mod tests;

@@ -1,6 +1,9 @@
-use super::*;
-use Mode::{Exclusive, IntentionExclusive, IntentionShared, Shared, SharedIntentionExclusive};
+//! The tables of lock modes, pair by pair.
 
+use Mode::{Exclusive, IntentionExclusive, IntentionShared, Shared, SharedIntentionExclusive};
+use sect_modes::{Mode, at_least, compatible, intention, join};
+
+/// All modes, in the order of the tables.
 const MODES: [Mode; 5] = [
     IntentionShared,
     IntentionExclusive,

@@ -1,29 +1,29 @@
-// Texts that are read and written back, and texts that are refused, each with its number and line counted by hand.
+//! Certificates that are read and written back, and texts that are refused, each with its number and line counted by hand.
 
-use crate::certificate::{Cert, Chain, Section, Step};
-use crate::fault::CertFault;
-use crate::items::Items;
-use crate::lock::{Lock, Path};
-use crate::{read_cert, write_cert};
+use sect_cert::certificate::{Cert, Chain, Section, Step};
+use sect_cert::fault::CertFault;
+use sect_cert::items::Items;
+use sect_cert::lock::{Lock, Path};
+use sect_cert::{read_cert, write_cert};
 use sect_front::is_name;
 use sect_front::name::Name;
 use std::alloc::{AllocError, Global};
 use std::process::Abort;
 use std::test::Fail;
 
-// The certificate of a section that adds one to a field of a global.
+/// The certificate of a section that adds one to a field of a global.
 const ADDS_ONE: &[u8] =
     b"sect-cert 1\nk 2\nsections 1\nsection 0 nodes 4\nnode 0: W a\nnode 1: W a\nnode 2: W a\n\
 node 3: none\nentry: W a\nchain 0: 0 W a > 1 W a > 2 W a\nend\n";
 
-// Every form of a lock, of a list and of a chain, sections of no node and of no chain, and numbers at their ends.
+/// Every form of a lock, of a list and of a chain, sections of no node and of no chain, and numbers at their ends.
 const ALL_FORMS: &[u8] =
     b"sect-cert 1\nk 4294967295\nsections 3\nsection 0 nodes 0\nentry: none\nsection 1 nodes 2\n\
 node 0: R a, W _b.next.val9, R class 0, W class 4294967295, M class 10, R a\nnode 1: none\nentry: M class 1, R x0\n\
 chain 0: 4294967295 M class 1\nchain 4294967295: 0 R x0 > 10 W class 7 > 2 R a.b.c.d.e\nsection 2 nodes 1\n\
 node 0: W a\nentry: none\nend\n";
 
-// What a text is answered with: nothing where it is read, else the fault as it is printed.
+/// What a text is answered with: nothing where it is read, else the fault as it is printed.
 fn answer(alloc: Global, text: &[u8]) -> Result<String, AllocError> {
     match read_cert(alloc, text) {
         Ok(_) => Ok(String::new(alloc)),
@@ -37,7 +37,7 @@ fn answers(rt: &(impl Abort + AllocGlobal), text: &[u8], wanted: &str) -> Result
     Ok(())
 }
 
-// What follows these lines is refused so.
+/// What follows these lines is refused so.
 fn refused_after(
     rt: &(impl Abort + AllocGlobal),
     front: &[u8],
@@ -67,7 +67,7 @@ fn certificates_are_written_back(rt: HostRuntime) -> Result<(), Fail> {
     reads_back(&rt, b"sect-cert 1\nk 0\nsections 0\nend\n")
 }
 
-// What stands at a place.
+/// What stands at a place.
 fn at<T>(items: &[T], place: usize) -> Result<&T, Fail> {
     match items.get(place) {
         Some(item) => Ok(item),
@@ -112,7 +112,7 @@ fn a_chain_is_read_as_what_it_says(rt: HostRuntime) -> Result<(), Fail> {
     }
 }
 
-// The name that these bytes are.
+/// The name that these bytes are.
 fn name(bytes: &[u8]) -> Result<Name, Fail> {
     if is_name(bytes) {
         Ok(Name::new(bytes))
@@ -178,144 +178,152 @@ fn nothing_follows_the_end(rt: HostRuntime) -> Result<(), Fail> {
     refused_after(&rt, ADDS_ONE, b"\xff", "32 NotCanonical line 12")
 }
 
+/// Texts that are refused at one of their first lines, or behind it.
+const FIRST_LINES: [(&[u8], &str); 18] = [
+    (b"", "31 CertEnd line 1"),
+    (b"sect-cert 1", "31 CertEnd line 1"),
+    (b"sect-cert 1\r\n", "30 BadCertLine line 1"),
+    (b"sect-cert 01\n", "30 BadCertLine line 1"),
+    (b"sect-cert 2\n", "30 BadCertLine line 1"),
+    (b"\n", "30 BadCertLine line 1"),
+    (b"sect-cert 1\n", "31 CertEnd line 2"),
+    (b"sect-cert 1\nk 2", "31 CertEnd line 2"),
+    (b"sect-cert 1\nk 02\n", "32 NotCanonical line 2"),
+    (b"sect-cert 1\nk 00\n", "32 NotCanonical line 2"),
+    (b"sect-cert 1\nk 4294967296\n", "30 BadCertLine line 2"),
+    (b"sect-cert 1\nk 04294967296\n", "30 BadCertLine line 2"),
+    (b"sect-cert 1\nk 04294967295\n", "32 NotCanonical line 2"),
+    (b"sect-cert 1\nk\n", "30 BadCertLine line 2"),
+    (b"sect-cert 1\nk 1 \n", "30 BadCertLine line 2"),
+    (b"sect-cert 1\nk -1\n", "30 BadCertLine line 2"),
+    (b"sect-cert 1\nsections 01\n", "30 BadCertLine line 2"),
+    (b"sect-cert 1\nk 2\nk 2\n", "30 BadCertLine line 3"),
+];
+
 #[test]
 fn first_lines_are_refused(rt: HostRuntime) -> Result<(), Fail> {
-    let table: [(&[u8], &str); 18] = [
-        (b"", "31 CertEnd line 1"),
-        (b"sect-cert 1", "31 CertEnd line 1"),
-        (b"sect-cert 1\r\n", "30 BadCertLine line 1"),
-        (b"sect-cert 01\n", "30 BadCertLine line 1"),
-        (b"sect-cert 2\n", "30 BadCertLine line 1"),
-        (b"\n", "30 BadCertLine line 1"),
-        (b"sect-cert 1\n", "31 CertEnd line 2"),
-        (b"sect-cert 1\nk 2", "31 CertEnd line 2"),
-        (b"sect-cert 1\nk 02\n", "32 NotCanonical line 2"),
-        (b"sect-cert 1\nk 00\n", "32 NotCanonical line 2"),
-        (b"sect-cert 1\nk 4294967296\n", "30 BadCertLine line 2"),
-        (b"sect-cert 1\nk 04294967296\n", "30 BadCertLine line 2"),
-        (b"sect-cert 1\nk 04294967295\n", "32 NotCanonical line 2"),
-        (b"sect-cert 1\nk\n", "30 BadCertLine line 2"),
-        (b"sect-cert 1\nk 1 \n", "30 BadCertLine line 2"),
-        (b"sect-cert 1\nk -1\n", "30 BadCertLine line 2"),
-        (b"sect-cert 1\nsections 01\n", "30 BadCertLine line 2"),
-        (b"sect-cert 1\nk 2\nk 2\n", "30 BadCertLine line 3"),
-    ];
-    for (text, wanted) in table {
+    for (text, wanted) in FIRST_LINES {
         answers(&rt, text, wanted)?;
     }
     Ok(())
 }
 
+/// What may stand after the line `k 2`, and is refused.
+const SECTION_LINES: [(&[u8], &str); 17] = [
+    (b"sections 4294967295\n", "31 CertEnd line 4"),
+    (b"sections 4294967296\n", "30 BadCertLine line 3"),
+    (b"sections 00\n", "32 NotCanonical line 3"),
+    (b"sections 0\nsection 0 nodes 1\n", "30 BadCertLine line 4"),
+    (b"sections 0\nend", "31 CertEnd line 4"),
+    (b"sections 0\nend \n", "30 BadCertLine line 4"),
+    (b"sections 0\nend\nx", "32 NotCanonical line 5"),
+    (b"sections 0\nend\n\n", "32 NotCanonical line 5"),
+    (b"sections 1\nend\n", "30 BadCertLine line 4"),
+    (b"sections 1\nsection 1 nodes 1\n", "32 NotCanonical line 4"),
+    (
+        b"sections 1\nsection 00 nodes 1\n",
+        "32 NotCanonical line 4",
+    ),
+    (
+        b"sections 1\nsection 0 nodes 01\n",
+        "32 NotCanonical line 4",
+    ),
+    (b"sections 1\nsection 0 node 1\n", "30 BadCertLine line 4"),
+    (
+        b"sections 1\nsection 0 nodes 4294967296\n",
+        "30 BadCertLine line 4",
+    ),
+    (
+        b"sections 1\nsection 0 nodes 0\nnode 0: none\n",
+        "30 BadCertLine line 5",
+    ),
+    (
+        b"sections 1\nsection 0 nodes 0\nend\n",
+        "30 BadCertLine line 5",
+    ),
+    (
+        b"sections 1\nsection 0 nodes 4294967295\n",
+        "31 CertEnd line 5",
+    ),
+];
+
 #[test]
 fn section_lines_are_refused(rt: HostRuntime) -> Result<(), Fail> {
-    let table: [(&[u8], &str); 17] = [
-        (b"sections 4294967295\n", "31 CertEnd line 4"),
-        (b"sections 4294967296\n", "30 BadCertLine line 3"),
-        (b"sections 00\n", "32 NotCanonical line 3"),
-        (b"sections 0\nsection 0 nodes 1\n", "30 BadCertLine line 4"),
-        (b"sections 0\nend", "31 CertEnd line 4"),
-        (b"sections 0\nend \n", "30 BadCertLine line 4"),
-        (b"sections 0\nend\nx", "32 NotCanonical line 5"),
-        (b"sections 0\nend\n\n", "32 NotCanonical line 5"),
-        (b"sections 1\nend\n", "30 BadCertLine line 4"),
-        (b"sections 1\nsection 1 nodes 1\n", "32 NotCanonical line 4"),
-        (
-            b"sections 1\nsection 00 nodes 1\n",
-            "32 NotCanonical line 4",
-        ),
-        (
-            b"sections 1\nsection 0 nodes 01\n",
-            "32 NotCanonical line 4",
-        ),
-        (b"sections 1\nsection 0 node 1\n", "30 BadCertLine line 4"),
-        (
-            b"sections 1\nsection 0 nodes 4294967296\n",
-            "30 BadCertLine line 4",
-        ),
-        (
-            b"sections 1\nsection 0 nodes 0\nnode 0: none\n",
-            "30 BadCertLine line 5",
-        ),
-        (
-            b"sections 1\nsection 0 nodes 0\nend\n",
-            "30 BadCertLine line 5",
-        ),
-        (
-            b"sections 1\nsection 0 nodes 4294967295\n",
-            "31 CertEnd line 5",
-        ),
-    ];
-    for (text, wanted) in table {
+    for (text, wanted) in SECTION_LINES {
         refused_after(&rt, b"sect-cert 1\nk 2\n", text, wanted)?;
     }
     Ok(())
 }
 
-// The lines before a section's two nodes.
+/// The lines before a section's two nodes.
 const BEFORE_NODES: &[u8] = b"sect-cert 1\nk 2\nsections 1\nsection 0 nodes 2\n";
+
+/// What may stand where two nodes are due, and is refused.
+const NODE_LINES: [(&[u8], &str); 14] = [
+    (b"node 1: none\n", "32 NotCanonical line 5"),
+    (b"node 00: none\n", "32 NotCanonical line 5"),
+    (b"node 0 none\n", "30 BadCertLine line 5"),
+    (b"node 0:\n", "30 BadCertLine line 5"),
+    (b"node 0: \n", "30 BadCertLine line 5"),
+    (b"node 0: none\r\n", "30 BadCertLine line 5"),
+    (b"node 0: none", "31 CertEnd line 5"),
+    (b"node 0: R none\n", "31 CertEnd line 6"),
+    (b"entry: none\n", "30 BadCertLine line 5"),
+    (b"section 1 nodes 2\n", "30 BadCertLine line 5"),
+    (b"node 0: none\nnode 0: none\n", "32 NotCanonical line 6"),
+    (
+        b"node 0: none\nnode 1: none\nnode 2: none\n",
+        "30 BadCertLine line 7",
+    ),
+    (
+        b"node 0: none\nnode 1: none\nend\n",
+        "30 BadCertLine line 7",
+    ),
+    (
+        b"node 0: none\nnode 1: none\nchain 0: 0 W a\n",
+        "30 BadCertLine line 7",
+    ),
+];
 
 #[test]
 fn node_lines_are_refused(rt: HostRuntime) -> Result<(), Fail> {
-    let table: [(&[u8], &str); 14] = [
-        (b"node 1: none\n", "32 NotCanonical line 5"),
-        (b"node 00: none\n", "32 NotCanonical line 5"),
-        (b"node 0 none\n", "30 BadCertLine line 5"),
-        (b"node 0:\n", "30 BadCertLine line 5"),
-        (b"node 0: \n", "30 BadCertLine line 5"),
-        (b"node 0: none\r\n", "30 BadCertLine line 5"),
-        (b"node 0: none", "31 CertEnd line 5"),
-        (b"node 0: R none\n", "31 CertEnd line 6"),
-        (b"entry: none\n", "30 BadCertLine line 5"),
-        (b"section 1 nodes 2\n", "30 BadCertLine line 5"),
-        (b"node 0: none\nnode 0: none\n", "32 NotCanonical line 6"),
-        (
-            b"node 0: none\nnode 1: none\nnode 2: none\n",
-            "30 BadCertLine line 7",
-        ),
-        (
-            b"node 0: none\nnode 1: none\nend\n",
-            "30 BadCertLine line 7",
-        ),
-        (
-            b"node 0: none\nnode 1: none\nchain 0: 0 W a\n",
-            "30 BadCertLine line 7",
-        ),
-    ];
-    for (text, wanted) in table {
+    for (text, wanted) in NODE_LINES {
         refused_after(&rt, BEFORE_NODES, text, wanted)?;
     }
     Ok(())
 }
 
+/// Lines of a node whose list is none.
+const NO_LISTS: [&[u8]; 24] = [
+    b"node 0: none, R a\n",
+    b"node 0: R a, none\n",
+    b"node 0: R a,W b\n",
+    b"node 0: R a ,W b\n",
+    b"node 0: R a,\n",
+    b"node 0: R a, \n",
+    b"node 0: R a,, W b\n",
+    b"node 0: R  a\n",
+    b"node 0: R a W b\n",
+    b"node 0: X a\n",
+    b"node 0: M a\n",
+    b"node 0: R\n",
+    b"node 0: R class\n",
+    b"node 0: R class a\n",
+    b"node 0: R class 4294967296\n",
+    b"node 0: R int\n",
+    b"node 0: R a.class\n",
+    b"node 0: R a.\n",
+    b"node 0: R .a\n",
+    b"node 0: R a..b\n",
+    b"node 0: R 9a\n",
+    b"node 0: R a.01\n",
+    b"node 0: R a#1\n",
+    b"node 0: R a12345678901234567890123456789012\n",
+];
+
 #[test]
 fn lists_that_are_no_lists_are_refused(rt: HostRuntime) -> Result<(), Fail> {
-    let table: [&[u8]; 24] = [
-        b"node 0: none, R a\n",
-        b"node 0: R a, none\n",
-        b"node 0: R a,W b\n",
-        b"node 0: R a ,W b\n",
-        b"node 0: R a,\n",
-        b"node 0: R a, \n",
-        b"node 0: R a,, W b\n",
-        b"node 0: R  a\n",
-        b"node 0: R a W b\n",
-        b"node 0: X a\n",
-        b"node 0: M a\n",
-        b"node 0: R\n",
-        b"node 0: R class\n",
-        b"node 0: R class a\n",
-        b"node 0: R class 4294967296\n",
-        b"node 0: R int\n",
-        b"node 0: R a.class\n",
-        b"node 0: R a.\n",
-        b"node 0: R .a\n",
-        b"node 0: R a..b\n",
-        b"node 0: R 9a\n",
-        b"node 0: R a.01\n",
-        b"node 0: R a#1\n",
-        b"node 0: R a12345678901234567890123456789012\n",
-    ];
-    for text in table {
+    for text in NO_LISTS {
         refused_after(&rt, BEFORE_NODES, text, "30 BadCertLine line 5")?;
     }
     refused_after(
@@ -334,42 +342,44 @@ fn lists_that_are_no_lists_are_refused(rt: HostRuntime) -> Result<(), Fail> {
     refused_after(&rt, BEFORE_NODES, longest, "31 CertEnd line 6")
 }
 
-// The lines before a section's chains.
+/// The lines before a section's chains.
 const BEFORE_CHAINS: &[u8] =
     b"sect-cert 1\nk 2\nsections 1\nsection 0 nodes 1\nnode 0: none\nentry: W a\n";
 
+/// What may stand where a chain is due, and is refused.
+const CHAIN_LINES: [(&[u8], &str); 18] = [
+    (b"chain 0:\n", "30 BadCertLine line 7"),
+    (b"chain 0: 0 W a >\n", "30 BadCertLine line 7"),
+    (b"chain 0: 0 W a > 1 W\n", "30 BadCertLine line 7"),
+    (b"chain 0: 0 W a, 1 W a\n", "30 BadCertLine line 7"),
+    (b"chain 0: 0 W a>1 W a\n", "30 BadCertLine line 7"),
+    (b"chain 0: 0 none\n", "30 BadCertLine line 7"),
+    (b"chain 0: W a\n", "30 BadCertLine line 7"),
+    (b"chain 0: 4294967296 W a\n", "30 BadCertLine line 7"),
+    (b"chain 0: 00 W a\n", "32 NotCanonical line 7"),
+    (b"chain 00: 0 W a\n", "32 NotCanonical line 7"),
+    (b"chain 0: 0 W a > 01 W a\n", "32 NotCanonical line 7"),
+    (
+        b"chain 0: 0 W a\nchain 0: 0 W a\n",
+        "32 NotCanonical line 8",
+    ),
+    (
+        b"chain 1: 0 W a\nchain 0: 0 W a\n",
+        "32 NotCanonical line 8",
+    ),
+    (
+        b"chain 4294967295: 0 W a\nchain 5: 0 W a\n",
+        "32 NotCanonical line 8",
+    ),
+    (b"section 1 nodes 0\n", "30 BadCertLine line 7"),
+    (b"entry: none\n", "30 BadCertLine line 7"),
+    (b"node 1: none\n", "30 BadCertLine line 7"),
+    (b"end\nend\n", "32 NotCanonical line 8"),
+];
+
 #[test]
 fn chain_lines_are_refused(rt: HostRuntime) -> Result<(), Fail> {
-    let table: [(&[u8], &str); 18] = [
-        (b"chain 0:\n", "30 BadCertLine line 7"),
-        (b"chain 0: 0 W a >\n", "30 BadCertLine line 7"),
-        (b"chain 0: 0 W a > 1 W\n", "30 BadCertLine line 7"),
-        (b"chain 0: 0 W a, 1 W a\n", "30 BadCertLine line 7"),
-        (b"chain 0: 0 W a>1 W a\n", "30 BadCertLine line 7"),
-        (b"chain 0: 0 none\n", "30 BadCertLine line 7"),
-        (b"chain 0: W a\n", "30 BadCertLine line 7"),
-        (b"chain 0: 4294967296 W a\n", "30 BadCertLine line 7"),
-        (b"chain 0: 00 W a\n", "32 NotCanonical line 7"),
-        (b"chain 00: 0 W a\n", "32 NotCanonical line 7"),
-        (b"chain 0: 0 W a > 01 W a\n", "32 NotCanonical line 7"),
-        (
-            b"chain 0: 0 W a\nchain 0: 0 W a\n",
-            "32 NotCanonical line 8",
-        ),
-        (
-            b"chain 1: 0 W a\nchain 0: 0 W a\n",
-            "32 NotCanonical line 8",
-        ),
-        (
-            b"chain 4294967295: 0 W a\nchain 5: 0 W a\n",
-            "32 NotCanonical line 8",
-        ),
-        (b"section 1 nodes 0\n", "30 BadCertLine line 7"),
-        (b"entry: none\n", "30 BadCertLine line 7"),
-        (b"node 1: none\n", "30 BadCertLine line 7"),
-        (b"end\nend\n", "32 NotCanonical line 8"),
-    ];
-    for (text, wanted) in table {
+    for (text, wanted) in CHAIN_LINES {
         refused_after(&rt, BEFORE_CHAINS, text, wanted)?;
     }
     Ok(())

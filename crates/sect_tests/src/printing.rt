@@ -1,17 +1,19 @@
 //! Locks as they are printed.
 
-use super::{NEXT, program};
-use crate::text::{put_lock, put_locks};
-use crate::{Effect, Lock, Path, Right};
+use crate::programs::program_of;
+use crate::wanted::{Wanted, lock};
+use sect_names::text::{put_lock, put_locks};
+use sect_names::{Effect, Lock, Right};
 use sect_points::flow::Variable;
 use std::test::Fail;
 
+/// A program with one global and one reference.
 const LIST: &[u8] = b"record Node { int val; Node next; } global Node head; \
 thread t { Node p; int v; atomic { p = head.next; v = p.val; } }";
 
 #[test]
 fn no_locks(rt: HostRuntime) -> Result<(), Fail> {
-    let program = program(&rt, LIST)?;
+    let program = program_of(rt.alloc(), LIST)?;
     let mut text = String::new(rt.alloc());
     put_locks(&mut text, &program, &[])?;
     assert_eq!(rt; text.as_str(), "none");
@@ -20,7 +22,7 @@ fn no_locks(rt: HostRuntime) -> Result<(), Fail> {
 
 #[test]
 fn locks_on_classes(rt: HostRuntime) -> Result<(), Fail> {
-    let program = program(&rt, LIST)?;
+    let program = program_of(rt.alloc(), LIST)?;
     let mut text = String::new(rt.alloc());
     let locks = [
         Lock::Class(0, Right::Read),
@@ -34,13 +36,13 @@ fn locks_on_classes(rt: HostRuntime) -> Result<(), Fail> {
 
 #[test]
 fn a_lock_on_a_path(rt: HostRuntime) -> Result<(), Fail> {
-    let program = program(&rt, LIST)?;
-    let path = Path::new(rt.alloc(), Variable::Global(0)).extended(&[NEXT])?;
+    let program = program_of(rt.alloc(), LIST)?;
+    let lock = lock(&rt, Wanted::At(Variable::Global(0), 1, Effect::Write))?;
     assert!(rt; !program.globals().is_empty());
     assert!(rt; !program.records().is_empty());
     assert!(rt; program.records()[0].as_slice().len() > 1);
     let mut text = String::new(rt.alloc());
-    put_lock(&mut text, &program, &Lock::Path(path, Effect::Write))?;
+    put_lock(&mut text, &program, &lock)?;
     assert_eq!(rt; text.as_str(), "W head.next");
     Ok(())
 }

@@ -1,16 +1,17 @@
 //! Which lock covers which, what is left of a set, and the order of locks.
 
-use super::{NEXT, SHARED, Wanted, lock, locks, scheme};
-use crate::{Effect, Lock, Path, Right, Scheme};
+use crate::programs::{SHARED, scheme};
+use crate::wanted::{Wanted, lock, locks, path, set};
 use Effect::{Read, Write};
 use Variable::{Global, Local};
 use Wanted::{All, At};
-use indexmap::IndexSet;
+use sect_names::{Effect, Lock, Path, Right, Scheme};
 use sect_points::flow::Variable;
 use std::cmp::Ordering;
 use std::process::Abort;
 use std::test::Fail;
 
+/// The variables of the program.
 const A: Variable = Global(0);
 
 const X: Variable = Local(0, 0);
@@ -21,7 +22,7 @@ const Z: Variable = Local(0, 2);
 
 const W: Variable = Local(0, 3);
 
-// Which of the locks a lock covers.
+/// Which of the locks a lock covers.
 fn row(rt: &impl AllocGlobal, scheme: &Scheme, locks: &[Lock], big: &Lock) -> Result<String, Fail> {
     let mut text = String::new(rt.alloc());
     for small in locks {
@@ -30,7 +31,7 @@ fn row(rt: &impl AllocGlobal, scheme: &Scheme, locks: &[Lock], big: &Lock) -> Re
     Ok(text)
 }
 
-// Which of these locks the first one covers.
+/// Which of these locks the first one covers.
 fn covers(
     rt: &(impl Abort + AllocGlobal),
     scheme: &Scheme,
@@ -44,7 +45,7 @@ fn covers(
     Ok(())
 }
 
-// The lines of the table of these locks.
+/// The lines of the table of these locks.
 fn covers_all(
     rt: &(impl Abort + AllocGlobal),
     scheme: &Scheme,
@@ -57,7 +58,7 @@ fn covers_all(
     Ok(())
 }
 
-// The locks along the table, and a line for each lock that is asked about.
+/// The locks along the table, and a line for each lock that is asked about.
 const ALONG: &[Wanted] = &[
     All(0, Right::Read),
     All(0, Right::Write),
@@ -71,6 +72,7 @@ const ALONG: &[Wanted] = &[
     At(W, 1, Read),
 ];
 
+/// What these locks cover of those along the table.
 const TABLE: &[(Wanted, &str)] = &[
     (All(0, Right::Read), "+---+-+---"),
     (All(0, Right::Write), "+++-+++---"),
@@ -84,19 +86,10 @@ const TABLE: &[(Wanted, &str)] = &[
 
 #[test]
 fn the_table_of_locks(rt: HostRuntime) -> Result<(), Fail> {
-    covers_all(&rt, &scheme(&rt, SHARED, 2)?, ALONG, TABLE)
+    covers_all(&rt, &scheme(rt.alloc(), SHARED, 2)?, ALONG, TABLE)
 }
 
-// A set of the locks that are wanted.
-fn set(rt: &(impl Abort + AllocGlobal), wanted: &[Wanted]) -> Result<IndexSet<Lock>, Fail> {
-    let mut locks = IndexSet::new(rt.alloc());
-    for each in wanted {
-        locks.insert(lock(rt, *each)?)?;
-    }
-    Ok(locks)
-}
-
-// Of these locks those are left, in this order.
+/// Of these locks those are left, in this order.
 fn leaves(
     rt: &(impl Abort + AllocGlobal),
     scheme: &Scheme,
@@ -111,7 +104,7 @@ fn leaves(
     Ok(())
 }
 
-// The first locks leave the second.
+/// The first locks leave the second.
 fn leave_all(
     rt: &(impl Abort + AllocGlobal),
     scheme: &Scheme,
@@ -123,6 +116,7 @@ fn leave_all(
     Ok(())
 }
 
+/// Sets of locks, and what is left of each, in order.
 const LEFT: &[(&[Wanted], &[Wanted])] = &[
     (&[], &[]),
     (
@@ -173,10 +167,10 @@ const LEFT: &[(&[Wanted], &[Wanted])] = &[
 
 #[test]
 fn what_is_left(rt: HostRuntime) -> Result<(), Fail> {
-    leave_all(&rt, &scheme(&rt, SHARED, 2)?, LEFT)
+    leave_all(&rt, &scheme(rt.alloc(), SHARED, 2)?, LEFT)
 }
 
-// Each comes before the next.
+/// Each comes before the next.
 fn rise<T: Ord>(rt: &impl Abort, items: &[T]) {
     for pair in items.windows(2) {
         assert!(rt; pair[0] < pair[1]);
@@ -185,13 +179,11 @@ fn rise<T: Ord>(rt: &impl Abort, items: &[T]) {
     }
 }
 
-// The paths of these variables with so many times the field `next`.
+/// The paths of these variables with so many times the field `next`.
 fn paths(rt: &(impl Abort + AllocGlobal), wanted: &[(Variable, usize)]) -> Result<Vec<Path>, Fail> {
     let mut paths = Vec::new(rt.alloc());
-    let next = [NEXT, NEXT, NEXT];
     for (base, fields) in wanted {
-        assert!(rt; *fields <= 3);
-        paths.push(Path::new(rt.alloc(), *base).extended(&next[..*fields])?)?;
+        paths.push(path(rt, *base, *fields)?)?;
     }
     Ok(paths)
 }

@@ -1,9 +1,11 @@
-use super::*;
-use crate::{print, tokens_of};
-use std::alloc::AllocError;
+//! Source texts that are read, printed or refused.
+
+use sect_front::parsing::MOST_BYTES;
+use sect_front::{FrontFault, is_name, parse, print, tokens_of};
+use std::alloc::{AllocError, Global};
 use std::test::Fail;
 
-// Programs of all forms, named by what they show.
+/// Programs of all forms, named by what they show.
 const PROGRAMS: [(&str, &[u8]); 12] = [
     ("an empty section", b"thread e { atomic { } }"),
     (
@@ -88,7 +90,7 @@ fn every_beginning_of_a_program(rt: HostRuntime) -> Result<(), Fail> {
     Ok(())
 }
 
-// Texts that are refused, and the line that says why.
+/// Texts that are refused, and the line that says why.
 const REFUSALS: [(&[u8], &[u8]); 27] = [
     (b"thread t } $", b"1 BadByte line 1"),
     (b"thread\n\n #", b"1 BadByte line 3"),
@@ -143,7 +145,7 @@ fn refuses_with_number_and_line(rt: HostRuntime) -> Result<(), Fail> {
     Ok(())
 }
 
-// A thread with so many blocks in one another, its own braces counted, and a line for each.
+/// A thread with so many blocks in one another, its own braces counted, and a line for each.
 fn nested(alloc: Global, depth: usize) -> Result<Vec<u8>, AllocError> {
     let mut text = Vec::new(alloc);
     text.extend_from_slice(b"thread t {")?;
@@ -206,7 +208,6 @@ fn prints_what_reads_back(rt: HostRuntime) -> Result<(), Fail> {
 
 #[test]
 fn names(rt: HostRuntime) {
-    use crate::is_name;
     for name in [
         b"a".as_slice(),
         b"_".as_slice(),

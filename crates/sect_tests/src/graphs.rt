@@ -1,16 +1,14 @@
 //! Graphs of small programs.
 
-use crate::flow::{Flow, Successors};
-use crate::graph::{Graph, graph_of};
-use sect_front::parse;
+use crate::programs::program_of;
+use sect_graph::{Flow, Graph, Successors, graph_of};
 use sect_types::action::Label;
-use sect_types::check_types;
 use std::alloc::Global;
 use std::test::Fail;
 
+/// The graphs of a source text.
 fn graph(alloc: Global, source: &str) -> Result<Graph, Fail> {
-    let program = check_types(alloc, parse(alloc, source.as_bytes())?)?;
-    Ok(graph_of(alloc, &program)?)
+    Ok(graph_of(alloc, &program_of(alloc, source.as_bytes())?)?)
 }
 
 /// Each node as its number and those that it leads to, one line a node.

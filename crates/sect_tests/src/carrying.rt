@@ -1,22 +1,23 @@
 //! What a statement needs, and what is needed before it for what is needed after it.
 
-use super::{SHARED, Wanted, are_these, lock, locks, scheme};
-use crate::{Effect, Right, Scheme};
+use crate::programs::{LIST, NULL, SHARED, scheme};
+use crate::wanted::{Wanted, lock, locks};
 use Effect::{Read, Write};
 use Variable::{Global, Local};
 use Wanted::{All, At};
+use sect_names::{Effect, Lock, Right, Scheme};
 use sect_points::flow::Variable;
 use sect_types::action::Label;
 use std::process::Abort;
 use std::test::Fail;
 
-// What is needed before a node of section 0 where the first lock is needed after it.
+/// What is needed before a node of section 0 where the first lock is needed after it.
 type Carried<'a> = (u16, Wanted, &'a [Wanted]);
 
-// What a node of a section needs of itself.
+/// What a node of a section needs of itself.
 type Needed = (u16, u16, Option<Wanted>);
 
-// The thread of a section, and what the node of this number does there.
+/// The thread of a section, and what the node of this number does there.
 fn step(rt: &impl Abort, scheme: &Scheme, section: u16, node: u16) -> (u16, Label) {
     assert!(rt; section < scheme.program().section_count());
     assert!(rt; (section as usize) < scheme.graph().section_count());
@@ -25,6 +26,15 @@ fn step(rt: &impl Abort, scheme: &Scheme, section: u16, node: u16) -> (u16, Labe
     (scheme.program().section(section).thread, flow.action(node))
 }
 
+/// The locks, in whatever order.
+fn are_these(rt: &impl Abort, found: &[Lock], expected: &[Lock]) {
+    assert_eq!(rt; found.len(), expected.len());
+    for lock in expected {
+        assert!(rt; found.contains(lock));
+    }
+}
+
+/// Over a node of section 0 the second locks are needed for the first.
 fn carry(
     rt: &(impl Abort + AllocGlobal),
     scheme: &Scheme,
@@ -39,6 +49,7 @@ fn carry(
     Ok(())
 }
 
+/// The scheme carries locks back so.
 fn carry_all(
     rt: &(impl Abort + AllocGlobal),
     scheme: &Scheme,
@@ -50,16 +61,17 @@ fn carry_all(
     Ok(())
 }
 
-// The program carries locks back so.
+/// The program carries locks back so.
 fn carries(
     rt: &(impl Abort + AllocGlobal),
     text: &[u8],
     k: u16,
     rows: &[Carried<'_>],
 ) -> Result<(), Fail> {
-    carry_all(rt, &scheme(rt, text, k)?, rows)
+    carry_all(rt, &scheme(rt.alloc(), text, k)?, rows)
 }
 
+/// A node needs this lock of itself.
 fn need(
     rt: &(impl Abort + AllocGlobal),
     scheme: &Scheme,
@@ -77,6 +89,7 @@ fn need(
     Ok(())
 }
 
+/// The nodes need these locks of themselves.
 fn need_all(rt: &(impl Abort + AllocGlobal), scheme: &Scheme, rows: &[Needed]) -> Result<(), Fail> {
     for (section, node, wanted) in rows {
         need(rt, scheme, *section, *node, *wanted)?;
@@ -84,9 +97,9 @@ fn need_all(rt: &(impl Abort + AllocGlobal), scheme: &Scheme, rows: &[Needed]) -
     Ok(())
 }
 
-// The nodes of the program need these locks of themselves.
+/// The nodes of the program need these locks of themselves.
 fn needs(rt: &(impl Abort + AllocGlobal), text: &[u8], rows: &[Needed]) -> Result<(), Fail> {
-    need_all(rt, &scheme(rt, text, 2)?, rows)
+    need_all(rt, &scheme(rt.alloc(), text, 2)?, rows)
 }
 
 #[test]
@@ -104,7 +117,7 @@ fn a_store_to_what_may_be_one(rt: HostRuntime) -> Result<(), Fail> {
     )
 }
 
-// Nothing is stored to `c.next`: `w.next` and `y.next.next` are always null.
+/// Nothing is stored to `c.next`: `w.next` and `y.next.next` are always null.
 #[test]
 fn a_load(rt: HostRuntime) -> Result<(), Fail> {
     let (y, w) = (Local(0, 1), Local(0, 3));
@@ -122,7 +135,7 @@ fn a_load(rt: HostRuntime) -> Result<(), Fail> {
     carries(&rt, SHARED, 0, &[(1, At(w, 0, Write), &[class])])
 }
 
-// `x` may denote a and the new object, which are class 0, and `y` and `a.next` a alone.
+/// `x` may denote a and the new object, which are class 0, and `y` and `a.next` a alone.
 const RING: &[u8] = b"record Node { int val; Node next; } global Node a; \
 thread t { Node x; Node y; int v; y = a; atomic { x = y; x = a; x = null; y = x.next; \
 a.next = a; v = x.val; x = new Node; v = v + 1; print v; while (v < 2) { } } }";
@@ -163,7 +176,7 @@ fn a_long_path(rt: HostRuntime) -> Result<(), Fail> {
     carries(&rt, RING, 3, &[(3, At(y, 2, Write), &[At(x, 3, Write)])])
 }
 
-// After `a.next = a` the path `a.next.next` is `a.next`, and that is a.
+/// After `a.next = a` the path `a.next.next` is `a.next`, and that is a.
 #[test]
 fn a_store_along_a_path(rt: HostRuntime) -> Result<(), Fail> {
     let (a, x) = (Global(0), Local(0, 0));
@@ -201,13 +214,6 @@ fn what_touches_no_object(rt: HostRuntime) -> Result<(), Fail> {
     needs(&rt, RING, &rows)
 }
 
-// The one global is class 0, and the one `new` class 1.
-const LIST: &[u8] = b"record Node { int val; Node next; } global Node head; \
-thread sum { Node p; int v; int s; atomic { p = head.next; \
-while (p != null) { v = p.val; s = s + v; p = p.next; } print s; } } \
-thread push { Node n; Node p; int v; v = 5; \
-atomic { n = new Node; n.val = v; p = head.next; n.next = p; head.next = n; } }";
-
 #[test]
 fn accesses(rt: HostRuntime) -> Result<(), Fail> {
     let rows = [
@@ -219,18 +225,13 @@ fn accesses(rt: HostRuntime) -> Result<(), Fail> {
     needs(&rt, LIST, &rows)
 }
 
-// Nothing is stored to `head.next`, so that `p` is always null.
-const NULL: &[u8] = b"record Node { int val; Node next; } global Node head; global Node b; \
-thread s { Node p; int v; atomic { b.val = 4; p = head.next; v = p.val; } } \
-thread r { int v; atomic { v = b.val; print v; } }";
-
 #[test]
 fn an_access_through_null(rt: HostRuntime) -> Result<(), Fail> {
     let rows = [(0, 0, Some(At(Global(1), 0, Write))), (0, 2, None)];
     needs(&rt, NULL, &rows)
 }
 
-// One lock for all cells.
+/// One global guards all cells, and another guards nothing.
 const GUARDED: &[u8] = b"record Lock { int n; } record Cell protected_by g { int val; } \
 global Lock h; global Lock g; global Cell c; \
 thread t { Cell x; int v; atomic { x = new Cell; c.val = 1; v = x.val; h.n = v; } }";

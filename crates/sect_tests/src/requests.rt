@@ -1,10 +1,10 @@
-// Whole runs of a table.
+//! Whole runs of a lock table.
 
-use crate::{Answer, Claim, Grant, Grants, Table, TableFault};
 use Answer::{Granted, Queued};
 use Mode::{Exclusive, IntentionExclusive, IntentionShared, Shared};
 use TableFault::{AlreadyHeld, AlreadyWaiting};
 use sect_modes::{Key, Mode};
+use sect_table::{Answer, Claim, Grant, Grants, Table, TableFault};
 use std::process::Abort;
 use std::test::Fail;
 
@@ -47,7 +47,7 @@ fn spares(rt: &impl Abort, table: &Table, wanted: usize) {
     assert_eq!(rt; table.spare(), wanted);
 }
 
-// The last release granted key A to these.
+/// The last release granted key A to these.
 fn granted(rt: &impl Abort, grants: &Grants, wanted: &[(u16, Mode)]) {
     assert_eq!(rt; grants.as_slice().len(), wanted.len());
     for (grant, (thread, mode)) in grants.as_slice().iter().zip(wanted.iter()) {

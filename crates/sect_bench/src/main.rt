@@ -1,5 +1,5 @@
-//! `sect_bench [WHAT SIZE..]`: does the work of one measurement, so often or so large as its sizes say, and prints a line
-//! of what came of it. Without words it does each in turn, at a small size. `bench/run` times it.
+//! `sect_bench [WHAT SIZE..]`: does the work of one measurement, so often or so large as its sizes say, and prints a
+//! line of what came of it. Without words it does each in turn, at a small size. `bench/run` times it.
 #![tactic(auto)]
 
 mod failure;

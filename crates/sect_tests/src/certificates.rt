@@ -1,4 +1,5 @@
-//! Certificates that are read and written back, and texts that are refused, each with its number and line counted by hand.
+//! Certificates that are read and written back, and texts that are refused, each with its number and its line, which was
+//! counted by hand.
 
 use sect_cert::certificate::{Cert, Chain, Section, Step};
 use sect_cert::fault::CertFault;

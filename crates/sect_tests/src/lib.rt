@@ -1,5 +1,5 @@
-//! Tests of the crates below, through their public surfaces: what no clause says, or says in words that a reader may want
-//! to see at work. A crate with tests is proved twice, so the tests of all crates stand here, one module a subject.
+//! Tests of the crates below, through their public surfaces: what no clause says, and each public call at work once.
+//! A crate with tests is proved twice, so the tests of all libraries stand here, one module a subject.
 #![tactic(auto)]
 
 #[cfg(test)]

@@ -1,5 +1,6 @@
 //! Source texts that are read, printed or refused.
 
+use crate::programs::{ACCOUNTS, APART, CHAIN, GUARDED, LIST, NULL, SHARED};
 use sect_front::parsing::MOST_BYTES;
 use sect_front::{FrontFault, is_name, parse, print, tokens_of};
 use std::alloc::{AllocError, Global};
@@ -10,44 +11,27 @@ const PROGRAMS: [(&str, &[u8]); 12] = [
     ("an empty section", b"thread e { atomic { } }"),
     (
         "one object",
-        b"record Acct { int bal; }\nglobal Acct a;\nthread p { int t; atomic { t = a.bal; t = t + 1; a.bal = t; } }",
+        b"record Acct { int bal; }\nglobal Acct a;\n\
+        thread p { int t; atomic { t = a.bal; t = t + 1; a.bal = t; } }",
     ),
     (
         "two threads at one object",
-        b"record Acct { int bal; }\nglobal Acct a;\nthread p { int t; atomic { t = a.bal; t = t + 1; a.bal = t; } }\nthread q { int t; atomic { t = a.bal; t = t + 1; a.bal = t; } }",
+        b"record Acct { int bal; }\nglobal Acct a;\n\
+        thread p { int t; atomic { t = a.bal; t = t + 1; a.bal = t; } }\n\
+        thread q { int t; atomic { t = a.bal; t = t + 1; a.bal = t; } }\n",
     ),
-    (
-        "a list",
-        b"record Node { int val; Node next; }\nglobal Node head;\nthread sum { Node p; int v; int s;\n  atomic { p = head.next;\n    while (p != null) { v = p.val; s = s + v; p = p.next; }\n    print s; } }\nthread push { Node n; Node p; int v; v = 5;\n  atomic { n = new Node; n.val = v; p = head.next; n.next = p; head.next = n; } }",
-    ),
-    (
-        "classes",
-        b"record Node { int val; Node next; }\nglobal Node a; global Node b; global Node c;\nthread t { Node x; Node y; Node z; Node w;\n  x = a; y = b; z = c;\n  if (1 == 2) { y = a; }\n  atomic { x.next = z; w = y.next; w.val = 1; } }",
-    ),
+    ("a list", LIST),
+    ("classes", SHARED),
     (
         "two names of one object",
-        b"record Cell { int val; }\nglobal Cell a;\nthread t { Cell x; Cell y; int v; x = a; y = a;\n  atomic { v = x.val; y.val = 3; } }",
+        b"record Cell { int val; }\nglobal Cell a;\n\
+        thread t { Cell x; Cell y; int v; x = a; y = a;\n\tatomic { v = x.val; y.val = 3; } }",
     ),
-    (
-        "a reader and a writer",
-        b"record Node { int val; Node next; }\nglobal Node head; global Node two;\nthread r { Node p; int v; atomic { p = head.next; v = p.val; print v; } }\nthread w { atomic { head.next = two; two.val = 7; } }",
-    ),
-    (
-        "a path without a class",
-        b"record Node { int val; Node next; }\nglobal Node head; global Node b;\nthread s { Node p; int v; atomic { b.val = 4; p = head.next; v = p.val; } }\nthread r { int v; atomic { v = b.val; print v; } }",
-    ),
-    (
-        "two sections of a thread",
-        b"record Node { int val; Node next; }\nglobal Node a; global Node b;\nthread s { Node p; int v;\n  atomic { a.next = b; }\n  p = a;\n  atomic { while (p != null) { v = p.val; p = p.next; } a.val = 1; } }\nthread r { Node q; int v; q = b; atomic { v = q.val; print v; } }",
-    ),
-    (
-        "a hint",
-        b"record Lock { int n; }\nrecord Cell protected_by g { int val; Cell next; }\nglobal Lock g; global Cell c; global Cell d;\nthread t { int v; atomic { c.val = 1; v = d.val; } }",
-    ),
-    (
-        "one class of two objects",
-        b"record Acct { int bal; }\nglobal Acct a; global Acct b;\nthread p { Acct x; x = b; x = a; atomic { x.bal = 1; } }\nthread q { atomic { b.bal = 2; } }",
-    ),
+    ("a reader and a writer", APART),
+    ("a path without a class", NULL),
+    ("two sections of a thread", CHAIN),
+    ("a hint", GUARDED),
+    ("one class of two objects", ACCOUNTS),
     ("no section", b"thread f { int x; x = 1; x = 2; }"),
 ];
 

@@ -20,16 +20,21 @@ const ACCEPTED: [&str; 20] = [
     "record A { } global A a; thread t { int i; int j; A x; A y; i = 5; i = j; x = null; x = a; x = y; i = i; }",
     "thread t { int i; i = i + 1; i = 2 - i; i = i * i; i = 9223372036854775807 * 0; }",
     // Loads, stores, `new` and `print`, of locals and of globals.
-    "record A { int f; A g; } global A a; thread t { A x; int i; atomic { x = new A; i = a.f; i = x.f; x = a.g; x = x.g; } }",
-    "record A { int f; A g; } global A a; thread t { A x; int i; atomic { a.f = 1; a.f = i; x.f = 2; a.g = null; a.g = x; x.g = a; } }",
+    "record A { int f; A g; } global A a; thread t { A x; int i; atomic { x = new A; i = a.f; i = x.f; x = a.g; x = \
+        x.g; } }",
+    "record A { int f; A g; } global A a; thread t { A x; int i; atomic { a.f = 1; a.f = i; x.f = 2; a.g = null; a.g \
+        = x; x.g = a; } }",
     "thread t { int i; atomic { print 0; print i; } }",
     // Tests.
     "thread t { int i; if (i == 1) { } if (1 != i) { } while (1 < i) { } while (i <= 2) { } }",
-    "record A { } global A a; thread t { A x; if (null == null) { } if (x == null) { } if (null != x) { } if (x == a) { } if (a != a) { } if (null == a) { } }",
+    "record A { } global A a; thread t { A x; if (null == null) { } if (x == null) { } if (null != x) { } if (x == \
+        a) { } if (a != a) { } if (null == a) { } }",
     // Sections stand in branches and loops, and one after another.
-    "thread t { if (1 == 1) { atomic { print 1; } } else { atomic { print 2; } } while (1 < 2) { atomic { } } atomic { } }",
+    "thread t { if (1 == 1) { atomic { print 1; } } else { atomic { print 2; } } while (1 < 2) { atomic { } } atomic \
+        { } }",
     // What stands in a section may be nested in tests.
-    "record A { int f; } global A a; thread t { atomic { if (1 == 1) { while (1 == 2) { a.f = 1; } } else { print 1; } } }",
+    "record A { int f; } global A a; thread t { atomic { if (1 == 1) { while (1 == 2) { a.f = 1; } } else { print 1; \
+        } } }",
     // A text may use a global declared after nothing else, and a field has the name of its record.
     "record R { R R; } global R r; thread t { R x; atomic { x = r.R; x.R = r; r.R = null; } }",
     // The greatest numbers of fields and threads stand below in tests of their own.

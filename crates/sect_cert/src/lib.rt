@@ -28,6 +28,3 @@ mod zeros;
 
 pub use reading::read_cert;
 pub use writing::write_cert;
-
-#[cfg(test)]
-mod tests;

@@ -114,6 +114,3 @@ fn judge(alloc: Global, bytes: &[u8]) -> Result<Tree, FrontFault>
         }
     }
 }
-
-#[cfg(test)]
-mod tests;

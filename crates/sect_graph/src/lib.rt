@@ -7,6 +7,3 @@ pub mod graph;
 
 pub use flow::{Flow, Node, Successors};
 pub use graph::{Graph, graph_of};
-
-#[cfg(test)]
-mod tests;

@@ -8,6 +8,3 @@ pub mod table;
 
 pub use crate::fault::HintFault;
 pub use crate::hints::guards;
-
-#[cfg(test)]
-mod tests;

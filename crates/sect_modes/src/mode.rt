@@ -66,6 +66,3 @@ pub fn intention(mode: Mode) -> Mode
         _ => Mode::IntentionExclusive,
     }
 }
-
-#[cfg(test)]
-mod tests;

@@ -18,6 +18,3 @@ pub use fault::SchemeFault;
 pub use lock::{Effect, Lock, Right};
 pub use path::Path;
 pub use scheme::{MOST_PATH_FIELDS, Scheme, check_k, scheme_of};
-
-#[cfg(test)]
-mod tests;

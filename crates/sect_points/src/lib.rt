@@ -17,8 +17,3 @@ mod solving;
 mod statements;
 
 pub use points::points_to;
-
-#[cfg(test)]
-mod class_tests;
-#[cfg(test)]
-mod tests;

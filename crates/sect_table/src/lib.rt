@@ -14,6 +14,3 @@ mod table;
 pub use claims::{Answer, Claim, Grant, Hold, TableFault};
 pub use grants::Grants;
 pub use table::Table;
-
-#[cfg(test)]
-mod tests;

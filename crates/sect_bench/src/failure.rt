@@ -1,0 +1,62 @@
+//! Why a measurement ends early.
+
+use sect_cert::fault::CertFault;
+use sect_front::FrontFault;
+use sect_table::TableFault;
+use sect_types::TypeFault;
+use std::alloc::AllocError;
+use std::io;
+use thiserror::Error;
+
+/// Why a measurement ended early. `Display` is what the program says of it.
+#[derive(Clone, Copy, Debug, Error)]
+pub enum Failure {
+    /// The words of the command line aren't those of a measurement.
+    #[error("what is wanted: nothing, or sets TIMES, classes TIMES, table KEYS ROUNDS or cert SECTIONS LOCKS")]
+    Usage,
+    /// The source text was refused.
+    #[error("the text on standard input is no program")]
+    TreeView,
+    /// A growth was refused, or what was made isn't accepted again.
+    #[error("the work could not be done")]
+    Work,
+    /// The input or the output failed.
+    #[error("input or output failed")]
+    Streams,
+}
+
+impl From<AllocError> for Failure {
+    fn from(_refused: AllocError) -> Failure {
+        Failure::Work
+    }
+}
+
+impl From<FrontFault> for Failure {
+    fn from(_fault: FrontFault) -> Failure {
+        Failure::TreeView
+    }
+}
+
+impl From<TypeFault> for Failure {
+    fn from(_fault: TypeFault) -> Failure {
+        Failure::TreeView
+    }
+}
+
+impl From<CertFault> for Failure {
+    fn from(_fault: CertFault) -> Failure {
+        Failure::Work
+    }
+}
+
+impl From<TableFault> for Failure {
+    fn from(_fault: TableFault) -> Failure {
+        Failure::Work
+    }
+}
+
+impl From<io::Error> for Failure {
+    fn from(_error: io::Error) -> Failure {
+        Failure::Streams
+    }
+}

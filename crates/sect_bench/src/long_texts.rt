@@ -1,0 +1,101 @@
+//! Certificates with long texts.
+
+use crate::failure::Failure;
+use sect_cert::certificate::{Cert, Chain, Section, Step};
+use sect_cert::items::Items;
+use sect_cert::lock::{Lock, Path};
+use sect_cert::{read_cert, write_cert};
+use sect_front::name::Name;
+use std::alloc::{AllocError, Global};
+
+/// How many nodes a section has, and how many steps a chain.
+const NODES: u32 = 8;
+
+/// Makes a certificate of so many sections, whose lists have so many locks with a chain for each lock at the entry,
+/// writes it, reads it back and writes that again. It gives how many bytes were written, and whether they were the same
+/// both times.
+pub fn written_twice(alloc: Global, sections: u32, locks: u32) -> Result<(usize, bool), Failure> {
+    let cert = certificate(alloc, sections, locks)?;
+    let text = write_cert(alloc, &cert)?;
+    let read = read_cert(alloc, text.as_slice())?;
+    let again = write_cert(alloc, &read)?;
+    Ok((text.len(), text.as_slice() == again.as_slice()))
+}
+
+/// A certificate of so many sections, whose lists have so many locks.
+fn certificate(alloc: Global, count: u32, locks: u32) -> Result<Cert, AllocError> {
+    let mut sections = Items::new(alloc);
+    for _ in 0..count {
+        sections.push(section(alloc, locks)?)?;
+    }
+    Ok(Cert { k: 3, sections })
+}
+
+/// A section of `NODES` nodes, whose lists have so many locks.
+fn section(alloc: Global, locks: u32) -> Result<Section, AllocError> {
+    let mut nodes = Items::new(alloc);
+    for _ in 0..NODES {
+        nodes.push(list(alloc, locks)?)?;
+    }
+    Ok(Section {
+        nodes,
+        entry: list(alloc, locks)?,
+        chains: chains(alloc, locks)?,
+    })
+}
+
+/// So many locks, the forms in turn.
+fn list(alloc: Global, count: u32) -> Result<Items<Lock>, AllocError> {
+    let mut locks = Items::new(alloc);
+    for number in 0..count {
+        locks.push(lock(alloc, number)?)?;
+    }
+    Ok(locks)
+}
+
+/// A chain for each lock of a list.
+fn chains(alloc: Global, count: u32) -> Result<Items<Chain>, AllocError> {
+    let mut chains = Items::new(alloc);
+    for number in 0..count {
+        chains.push(Chain {
+            lock: number,
+            steps: steps(alloc, number)?,
+        })?;
+    }
+    Ok(chains)
+}
+
+/// A step at each node, with the lock of this number.
+fn steps(alloc: Global, number: u32) -> Result<Items<Step>, AllocError> {
+    let mut steps = Items::new(alloc);
+    for node in 0..NODES {
+        steps.push(Step {
+            node,
+            lock: lock(alloc, number)?,
+        })?;
+    }
+    Ok(steps)
+}
+
+/// The lock of a number.
+fn lock(alloc: Global, number: u32) -> Result<Lock, AllocError> {
+    Ok(match number % 5 {
+        0 => Lock::ReadPath(path(alloc, number)?),
+        1 => Lock::WritePath(path(alloc, number)?),
+        2 => Lock::ReadClass(number),
+        3 => Lock::WriteClass(number),
+        _ => Lock::MakeClass(number),
+    })
+}
+
+/// A path of no field to three, by the number.
+fn path(alloc: Global, number: u32) -> Result<Path, AllocError> {
+    let mut fields = Items::new(alloc);
+    for _ in 0..number % 4 {
+        fields.push(Name::new(b"next"))?;
+    }
+    Ok(Path {
+        base: Name::new(b"first_of_the_list"),
+        fields,
+    })
+}

@@ -1,0 +1,396 @@
+//! Certificates that are read and written back, and texts that are refused, each with its number and its line, which was
+//! counted by hand.
+
+use sect_cert::certificate::{Cert, Chain, Section, Step};
+use sect_cert::fault::CertFault;
+use sect_cert::items::Items;
+use sect_cert::lock::{Lock, Path};
+use sect_cert::{read_cert, write_cert};
+use sect_front::is_name;
+use sect_front::name::Name;
+use std::alloc::{AllocError, Global};
+use std::process::Abort;
+use std::test::Fail;
+
+/// The certificate of a section that adds one to a field of a global.
+const ADDS_ONE: &[u8] =
+    b"sect-cert 1\nk 2\nsections 1\nsection 0 nodes 4\nnode 0: W a\nnode 1: W a\nnode 2: W a\n\
+node 3: none\nentry: W a\nchain 0: 0 W a > 1 W a > 2 W a\nend\n";
+
+/// Every form of a lock, of a list and of a chain, sections of no node and of no chain, and numbers at their ends.
+const ALL_FORMS: &[u8] =
+    b"sect-cert 1\nk 4294967295\nsections 3\nsection 0 nodes 0\nentry: none\nsection 1 nodes 2\n\
+node 0: R a, W _b.next.val9, R class 0, W class 4294967295, M class 10, R a\nnode 1: none\nentry: M class 1, R x0\n\
+chain 0: 4294967295 M class 1\nchain 4294967295: 0 R x0 > 10 W class 7 > 2 R a.b.c.d.e\nsection 2 nodes 1\n\
+node 0: W a\nentry: none\nend\n";
+
+/// What a text is answered with: nothing where it is read, else the fault as it is printed.
+fn answer(alloc: Global, text: &[u8]) -> Result<String, AllocError> {
+    match read_cert(alloc, text) {
+        Ok(_) => Ok(String::new(alloc)),
+        Err(fault) => Ok(format!(in alloc; "{fault}")?),
+    }
+}
+
+fn answers(rt: &(impl Abort + AllocGlobal), text: &[u8], wanted: &str) -> Result<(), Fail> {
+    let found = answer(rt.alloc(), text)?;
+    assert_eq!(rt; found.as_str(), wanted);
+    Ok(())
+}
+
+/// What follows these lines is refused so.
+fn refused_after(
+    rt: &(impl Abort + AllocGlobal),
+    front: &[u8],
+    rest: &[u8],
+    wanted: &str,
+) -> Result<(), Fail> {
+    let mut text = Vec::new(rt.alloc());
+    text.extend_from_slice(front)?;
+    text.extend_from_slice(rest)?;
+    answers(rt, text.as_slice(), wanted)
+}
+
+fn reads_back(rt: &(impl Abort + AllocGlobal), text: &[u8]) -> Result<(), Fail> {
+    let cert = match read_cert(rt.alloc(), text) {
+        Ok(cert) => cert,
+        Err(_) => return Err(Fail::from("refused")),
+    };
+    let written = write_cert(rt.alloc(), &cert)?;
+    assert!(rt; written.as_slice() == text);
+    Ok(())
+}
+
+#[test]
+fn certificates_are_written_back(rt: HostRuntime) -> Result<(), Fail> {
+    reads_back(&rt, ADDS_ONE)?;
+    reads_back(&rt, ALL_FORMS)?;
+    reads_back(&rt, b"sect-cert 1\nk 0\nsections 0\nend\n")
+}
+
+/// What stands at a place.
+fn at<T>(items: &[T], place: usize) -> Result<&T, Fail> {
+    match items.get(place) {
+        Some(item) => Ok(item),
+        None => Err(Fail::from("too short")),
+    }
+}
+
+#[test]
+fn a_certificate_is_read_as_what_it_says(rt: HostRuntime) -> Result<(), Fail> {
+    let cert = match read_cert(rt.alloc(), ADDS_ONE) {
+        Ok(cert) => cert,
+        Err(_) => return Err(Fail::from("refused")),
+    };
+    assert_eq!(rt; cert.k, 2);
+    assert_eq!(rt; cert.sections.len(), 1);
+    let section = at(cert.sections.as_slice(), 0)?;
+    assert_eq!(rt; section.nodes.len(), 4);
+    assert_eq!(rt; at(section.nodes.as_slice(), 2)?.len(), 1);
+    assert_eq!(rt; at(section.nodes.as_slice(), 3)?.len(), 0);
+    assert_eq!(rt; section.entry.len(), 1);
+    Ok(())
+}
+
+#[test]
+fn a_chain_is_read_as_what_it_says(rt: HostRuntime) -> Result<(), Fail> {
+    let cert = match read_cert(rt.alloc(), ADDS_ONE) {
+        Ok(cert) => cert,
+        Err(_) => return Err(Fail::from("refused")),
+    };
+    let chain = at(at(cert.sections.as_slice(), 0)?.chains.as_slice(), 0)?;
+    assert_eq!(rt; chain.lock, 0);
+    assert_eq!(rt; chain.steps.len(), 3);
+    let step = at(chain.steps.as_slice(), 2)?;
+    assert_eq!(rt; step.node, 2);
+    match &step.lock {
+        Lock::WritePath(path) => {
+            assert!(rt; path.base.as_bytes() == b"a".as_slice());
+            assert_eq!(rt; path.fields.len(), 0);
+            Ok(())
+        }
+        _ => Err(Fail::from("another lock")),
+    }
+}
+
+/// The name that these bytes are.
+fn name(bytes: &[u8]) -> Result<Name, Fail> {
+    if is_name(bytes) {
+        Ok(Name::new(bytes))
+    } else {
+        Err(Fail::from("not a name"))
+    }
+}
+
+#[test]
+fn a_certificate_that_is_made_is_written(rt: HostRuntime) -> Result<(), Fail> {
+    let mut fields = Items::new(rt.alloc());
+    fields.push(name(b"next")?)?;
+    let base = name(b"head")?;
+    let mut list = Items::new(rt.alloc());
+    list.push(Lock::ReadPath(Path { base, fields }))?;
+    list.push(Lock::MakeClass(3))?;
+    let mut nodes = Items::new(rt.alloc());
+    nodes.push(list)?;
+    nodes.push(Items::new(rt.alloc()))?;
+    let mut entry = Items::new(rt.alloc());
+    entry.push(Lock::WriteClass(10))?;
+    let mut steps = Items::new(rt.alloc());
+    steps.push(Step {
+        node: 0,
+        lock: Lock::ReadClass(7),
+    })?;
+    let mut chains = Items::new(rt.alloc());
+    chains.push(Chain { lock: 2, steps })?;
+    let mut sections = Items::new(rt.alloc());
+    sections.push(Section {
+        nodes,
+        entry,
+        chains,
+    })?;
+    let text = write_cert(rt.alloc(), &Cert { k: 1, sections })?;
+    let wanted =
+        b"sect-cert 1\nk 1\nsections 1\nsection 0 nodes 2\nnode 0: R head.next, M class 3\nnode 1: none\n\
+entry: W class 10\nchain 2: 0 R class 7\nend\n";
+    assert!(rt; text.as_slice() == wanted.as_slice());
+    Ok(())
+}
+
+#[test]
+fn each_beginning_ends_early(rt: HostRuntime) -> Result<(), Fail> {
+    for length in 0..ADDS_ONE.len() {
+        let front = &ADDS_ONE[..length];
+        match read_cert(rt.alloc(), front) {
+            Err(CertFault::CertEnd { line }) => {
+                let feeds = front.iter().filter(|byte| **byte == b'\n').count();
+                assert_eq!(rt; line, feeds + 1);
+            }
+            _ => return Err(Fail::from("not an early end")),
+        }
+    }
+    Ok(())
+}
+
+#[test]
+fn nothing_follows_the_end(rt: HostRuntime) -> Result<(), Fail> {
+    refused_after(&rt, ADDS_ONE, b"x", "32 NotCanonical line 12")?;
+    refused_after(&rt, ADDS_ONE, b"\n", "32 NotCanonical line 12")?;
+    refused_after(&rt, ADDS_ONE, b"end\n", "32 NotCanonical line 12")?;
+    refused_after(&rt, ADDS_ONE, b"\xff", "32 NotCanonical line 12")
+}
+
+/// Texts that are refused at one of their first lines, or behind it.
+const FIRST_LINES: [(&[u8], &str); 18] = [
+    (b"", "31 CertEnd line 1"),
+    (b"sect-cert 1", "31 CertEnd line 1"),
+    (b"sect-cert 1\r\n", "30 BadCertLine line 1"),
+    (b"sect-cert 01\n", "30 BadCertLine line 1"),
+    (b"sect-cert 2\n", "30 BadCertLine line 1"),
+    (b"\n", "30 BadCertLine line 1"),
+    (b"sect-cert 1\n", "31 CertEnd line 2"),
+    (b"sect-cert 1\nk 2", "31 CertEnd line 2"),
+    (b"sect-cert 1\nk 02\n", "32 NotCanonical line 2"),
+    (b"sect-cert 1\nk 00\n", "32 NotCanonical line 2"),
+    (b"sect-cert 1\nk 4294967296\n", "30 BadCertLine line 2"),
+    (b"sect-cert 1\nk 04294967296\n", "30 BadCertLine line 2"),
+    (b"sect-cert 1\nk 04294967295\n", "32 NotCanonical line 2"),
+    (b"sect-cert 1\nk\n", "30 BadCertLine line 2"),
+    (b"sect-cert 1\nk 1 \n", "30 BadCertLine line 2"),
+    (b"sect-cert 1\nk -1\n", "30 BadCertLine line 2"),
+    (b"sect-cert 1\nsections 01\n", "30 BadCertLine line 2"),
+    (b"sect-cert 1\nk 2\nk 2\n", "30 BadCertLine line 3"),
+];
+
+#[test]
+fn first_lines_are_refused(rt: HostRuntime) -> Result<(), Fail> {
+    for (text, wanted) in FIRST_LINES {
+        answers(&rt, text, wanted)?;
+    }
+    Ok(())
+}
+
+/// What may stand after the line `k 2`, and is refused.
+const SECTION_LINES: [(&[u8], &str); 17] = [
+    (b"sections 4294967295\n", "31 CertEnd line 4"),
+    (b"sections 4294967296\n", "30 BadCertLine line 3"),
+    (b"sections 00\n", "32 NotCanonical line 3"),
+    (b"sections 0\nsection 0 nodes 1\n", "30 BadCertLine line 4"),
+    (b"sections 0\nend", "31 CertEnd line 4"),
+    (b"sections 0\nend \n", "30 BadCertLine line 4"),
+    (b"sections 0\nend\nx", "32 NotCanonical line 5"),
+    (b"sections 0\nend\n\n", "32 NotCanonical line 5"),
+    (b"sections 1\nend\n", "30 BadCertLine line 4"),
+    (b"sections 1\nsection 1 nodes 1\n", "32 NotCanonical line 4"),
+    (
+        b"sections 1\nsection 00 nodes 1\n",
+        "32 NotCanonical line 4",
+    ),
+    (
+        b"sections 1\nsection 0 nodes 01\n",
+        "32 NotCanonical line 4",
+    ),
+    (b"sections 1\nsection 0 node 1\n", "30 BadCertLine line 4"),
+    (
+        b"sections 1\nsection 0 nodes 4294967296\n",
+        "30 BadCertLine line 4",
+    ),
+    (
+        b"sections 1\nsection 0 nodes 0\nnode 0: none\n",
+        "30 BadCertLine line 5",
+    ),
+    (
+        b"sections 1\nsection 0 nodes 0\nend\n",
+        "30 BadCertLine line 5",
+    ),
+    (
+        b"sections 1\nsection 0 nodes 4294967295\n",
+        "31 CertEnd line 5",
+    ),
+];
+
+#[test]
+fn section_lines_are_refused(rt: HostRuntime) -> Result<(), Fail> {
+    for (text, wanted) in SECTION_LINES {
+        refused_after(&rt, b"sect-cert 1\nk 2\n", text, wanted)?;
+    }
+    Ok(())
+}
+
+/// The lines before a section's two nodes.
+const BEFORE_NODES: &[u8] = b"sect-cert 1\nk 2\nsections 1\nsection 0 nodes 2\n";
+
+/// What may stand where two nodes are due, and is refused.
+const NODE_LINES: [(&[u8], &str); 14] = [
+    (b"node 1: none\n", "32 NotCanonical line 5"),
+    (b"node 00: none\n", "32 NotCanonical line 5"),
+    (b"node 0 none\n", "30 BadCertLine line 5"),
+    (b"node 0:\n", "30 BadCertLine line 5"),
+    (b"node 0: \n", "30 BadCertLine line 5"),
+    (b"node 0: none\r\n", "30 BadCertLine line 5"),
+    (b"node 0: none", "31 CertEnd line 5"),
+    (b"node 0: R none\n", "31 CertEnd line 6"),
+    (b"entry: none\n", "30 BadCertLine line 5"),
+    (b"section 1 nodes 2\n", "30 BadCertLine line 5"),
+    (b"node 0: none\nnode 0: none\n", "32 NotCanonical line 6"),
+    (
+        b"node 0: none\nnode 1: none\nnode 2: none\n",
+        "30 BadCertLine line 7",
+    ),
+    (
+        b"node 0: none\nnode 1: none\nend\n",
+        "30 BadCertLine line 7",
+    ),
+    (
+        b"node 0: none\nnode 1: none\nchain 0: 0 W a\n",
+        "30 BadCertLine line 7",
+    ),
+];
+
+#[test]
+fn node_lines_are_refused(rt: HostRuntime) -> Result<(), Fail> {
+    for (text, wanted) in NODE_LINES {
+        refused_after(&rt, BEFORE_NODES, text, wanted)?;
+    }
+    Ok(())
+}
+
+/// Lines of a node whose list is none.
+const NO_LISTS: [&[u8]; 24] = [
+    b"node 0: none, R a\n",
+    b"node 0: R a, none\n",
+    b"node 0: R a,W b\n",
+    b"node 0: R a ,W b\n",
+    b"node 0: R a,\n",
+    b"node 0: R a, \n",
+    b"node 0: R a,, W b\n",
+    b"node 0: R  a\n",
+    b"node 0: R a W b\n",
+    b"node 0: X a\n",
+    b"node 0: M a\n",
+    b"node 0: R\n",
+    b"node 0: R class\n",
+    b"node 0: R class a\n",
+    b"node 0: R class 4294967296\n",
+    b"node 0: R int\n",
+    b"node 0: R a.class\n",
+    b"node 0: R a.\n",
+    b"node 0: R .a\n",
+    b"node 0: R a..b\n",
+    b"node 0: R 9a\n",
+    b"node 0: R a.01\n",
+    b"node 0: R a#1\n",
+    b"node 0: R a12345678901234567890123456789012\n",
+];
+
+#[test]
+fn lists_that_are_no_lists_are_refused(rt: HostRuntime) -> Result<(), Fail> {
+    for text in NO_LISTS {
+        refused_after(&rt, BEFORE_NODES, text, "30 BadCertLine line 5")?;
+    }
+    refused_after(
+        &rt,
+        BEFORE_NODES,
+        b"node 0: R class 00\n",
+        "32 NotCanonical line 5",
+    )?;
+    refused_after(
+        &rt,
+        BEFORE_NODES,
+        b"node 0: W a, R class 01\n",
+        "32 NotCanonical line 5",
+    )?;
+    let longest = b"node 0: R a1234567890123456789012345678901\n";
+    refused_after(&rt, BEFORE_NODES, longest, "31 CertEnd line 6")
+}
+
+/// The lines before a section's chains.
+const BEFORE_CHAINS: &[u8] =
+    b"sect-cert 1\nk 2\nsections 1\nsection 0 nodes 1\nnode 0: none\nentry: W a\n";
+
+/// What may stand where a chain is due, and is refused.
+const CHAIN_LINES: [(&[u8], &str); 18] = [
+    (b"chain 0:\n", "30 BadCertLine line 7"),
+    (b"chain 0: 0 W a >\n", "30 BadCertLine line 7"),
+    (b"chain 0: 0 W a > 1 W\n", "30 BadCertLine line 7"),
+    (b"chain 0: 0 W a, 1 W a\n", "30 BadCertLine line 7"),
+    (b"chain 0: 0 W a>1 W a\n", "30 BadCertLine line 7"),
+    (b"chain 0: 0 none\n", "30 BadCertLine line 7"),
+    (b"chain 0: W a\n", "30 BadCertLine line 7"),
+    (b"chain 0: 4294967296 W a\n", "30 BadCertLine line 7"),
+    (b"chain 0: 00 W a\n", "32 NotCanonical line 7"),
+    (b"chain 00: 0 W a\n", "32 NotCanonical line 7"),
+    (b"chain 0: 0 W a > 01 W a\n", "32 NotCanonical line 7"),
+    (
+        b"chain 0: 0 W a\nchain 0: 0 W a\n",
+        "32 NotCanonical line 8",
+    ),
+    (
+        b"chain 1: 0 W a\nchain 0: 0 W a\n",
+        "32 NotCanonical line 8",
+    ),
+    (
+        b"chain 4294967295: 0 W a\nchain 5: 0 W a\n",
+        "32 NotCanonical line 8",
+    ),
+    (b"section 1 nodes 0\n", "30 BadCertLine line 7"),
+    (b"entry: none\n", "30 BadCertLine line 7"),
+    (b"node 1: none\n", "30 BadCertLine line 7"),
+    (b"end\nend\n", "32 NotCanonical line 8"),
+];
+
+#[test]
+fn chain_lines_are_refused(rt: HostRuntime) -> Result<(), Fail> {
+    for (text, wanted) in CHAIN_LINES {
+        refused_after(&rt, BEFORE_CHAINS, text, wanted)?;
+    }
+    Ok(())
+}
+
+#[test]
+fn want_of_memory_is_printed(rt: HostRuntime) -> Result<(), Fail> {
+    assert_eq!(rt;
+        format!(in rt.alloc(); "{}", CertFault::Memory)?.as_str(),
+        "out of memory"
+    );
+    Ok(())
+}

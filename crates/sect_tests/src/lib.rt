@@ -1,0 +1,40 @@
+//! Tests of the crates below, through their public surfaces: what no clause says, and each public call at work once.
+//! A crate with tests is proved twice, so the tests of all libraries stand here, one module a subject.
+#![tactic(auto)]
+
+#[cfg(test)]
+mod carrying;
+#[cfg(test)]
+mod certificates;
+#[cfg(test)]
+mod classes;
+#[cfg(test)]
+mod covering;
+#[cfg(test)]
+mod graphs;
+#[cfg(test)]
+mod guarding;
+#[cfg(test)]
+mod inference;
+#[cfg(test)]
+mod keys;
+#[cfg(test)]
+mod limits;
+#[cfg(test)]
+mod modes;
+#[cfg(test)]
+mod numbering;
+#[cfg(test)]
+mod parsing;
+#[cfg(test)]
+mod pointing;
+#[cfg(test)]
+mod printing;
+#[cfg(test)]
+mod programs;
+#[cfg(test)]
+mod requests;
+#[cfg(test)]
+mod typing;
+#[cfg(test)]
+mod wanted;

@@ -1,0 +1,191 @@
+//! The limits of a program, each at its number and one past it.
+
+use crate::typing::answer;
+use std::alloc::Global;
+use std::fmt::Write;
+use std::test::Fail;
+
+/// Adds numbered copies of a text, in which `#` stands for the number.
+fn copies(all: &mut String, text: &str, count: usize) -> Result<(), Fail> {
+    for number in 0..count {
+        for part in text.split_inclusive('#') {
+            match part.strip_suffix('#') {
+                Some(before) => {
+                    all.push_str(before)?;
+                    write!(all, "{number}")?;
+                }
+                None => all.push_str(part)?,
+            }
+        }
+    }
+    Ok(())
+}
+
+/// A text of three parts, of which the middle one stands there so often.
+fn repeated(
+    alloc: Global,
+    before: &str,
+    text: &str,
+    count: usize,
+    after: &str,
+) -> Result<String, Fail> {
+    let mut all = String::new(alloc);
+    all.push_str(before)?;
+    copies(&mut all, text, count)?;
+    all.push_str(after)?;
+    Ok(all)
+}
+
+/// What stands before, what is repeated, how often it may be, what stands after, and the answer to one more.
+const LIMITS: [(&str, &str, u16, &str, &str); 15] = [
+    ("", "record r# { }", 64, "", "15 TooMany item 64"),
+    (
+        "record a { int f; } record r { ",
+        "r f#; ",
+        16,
+        "}",
+        "15 TooMany item 19",
+    ),
+    (
+        "record r { } ",
+        "global r g#; ",
+        256,
+        "",
+        "15 TooMany item 257",
+    ),
+    ("", "thread t# { }", 64, "", "15 TooMany item 64"),
+    (
+        "thread s { int x; } thread t { ",
+        "int x#; ",
+        64,
+        "}",
+        "15 TooMany item 67",
+    ),
+    (
+        "thread t { ",
+        "atomic { } ",
+        256,
+        "}",
+        "15 TooMany item 257",
+    ),
+    (
+        "thread s { int i; while (i < 1) { ",
+        "atomic { } ",
+        256,
+        "} }",
+        "15 TooMany item 259",
+    ),
+    (
+        "record r { } thread t { r x; atomic { ",
+        "x = new r; ",
+        1024,
+        "} }",
+        "15 TooMany item 1028",
+    ),
+    (
+        "record r { } global r a; global r b; thread t { r x; atomic { ",
+        "x = new r; ",
+        1022,
+        "} }",
+        "15 TooMany item 1028",
+    ),
+    (
+        "thread t { int x; ",
+        "x = 1; ",
+        4096,
+        "}",
+        "15 TooMany item 4098",
+    ),
+    (
+        "thread t { int x; if (1 == 1) { ",
+        "x = x + 1; ",
+        4095,
+        "}}",
+        "15 TooMany item 4098",
+    ),
+    (
+        "thread t { ",
+        "while (1 < 2) { } ",
+        4096,
+        "}",
+        "15 TooMany item 4097",
+    ),
+    (
+        "thread s { atomic { } } thread t { ",
+        "if (1 == 1) { } else { } ",
+        4095,
+        "}",
+        "15 TooMany item 4098",
+    ),
+    (
+        "thread t { atomic { ",
+        "print 1; ",
+        4095,
+        "}}",
+        "15 TooMany item 4097",
+    ),
+    (
+        "thread s { int x; x = 1; } thread t { int x; ",
+        "x = 1; ",
+        4095,
+        "}",
+        "15 TooMany item 4100",
+    ),
+];
+
+#[test]
+fn limits_are_exact(rt: HostRuntime) -> Result<(), Fail> {
+    for (before, text, most, after, want) in LIMITS {
+        let full = repeated(rt.alloc(), before, text, most as usize, after)?;
+        assert_eq!(rt;
+            answer(rt.alloc(), &full)?.as_str(),
+            "",
+            "at {most} of {text}"
+        );
+        let more = repeated(rt.alloc(), before, text, most as usize + 1, after)?;
+        assert_eq!(rt; answer(rt.alloc(), &more)?.as_str(), want, "at {text}");
+    }
+    Ok(())
+}
+
+/// Where several rules are broken at the item that passes a limit, the least is named.
+const PAST_LIMITS: [(&str, &str, usize, &str, &str); 5] = [
+    ("", "record r# { }", 64, "record r0 { }", "11 Twice item 64"),
+    (
+        "record r { ",
+        "int f#; ",
+        16,
+        "s f0; }",
+        "10 Unknown item 17",
+    ),
+    (
+        "record r { } thread t { r x; atomic { ",
+        "x = new r; ",
+        1024,
+        "} x = new r; }",
+        "13 SharedOutside item 1028",
+    ),
+    (
+        "thread t { ",
+        "atomic { } ",
+        255,
+        "atomic { atomic { } } }",
+        "14 Nested item 257",
+    ),
+    (
+        "thread t { int x; ",
+        "x = 1; ",
+        4096,
+        "x = null; }",
+        "12 WrongType item 4098",
+    ),
+];
+
+#[test]
+fn the_least_rule_at_a_limit(rt: HostRuntime) -> Result<(), Fail> {
+    for (before, text, count, after, want) in PAST_LIMITS {
+        let source = repeated(rt.alloc(), before, text, count, after)?;
+        assert_eq!(rt; answer(rt.alloc(), &source)?.as_str(), want, "at {after}");
+    }
+    Ok(())
+}

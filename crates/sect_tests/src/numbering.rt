@@ -1,0 +1,134 @@
+//! What the numbers of a program stand for.
+
+use crate::programs::program_of;
+use sect_types::action::{Action, Base, Value};
+use sect_types::text::{Step, Text};
+use sect_types::types::ValueType;
+use std::test::Fail;
+
+/// A list with two threads: one adds an element, the other sums up.
+const LIST: &[u8] =
+    b"record Pad { } record Node { int val; Node next; Pad pad; } global Node head; global Pad end;
+thread push { Node n; int v; v = 5; atomic { n = new Node; n.val = v; head.next = n; } }
+thread sum { int s; Node p; int v;
+  if (s == 0) { atomic { p = head.next; } } else { atomic { p = new Node; } }
+  while (p != null) { p = null; atomic { print s; } } }";
+
+#[test]
+fn declarations_by_number(rt: HostRuntime) -> Result<(), Fail> {
+    let program = program_of(rt.alloc(), LIST)?;
+    let records = program.records();
+    assert!(rt; records.len() == 2);
+    assert_eq!(rt; records[0].as_slice().len(), 0);
+    assert_eq!(rt;
+        records[1].as_slice(),
+        [ValueType::Int, ValueType::Refers(1), ValueType::Refers(0)].as_slice()
+    );
+    assert_eq!(rt; program.globals(), [1, 0].as_slice());
+    let locals = program.locals();
+    assert!(rt; locals.len() == 2);
+    assert_eq!(rt;
+        locals[0].as_slice(),
+        [ValueType::Refers(1), ValueType::Int].as_slice()
+    );
+    assert_eq!(rt;
+        locals[1].as_slice(),
+        [ValueType::Int, ValueType::Refers(1), ValueType::Int].as_slice()
+    );
+    assert_eq!(rt; program.tree().threads().len(), 2);
+    Ok(())
+}
+
+#[test]
+fn counts_of_a_program(rt: HostRuntime) -> Result<(), Fail> {
+    let program = program_of(rt.alloc(), LIST)?;
+    assert_eq!(rt; program.thread_count(), 2);
+    assert_eq!(rt; program.section_count(), 4);
+    assert_eq!(rt; program.site_count(), 4);
+    assert_eq!(rt; program.statement_count(), 14);
+    let empty = program_of(rt.alloc(), b"")?;
+    assert_eq!(rt; empty.thread_count(), 0);
+    assert_eq!(rt; empty.section_count(), 0);
+    assert_eq!(rt; empty.site_count(), 0);
+    assert_eq!(rt; empty.statement_count(), 0);
+    Ok(())
+}
+
+#[test]
+fn statements_by_number(rt: HostRuntime) -> Result<(), Fail> {
+    let program = program_of(rt.alloc(), LIST)?;
+    program.typing();
+    assert!(rt; program.thread_count() == 2);
+    let push = program.text(0).as_slice();
+    assert!(rt; push.len() == 2);
+    assert!(rt;
+        matches!(&push[0], Step::Do(Action::Assign(1, Value::Number(n))) if n.value() == 5)
+    );
+    let sum = program.text(1).as_slice();
+    assert!(rt; sum.len() == 2);
+    assert!(rt; matches!(&sum[0], Step::If(_, _, _)));
+    assert!(rt; matches!(&sum[1], Step::While(_, _)));
+    Ok(())
+}
+
+#[test]
+fn sections_by_number(rt: HostRuntime) -> Result<(), Fail> {
+    let program = program_of(rt.alloc(), LIST)?;
+    assert!(rt; program.section_count() == 4);
+    for number in 0..4u16 {
+        let section = program.section(number);
+        assert_eq!(rt;
+            section.thread,
+            if number == 0 { 0 } else { 1 },
+            "of section {number}"
+        );
+        assert_eq!(rt;
+            section.body.as_slice().len(),
+            if number == 0 { 3 } else { 1 },
+            "of section {number}"
+        );
+    }
+    Ok(())
+}
+
+/// The target, the record and the site of the last `new` of a text that stands in no block.
+fn last_new(text: &Text) -> Option<(u16, u16, u16)> {
+    let mut last = None;
+    for step in text.as_slice() {
+        if let Step::Do(Action::New(target, of, site)) = step {
+            last = Some((*target, *of, *site));
+        }
+    }
+    last
+}
+
+#[test]
+fn sites_by_number(rt: HostRuntime) -> Result<(), Fail> {
+    let program = program_of(rt.alloc(), LIST)?;
+    assert!(rt; program.section_count() == 4);
+    assert_eq!(rt; last_new(program.section(0).body), Some((0, 1, 2)));
+    assert_eq!(rt; last_new(program.section(1).body), None);
+    assert_eq!(rt; last_new(program.section(2).body), Some((1, 1, 3)));
+    assert_eq!(rt; last_new(program.section(3).body), None);
+    Ok(())
+}
+
+#[test]
+fn fields_by_number(rt: HostRuntime) -> Result<(), Fail> {
+    let program = program_of(rt.alloc(), LIST)?;
+    assert!(rt; program.section_count() == 4);
+    for step in program.section(0).body.as_slice() {
+        match step {
+            Step::Do(Action::Store(Base::Local(base), field, value)) => {
+                assert_eq!(rt; (*base, field.of, field.number), (0, 1, 0));
+                assert!(rt; matches!(value, Value::Local(1)));
+            }
+            Step::Do(Action::Store(Base::Global(base), field, value)) => {
+                assert_eq!(rt; (*base, field.of, field.number), (0, 1, 1));
+                assert!(rt; matches!(value, Value::Local(0)));
+            }
+            _ => {}
+        }
+    }
+    Ok(())
+}

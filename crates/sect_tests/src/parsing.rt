@@ -1,0 +1,216 @@
+//! TreeView texts that are read, printed or refused.
+
+use crate::programs::{ACCOUNTS, APART, CHAIN, GUARDED, LIST, NULL, SHARED};
+use sect_front::parsing::MOST_BYTES;
+use sect_front::{FrontFault, is_name, parse, print, tokens_of};
+use std::alloc::{AllocError, Global};
+use std::test::Fail;
+
+/// Programs of all forms, named by what they show.
+const PROGRAMS: [(&str, &[u8]); 12] = [
+    ("an empty section", b"thread e { atomic { } }"),
+    (
+        "one object",
+        b"record Acct { int bal; }\nglobal Acct a;\n\
+        thread p { int t; atomic { t = a.bal; t = t + 1; a.bal = t; } }",
+    ),
+    (
+        "two threads at one object",
+        b"record Acct { int bal; }\nglobal Acct a;\n\
+        thread p { int t; atomic { t = a.bal; t = t + 1; a.bal = t; } }\n\
+        thread q { int t; atomic { t = a.bal; t = t + 1; a.bal = t; } }\n",
+    ),
+    ("a list", LIST),
+    ("classes", SHARED),
+    (
+        "two names of one object",
+        b"record Cell { int val; }\nglobal Cell a;\n\
+        thread t { Cell x; Cell y; int v; x = a; y = a;\n\tatomic { v = x.val; y.val = 3; } }",
+    ),
+    ("a reader and a writer", APART),
+    ("a path without a class", NULL),
+    ("two sections of a thread", CHAIN),
+    ("a hint", GUARDED),
+    ("one class of two objects", ACCOUNTS),
+    ("no section", b"thread f { int x; x = 1; x = 2; }"),
+];
+
+#[test]
+fn accepts_every_form(rt: HostRuntime) -> Result<(), Fail> {
+    for (name, text) in PROGRAMS {
+        assert!(rt; parse(rt.alloc(), text).is_ok(), "{name}");
+    }
+    for text in [
+        b"".as_slice(),
+        b" \t\r\n// a comment of any bytes: \xff#!".as_slice(),
+        b"record R protected_by a protected_by b protected_by a { } global R a;".as_slice(),
+        b"thread t { int x; x=1+2;x=x*x;x=x-3;if(x<=3){}else{}while(x<null){}if(x!=1){print x;}}".as_slice(),
+        b"thread aaaaaaaaaaaaaaaaaaaaaaaaaaaaaaaa { _9.A_z = 9223372036854775807; x = 0; }".as_slice(),
+    ] {
+        assert!(rt; parse(rt.alloc(), text).is_ok());
+    }
+    Ok(())
+}
+
+#[test]
+fn every_beginning_of_a_program(rt: HostRuntime) -> Result<(), Fail> {
+    for (name, text) in PROGRAMS {
+        for end in 0..text.len() {
+            let answer = parse(rt.alloc(), &text[..end]);
+            assert!(rt;
+                matches!(
+                    answer,
+                    Ok(_)
+                        | Err(
+                            FrontFault::BadByte { .. }
+                                | FrontFault::Unexpected { .. }
+                                | FrontFault::UnexpectedEnd { .. }
+                        )
+                ),
+                "{name} {end}"
+            );
+        }
+    }
+    Ok(())
+}
+
+/// Texts that are refused, and the line that says why.
+const REFUSALS: [(&[u8], &[u8]); 27] = [
+    (b"thread t } $", b"1 BadByte line 1"),
+    (b"thread\n\n #", b"1 BadByte line 3"),
+    (b"thread t {\n x = 1 ! = 2; }", b"1 BadByte line 2"),
+    (b"/ comment", b"1 BadByte line 1"),
+    (b"\n\x00", b"1 BadByte line 2"),
+    (b"thread t { int x; x = 01; }", b"2 BadNumber line 1"),
+    (
+        b"thread t { int x; x = 9223372036854775808; }",
+        b"2 BadNumber line 1",
+    ),
+    (b"// one\nthread t { x = 1y; }", b"2 BadNumber line 2"),
+    (
+        b"} 99999999999999999999999999999999999999999",
+        b"2 BadNumber line 1",
+    ),
+    (
+        b"thread aaaaaaaaaaaaaaaaaaaaaaaaaaaaaaaaa { }",
+        b"3 LongName line 1",
+    ),
+    (b"thread t { x = y.f.g; }", b"4 Unexpected line 1"),
+    (b"thread t {\n x = y z; }", b"4 Unexpected line 2"),
+    (b"class", b"4 Unexpected line 1"),
+    (b"global R g; record R { }", b"4 Unexpected line 1"),
+    (b"thread t { }\nglobal R g;", b"4 Unexpected line 2"),
+    (b"thread t { x = 1; int y; }", b"4 Unexpected line 1"),
+    (b"thread if { }", b"4 Unexpected line 1"),
+    (
+        b"thread t { if (1 < 2) { } else\n if (1 < 2) { } }",
+        b"4 Unexpected line 2",
+    ),
+    (b"thread t { new = 1; }", b"4 Unexpected line 1"),
+    (b"thread e { atomic all { } }\n", b"4 Unexpected line 1"),
+    (b"thread t { } }", b"4 Unexpected line 1"),
+    (b"thread t { atomic {", b"5 UnexpectedEnd line 1"),
+    (b"thread t {\n\n", b"5 UnexpectedEnd line 2"),
+    (b"thread t { // }\n }\nrecord", b"4 Unexpected line 3"),
+    (b"thread t { x = 1", b"5 UnexpectedEnd line 1"),
+    (b"record R {\n", b"5 UnexpectedEnd line 1"),
+    (b"record R {\n ", b"5 UnexpectedEnd line 2"),
+];
+
+#[test]
+fn refuses_with_number_and_line(rt: HostRuntime) -> Result<(), Fail> {
+    for (text, wanted) in REFUSALS {
+        let answer = match parse(rt.alloc(), text) {
+            Ok(_) => format!(in rt.alloc(); "accepted")?,
+            Err(fault) => format!(in rt.alloc(); "{fault}")?,
+        };
+        assert!(rt; answer.as_bytes() == wanted, "{answer}");
+    }
+    Ok(())
+}
+
+/// A thread with so many blocks in one another, its own braces counted, and a line for each.
+fn nested(alloc: Global, depth: usize) -> Result<Vec<u8>, AllocError> {
+    let mut text = Vec::new(alloc);
+    text.extend_from_slice(b"thread t {")?;
+    for _ in 1..depth {
+        text.extend_from_slice(b"\nif (1 == 1) {")?;
+    }
+    for _ in 0..depth {
+        text.push(b'}')?;
+    }
+    Ok(text)
+}
+
+#[test]
+fn blocks_of_depth_33(rt: HostRuntime) -> Result<(), Fail> {
+    assert!(rt; parse(rt.alloc(), nested(rt.alloc(), 32)?.as_slice()).is_ok());
+    assert!(rt;
+        matches!(
+            parse(rt.alloc(), nested(rt.alloc(), 33)?.as_slice()),
+            Err(FrontFault::TooDeep { line: 33 })
+        )
+    );
+    Ok(())
+}
+
+#[test]
+fn texts_above_the_size(rt: HostRuntime) -> Result<(), Fail> {
+    let mut text = vec![in rt.alloc(); b' '; MOST_BYTES]?;
+    assert!(rt; parse(rt.alloc(), text.as_slice()).is_ok());
+    text.push(b' ')?;
+    assert!(rt;
+        matches!(
+            parse(rt.alloc(), text.as_slice()),
+            Err(FrontFault::TooLarge)
+        )
+    );
+    Ok(())
+}
+
+#[test]
+fn prints_what_reads_back(rt: HostRuntime) -> Result<(), Fail> {
+    for (name, text) in PROGRAMS {
+        let tree = parse(rt.alloc(), text)?;
+        let printed = print(rt.alloc(), &tree)?;
+        let again = parse(rt.alloc(), printed.as_slice())?;
+        assert!(rt;
+            print(rt.alloc(), &again)?.as_slice() == printed.as_slice(),
+            "{name}"
+        );
+    }
+    let tree = parse(rt.alloc(), b"thread f { int x; x = 1; x = 2; }")?;
+    assert!(rt; tokens_of(rt.alloc(), &tree)?.len() == 15);
+    assert!(rt;
+        print(rt.alloc(), &tree)?.as_slice()
+            == b"thread f {\nint x ;\nx = 1 ;\nx = 2 ;\n}\n".as_slice()
+    );
+    let nothing = parse(rt.alloc(), b"// nothing")?;
+    assert!(rt; print(rt.alloc(), &nothing)?.is_empty());
+    Ok(())
+}
+
+#[test]
+fn names(rt: HostRuntime) {
+    for name in [
+        b"a".as_slice(),
+        b"_".as_slice(),
+        b"Z9_".as_slice(),
+        b"threads".as_slice(),
+        b"aaaaaaaaaaaaaaaaaaaaaaaaaaaaaaaa".as_slice(),
+    ] {
+        assert!(rt; is_name(name));
+    }
+    for other in [
+        b"".as_slice(),
+        b"9".as_slice(),
+        b"a b".as_slice(),
+        b"a.b".as_slice(),
+        b"thread".as_slice(),
+        b"class".as_slice(),
+        b"protected_by".as_slice(),
+        b"aaaaaaaaaaaaaaaaaaaaaaaaaaaaaaaaa".as_slice(),
+    ] {
+        assert!(rt; !is_name(other));
+    }
+}

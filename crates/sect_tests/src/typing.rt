@@ -1,0 +1,317 @@
+//! Small texts with the answer that each has, the items counted by hand.
+
+use sect_front::parse;
+use sect_types::{TypeFault, check_types};
+use std::alloc::Global;
+use std::test::Fail;
+
+/// Texts without a fault.
+const ACCEPTED: [&str; 20] = [
+    "",
+    "thread e { atomic { } }",
+    // A record is known in every record, also before its own text.
+    "record A { B next; A own; } record B { A back; int f; }",
+    // One name among records, fields, globals and threads is no repetition.
+    "record A { int A; } global A A; thread A { }",
+    "record A { int f; } record B { int f; } global A a; global B b; thread t { int f; int t; } thread u { int f; }",
+    // A hint is no use of a name here.
+    "record A protected_by nowhere protected_by nowhere { int f; }",
+    // Assignments.
+    "record A { } global A a; thread t { int i; int j; A x; A y; i = 5; i = j; x = null; x = a; x = y; i = i; }",
+    "thread t { int i; i = i + 1; i = 2 - i; i = i * i; i = 9223372036854775807 * 0; }",
+    // Loads, stores, `new` and `print`, of locals and of globals.
+    "record A { int f; A g; } global A a; thread t { A x; int i; atomic { x = new A; i = a.f; i = x.f; x = a.g; x = \
+        x.g; } }",
+    "record A { int f; A g; } global A a; thread t { A x; int i; atomic { a.f = 1; a.f = i; x.f = 2; a.g = null; a.g \
+        = x; x.g = a; } }",
+    "thread t { int i; atomic { print 0; print i; } }",
+    // Tests.
+    "thread t { int i; if (i == 1) { } if (1 != i) { } while (1 < i) { } while (i <= 2) { } }",
+    "record A { } global A a; thread t { A x; if (null == null) { } if (x == null) { } if (null != x) { } if (x == \
+        a) { } if (a != a) { } if (null == a) { } }",
+    // Sections stand in branches and loops, and one after another.
+    "thread t { if (1 == 1) { atomic { print 1; } } else { atomic { print 2; } } while (1 < 2) { atomic { } } atomic \
+        { } }",
+    // What stands in a section may be nested in tests.
+    "record A { int f; } global A a; thread t { atomic { if (1 == 1) { while (1 == 2) { a.f = 1; } } else { print 1; \
+        } } }",
+    // A text may use a global declared after nothing else, and a field has the name of its record.
+    "record R { R R; } global R r; thread t { R x; atomic { x = r.R; x.R = r; r.R = null; } }",
+    // The greatest numbers of fields and threads stand below in tests of their own.
+    "thread t { } thread u { }",
+    "record A { } thread t { A x; A y; x = y; }",
+    "record A { } global A a; global A b; thread t { A x; x = a; if (a == b) { x = b; } }",
+    "thread t { int i; i = 0; } thread u { int i; i = 1; }",
+];
+
+/// Texts with a fault, and the fault.
+const REFUSED: [(&str, &str); 76] = [
+    // An unknown name.
+    ("record A { B f; }", "10 Unknown item 1"),
+    ("record A { int f; A g; B h; }", "10 Unknown item 3"),
+    ("global A a;", "10 Unknown item 0"),
+    ("record A { } global A a; global B b;", "10 Unknown item 2"),
+    ("thread t { A x; }", "10 Unknown item 1"),
+    ("thread t { x = 1; }", "10 Unknown item 1"),
+    ("thread t { int x; x = y; }", "10 Unknown item 2"),
+    ("thread t { int x; x = 1 + y; }", "10 Unknown item 2"),
+    ("thread t { int x; x = y + 1; }", "10 Unknown item 2"),
+    ("thread t { y = 1 + 1; }", "10 Unknown item 1"),
+    (
+        "thread t { int x; atomic { x = new A; } }",
+        "10 Unknown item 3",
+    ),
+    (
+        "record A { } thread t { atomic { x = new A; } }",
+        "10 Unknown item 3",
+    ),
+    (
+        "record A { int f; } global A a; thread t { int i; atomic { i = a.g; } }",
+        "10 Unknown item 6",
+    ),
+    (
+        "record A { int f; } thread t { int i; atomic { i = a.f; } }",
+        "10 Unknown item 5",
+    ),
+    (
+        "record A { int f; } global A a; thread t { atomic { i = a.f; } }",
+        "10 Unknown item 5",
+    ),
+    (
+        "record A { int f; } global A a; thread t { atomic { a.g = 1; } }",
+        "10 Unknown item 5",
+    ),
+    (
+        "record A { int f; } global A a; thread t { atomic { b.f = 1; } }",
+        "10 Unknown item 5",
+    ),
+    (
+        "record A { int f; } global A a; thread t { atomic { a.f = v; } }",
+        "10 Unknown item 5",
+    ),
+    ("thread t { atomic { print x; } }", "10 Unknown item 2"),
+    ("thread t { if (x == 1) { } }", "10 Unknown item 1"),
+    ("thread t { int i; while (i < x) { } }", "10 Unknown item 2"),
+    // A local of another thread isn't known, nor is a thread or a record a value.
+    (
+        "thread t { int x; } thread u { x = 1; }",
+        "10 Unknown item 3",
+    ),
+    ("thread t { int x; x = t; }", "10 Unknown item 2"),
+    ("record A { } thread t { A x; x = A; }", "10 Unknown item 3"),
+    // With an unknown target a field of an integer base is known, and the target is not.
+    (
+        "record A { int f; } thread t { int i; atomic { x = i.f; } }",
+        "10 Unknown item 5",
+    ),
+    // A name twice.
+    ("record A { } record B { } record A { }", "11 Twice item 2"),
+    ("record A { int f; int f; }", "11 Twice item 2"),
+    (
+        "record A { int f; } record B { A f; int g; B f; }",
+        "11 Twice item 5",
+    ),
+    (
+        "record A { } record B { } global A a; global B a;",
+        "11 Twice item 3",
+    ),
+    ("thread t { } thread t { }", "11 Twice item 1"),
+    ("thread t { int x; int x; }", "11 Twice item 2"),
+    (
+        "thread t { int x; } thread u { int x; int y; int x; }",
+        "11 Twice item 5",
+    ),
+    (
+        "record A { } global A a; thread t { int a; }",
+        "11 Twice item 3",
+    ),
+    // The unknown type comes before the repeated name.
+    ("record A { int f; B f; }", "10 Unknown item 2"),
+    // Types that don't agree.
+    (
+        "record A { } thread t { A x; x = 1; }",
+        "12 WrongType item 3",
+    ),
+    ("thread t { int x; x = null; }", "12 WrongType item 2"),
+    (
+        "record A { } record B { } thread t { A x; B y; x = y; }",
+        "12 WrongType item 5",
+    ),
+    (
+        "record A { } record B { } global B b; thread t { A x; x = b; }",
+        "12 WrongType item 5",
+    ),
+    (
+        "record A { } thread t { A x; int i; i = x; }",
+        "12 WrongType item 4",
+    ),
+    (
+        "record A { } global A a; thread t { int i; a = i; }",
+        "12 WrongType item 4",
+    ),
+    (
+        "record A { } global A a; thread t { a = null; }",
+        "12 WrongType item 3",
+    ),
+    (
+        "record A { } global A a; thread t { a = a; }",
+        "12 WrongType item 3",
+    ),
+    (
+        "record A { } thread t { A x; int i; i = x + 1; }",
+        "12 WrongType item 4",
+    ),
+    ("thread t { int i; i = 1 * null; }", "12 WrongType item 2"),
+    (
+        "record A { } thread t { A x; x = 1 - 1; }",
+        "12 WrongType item 3",
+    ),
+    (
+        "record A { } record B { } thread t { A x; atomic { x = new B; } }",
+        "12 WrongType item 5",
+    ),
+    (
+        "record A { } thread t { int i; atomic { i = new A; } }",
+        "12 WrongType item 4",
+    ),
+    (
+        "record A { } global A a; thread t { atomic { a = new A; } }",
+        "12 WrongType item 4",
+    ),
+    (
+        "record A { int f; } global A a; thread t { A x; atomic { x = a.f; } }",
+        "12 WrongType item 6",
+    ),
+    (
+        "record A { A g; } global A a; thread t { int i; atomic { i = a.g; } }",
+        "12 WrongType item 6",
+    ),
+    (
+        "record A { int f; } global A a; thread t { atomic { a = a.f; } }",
+        "12 WrongType item 5",
+    ),
+    (
+        "thread t { int i; atomic { i = i.f; } }",
+        "12 WrongType item 3",
+    ),
+    (
+        "thread t { int i; atomic { i.f = 1; } }",
+        "12 WrongType item 3",
+    ),
+    (
+        "record A { int f; } global A a; thread t { atomic { a.f = null; } }",
+        "12 WrongType item 5",
+    ),
+    (
+        "record A { A g; } global A a; thread t { atomic { a.g = 1; } }",
+        "12 WrongType item 5",
+    ),
+    (
+        "record A { A g; } record B { } global A a; global B b; thread t { atomic { a.g = b; } }",
+        "12 WrongType item 7",
+    ),
+    ("thread t { atomic { print null; } }", "12 WrongType item 2"),
+    (
+        "record A { } global A a; thread t { atomic { print a; } }",
+        "12 WrongType item 4",
+    ),
+    (
+        "thread t { int i; if (i == null) { } }",
+        "12 WrongType item 2",
+    ),
+    (
+        "record A { } thread t { A x; while (x < x) { } }",
+        "12 WrongType item 3",
+    ),
+    (
+        "record A { } thread t { A x; if (x <= null) { } }",
+        "12 WrongType item 3",
+    ),
+    ("thread t { if (null < null) { } }", "12 WrongType item 1"),
+    (
+        "record A { } record B { } global A a; global B b; thread t { if (a == b) { } }",
+        "12 WrongType item 5",
+    ),
+    (
+        "record A { } record B { } thread t { A x; B y; while (x != y) { } }",
+        "12 WrongType item 5",
+    ),
+    // Shared things outside a section.
+    (
+        "record A { int f; } global A a; thread t { a.f = 1; }",
+        "13 SharedOutside item 4",
+    ),
+    (
+        "record A { int f; } global A a; thread t { int i; i = a.f; }",
+        "13 SharedOutside item 5",
+    ),
+    (
+        "record A { int f; } thread t { print 1; }",
+        "13 SharedOutside item 3",
+    ),
+    (
+        "record A { } thread t { A x; x = new A; }",
+        "13 SharedOutside item 3",
+    ),
+    (
+        "thread t { atomic { } while (1 == 2) { print 1; } }",
+        "13 SharedOutside item 3",
+    ),
+    // The type comes before the place.
+    ("thread t { print null; }", "12 WrongType item 1"),
+    // A section in a section.
+    ("thread t { atomic { atomic { } } }", "14 Nested item 2"),
+    (
+        "thread t { atomic { if (1 == 1) { } else { while (1 < 2) { atomic { } } } } }",
+        "14 Nested item 4",
+    ),
+    (
+        "thread t { atomic { print 1; atomic { print null; } } }",
+        "14 Nested item 3",
+    ),
+    // The first item at fault is named, whatever comes after it.
+    ("record A { B f; B g; } record A { }", "10 Unknown item 1"),
+    ("thread t { int x; int x; y = 1; }", "11 Twice item 2"),
+    (
+        "thread t { atomic { } print 1; atomic { atomic { } } }",
+        "13 SharedOutside item 2",
+    ),
+];
+
+/// What is answered for a text: its fault, or nothing.
+pub fn answer(alloc: Global, text: &str) -> Result<String, Fail> {
+    let tree = parse(alloc, text.as_bytes())?;
+    match check_types(alloc, tree) {
+        Ok(_) => Ok(String::new(alloc)),
+        Err(fault) => Ok(format!(in alloc; "{fault}")?),
+    }
+}
+
+#[test]
+fn accepts_typed_texts(rt: HostRuntime) -> Result<(), Fail> {
+    for text in ACCEPTED {
+        assert_eq!(rt; answer(rt.alloc(), text)?.as_str(), "", "at {text}");
+    }
+    Ok(())
+}
+
+#[test]
+fn names_the_first_item_at_fault(rt: HostRuntime) -> Result<(), Fail> {
+    for (text, want) in REFUSED {
+        assert_eq!(rt; answer(rt.alloc(), text)?.as_str(), want, "at {text}");
+    }
+    Ok(())
+}
+
+#[test]
+fn refusals_are_printed(rt: HostRuntime) -> Result<(), Fail> {
+    assert_eq!(rt;
+        format!(in rt.alloc(); "{}", TypeFault::Memory)?.as_str(),
+        "out of memory"
+    );
+    assert_eq!(rt;
+        format!(in rt.alloc(); "{}", TypeFault::TooMany { item: 9600 })?.as_str(),
+        "15 TooMany item 9600"
+    );
+    Ok(())
+}

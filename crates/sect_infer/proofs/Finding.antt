@@ -13,12 +13,14 @@ use Rattle.sect_names.specs.declared.lock.Lock.{Lock}
 use Rattle.sect_names.specs.declared.lock.Lock.TheVariants as lock
 use Rattle.sect_names.specs.Schemes.{SchemeView}
 use Rattle.sect_names.specs.Locks.{IsLockOf, Covers}
-use Rattle.sect_names.specs.Needed.{CarriedOver, IsNeededOn, IsNeeded, IsNeededFrom}
+use Rattle.sect_front.specs.declared.tree.Locking.{Locking}
+use Rattle.sect_front.specs.declared.tree.Locking.TheVariants as locking
+use Rattle.sect_names.specs.Needed.{CarriedOver, IsNeededOn, IsNeeded, IsNeededFrom, end_locks, end_of}
 use Rattle.sect_names.specs.Order.{AreMaximal}
 use Rattle.sect_names.proofs.Maximals.{maximal_as, maximal_least}
 use Rattle.sect_infer.specs.declared.need.Need.{Need}
 use Rattle.sect_infer.specs.steps.Needs.{need, IsDerived, AreLawful, AreByNode}
-use Rattle.sect_infer.specs.steps.Found.{AreAllMaximal, AreFound, AreAllOnAll}
+use Rattle.sect_infer.specs.steps.Found.{AreAllMaximal, AreFound, AreAllOnAll, IsFound, IsOnAll}
 use Rattle.sect_infer.specs.Sets.{LocksView, AreNeeded, AreLocksOf}
 use Rattle.sect_infer.proofs.Working.{derived_lock}
 use Rattle.sect_infer.proofs.Meaning.{derived_from}
@@ -167,6 +169,17 @@ module _ (s : SchemeView) (t : ℕ) (g : List Node) where
           let within : j ≤ length g = omega (arith, slice_get_within lists j locks at, all.counted) in
           subst (AreMaximal s (IsNeededFrom s t on_all body g j)) (sym (all.each j locks at)) (maximal_all (IsNeededFrom s t on_all body g j) (needed_all j within));
     }
+
+  -- so what is found are the locks of a section that takes what it needs, or the lock on all
+  pub inferred_of : (body : TextView) → IsGraphOf body g → (locks : LocksView) → IsFound s t g locks → AreLocksOf s [] (record { thread = t; body = body }) g locks
+  inferred_of body graph locks found = locks_of [] body graph locks found.first (found_needed body graph locks.at found.found)
+
+  pub on_all_of : (body : TextView) → IsGraphOf body g → (locks : LocksView) → IsOnAll (length g + 1) locks → AreLocksOf s (lock.All ∷ []) (record { thread = t; body = body }) g locks
+  on_all_of body graph locks found = locks_of (lock.All ∷ []) body graph locks found.first (all_needed body graph locks.at found.all)
+
+-- what the end of a section generates goes by which locks it takes
+pub end_is : (s : SchemeView) (i : ℕ) (l : Locking) → slice_get s.program.lockings i ≡ Some l → end_of s i ≡ end_locks l
+end_is s i l at = ap end_locks (get_or_from_slice_get s.program.lockings i l locking.Inferred at)
 
 -- the locks on all are the program's
 pub all_lawful : (s : SchemeView) (n : ℕ) (lists : List (List Lock)) → AreAllOnAll n lists → (j : ℕ) (locks : List Lock) → slice_get lists j ≡ Some locks → (l : Lock) → Has locks l → IsLockOf s l

@@ -8,7 +8,7 @@ ghost use Rattle.sect_names.specs.declared.lock.Lock.{Lock};
 ghost use Rattle.sect_names.specs.Locks.{IsLockOf};
 ghost use Rattle.sect_names.specs.Needed.{end_of};
 ghost use Rattle.sect_infer.specs.steps.Needs.{AreLawful};
-ghost use Rattle.sect_infer.specs.steps.Found.{AreFound, AreAllOnAll};
+ghost use Rattle.sect_infer.specs.steps.Found.{IsFound, IsOnAll};
 ghost use Rattle.sect_infer.specs.Sets.{AreLocksOf};
 
 use crate::lists::{Locks, lists_on_all, maximal_lists};
@@ -57,8 +57,7 @@ fn only_the_programs(scheme: &Scheme, section: u16)
 /// derived there.
 fn found(alloc: Global, scheme: &Scheme, thread: u16, flow: &Flow) -> Result<Locks, AllocError>
     requires { AreLawful scheme.now thread flow.now }
-    ensures found { IfOk result (λ sets. AreFound scheme.now thread flow.now sets.at) }
-    ensures first { IfOk result (λ sets. slice_get sets.at 0 ≡ Some sets.entry) }
+    ensures { IfOk result (IsFound scheme.now thread flow.now) }
 {
     let kept = needs(alloc, scheme, thread, flow)?;
     let nodes = by_node(alloc, flow.exit() + 1, &kept)?;
@@ -68,8 +67,7 @@ fn found(alloc: Global, scheme: &Scheme, thread: u16, flow: &Flow) -> Result<Loc
 
 /// The lock on all at each node of a graph, and at its exit.
 fn on_all_of(alloc: Global, flow: &Flow) -> Result<Locks, AllocError>
-    ensures all { IfOk result (λ sets. AreAllOnAll (length flow.now + 1) sets.at) }
-    ensures first { IfOk result (λ sets. slice_get sets.at 0 ≡ Some sets.entry) }
+    ensures { IfOk result (IsOnAll (length flow.now + 1)) }
 {
     let lists = lists_on_all(alloc, flow.exit() as usize + 1)?;
     Ok(Locks::of(lists))

@@ -6,6 +6,7 @@ use Rattle.sect_names.specs.declared.lock.Lock.{Lock}
 use Rattle.sect_names.specs.declared.lock.Lock.TheVariants as lock
 use Rattle.sect_names.specs.Schemes.{SchemeView}
 use Rattle.sect_names.specs.Order.{AreMaximal}
+use Rattle.sect_infer.specs.Sets.{LocksView}
 use Rattle.sect_infer.specs.steps.Needs.{need, IsDerived}
 
 -- each list has the maximal locks of the list that it comes from
@@ -22,3 +23,13 @@ pub record AreFound (s : SchemeView) (t : ℕ) (g : List Node) (at : List (List 
 pub record AreAllOnAll (count : ℕ) (at : List (List Lock)) : Type 0 where
   pub counted : length at ≡ count
   pub each : (j : ℕ) (locks : List Lock) → slice_get at j ≡ Some locks → locks ≡ lock.All ∷ []
+
+-- the locks of a section of which those at its nodes are found so
+pub record IsFound (s : SchemeView) (t : ℕ) (g : List Node) (locks : LocksView) : Type 0 where
+  pub found : AreFound s t g locks.at
+  pub first : slice_get locks.at 0 ≡ Some locks.entry
+
+-- the locks of a section with so many nodes, of which each needs the lock on all
+pub record IsOnAll (count : ℕ) (locks : LocksView) : Type 0 where
+  pub all : AreAllOnAll count locks.at
+  pub first : slice_get locks.at 0 ≡ Some locks.entry

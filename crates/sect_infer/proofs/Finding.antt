@@ -81,7 +81,7 @@ module _ (s : SchemeView) (t : ℕ) (g : List Node) where
     }
 
   -- the locks at each node are the program's
-  pub found_lawful : AreLawful s t g → (lists : List (List Lock)) → AreFound s t g lists → (j : ℕ) (locks : List Lock) → slice_get lists j ≡ Some locks → (l : Lock) → Has locks l → IsLockOf s l
+  pub found_lawful : AreLawful s t g → (lists : List (List Lock)) → AreFound s t g lists → (j : ℕ) (locks : List Lock) → slice_get lists j ≡ Some locks → (l : Lock) → Has locks l → IsLockOf s t l
   found_lawful lawful lists found j locks at l h =
       let d = (((found.each j locks at).kept_are l).0 h).0 in
       (derived_lock s t g lawful d.0 (need j l) d.1).1
@@ -182,5 +182,5 @@ pub end_is : (s : SchemeView) (i : ℕ) (l : Locking) → slice_get s.program.lo
 end_is s i l at = ap end_locks (get_or_from_slice_get s.program.lockings i l locking.Inferred at)
 
 -- the locks on all are the program's
-pub all_lawful : (s : SchemeView) (n : ℕ) (lists : List (List Lock)) → AreAllOnAll n lists → (j : ℕ) (locks : List Lock) → slice_get lists j ≡ Some locks → (l : Lock) → Has locks l → IsLockOf s l
-all_lawful s n lists all j locks at l h = elim (subst (λ ls. Has ls l) (all.each j locks at) h) [ inl e ↦ subst (IsLockOf s) e tt | inr none ↦ absurd none ]
+pub all_lawful : (s : SchemeView) (t n : ℕ) (lists : List (List Lock)) → AreAllOnAll n lists → (j : ℕ) (locks : List Lock) → slice_get lists j ≡ Some locks → (l : Lock) → Has locks l → IsLockOf s t l
+all_lawful s t n lists all j locks at l h = elim (subst (λ ls. Has ls l) (all.each j locks at) h) [ inl e ↦ subst (IsLockOf s t) e tt | inr none ↦ absurd none ]

@@ -84,7 +84,7 @@ module _ (s : SchemeView) (t : ℕ) (g : List Node) where
 
   module _ (lawful : AreLawful s t g) where
     -- what is derived is a lock of the program at a node of the graph
-    pub derived_lock : (k : ℕ) (x : Need) → Derived s t g k x → (x.node < length g) × IsLockOf s x.lock
+    pub derived_lock : (k : ℕ) (x : Need) → Derived s t g k x → (x.node < length g) × IsLockOf s t x.lock
     derived_lock zero x h = (slice_get_within g x.node h.0 h.1, lawful.generated x.node h.0 h.1 x.lock h.2)
     derived_lock (suc k) x h =
         let c = h.2 in
@@ -97,4 +97,4 @@ module _ (s : SchemeView) (t : ℕ) (g : List Node) where
         let d = only x ((any_tells the_need_eq.eq need_tells kept x).0 h) in
         let l = derived_lock d.0 x d.1 in
         (any_tells the_need_eq.eq need_tells (all_needs s g) x).1
-        (Has-flat_map (λ j. map (need j) (all_locks s)) (below (length g)) x.node x (Has-below (length g) x.node l.0) (Has-map (need x.node) (all_locks s) x.lock (finite_locks s x.lock l.1))))
+        (Has-flat_map (λ j. map (need j) (all_locks s)) (below (length g)) x.node x (Has-below (length g) x.node l.0) (Has-map (need x.node) (all_locks s) x.lock (finite_locks s t x.lock l.1))))

@@ -28,8 +28,9 @@ pub fn infer(alloc: Global, scheme: &Scheme, section: u16) -> Result<Locks, Allo
     requires { section < length (sections_of scheme.now.program.texts) }
     ensures locks { (of : SectionView) (g : List Node) → slice_get (sections_of scheme.now.program.texts) section ≡ Some of
         → slice_get scheme.now.graphs.sections section ≡ Some g → IfOk result (AreLocksOf scheme.now (end_of scheme.now section) of g) }
-    ensures lawful { IfOk result (λ sets. (j : ℕ) (locks : List Lock) → slice_get sets.at j ≡ Some locks
-        → (lock : Lock) → Has locks lock → IsLockOf scheme.now lock) }
+    ensures lawful { (of : SectionView) → slice_get (sections_of scheme.now.program.texts) section ≡ Some of
+        → IfOk result (λ sets. (j : ℕ) (locks : List Lock) → slice_get sets.at j ≡ Some locks
+        → (lock : Lock) → Has locks lock → IsLockOf scheme.now of.thread lock) }
 {
     scheme.rules();
     scheme.program().typing();

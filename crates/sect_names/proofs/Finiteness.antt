@@ -16,6 +16,7 @@ use Rattle.sect_names.specs.declared.lock.Right.TheVariants as right
 use Rattle.sect_names.specs.declared.lock.Lock.{Lock}
 use Rattle.sect_names.specs.declared.lock.Lock.TheVariants as lock
 use Rattle.sect_names.specs.Schemes.{SchemeView}
+use Rattle.sect_names.proofs.Sounding.{path_there}
 use Rattle.sect_names.specs.Locks.{depth, IsVariable, IsField, IsPathOf, IsLockOf}
 
 pub Has-map : {X Y : Type 0} (f : X → Y) (xs : List X) (x : X) → Has xs x → Has (map f xs) (f x)
@@ -93,28 +94,28 @@ on_class c = lock.Class c right.Read ∷ lock.Class c right.Write ∷ lock.Class
 
 -- the locks of the program on paths of at most k fields, and on the classes of its sites
 pub all_locks : SchemeView → List Lock
-all_locks s = lock.All ∷ flat_map on_path (all_paths s.program s.most) ++ flat_map on_class (below (length s.classes.numbers))
+all_locks s = lock.All ∷ flat_map on_path (all_paths s.program s.most) ++ flat_map on_class s.classes.numbers
 
 on_paths : (s : SchemeView) (q : Place) (l : Lock) → IsPathOf s.program q → depth q ≤ s.most → Has (on_path q) l → Has (all_locks s) l
 unfolding all_locks
 on_paths s q l there short h =
-    inr (Has-left (flat_map on_path (all_paths s.program s.most)) (flat_map on_class (below (length s.classes.numbers))) l
+    inr (Has-left (flat_map on_path (all_paths s.program s.most)) (flat_map on_class s.classes.numbers) l
     (Has-flat_map on_path (all_paths s.program s.most) q l (Has-paths s.program s.most q there short) h))
 
-on_classes : (s : SchemeView) (c : ℕ) (l : Lock) → c < length s.classes.numbers → Has (on_class c) l → Has (all_locks s) l
+on_classes : (s : SchemeView) (c : ℕ) (l : Lock) → Has s.classes.numbers c → Has (on_class c) l → Has (all_locks s) l
 unfolding all_locks
 on_classes s c l there h =
-    inr (Has-right (flat_map on_path (all_paths s.program s.most)) (flat_map on_class (below (length s.classes.numbers))) l
-    (Has-flat_map on_class (below (length s.classes.numbers)) c l (Has-below (length s.classes.numbers) c there) h))
+    inr (Has-right (flat_map on_path (all_paths s.program s.most)) (flat_map on_class s.classes.numbers) l
+    (Has-flat_map on_class s.classes.numbers c l there h))
 
 first : (s : SchemeView) → Has (all_locks s) lock.All
 unfolding all_locks
 first s = inl refl
 
-pub finite_locks : (s : SchemeView) (l : Lock) → IsLockOf s l → Has (all_locks s) l
-finite_locks s lock.All h = first s
-finite_locks s (lock.Path q effect.Read) h = on_paths s q (lock.Path q effect.Read) h.0 h.1 (inl refl)
-finite_locks s (lock.Path q effect.Write) h = on_paths s q (lock.Path q effect.Write) h.0 h.1 (inr (inl refl))
-finite_locks s (lock.Class c right.Read) h = on_classes s c (lock.Class c right.Read) h (inl refl)
-finite_locks s (lock.Class c right.Write) h = on_classes s c (lock.Class c right.Write) h (inr (inl refl))
-finite_locks s (lock.Class c right.Make) h = on_classes s c (lock.Class c right.Make) h (inr (inr (inl refl)))
+pub finite_locks : (s : SchemeView) (t : ℕ) (l : Lock) → IsLockOf s t l → Has (all_locks s) l
+finite_locks s t lock.All h = first s
+finite_locks s t (lock.Path q effect.Read) h = on_paths s q (lock.Path q effect.Read) (path_there s.program q h.of h.refers) h.short (inl refl)
+finite_locks s t (lock.Path q effect.Write) h = on_paths s q (lock.Path q effect.Write) (path_there s.program q h.of h.refers) h.short (inr (inl refl))
+finite_locks s t (lock.Class c right.Read) h = on_classes s c (lock.Class c right.Read) h (inl refl)
+finite_locks s t (lock.Class c right.Write) h = on_classes s c (lock.Class c right.Write) h (inr (inl refl))
+finite_locks s t (lock.Class c right.Make) h = on_classes s c (lock.Class c right.Make) h (inr (inr (inl refl)))

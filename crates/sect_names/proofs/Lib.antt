@@ -11,8 +11,12 @@ pub mod Ranking
 pub mod Maximals
 pub mod Keeping
 pub mod Respecting
-pub mod Finiteness
+pub mod Typing
+pub mod Owning
 pub mod Sounding
+pub mod Finiteness
 pub mod SectionSteps
 pub mod Named
 pub mod Uniqueness
+pub mod Preceding
+pub mod Refusing

@@ -9,13 +9,14 @@ use Rattle.sect_names.specs.declared.lock.Lock.{Lock}
 use Rattle.sect_names.specs.declared.lock.Lock.TheVariants as lock
 use Rattle.sect_names.specs.Schemes.{SchemeView}
 use Rattle.sect_names.specs.Locks.{IsVariable, IsField, IsPathOf, IsLockOf}
+use Rattle.sect_names.proofs.Sounding.{path_there}
 use Rattle.sect_names.specs.Printing.{IsNamed, AreNamed}
 
 -- a lock of the program names what is there
-pub named_lock : (s : SchemeView) (l : Lock) → IsLockOf s l → IsNamed s.program l
-named_lock s lock.All is = tt
-named_lock s (lock.Class c r) is = tt
-named_lock s (lock.Path q e) is = is.0
+pub named_lock : (s : SchemeView) (t : ℕ) (l : Lock) → IsLockOf s t l → IsNamed s.program l
+named_lock s t lock.All is = tt
+named_lock s t (lock.Class c r) is = tt
+named_lock s t (lock.Path q e) is = path_there s.program q is.of is.refers
 
 pub base_there : (p : ProgramView) (q : Place) → IsPathOf p q → IsVariable p (base_of q)
 base_there p (var v) is = is

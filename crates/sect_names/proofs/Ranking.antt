@@ -88,7 +88,7 @@ lock_before (lock.Path p effect.Read) (lock.Path q effect.Write) h = elim (then_
 lock_before (lock.Path p effect.Write) (lock.Path q effect.Read) h = elim (then_less (path_cmp p q) Greater h) [ inl a ↦ inl (path_before p q a) | inr b ↦ absurd (true≢false (sym (ap is_lt b.1))) ]
 lock_before (lock.Path p effect.Write) (lock.Path q effect.Write) h = elim (then_less (path_cmp p q) Equal h) [ inl a ↦ inl (path_before p q a) | inr b ↦ absurd (true≢false (sym (ap is_lt b.1))) ]
 
-lock_level : (l m : Lock) → the_lock_order.cmp l m ≡ Equal → l ≡ m
+pub lock_level : (l m : Lock) → the_lock_order.cmp l m ≡ Equal → l ≡ m
 lock_level l m e = (lock_tells l m).0 (the_lock_ties l m ∙ ap is_eq e)
 
 all_has : {X : Type 0} (P : X → Type 0) (xs : List X) → All P xs → (x : X) → Has xs x → P x

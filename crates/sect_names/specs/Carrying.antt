@@ -20,11 +20,7 @@ use Rattle.sect_names.specs.declared.lock.Right.TheVariants as right
 use Rattle.sect_names.specs.declared.lock.Lock.{Lock}
 use Rattle.sect_names.specs.declared.lock.Lock.TheVariants as lock
 use Rattle.sect_names.specs.Schemes.{SchemeView, guard_of}
-use Rattle.sect_names.specs.Locks.{depth}
-
--- the path has some class: it isn't always null
-abbrev pub IsClassed : SchemeView → Place → Type 0
-IsClassed s p = (n : ℕ) × HasClass s.classes p n
+use Rattle.sect_names.specs.Locks.{depth, IsClassed}
 
 -- the variable whose lock stands for an object of record r that the variable v denotes
 abbrev pub locked_for : Option ℕ → Variable → Variable

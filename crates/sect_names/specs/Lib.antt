@@ -7,3 +7,4 @@ pub mod Order
 pub mod Comparing
 pub mod Laws
 pub mod Printing
+pub mod Sources

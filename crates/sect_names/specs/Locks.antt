@@ -4,6 +4,8 @@ use Rattle.sect_types.specs.Lists.{Has}
 use Rattle.sect_types.specs.Programs.{ProgramView}
 use Rattle.sect_types.specs.declared.action.Field.{Field}
 use Rattle.sect_types.specs.declared.types.ValueType.{ValueType}
+use Rattle.sect_types.specs.declared.types.ValueType.TheVariants.{Refers}
+use Rattle.sect_types.specs.Sound.{type_in}
 use Rattle.sect_points.specs.declared.flow.Variable.{Variable}
 use Rattle.sect_points.specs.declared.flow.Variable.TheVariants.{Global, Local}
 use Rattle.sect_points.specs.Places.{Place, var, dot}
@@ -35,11 +37,45 @@ abbrev pub IsPathOf : ProgramView → Place → Type 0
 IsPathOf p (var v) = IsVariable p v
 IsPathOf p (dot q f) = IsPathOf p q × IsField p f
 
--- the lock is one of the program's: on all, on a class of its sites, or on a path of at most k fields
-abbrev pub IsLockOf : SchemeView → Lock → Type 0
-IsLockOf s lock.All = ⊤
-IsLockOf s (lock.Class c r) = c < length s.classes.numbers
-IsLockOf s (lock.Path p e) = IsPathOf s.program p × (depth p ≤ s.most)
+-- the variable refers to objects of record r
+abbrev pub VariableTo : ProgramView → Variable → ℕ → Type 0
+VariableTo p (Global g) r = slice_get p.globals g ≡ Some r
+VariableTo p (Local t x) r = slice_get (slice_index_or p.locals t []) x ≡ Some (Refers r)
+
+-- the field of that number of record q refers to objects of record r
+abbrev pub FieldTo : ProgramView → ℕ → ℕ → ℕ → Type 0
+FieldTo p q f r = type_in (slice_get p.records q) f ≡ Some (Refers r)
+
+-- the path refers to objects of record r: its variable refers to some, and each field is a reference field of the record
+-- that the path has reached
+abbrev pub PathTo : ProgramView → Place → ℕ → Type 0
+PathTo p (var v) r = VariableTo p v r
+PathTo p (dot q f) r = PathTo p q f.of × FieldTo p f.of f.number r
+
+-- the path begins with a global, or with a local of thread t
+abbrev pub IsOwn : ℕ → Place → Type 0
+IsOwn t (var (Global g)) = ⊤
+IsOwn t (var (Local u x)) = u ≡ t
+IsOwn t (dot p f) = IsOwn t p
+
+-- the path has some class: it isn't always null
+abbrev pub IsClassed : SchemeView → Place → Type 0
+IsClassed s p = (n : ℕ) × HasClass s.classes p n
+
+-- a path that a section of thread t may lock: it begins with a global or a local of the thread, refers to objects, has at
+-- most k fields, and has a class
+pub record IsPathIn (s : SchemeView) (t : ℕ) (p : Place) : Type 0 where
+  pub own : IsOwn t p
+  pub of : ℕ
+  pub refers : PathTo s.program p of
+  pub short : depth p ≤ s.most
+  pub classed : IsClassed s p
+
+-- a lock that a section of thread t may take: on all, on a class that is there, or on such a path
+abbrev pub IsLockOf : SchemeView → ℕ → Lock → Type 0
+IsLockOf s t lock.All = ⊤
+IsLockOf s t (lock.Class c r) = Has s.classes.numbers c
+IsLockOf s t (lock.Path p e) = IsPathIn s t p
 
 -- writing allows reading
 abbrev pub Allows : Effect → Effect → Type 0

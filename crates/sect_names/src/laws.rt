@@ -25,19 +25,18 @@ pub fn carrying_back_respects_covering()
     ensures { (s : SchemeView) → IsScheme s → (t : ℕ) (step : Label) → IsProgramStep s t step → RespectsCover s t step }
 {}
 
-/// The locks of a program on paths of at most k fields and on the classes of its sites are finitely many: one list has
-/// them all.
+/// The locks that the sections of a thread may take are finitely many: one list has them all.
 pub fn locks_are_finitely_many()
-    ensures { (s : SchemeView) → (all : List Lock) × ((l : Lock) → IsLockOf s l → Has all l) }
+    ensures { (s : SchemeView) (t : ℕ) → (all : List Lock) × ((l : Lock) → IsLockOf s t l → Has all l) }
 {}
 
-/// What a sound step needs of itself is a lock of the program, and what a lock of the program is carried back to over
-/// such a step is one again.
+/// What a sound step of a thread needs of itself is a lock that the thread's sections may take, and what such a lock is
+/// carried back to over such a step is one again.
 pub fn locks_stay_the_programs()
     ensures generated { (s : SchemeView) → IsScheme s → (t : ℕ) (step : Label) → IsSoundStep s.program t step
-        → (l : Lock) → Generated s t step l → IsLockOf s l }
+        → (l : Lock) → Generated s t step l → IsLockOf s t l }
     ensures carried { (s : SchemeView) → IsScheme s → (t : ℕ) (step : Label) → IsSoundStep s.program t step
-        → (l r : Lock) → IsLockOf s l → CarriedBack s t step l r → IsLockOf s r }
+        → (l r : Lock) → IsLockOf s t l → CarriedBack s t step l r → IsLockOf s t r }
 {}
 
 /// What a node of a section's graph does is a statement of the program or looks at a condition, and where the program is

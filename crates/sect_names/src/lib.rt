@@ -3,18 +3,22 @@
 
 mod carry;
 mod covers;
-pub mod fault;
+mod fault;
 mod generate;
 pub mod laws;
-pub mod lock;
+mod lock;
 mod maximal;
-pub mod path;
-pub mod scheme;
+mod path;
+mod refusal;
+mod scheme;
+mod source;
 pub mod text;
 mod variables;
 
 pub use covers::covering_is_an_order;
 pub use fault::SchemeFault;
-pub use lock::{Effect, Lock, Right};
+pub use lock::{Effect, Lock, Right, precedes};
 pub use path::Path;
+pub use refusal::Refusal;
 pub use scheme::{MOST_PATH_FIELDS, Scheme, check_k, scheme_of};
+pub use source::{accept, program_of};

@@ -1,9 +1,11 @@
 //! Locks.
 
-ghost use Rattle.std.specs.Prelude.{◌≡◌, IfOk};
+ghost use Rattle.std.specs.Prelude.{◌≡◌, ◌↔◌, IfOk, IsTrue};
+ghost use Rattle.sect_names.specs.Order.{LockBefore};
 
 use crate::path::Path;
 use std::alloc::AllocError;
+use std::cmp::Ordering;
 
 /// What a path lock allows of its object. Writing allows reading.
 #[derive(Clone, Copy, Debug, PartialEq, Eq, PartialOrd, Ord, Hash)]
@@ -29,6 +31,14 @@ pub enum Lock {
     All,
     Class(u16, Right),
     Path(Path, Effect),
+}
+
+/// Whether a lock stands before another in canonical order.
+#[tactic(auto, using(crate::proofs::Preceding::before_tells))]
+pub fn precedes(lock: &Lock, other: &Lock) -> bool
+    ensures { IsTrue result ↔ LockBefore lock.now other.now }
+{
+    matches!(lock.cmp(other), Ordering::Less)
 }
 
 impl Lock {

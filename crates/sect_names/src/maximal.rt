@@ -6,7 +6,7 @@ ghost use Rattle.sect_names.specs.declared.lock.Lock.TheVariants as lock;
 ghost use Rattle.sect_names.specs.declared.lock.Effect.TheVariants as effects;
 ghost use Rattle.sect_names.specs.declared.lock.Right.{Right};
 ghost use Rattle.sect_points.specs.Partitions.{HasClass};
-ghost use Rattle.sect_names.specs.Locks.{Grants, IsOutdone};
+ghost use Rattle.sect_names.specs.Locks.{Grants, CoveredBy, IsOutdone};
 ghost use Rattle.sect_names.specs.Order.{AreMaximal};
 
 use crate::lock::{Effect, Lock, Right};
@@ -54,6 +54,13 @@ impl Scheme {
         Ok(kept.into_iter().collect(alloc)?)
     }
 
+    /// Whether a lock of the set covers this one.
+    pub fn is_covered(&self, locks: &IndexSet<Lock>, lock: &Lock) -> Result<bool, AllocError>
+        ensures { IfOk result (λ covered. IsTrue covered ↔ CoveredBy self.now locks.now.keys lock.now) }
+    {
+        Ok(has(locks, lock) || self.is_outdone(locks, lock)?)
+    }
+
     /// Whether another lock of the set covers this one.
     fn is_outdone(&self, locks: &IndexSet<Lock>, lock: &Lock) -> Result<bool, AllocError>
         ensures { IfOk result (λ outdone. IsTrue outdone ↔ IsOutdone self.now (Has locks.now.keys) lock.now) }
@@ -61,7 +68,8 @@ impl Scheme {
         match lock {
             Lock::All => Ok(false),
             Lock::Class(class, right) => {
-                let by_write = *right != Right::Write && has(locks, &Lock::Class(*class, Right::Write));
+                let by_write = *right != Right::Write
+                    && has(locks, &Lock::Class(*class, Right::Write));
                 Ok(by_write || has(locks, &Lock::All))
             }
             Lock::Path(path, effect) => {

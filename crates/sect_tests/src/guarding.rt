@@ -5,7 +5,7 @@ use crate::programs::{
 };
 use sect_hints::guards;
 use sect_hints::table::Guards;
-use sect_names::{MOST_FIELDS, SchemeFault, check_k, scheme_of};
+use sect_names::{MOST_PATH_FIELDS, SchemeFault, check_k, scheme_of};
 use std::alloc::Global;
 use std::process::Abort;
 use std::test::Fail;
@@ -108,7 +108,7 @@ fn scheme_answer(alloc: Global, text: &[u8], k: u16) -> Result<String, Fail> {
 /// How many fields a path may have is judged before the hints.
 const SCHEMES: [(&[u8], u16, &str); 6] = [
     (GUARDED, 0, ""),
-    (GUARDED, MOST_FIELDS, ""),
+    (GUARDED, MOST_PATH_FIELDS, ""),
     (GUARDED_BY_NOTHING, 2, "20 NoSuchGlobal record 1"),
     (GUARDED_BY_A_CELL, 2, "21 GuardIsGuarded record 1"),
     (GUARDED_TWICE, 2, "22 HintTwice record 1"),

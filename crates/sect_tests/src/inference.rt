@@ -5,7 +5,7 @@ use crate::wanted::{Wanted, locks, set};
 use Effect::{Read, Write};
 use Variable::{Global, Local};
 use Wanted::{All, At};
-use sect_infer::{Sets, infer};
+use sect_infer::{Locks, infer};
 use sect_names::{Effect, Right, Scheme};
 use sect_points::flow::Variable;
 use std::process::Abort;
@@ -20,30 +20,29 @@ const EITHER: &[u8] = b"record A { int f; } global A a; global A b; \
 thread t { int x; atomic { if (x == 1) { x = a.f; } else { b.f = x; } x = 2; } }";
 
 /// The locks of a section.
-fn sets(rt: &(impl Abort + AllocGlobal), scheme: &Scheme, section: u16) -> Result<Sets, Fail> {
+fn sets(rt: &(impl Abort + AllocGlobal), scheme: &Scheme, section: u16) -> Result<Locks, Fail> {
     assert!(rt; section < scheme.program().section_count());
     Ok(infer(rt.alloc(), scheme, section)?)
 }
 
 /// These are the locks at the entry, in this order.
-fn takes(rt: &(impl Abort + AllocGlobal), sets: &Sets, wanted: &[Wanted]) -> Result<(), Fail> {
+fn takes(rt: &(impl Abort + AllocGlobal), sets: &Locks, wanted: &[Wanted]) -> Result<(), Fail> {
     let wanted = locks(rt, wanted)?;
     assert!(rt; sets.entry() == wanted.as_slice());
     Ok(())
 }
 
-/// From a node on just those of these locks are needed that no other of them covers.
+/// The locks of a node are those of these that no other of them covers, in canonical order.
 fn needs(
     rt: &(impl Abort + AllocGlobal),
     scheme: &Scheme,
-    sets: &Sets,
+    sets: &Locks,
     node: u16,
     wanted: &[Wanted],
 ) -> Result<(), Fail> {
-    assert!(rt; (node as usize) < sets.nodes().len());
-    let found = scheme.maximal(rt.alloc(), sets.nodes().at(node))?;
+    assert!(rt; (node as usize) < sets.node_count());
     let wanted = scheme.maximal(rt.alloc(), &set(rt, wanted)?)?;
-    assert!(rt; found.as_slice() == wanted.as_slice(), "node {node}");
+    assert!(rt; sets.at(node) == wanted.as_slice(), "node {node}");
     Ok(())
 }
 
@@ -51,7 +50,7 @@ fn needs(
 fn needs_all(
     rt: &(impl Abort + AllocGlobal),
     scheme: &Scheme,
-    sets: &Sets,
+    sets: &Locks,
     nodes: &[(u16, &[Wanted])],
 ) -> Result<(), Fail> {
     for (node, wanted) in nodes {
@@ -60,7 +59,7 @@ fn needs_all(
     Ok(())
 }
 
-/// A section of a text has so many nodes, takes these locks at its entry, and needs those from some of its nodes on.
+/// A section of a text has so many nodes beside its exit, takes these locks at its entry, and needs those from some of its nodes on.
 fn holds(
     rt: &(impl Abort + AllocGlobal),
     (text, k, section): (&[u8], u16, u16),
@@ -70,7 +69,7 @@ fn holds(
 ) -> Result<(), Fail> {
     let scheme = scheme(rt.alloc(), text, k)?;
     let found = sets(rt, &scheme, section)?;
-    assert_eq!(rt; found.nodes().len(), count);
+    assert_eq!(rt; found.node_count(), count + 1);
     takes(rt, &found, entry)?;
     needs_all(rt, &scheme, &found, nodes)
 }

@@ -1,7 +1,7 @@
 //! TreeView texts that are read, printed or refused.
 
 use crate::programs::{ACCOUNTS, APART, CHAIN, GUARDED, LIST, NULL, SHARED};
-use sect_front::parsing::MOST_BYTES;
+use sect_front::MOST_BYTES;
 use sect_front::{FrontFault, is_name, parse, print, tokens_of};
 use std::alloc::{AllocError, Global};
 use std::test::Fail;

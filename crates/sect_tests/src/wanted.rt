@@ -7,9 +7,10 @@ use sect_points::flow::Variable;
 use std::process::Abort;
 use std::test::Fail;
 
-/// A lock: on a class, or on the path of a variable and so many times the field `next`.
+/// A lock: on everything, on a class, or on the path of a variable and so many times the field `next`.
 #[derive(Clone, Copy)]
 pub enum Wanted {
+    Everything,
     All(u16, Right),
     At(Variable, usize, Effect),
 }
@@ -24,6 +25,7 @@ pub fn path(rt: &(impl Abort + AllocGlobal), base: Variable, fields: usize) -> R
 /// The lock that is wanted.
 pub fn lock(rt: &(impl Abort + AllocGlobal), wanted: Wanted) -> Result<Lock, Fail> {
     match wanted {
+        Wanted::Everything => Ok(Lock::All),
         Wanted::All(class, right) => Ok(Lock::Class(class, right)),
         Wanted::At(base, fields, effect) => Ok(Lock::Path(path(rt, base, fields)?, effect)),
     }

@@ -45,8 +45,8 @@ pub record AreAllBefore (g : List Node) (lists : List (List ℕ)) : Type 0 where
 
 -- the locks that the nodes generate and carry back are the program's
 pub record AreLawful (s : SchemeView) (t : ℕ) (g : List Node) : Type 0 where
-  pub generated : (j : ℕ) (y : Node) → slice_get g j ≡ Some y → (l : Lock) → Generated s t y.label l → IsLockOf s l
-  pub carried : (j : ℕ) (y : Node) → slice_get g j ≡ Some y → (l r : Lock) → IsLockOf s l → CarriedBack s t y.label l r → IsLockOf s r
+  pub generated : (j : ℕ) (y : Node) → slice_get g j ≡ Some y → (l : Lock) → Generated s t y.label l → IsLockOf s t l
+  pub carried : (j : ℕ) (y : Node) → slice_get g j ≡ Some y → (l r : Lock) → IsLockOf s t l → CarriedBack s t y.label l r → IsLockOf s t r
 
 -- lists have one element more, at one place
 abbrev pub IsAdded : {X : Type 0} → List (List X) → List (List X) → ℕ → X → Type 0

@@ -7,11 +7,16 @@ use Rattle.sect_types.specs.Sections.{SectionView, sections_of}
 use Rattle.sect_graph.specs.Graphs.{GraphView}
 use Rattle.sect_names.specs.declared.lock.Lock.{Lock}
 use Rattle.sect_names.specs.declared.lock.Lock.TheVariants as lock
+use Rattle.sect_names.specs.Schemes.{SchemeView}
 use Rattle.sect_names.specs.Locks.{IsLockOf}
 use Rattle.sect_infer.specs.Sets.{LocksView, AreLocksOf}
 use Rattle.sect_infer.specs.steps.Found.{IsFound, IsOnAll}
 use Rattle.sect_infer.proofs.Finding.{inferred_of, on_all_of, end_is, found_lawful, all_lawful}
 use Rattle.sect_infer.proofs.section.infer.Goals as goal
+
+-- all the locks of a section may be taken by the thread
+abbrev AreLawfulAt : SchemeView → ℕ → LocksView → Type 0
+AreLawfulAt s t sets = (j : ℕ) (locks : List Lock) → slice_get sets.at j ≡ Some locks → (l : Lock) → Has locks l → IsLockOf s t l
 
 pub found-requires : goal.found-requires
 found-requires c =
@@ -51,19 +56,18 @@ returns-in-All-clause-locks c = λ of g section_at graph_at.
     (IfOk-weaker c.on_all_of.result (IsOnAll (length flow + 1)) (AreLocksOf s (lock.All ∷ []) here flow) (on_all_of s here.thread flow here.body graph) c.on_all_of.ensures)
 
 pub returns-in-Inferred-clause-lawful : goal.returns-in-Inferred-clause-lawful
-returns-in-Inferred-clause-lawful c =
+returns-in-Inferred-clause-lawful c = λ of section_is.
     let s = c.args.scheme.now in
-    let t = c.section-thread.result.thread in
     let flow = c.section-flow.result.now in
-    let of : SectionView = record { thread = t; body = c.section-thread.result.body.now } in
-    let section_at = subst (λ (p : ProgramView). slice_get (sections_of p.texts) c.args.section ≡ Some of) c.program-2.ensures c.section-thread.ensures.section in
+    let here : SectionView = record { thread = c.section-thread.result.thread; body = c.section-thread.result.body.now } in
+    let section_at = subst (λ (p : ProgramView). slice_get (sections_of p.texts) c.args.section ≡ Some here) c.program-2.ensures c.section-thread.ensures.section in
     let graph_at = subst (λ (q : GraphView). slice_get q.sections c.args.section ≡ Some flow) c.graph.ensures c.section-flow.ensures in
-    IfOk-weaker c.found.result (IsFound s t flow) (λ (sets : LocksView). (j : ℕ) (locks : List Lock) → slice_get sets.at j ≡ Some locks → (l : Lock) → Has locks l → IsLockOf s l)
-    (λ sets f. found_lawful s t flow (c.only_the_programs.ensures of flow section_at graph_at) sets.at f.found) c.found.ensures
+    let same : here ≡ of = cc in
+    rw (sym same) (IfOk-weaker c.found.result (IsFound s here.thread flow) (AreLawfulAt s here.thread)
+    (λ sets f. found_lawful s here.thread flow (c.only_the_programs.ensures here flow section_at graph_at) sets.at f.found) c.found.ensures)
 
 pub returns-in-All-clause-lawful : goal.returns-in-All-clause-lawful
-returns-in-All-clause-lawful c =
+returns-in-All-clause-lawful c = λ of section_is.
     let s = c.args.scheme.now in
     let n = length c.section-flow.result.now + 1 in
-    IfOk-weaker c.on_all_of.result (IsOnAll n) (λ (sets : LocksView). (j : ℕ) (locks : List Lock) → slice_get sets.at j ≡ Some locks → (l : Lock) → Has locks l → IsLockOf s l)
-    (λ sets f. all_lawful s n sets.at f.all) c.on_all_of.ensures
+    IfOk-weaker c.on_all_of.result (IsOnAll n) (AreLawfulAt s of.thread) (λ sets f. all_lawful s of.thread n sets.at f.all) c.on_all_of.ensures

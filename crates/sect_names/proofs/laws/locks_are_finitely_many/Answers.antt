@@ -2,4 +2,4 @@ use Rattle.sect_names.proofs.Finiteness.{all_locks, finite_locks}
 use Rattle.sect_names.proofs.laws.locks_are_finitely_many.Goals as goal
 
 pub returns : goal.returns
-returns c s = (all_locks s, finite_locks s)
+returns c s t = (all_locks s, finite_locks s t)

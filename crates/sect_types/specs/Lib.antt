@@ -18,3 +18,7 @@ pub mod Threads
 pub mod Programs
 pub mod Lists
 pub mod Traces
+pub mod Endings
+pub mod Store
+pub mod Meaning
+pub mod Whole

@@ -10,6 +10,7 @@ pub mod rule;
 mod scope;
 pub mod section;
 mod spot;
+pub mod store;
 pub mod text;
 pub mod types;
 mod walk;

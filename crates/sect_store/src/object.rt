@@ -1,6 +1,7 @@
 //! Objects, and lists of them.
 
-ghost use Rattle.std.specs.Prelude.{◌≡◌, ◌++◌, ◌∷◌, [], map, slice_get, slice_index_or, option_copied, IfOk, OnOk, OnErr};
+ghost use Rattle.std.specs.Prelude.{◌≡◌, ◌++◌, ◌∷◌, [], map, slice_get, slice_index_or, option_copied};
+ghost use Rattle.std.specs.Prelude.{IfOk, OnOk, OnErr};
 ghost use Rattle.sect_types.specs.Store.{changed_at, with_field};
 ghost use Rattle.sect_types.specs.Meaning.{datum_or_null, first_datum, fresh};
 

@@ -57,6 +57,7 @@ IsRefused bytes refusal.Memory = ⊤
 IsRefused bytes (refusal.Front fault) = (fault ≢ front.Memory) × IsFault bytes fault
 IsRefused bytes (refusal.Types fault) = (fault ≢ type_fault.Memory) × ((t : Source) × IsSpelled bytes t × types.Judges {A = ℕ} t (Err fault))
 IsRefused bytes (refusal.Scheme fault) = ⊥
+IsRefused bytes (refusal.Serial fault) = ⊥
 
 -- this program is given, unless memory ran out
 abbrev pub GivesProgram : Numbered → Result Numbered Refusal → Type 0

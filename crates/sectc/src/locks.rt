@@ -37,7 +37,7 @@ pub fn locks(alloc: Global, source: &[u8], k: u16) -> Result<String, Refusal>
 }
 
 /// The program of a source text.
-fn program_of(alloc: Global, source: &[u8]) -> Result<Program, Refusal>
+pub fn program_of(alloc: Global, source: &[u8]) -> Result<Program, Refusal>
     ensures answers { IfOk result (IsTypedText source.now) }
     ensures only { (p : Numbered) → IsTypedText source.now p → GivesProgram p result }
     ensures refuses { IfErr result (IsRefused source.now) }

@@ -3,9 +3,11 @@
 ghost use Rattle.std.specs.Prelude.{◌≡◌};
 ghost use Rattle.sectc.specs.declared.refusal.Refusal.TheVariants.{Memory};
 ghost use Rattle.sectc.specs.Answers.{of_front, of_types, of_scheme};
+ghost use Rattle.sectc.specs.Serial.{of_serial};
 
 use sect_front::FrontFault;
 use sect_names::SchemeFault;
+use sect_serial::SerialFault;
 use sect_types::TypeFault;
 use std::alloc::AllocError;
 use thiserror::Error;
@@ -21,6 +23,8 @@ pub enum Refusal {
     Types(TypeFault),
     #[error("refused {0}")]
     Scheme(SchemeFault),
+    #[error("refused {0}")]
+    Serial(SerialFault),
 }
 
 impl From<AllocError> for Refusal {
@@ -60,6 +64,17 @@ impl From<SchemeFault> for Refusal {
         match fault {
             SchemeFault::Memory => Refusal::Memory,
             other => Refusal::Scheme(other),
+        }
+    }
+}
+
+impl From<SerialFault> for Refusal {
+    ghost from_gives = { λ fault r. r ≡ of_serial fault };
+
+    fn from(fault: SerialFault) -> Refusal {
+        match fault {
+            SerialFault::Memory => Refusal::Memory,
+            other => Refusal::Serial(other),
         }
     }
 }

@@ -15,3 +15,16 @@ pub mod SectionLemmas
 pub mod Membership
 pub mod SectionSound
 pub mod LockingLemmas
+pub mod Joining
+pub mod Basics
+pub mod Replaced
+pub mod Stores
+pub mod Data
+pub mod BodySteps
+pub mod Starts
+pub mod RunningAhead
+pub mod Endings
+pub mod ProgramTexts
+pub mod WholeRows
+pub mod Changed
+pub mod SameData

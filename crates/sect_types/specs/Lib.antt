@@ -16,4 +16,8 @@ pub mod Programs
 pub mod Lists
 pub mod Traces
 pub mod Lockings
+pub mod Endings
+pub mod Store
+pub mod Meaning
+pub mod Whole
 pub mod steps

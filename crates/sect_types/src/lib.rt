@@ -12,6 +12,7 @@ mod rule;
 mod scope;
 pub mod section;
 mod spot;
+pub mod store;
 pub mod text;
 pub mod types;
 mod walk;

@@ -1,36 +1,14 @@
--- What the command `locks` answers to a source text.
-use Rattle.std.specs.Prelude.{◌≡◌, ◌≢◌, ◌≤◌, ◌<◌, ◌⊎◌, ℕ, ⊤, List, Result, Ok, Err, length}
-use Rattle.sect_front.specs.TreeView.{TreeView}
-use Rattle.sect_front.specs.Front.{IsSpelled, IsFault}
-use Rattle.sect_front.specs.declared.parsing.FrontFault.{FrontFault}
-use Rattle.sect_front.specs.declared.parsing.FrontFault.TheVariants as front
-use Rattle.sect_types.specs.First as types
-use Rattle.sect_types.specs.First.{IsTyped}
-use Rattle.sect_types.specs.Programs.{ProgramView, IsOfTree}
+-- What the command `locks` answers to a source text. `locks` cites it.
+use Rattle.std.specs.Prelude.{◌≢◌, ◌≤◌, ℕ, List, length}
 use Rattle.sect_types.specs.Sections.{sections_of}
-use Rattle.sect_types.specs.declared.rule.TypeFault.{TypeFault}
-use Rattle.sect_types.specs.declared.rule.TypeFault.TheVariants as type_fault
-use Rattle.sect_hints.specs.Hints.{ObeysHints}
-use Rattle.sect_names.specs.declared.fault.SchemeFault.{SchemeFault}
-use Rattle.sect_names.specs.declared.fault.SchemeFault.TheVariants as scheme_fault
-use Rattle.sect_names.specs.Schemes.{SchemeView, IsScheme}
-use Rattle.sect_names.specs.Verdicts as schemes
+use Rattle.sect_names.specs.Schemes.{SchemeView}
+use Rattle.sect_names.specs.Sources as sources
+use Rattle.sect_names.specs.Sources.{IsAccepted}
+use Rattle.sect_names.specs.declared.refusal.Refusal as source
+use Rattle.sect_names.specs.declared.refusal.Refusal.TheVariants as source_refusal
 use Rattle.sectc.specs.declared.refusal.Refusal.{Refusal}
 use Rattle.sectc.specs.declared.refusal.Refusal.TheVariants as refusal
 use Rattle.sectc.specs.Listing.{IsListing}
-
--- the text spells a typed tree, and this is its program
-pub record IsTypedText (bytes : List ℕ) (p : ProgramView) : Type 0 where
-  pub spelled : IsSpelled bytes p.source
-  pub typed : IsTyped p.source
-  pub numbers : IsOfTree p
-
--- the text is accepted, with this scheme for paths of at most k fields
-pub record IsAccepted (bytes : List ℕ) (k : ℕ) (s : SchemeView) : Type 0 where
-  pub text : IsTypedText bytes s.program
-  pub hints : ObeysHints s.program
-  pub most : s.most ≡ k
-  pub scheme : IsScheme s
 
 -- the text is accepted, and these are the lines of all its sections, with the least set of each
 pub record IsAnswer (bytes : List ℕ) (k : ℕ) (lines : List ℕ) : Type 0 where
@@ -38,33 +16,13 @@ pub record IsAnswer (bytes : List ℕ) (k : ℕ) (lines : List ℕ) : Type 0 whe
   pub accepted : IsAccepted bytes k s
   pub listing : IsListing s (length (sections_of s.program.texts)) lines
 
--- a fault of a layer is the program's refusal; want of memory is never inside another
-abbrev pub of_front : FrontFault → Refusal
-of_front front.Memory = refusal.Memory
-of_front fault = refusal.Front fault
-
-abbrev pub of_types : TypeFault → Refusal
-of_types type_fault.Memory = refusal.Memory
-of_types fault = refusal.Types fault
-
-abbrev pub of_scheme : SchemeFault → Refusal
-of_scheme scheme_fault.Memory = refusal.Memory
-of_scheme fault = refusal.Scheme fault
-
--- the text is refused so: it spells no tree, or a rule on types is broken
-abbrev pub IsRefused : List ℕ → Refusal → Type 0
-IsRefused bytes refusal.Memory = ⊤
-IsRefused bytes (refusal.Front fault) = (fault ≢ front.Memory) × IsFault bytes fault
-IsRefused bytes (refusal.Types fault) = (fault ≢ type_fault.Memory) × ((t : TreeView) × IsSpelled bytes t × types.Judges {A = ℕ} t (Err fault))
-IsRefused bytes (refusal.Scheme fault) = ⊥
-
--- this program is given, unless memory ran out
-abbrev pub GivesProgram : ProgramView → Result ProgramView Refusal → Type 0
-GivesProgram p (Ok given) = given ≡ p
-GivesProgram p (Err r) = r ≡ refusal.Memory
+-- a refusal of the source is the program's; want of memory is never inside another
+abbrev pub of_source : source.Refusal → Refusal
+of_source source_refusal.Memory = refusal.Memory
+of_source why = refusal.Source why
 
 -- the refusal is due: k is judged first, then the text, and then its hints
 abbrev pub IsDue : List ℕ → ℕ → Refusal → Type 0
-IsDue bytes k (refusal.Scheme fault) =
-    (fault ≢ scheme_fault.Memory) × (((fault ≡ scheme_fault.BadK) × (3 < k)) ⊎ ((p : ProgramView) × IsTypedText bytes p × schemes.Judges p k (Err fault)))
-IsDue bytes k r = (k ≤ 3) × IsRefused bytes r
+IsDue bytes k refusal.Memory = k ≤ 3
+IsDue bytes k (refusal.Source why) = (why ≢ source_refusal.Memory) × sources.IsDue bytes k why
+IsDue bytes k (refusal.Serial why) = ⊥

@@ -5,7 +5,7 @@ use Rattle.sect_front.specs.TreeView.{TreeView}
 use Rattle.sect_types.specs.Sections.{SectionView, sections_of}
 use Rattle.sect_names.specs.declared.lock.Lock.{Lock}
 use Rattle.sect_names.specs.Schemes.{SchemeView}
-use Rattle.sect_names.specs.Needed.{IsLeast}
+use Rattle.sect_names.specs.Needed.{IsLeast, end_of}
 use Rattle.sect_names.specs.Order.{AreInOrder}
 use Rattle.sect_names.specs.Printing.{locks_text}
 
@@ -18,13 +18,13 @@ abbrev pub lines_from : TreeView → ℕ → List (List Lock) → List ℕ
 lines_from t i [] = []
 lines_from t i (locks ∷ others) = section_line t i locks ++ lines_from t (i + 1) others
 
--- the least set of locks that protects the section, in canonical order
-abbrev pub IsLeastInOrder : SchemeView → SectionView → List Lock → Type 0
-IsLeastInOrder s of locks = IsLeast s of.thread of.body locks × AreInOrder locks
+-- the least set of locks that protects the section of that number, in canonical order
+abbrev pub IsLeastInOrder : SchemeView → ℕ → SectionView → List Lock → Type 0
+IsLeastInOrder s i of locks = IsLeast s of.thread (end_of s i) of.body locks × AreInOrder locks
 
 -- each of these is the least set of the section of its number
 abbrev pub AreLeast : SchemeView → List (List Lock) → Type 0
-AreLeast s sets = (i : ℕ) (of : SectionView) (locks : List Lock) → slice_get (sections_of s.program.texts) i ≡ Some of → slice_get sets i ≡ Some locks → IsLeastInOrder s of locks
+AreLeast s sets = (i : ℕ) (of : SectionView) (locks : List Lock) → slice_get (sections_of s.program.texts) i ≡ Some of → slice_get sets i ≡ Some locks → IsLeastInOrder s i of locks
 
 -- these are the lines of the first sections, with the least set of each
 pub record IsListing (s : SchemeView) (count : ℕ) (text : List ℕ) : Type 0 where

@@ -3,6 +3,7 @@
 use crate::locks::locks;
 use crate::options::{Request, UsageFault, request_of};
 use crate::refusal::Refusal;
+use crate::serial::serial_outcome;
 use std::alloc::{AllocError, Global};
 use std::io;
 use std::io::{ErrorKind, Read, Write};
@@ -102,13 +103,14 @@ fn answer_to<I: Read + Drop>(
     };
     let mut source = Vec::new(alloc);
     input.read_to_end(&mut source)?;
-    worked(alloc, &request, source.as_slice())
+    worked(alloc, request, source.as_slice())
 }
 
 /// What a command answers to its input.
-fn worked(alloc: Global, request: &Request, source: &[u8]) -> Result<Answer, Failure> {
+fn worked(alloc: Global, request: Request, source: &[u8]) -> Result<Answer, Failure> {
     let done = match request {
-        Request::Locks { k } => locks(alloc, source, *k),
+        Request::Locks { k } => locks(alloc, source, k),
+        Request::Serial { fuel, order } => serial_outcome(alloc, source, fuel, order),
     };
     match done {
         Ok(text) => Ok(Answer { status: DONE, text }),
@@ -122,5 +124,7 @@ fn worked(alloc: Global, request: &Request, source: &[u8]) -> Result<Answer, Fai
 
 #[cfg(test)]
 mod lock_tests;
+#[cfg(test)]
+mod serial_tests;
 #[cfg(test)]
 mod tests;

@@ -2,20 +2,18 @@
 
 ghost use Rattle.std.specs.Prelude.{◌≡◌, ◌<◌, ◌++◌, List, Some, length, slice_get, IfOk, IfErr, OnOk, IsOkUnless};
 ghost use Rattle.std.specs.String.{string_bytes};
-ghost use Rattle.sect_types.specs.Programs.{ProgramView};
 ghost use Rattle.sect_types.specs.Sections.{SectionView, sections_of};
 ghost use Rattle.sect_names.specs.declared.lock.Lock.{Lock};
 ghost use Rattle.sect_names.specs.Schemes.{SchemeView};
+ghost use Rattle.sect_names.specs.Sources.{IsAccepted};
 ghost use Rattle.sectc.specs.declared.refusal.Refusal.TheVariants.{Memory};
 ghost use Rattle.sectc.specs.Listing.{IsLeastInOrder, IsListing, section_line};
-ghost use Rattle.sectc.specs.Answers.{IsTypedText, IsAccepted, IsAnswer, GivesProgram, IsRefused, IsDue};
+ghost use Rattle.sectc.specs.Answers.{IsAnswer, IsDue};
 
 use crate::refusal::Refusal;
-use sect_front::parse;
 use sect_infer::infer;
 use sect_names::text::put_locks;
-use sect_names::{Scheme, check_k, scheme_of};
-use sect_types::{Program, check_types};
+use sect_names::{Scheme, accept};
 use std::alloc::{AllocError, Global};
 use std::fmt::Write;
 
@@ -29,23 +27,8 @@ pub fn locks(alloc: Global, source: &[u8], k: u16) -> Result<String, Refusal>
     // A refusal is due, and it is the first that is.
     ensures refuses { IfErr result (IsDue source.now k) }
 {
-    check_k(k)?;
-    let program = program_of(alloc, source)?;
-    let scheme = scheme_of(alloc, program, k)?;
-    scheme.rules();
+    let scheme = accept(alloc, source, k)?;
     Ok(lines(alloc, &scheme)?)
-}
-
-/// The program of a source text.
-fn program_of(alloc: Global, source: &[u8]) -> Result<Program, Refusal>
-    ensures answers { IfOk result (IsTypedText source.now) }
-    ensures only { (p : ProgramView) → IsTypedText source.now p → GivesProgram p result }
-    ensures refuses { IfErr result (IsRefused source.now) }
-{
-    let tree = parse(alloc, source)?;
-    let program = check_types(alloc, tree)?;
-    let _typed = program.tree();
-    Ok(program)
 }
 
 /// A line for each section of the program.
@@ -68,7 +51,7 @@ fn put_section(
 ) -> Result<(), AllocError>
     requires { section < length (sections_of scheme.now.program.texts) }
     ensures { OnOk result ((of : SectionView) → slice_get (sections_of scheme.now.program.texts) section ≡ Some of
-        → (locks : List Lock) × IsLeastInOrder scheme.now of locks
+        → (locks : List Lock) × IsLeastInOrder scheme.now section of locks
         × (string_bytes text.new ≡ string_bytes text.old ++ section_line scheme.now.program.source section locks)) }
 {
     scheme.rules();

@@ -5,6 +5,8 @@ mod command;
 mod locks;
 mod options;
 mod refusal;
+mod running;
+mod serial;
 
 use command::{FAILED, WRONG_WORDS, command};
 use std::process::ExitCode;

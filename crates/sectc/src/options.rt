@@ -3,6 +3,7 @@
 ghost use Rattle.std.specs.Prelude.{◌≡◌, ◌≤◌, true, false, IfOk, IfSome};
 ghost use Rattle.clap.specs.declared.builder.command.Command.TheViews.{out-Command as fields_of};
 
+use crate::running::{fuel_of, serial_command, threads_of};
 use clap::error::ErrorKind;
 use clap::{Arg, ArgAction, ArgMatches, Command};
 use std::alloc::{AllocError, AllocFailed, Global};
@@ -19,6 +20,8 @@ pub const DEFAULT_K: u16 = 2;
 pub enum Request {
     /// The lock set of each section, whose paths have at most k fields.
     Locks { k: u16 },
+    /// The outcome of a run by whole sections of these threads, each thread with this much fuel.
+    Serial { fuel: u32, order: Vec<u16> },
 }
 
 /// Why a command line is wrong. `Display` is what the program prints of it.
@@ -30,12 +33,21 @@ pub enum UsageFault {
     /// A value that isn't decimal digits alone or is too great, and its option.
     #[error("error: invalid value '{0}' for '--{1}'\n")]
     Number(String, &'static str),
+    /// A word in the place of a thread's number that isn't decimal digits alone or is too great.
+    #[error("error: invalid thread '{0}'\n")]
+    Thread(String),
     #[error("out of memory\n")]
     Memory,
 }
 
 impl From<AllocError> for UsageFault {
     fn from(_refused: AllocError) -> UsageFault {
+        UsageFault::Memory
+    }
+}
+
+impl<T: Drop> From<AllocFailed<T>> for UsageFault {
+    fn from(_refused: AllocFailed<T>) -> UsageFault {
         UsageFault::Memory
     }
 }
@@ -51,7 +63,7 @@ impl From<clap::Error> for UsageFault {
 }
 
 /// The option `--name N`.
-fn numeral<'a>(alloc: Global, name: &'a str, help: &'a str) -> Arg<'a>
+pub fn numeral<'a>(alloc: Global, name: &'a str, help: &'a str) -> Arg<'a>
     ensures { result.global ≡ false }
 {
     Arg::new(alloc, name)
@@ -72,12 +84,13 @@ fn grammar<'a>(alloc: Global) -> Result<Command<'a>, AllocError>
         .arg(k)?;
     let sectc = Command::new(alloc, "sectc")
         .about("infers the locks of atomic sections")
-        .subcommand(locks)?;
+        .subcommand(locks)?
+        .subcommand(serial_command(alloc)?)?;
     Ok(sectc.subcommand_required(true))
 }
 
 /// The number that a text spells, where it is decimal digits alone and at most `most`.
-fn number(text: &str, most: u32) -> Option<u32>
+pub fn number(text: &str, most: u32) -> Option<u32>
     ensures { IfSome result (λ n. n ≤ most) }
 {
     if !text.bytes().all(|byte| byte.is_ascii_digit()) {
@@ -107,6 +120,10 @@ fn number_of(
 pub fn request_of(alloc: Global, words: &[String]) -> Result<Request, UsageFault> {
     let matches = grammar(alloc)?.try_get_matches_from(words)?;
     match matches.subcommand() {
+        Some(("serial", options)) => Ok(Request::Serial {
+            fuel: fuel_of(alloc, options)?,
+            order: threads_of(alloc, options)?,
+        }),
         Some((_locks, options)) => Ok(Request::Locks {
             k: number_of(alloc, options, "k", DEFAULT_K)?,
         }),

@@ -1,26 +1,27 @@
-//! The refusals of all layers.
+//! The refusals of all commands.
 
 ghost use Rattle.std.specs.Prelude.{◌≡◌};
 ghost use Rattle.sectc.specs.declared.refusal.Refusal.TheVariants.{Memory};
-ghost use Rattle.sectc.specs.Answers.{of_front, of_types, of_scheme};
+ghost use Rattle.sectc.specs.Answers.{of_source};
+ghost use Rattle.sectc.specs.Serial.{of_serial};
 
-use sect_front::FrontFault;
-use sect_names::SchemeFault;
-use sect_types::TypeFault;
+use sect_names::Refusal as SourceRefusal;
+use sect_serial::SerialFault;
 use std::alloc::AllocError;
 use thiserror::Error;
 
-/// Why a source text isn't answered as was asked. `Display` is the line that the program prints.
+/// Why a command doesn't do what was asked. `Display` is the line that the program prints.
 #[derive(Debug, Drop, Error)]
 pub enum Refusal {
+    /// Want of memory.
     #[error("out of memory")]
     Memory,
+    /// The source text is refused.
     #[error("refused {0}")]
-    Front(FrontFault),
+    Source(SourceRefusal),
+    /// The order of the threads is refused.
     #[error("refused {0}")]
-    Types(TypeFault),
-    #[error("refused {0}")]
-    Scheme(SchemeFault),
+    Serial(SerialFault),
 }
 
 impl From<AllocError> for Refusal {
@@ -31,35 +32,24 @@ impl From<AllocError> for Refusal {
     }
 }
 
-impl From<FrontFault> for Refusal {
-    ghost from_gives = { λ fault r. r ≡ of_front fault };
+impl From<SourceRefusal> for Refusal {
+    ghost from_gives = { λ why r. r ≡ of_source why };
 
-    fn from(fault: FrontFault) -> Refusal {
-        match fault {
-            FrontFault::Memory => Refusal::Memory,
-            other => Refusal::Front(other),
+    fn from(why: SourceRefusal) -> Refusal {
+        match why {
+            SourceRefusal::Memory => Refusal::Memory,
+            other => Refusal::Source(other),
         }
     }
 }
 
-impl From<TypeFault> for Refusal {
-    ghost from_gives = { λ fault r. r ≡ of_types fault };
+impl From<SerialFault> for Refusal {
+    ghost from_gives = { λ fault r. r ≡ of_serial fault };
 
-    fn from(fault: TypeFault) -> Refusal {
+    fn from(fault: SerialFault) -> Refusal {
         match fault {
-            TypeFault::Memory => Refusal::Memory,
-            other => Refusal::Types(other),
-        }
-    }
-}
-
-impl From<SchemeFault> for Refusal {
-    ghost from_gives = { λ fault r. r ≡ of_scheme fault };
-
-    fn from(fault: SchemeFault) -> Refusal {
-        match fault {
-            SchemeFault::Memory => Refusal::Memory,
-            other => Refusal::Scheme(other),
+            SerialFault::Memory => Refusal::Memory,
+            other => Refusal::Serial(other),
         }
     }
 }

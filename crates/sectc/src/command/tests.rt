@@ -177,6 +177,13 @@ fn refuses_words(rt: HostRuntime) -> Result<(), Fail> {
         "locks --fuel 3",
         "locks --workers 1",
         "locks --cert",
+        "serial x",
+        "serial -1",
+        "serial 65536",
+        "serial --k 1",
+        "serial --fuel 0",
+        "serial --fuel +1",
+        "serial --fuel 1000001",
     ] {
         let words = words_of(rt.alloc(), line)?;
         let mut out: Vec<u8> = Vec::new(rt.alloc());

@@ -1,0 +1,6 @@
+mod RestLemmas
+mod SoundLemmas
+mod RunLemmas
+mod JudgeLemmas
+mod FinishLemmas
+mod RefusalLemmas

@@ -1,0 +1,4 @@
+pub mod Working
+pub mod Outcomes
+pub mod Printing
+pub mod steps

@@ -1,0 +1,18 @@
+//! Objects, the store, and what one statement does to it; and the outcome of a run as it is printed.
+#![tactic(auto)]
+
+mod object;
+mod outcome;
+mod printing;
+mod site;
+mod statement;
+mod store;
+mod value;
+mod work;
+
+pub use crate::object::Object;
+pub use crate::outcome::Outcome;
+pub use crate::printing::put_outcome;
+pub use crate::statement::act;
+pub use crate::store::Store;
+pub use crate::work::Work;

@@ -1,0 +1,76 @@
+//! What the words of a command line say of a run: the fuel of its threads, and threads by number.
+
+ghost use Rattle.std.specs.Prelude.{◌≡◌, ◌≤◌, false, IfOk};
+ghost use Rattle.clap.specs.declared.builder.command.Command.TheViews.{out-Command as fields_of};
+
+use crate::options::{MOST, UsageFault, number, numeral};
+use clap::{Arg, ArgAction, ArgMatches, Command};
+use std::alloc::{AllocError, Global};
+
+/// The most units of fuel that a thread can be given.
+pub const MOST_FUEL: u32 = 1_000_000;
+
+/// The units of fuel of a thread where the command line doesn't say.
+pub const DEFAULT_FUEL: u32 = 10_000;
+
+/// The option `--fuel N`.
+pub fn fuel_option<'a>(alloc: Global) -> Arg<'a>
+    ensures { result.global ≡ false }
+{
+    numeral(
+        alloc,
+        "fuel",
+        "the units of fuel of each thread, 1 to 1000000 (default 10000)",
+    )
+}
+
+/// Threads by number, as many as there are words.
+pub fn thread_words<'a>(alloc: Global, help: &'a str) -> Arg<'a>
+    ensures { result.global ≡ false }
+{
+    Arg::new(alloc, "threads")
+        .value_name("T")
+        .help(help)
+        .num_args(0..)
+        .action(ArgAction::Append)
+}
+
+/// The command `serial` and what it takes.
+pub fn serial_command<'a>(alloc: Global) -> Result<Command<'a>, AllocError>
+    ensures { IfOk result (λ c. (fields_of c).has_globals ≡ false) }
+{
+    let threads = thread_words(alloc, "the threads of the sections, in their order");
+    let command = Command::new(alloc, "serial")
+        .about("runs the program by whole sections in an order, and prints the outcome")
+        .arg(fuel_option(alloc))?
+        .arg(threads)?;
+    Ok(command)
+}
+
+/// The units of fuel that the option gives, or the default.
+pub fn fuel_of(alloc: Global, matches: &ArgMatches<'_>) -> Result<u32, UsageFault>
+    ensures { IfOk result (λ fuel. fuel ≤ MOST_FUEL) }
+{
+    let Some(text) = matches.get_str("fuel") else {
+        return Ok(DEFAULT_FUEL);
+    };
+    match number(text, MOST_FUEL) {
+        Some(fuel) if fuel > 0 => Ok(fuel),
+        _ => Err(UsageFault::Number(String::from_str(alloc, text)?, "fuel")),
+    }
+}
+
+/// The threads that the words name.
+pub fn threads_of(alloc: Global, matches: &ArgMatches<'_>) -> Result<Vec<u16>, UsageFault> {
+    let mut threads = Vec::new(alloc);
+    let Some(words) = matches.get_strs("threads") else {
+        return Ok(threads);
+    };
+    for word in words {
+        match number(word, MOST) {
+            Some(thread) => threads.push(thread as u16)?,
+            None => return Err(UsageFault::Thread(String::from_str(alloc, word)?)),
+        }
+    }
+    Ok(threads)
+}

@@ -23,4 +23,3 @@ pub use limits::{
 };
 pub use program::{Program, check_types};
 pub use rule::TypeFault;
-

@@ -121,6 +121,8 @@ fn worked(alloc: Global, request: &Request, source: &[u8]) -> Result<Answer, Fai
 }
 
 #[cfg(test)]
+mod example_tests;
+#[cfg(test)]
 mod lock_tests;
 #[cfg(test)]
 mod tests;

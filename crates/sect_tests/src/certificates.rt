@@ -1,4 +1,4 @@
-//! Certificates that are read and written back, and texts that are refused, each with its number and its line, which was
+//! Certificates that are read and written back, and texts that are refused, each with its number and its line, both
 //! counted by hand.
 
 use sect_cert::certificate::{Cert, Chain, Section, Step};

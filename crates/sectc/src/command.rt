@@ -123,6 +123,8 @@ fn worked(alloc: Global, request: Request, source: &[u8]) -> Result<Answer, Fail
 }
 
 #[cfg(test)]
+mod example_tests;
+#[cfg(test)]
 mod lock_tests;
 #[cfg(test)]
 mod serial_tests;

@@ -1,6 +1,7 @@
 //! The command `locks`.
 
-ghost use Rattle.std.specs.Prelude.{◌≡◌, ◌<◌, ◌++◌, List, Some, length, slice_get, IfOk, IfErr, OnOk, IsOkUnless};
+ghost use Rattle.std.specs.Prelude.{◌≡◌, ◌<◌, ◌++◌, List, Some, length, slice_get};
+ghost use Rattle.std.specs.Prelude.{IfOk, IfErr, OnOk, IsOkUnless};
 ghost use Rattle.std.specs.String.{string_bytes};
 ghost use Rattle.sect_types.specs.Sections.{SectionView, sections_of};
 ghost use Rattle.sect_names.specs.declared.lock.Lock.{Lock};
@@ -33,7 +34,8 @@ pub fn locks(alloc: Global, source: &[u8], k: u16) -> Result<String, Refusal>
 
 /// A line for each section of the program.
 fn lines(alloc: Global, scheme: &Scheme) -> Result<String, AllocError>
-    ensures { IfOk result (λ text. IsListing scheme.now (length (sections_of scheme.now.program.texts)) (string_bytes text)) }
+    ensures { IfOk result (λ text.
+        IsListing scheme.now (length (sections_of scheme.now.program.texts)) (string_bytes text)) }
 {
     let mut text = String::new(alloc);
     for section in 0..scheme.program().section_count() {

@@ -28,14 +28,22 @@ pub enum Request {
 #[derive(Debug, Drop, Error)]
 pub enum UsageFault {
     /// What `clap` refuses: an unknown command or option, an option given twice, a call for help.
-    #[error("{0}")]
+    #[error("{0}\nThe source text is read on standard input, as in: sectc locks < FILE\n")]
     Words(clap::Error),
-    /// A value that isn't decimal digits alone or is too great, and its option.
-    #[error("error: invalid value '{0}' for '--{1}'\n")]
-    Number(String, &'static str),
+    /// A value that isn't decimal digits alone or lies outside `least` to `most`, and its option.
+    #[error(
+        "error: invalid value '{value}' for '--{option}': a number from {least} to {most} is wanted, in digits alone\n"
+    )]
+    Number {
+        value: String,
+        option: &'static str,
+        least: u32,
+        most: u32,
+    },
     /// A word in the place of a thread's number that isn't decimal digits alone or is too great.
-    #[error("error: invalid thread '{0}'\n")]
+    #[error("error: invalid thread '{0}': a number from 0 to 65535 is wanted, in digits alone\n")]
     Thread(String),
+    /// A growth was refused.
     #[error("out of memory\n")]
     Memory,
 }
@@ -78,12 +86,16 @@ fn grammar<'a>(alloc: Global) -> Result<Command<'a>, AllocError>
     ensures required { IfOk result (λ c. (fields_of c).subcommand_required ≡ true) }
     ensures local { IfOk result (λ c. (fields_of c).has_globals ≡ false) }
 {
-    let k = numeral(alloc, "k", "the most fields of a path, 0 to 3 (default 2)");
+    let k = numeral(
+        alloc,
+        "k",
+        "the most fields of a path in a lock, 0 to 3 (default 2)",
+    );
     let locks = Command::new(alloc, "locks")
-        .about("prints the lock set of each section")
+        .about("prints the lock set of each section of the source text")
         .arg(k)?;
     let sectc = Command::new(alloc, "sectc")
-        .about("infers the locks of atomic sections")
+        .about("infers the locks of atomic sections; reads a source text on standard input")
         .subcommand(locks)?
         .subcommand(serial_command(alloc)?)?;
     Ok(sectc.subcommand_required(true))
@@ -112,7 +124,12 @@ fn number_of(
     };
     match number(text, MOST) {
         Some(n) => Ok(n as u16),
-        None => Err(UsageFault::Number(String::from_str(alloc, text)?, name)),
+        None => Err(UsageFault::Number {
+            value: String::from_str(alloc, text)?,
+            option: name,
+            least: 0,
+            most: MOST,
+        }),
     }
 }
 

@@ -41,7 +41,7 @@ pub fn serial_command<'a>(alloc: Global) -> Result<Command<'a>, AllocError>
 {
     let threads = thread_words(alloc, "the threads of the sections, in their order");
     let command = Command::new(alloc, "serial")
-        .about("runs the program by whole sections in an order, and prints the outcome")
+        .about("runs the program of the source text by whole sections in an order, and prints the outcome")
         .arg(fuel_option(alloc))?
         .arg(threads)?;
     Ok(command)
@@ -56,7 +56,12 @@ pub fn fuel_of(alloc: Global, matches: &ArgMatches<'_>) -> Result<u32, UsageFaul
     };
     match number(text, MOST_FUEL) {
         Some(fuel) if fuel > 0 => Ok(fuel),
-        _ => Err(UsageFault::Number(String::from_str(alloc, text)?, "fuel")),
+        _ => Err(UsageFault::Number {
+            value: String::from_str(alloc, text)?,
+            option: "fuel",
+            least: 1,
+            most: MOST_FUEL,
+        }),
     }
 }
 

@@ -1,26 +1,12 @@
 //! The program over memory.
 
 use super::command;
+use super::example_tests::ACCOUNT;
 use std::alloc::{AllocError, Global};
 use std::io;
 use std::io::{ErrorKind, Read, Write};
 use std::process::Abort;
 use std::test::Fail;
-
-const EMPTY_SECTION: &str = "thread e { atomic { } }\n";
-
-const ACCOUNT: &str = "record Acct { int bal; }
-global Acct a;
-thread p { int t; atomic { t = a.bal; t = t + 1; a.bal = t; } }
-";
-
-const TWO_THREADS: &str = "record Acct { int bal; }
-global Acct a;
-thread p { int t; atomic { t = a.bal; t = t + 1; a.bal = t; } }
-thread q { int t; atomic { t = a.bal; t = t + 1; a.bal = t; } }
-";
-
-const LOCAL_ONLY: &str = "thread f { int x; x = 1; x = 2; }\n";
 
 /// The words of a line, the program's name first.
 fn words_of(alloc: Global, line: &str) -> Result<Vec<String>, AllocError> {
@@ -52,10 +38,7 @@ pub(super) fn expect_bytes(
 #[test]
 fn prints_lock_sets(rt: HostRuntime) -> Result<(), Fail> {
     for (source, text) in [
-        (EMPTY_SECTION, "section 0: none\n"),
         ("", ""),
-        (TWO_THREADS, "section 0: W a\nsection 1: W a\n"),
-        (LOCAL_ONLY, ""),
         (
             "record A { int f; } global A a; global A b; thread t { int x; atomic { x = a.f; b.f = x; } }",
             "section 0: R a, W b\n",
@@ -67,38 +50,83 @@ fn prints_lock_sets(rt: HostRuntime) -> Result<(), Fail> {
     Ok(())
 }
 
+/// Texts that are refused, and the line that says why: each refusal of a text, of its names and types and of its hints
+/// but those that need a long text.
+const REFUSALS: [(&str, &str); 18] = [
+    ("thread t } $", "refused 1 BadByte line 1\n"),
+    (
+        "thread t { int x; x = 01; }",
+        "refused 2 BadNumber line 1\n",
+    ),
+    (
+        "thread t { int x; x = 9223372036854775808; }",
+        "refused 2 BadNumber line 1\n",
+    ),
+    (
+        "thread aaaaaaaaaaaaaaaaaaaaaaaaaaaaaaaaa { }",
+        "refused 3 LongName line 1\n",
+    ),
+    ("thread t { x = y.f.g; }", "refused 4 Unexpected line 1\n"),
+    (
+        "thread e { atomic all { } }\n",
+        "refused 4 Unexpected line 1\n",
+    ),
+    ("thread t { atomic {", "refused 5 UnexpectedEnd line 1\n"),
+    ("thread t {\n\n", "refused 5 UnexpectedEnd line 2\n"),
+    ("thread t { int x; x = y; }", "refused 10 Unknown item 2\n"),
+    ("thread t { int x; int x; }", "refused 11 Twice item 2\n"),
+    (
+        "thread t { int x; x = null; }",
+        "refused 12 WrongType item 2\n",
+    ),
+    (
+        "record A { int f; } global A a; thread t { a.f = 1; }",
+        "refused 13 SharedOutside item 4\n",
+    ),
+    (
+        "record A { int f; } thread t { print 1; }",
+        "refused 13 SharedOutside item 3\n",
+    ),
+    (
+        "thread t { atomic { atomic { } } }",
+        "refused 14 Nested item 2\n",
+    ),
+    (
+        "record Cell protected_by h { }",
+        "refused 20 NoSuchGlobal record 0\n",
+    ),
+    (
+        "record Cell protected_by c { } global Cell c;",
+        "refused 21 GuardIsGuarded record 0\n",
+    ),
+    (
+        "record Cell protected_by g protected_by g { } record Lock { } global Lock g;",
+        "refused 22 HintTwice record 0\n",
+    ),
+    // The items of this text stand in the description of the language.
+    (
+        "record Acct {
+  int bal;
+}
+global Acct a;
+thread p {
+  int t;
+  atomic {
+    t = a.bal;
+    if (t < 10) {
+      t = t + 1;
+      t = a;
+    }
+  }
+}
+",
+        "refused 12 WrongType item 9\n",
+    ),
+];
+
 #[test]
 fn refuses_texts(rt: HostRuntime) -> Result<(), Fail> {
-    for (source, text) in [
-        ("thread t } $", "refused 1 BadByte line 1\n"),
-        (
-            "thread t { int x; x = 01; }",
-            "refused 2 BadNumber line 1\n",
-        ),
-        (
-            "thread t { int x; x = 9223372036854775808; }",
-            "refused 2 BadNumber line 1\n",
-        ),
-        (
-            "thread aaaaaaaaaaaaaaaaaaaaaaaaaaaaaaaaa { }",
-            "refused 3 LongName line 1\n",
-        ),
-        ("thread t { x = y.f.g; }", "refused 4 Unexpected line 1\n"),
-        (
-            "thread e { atomic all { } }\n",
-            "refused 4 Unexpected line 1\n",
-        ),
-        ("thread t { atomic {", "refused 5 UnexpectedEnd line 1\n"),
-        ("thread t {\n\n", "refused 5 UnexpectedEnd line 2\n"),
-        (
-            "record A { int f; } global A a; thread t { a.f = 1; }",
-            "refused 13 SharedOutside item 4\n",
-        ),
-        (
-            "record A { int f; } thread t { print 1; }",
-            "refused 13 SharedOutside item 3\n",
-        ),
-    ] {
+    for (source, text) in REFUSALS {
         expect_bytes(&rt, "locks", source.as_bytes(), 1, text)?;
     }
     Ok(())
@@ -155,41 +183,45 @@ fn k_is_judged_before_the_source(rt: HostRuntime) -> Result<(), Fail> {
     Ok(())
 }
 
+/// Wrong command lines and calls for help, and what their answer says beside the rest.
+const WRONG_LINES: [(&str, &str); 26] = [
+    ("", "standard input"),
+    ("help", "standard input"),
+    ("--help", "standard input"),
+    ("locks --help", "standard input"),
+    ("locks -h", "0 to 3"),
+    ("help locks", "standard input"),
+    ("--version", "standard input"),
+    ("lock", "standard input"),
+    ("locks program.sect", "sectc locks < FILE"),
+    ("locks --k", "standard input"),
+    ("locks --k -1", "standard input"),
+    ("locks --k +1", "a number from 0 to 65535"),
+    ("locks --k 1x", "a number from 0 to 65535"),
+    ("locks --k 65536", "a number from 0 to 65535"),
+    ("locks --k 4294967296", "a number from 0 to 65535"),
+    ("locks --k 1 --k 1", "standard input"),
+    ("locks --fuel 3", "standard input"),
+    ("locks --workers 1", "standard input"),
+    ("locks --cert", "standard input"),
+    ("serial x", "a number from 0 to 65535"),
+    ("serial -1", "standard input"),
+    ("serial 65536", "a number from 0 to 65535"),
+    ("serial --k 1", "standard input"),
+    ("serial --fuel 0", "a number from 1 to 1000000"),
+    ("serial --fuel +1", "a number from 1 to 1000000"),
+    ("serial --fuel 1000001", "a number from 1 to 1000000"),
+];
+
 #[test]
-fn refuses_words(rt: HostRuntime) -> Result<(), Fail> {
-    for line in [
-        "",
-        "help",
-        "--help",
-        "locks --help",
-        "locks -h",
-        "help locks",
-        "--version",
-        "lock",
-        "locks 0",
-        "locks --k",
-        "locks --k -1",
-        "locks --k +1",
-        "locks --k 1x",
-        "locks --k 65536",
-        "locks --k 4294967296",
-        "locks --k 1 --k 1",
-        "locks --fuel 3",
-        "locks --workers 1",
-        "locks --cert",
-        "serial x",
-        "serial -1",
-        "serial 65536",
-        "serial --k 1",
-        "serial --fuel 0",
-        "serial --fuel +1",
-        "serial --fuel 1000001",
-    ] {
+fn wrong_words_are_told_what_is_wanted(rt: HostRuntime) -> Result<(), Fail> {
+    for (line, wanted) in WRONG_LINES {
         let words = words_of(rt.alloc(), line)?;
         let mut out: Vec<u8> = Vec::new(rt.alloc());
         let got = command(&rt, words.as_slice(), b"$".as_slice(), &mut out);
+        let shown = String::from_utf8_lossy(rt.alloc(), out.as_slice())?;
         assert_eq!(rt; got, 2, "{line}");
-        assert!(rt; !out.is_empty(), "{line}");
+        assert!(rt; shown.as_str().contains(wanted), "{line}: {shown}");
     }
     Ok(())
 }
@@ -242,7 +274,7 @@ fn a_reader_fails_in_the_middle(rt: HostRuntime) -> Result<(), Fail> {
     let words = words_of(rt.alloc(), "locks")?;
     let mut out: Vec<u8> = Vec::new(rt.alloc());
     let reader = FailingReader {
-        left: EMPTY_SECTION.as_bytes(),
+        left: b"thread e { atomic { } }",
     };
     assert_eq!(rt; command(&rt, words.as_slice(), reader, &mut out), 3);
     assert!(rt; out.as_slice() == b"input or output failed\n".as_slice());
@@ -253,7 +285,7 @@ fn a_reader_fails_in_the_middle(rt: HostRuntime) -> Result<(), Fail> {
 fn a_writer_fails_in_the_middle(rt: HostRuntime) -> Result<(), Fail> {
     let words = words_of(rt.alloc(), "locks")?;
     for room in 0..17usize {
-        let source = EMPTY_SECTION.as_bytes();
+        let source = b"thread e { atomic { } }".as_slice();
         let got = command(&rt, words.as_slice(), source, FailingWriter { room });
         assert_eq!(rt; got, if room < 16 { 3 } else { 0 }, "{room}");
     }

@@ -33,7 +33,7 @@ beside_holds P w (row ∷ rows) h t e = if_some P (bytes_eq w row.0) row.1 (toke
 
 -- keywords and names stand where no name byte follows
 stands_word : (w rest : List ℕ) → stands (word_token w) rest ≡ not (begins_name rest)
-stands_word w rest = go (keyword_of w) (beside_holds P w keyword_table (refl, (refl, (refl, (refl, (refl, (refl, (refl, (refl, (refl, (refl, (refl, (refl, (refl, tt))))))))))))))
+stands_word w rest = go (keyword_of w) (beside_holds P w keyword_table (refl, (refl, (refl, (refl, (refl, (refl, (refl, (refl, (refl, (refl, (refl, (refl, (refl, (refl, tt)))))))))))))))
   where
     P : Token → Type 0
     P t = stands t rest ≡ not (begins_name rest)

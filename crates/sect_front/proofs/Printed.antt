@@ -62,6 +62,7 @@ solid token.Else h = record { first = _; others = _; is = refl; no_blank = refl;
 solid token.While h = record { first = _; others = _; is = refl; no_blank = refl; no_slash = refl }
 solid token.Atomic h = record { first = _; others = _; is = refl; no_blank = refl; no_slash = refl }
 solid token.Class h = record { first = _; others = _; is = refl; no_blank = refl; no_slash = refl }
+solid token.All h = record { first = _; others = _; is = refl; no_blank = refl; no_slash = refl }
 solid token.OpenBrace h = record { first = _; others = _; is = refl; no_blank = refl; no_slash = refl }
 solid token.CloseBrace h = record { first = _; others = _; is = refl; no_blank = refl; no_slash = refl }
 solid token.OpenParen h = record { first = _; others = _; is = refl; no_blank = refl; no_slash = refl }
@@ -94,6 +95,7 @@ stands_before token.Else w = refl
 stands_before token.While w = refl
 stands_before token.Atomic w = refl
 stands_before token.Class w = refl
+stands_before token.All w = refl
 stands_before token.OpenBrace w = refl
 stands_before token.CloseBrace w = refl
 stands_before token.OpenParen w = refl

@@ -70,6 +70,7 @@ spelled_proper token.Else h = refl
 spelled_proper token.While h = refl
 spelled_proper token.Atomic h = refl
 spelled_proper token.Class h = refl
+spelled_proper token.All h = refl
 spelled_proper token.OpenBrace h = refl
 spelled_proper token.CloseBrace h = refl
 spelled_proper token.OpenParen h = refl
@@ -98,7 +99,7 @@ beside_so P w (row ∷ rows) h t e =
 keyword_back : (w : List ℕ) (t : Token) → keyword_of w ≡ Some t → IsSpelling t w
 keyword_back w =
     beside_so (λ t. IsSpelling t w) w keyword_table
-    (λ e. record { is = e; proper = refl }, (λ e. record { is = e; proper = refl }, (λ e. record { is = e; proper = refl }, (λ e. record { is = e; proper = refl }, (λ e. record { is = e; proper = refl }, (λ e. record { is = e; proper = refl }, (λ e. record { is = e; proper = refl }, (λ e. record { is = e; proper = refl }, (λ e. record { is = e; proper = refl }, (λ e. record { is = e; proper = refl }, (λ e. record { is = e; proper = refl }, (λ e. record { is = e; proper = refl }, (λ e. record { is = e; proper = refl }, tt)))))))))))))
+    (λ e. record { is = e; proper = refl }, (λ e. record { is = e; proper = refl }, (λ e. record { is = e; proper = refl }, (λ e. record { is = e; proper = refl }, (λ e. record { is = e; proper = refl }, (λ e. record { is = e; proper = refl }, (λ e. record { is = e; proper = refl }, (λ e. record { is = e; proper = refl }, (λ e. record { is = e; proper = refl }, (λ e. record { is = e; proper = refl }, (λ e. record { is = e; proper = refl }, (λ e. record { is = e; proper = refl }, (λ e. record { is = e; proper = refl }, (λ e. record { is = e; proper = refl }, tt))))))))))))))
 
 -- a word that is no keyword is a name
 word_back : (w : List ℕ) (o : Option Token) → keyword_of w ≡ o → (o ≡ None → is_name w ≡ true) → IsSpelling (or_name o w) w

@@ -21,7 +21,8 @@ keyword_table =
     (codes "else", token.Else) ∷
     (codes "while", token.While) ∷
     (codes "atomic", token.Atomic) ∷
-    (codes "class", token.Class) ∷ []
+    (codes "class", token.Class) ∷
+    (codes "all", token.All) ∷ []
 
 -- the token beside these bytes in a table
 abbrev pub token_beside : List ℕ → List (List ℕ × Token) → Option Token

@@ -44,6 +44,7 @@ fn put_spelling(alloc: Global, text: &mut Vec<u8>, token: Token) -> Result<(), A
         Token::While => text.extend_from_slice(b"while"),
         Token::Atomic => text.extend_from_slice(b"atomic"),
         Token::Class => text.extend_from_slice(b"class"),
+        Token::All => text.extend_from_slice(b"all"),
         Token::OpenBrace => text.extend_from_slice(b"{"),
         Token::CloseBrace => text.extend_from_slice(b"}"),
         Token::OpenParen => text.extend_from_slice(b"("),

@@ -3,7 +3,7 @@
 use crate::literal::Literal;
 use crate::name::Name;
 
-/// A token of a source text. `class` is a keyword that stands in no rule of the grammar.
+/// A token of a source text. `class` and `all` are keywords that stand in no rule of the grammar.
 #[derive(Clone, Copy)]
 pub enum Token {
     Name(Name),
@@ -21,6 +21,7 @@ pub enum Token {
     While,
     Atomic,
     Class,
+    All,
     OpenBrace,
     CloseBrace,
     OpenParen,

@@ -66,6 +66,8 @@ pub fn keyword(word: &[u8]) -> Option<Token>
         Some(Token::Atomic)
     } else if word == b"class".as_slice() {
         Some(Token::Class)
+    } else if word == b"all".as_slice() {
+        Some(Token::All)
     } else {
         None
     }

@@ -23,14 +23,14 @@ impl<'a> Model for Parts<'a> {
     ghost view = { λ p. parts_left p.mark (option_copied p.rest) };
 }
 
-// How long the part at the front is.
+/// How long the part at the front is.
 fn part_len(bytes: &[u8], mark: u8) -> usize
     ensures { result ≡ length (take_while (λ b. not (b == mark)) bytes.now) }
 {
     bytes.iter().take_while(|byte| **byte != mark).count()
 }
 
-// The part at the front, and what follows the mark behind it.
+/// The part at the front, and what follows the mark behind it.
 fn cut(bytes: &[u8], mark: u8) -> (&[u8], Option<&[u8]>)
     ensures { parts mark bytes.now ≡ result.0.now ∷ parts_left mark (option_copied result.1) }
 {

@@ -6,6 +6,8 @@ ghost use Rattle.sect_modes.specs.Key.{is_same_key, is_key_below};
 /// by thread and by number.
 #[derive(Clone, Copy, Debug, PartialEq, Eq, PartialOrd, Ord, Hash)]
 pub enum Key {
+    /// All objects; written `all`.
+    All,
     /// All objects of the class with this number.
     Class(u16),
     /// The object of the global with this number.
@@ -36,6 +38,7 @@ mod tests {
     #[test]
     fn keys_in_order(rt: HostRuntime) {
         let keys = [
+            Key::All,
             Key::Class(0),
             Key::Class(9),
             Key::Global(0),

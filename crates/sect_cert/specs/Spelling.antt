@@ -1,4 +1,4 @@
--- The words that spell locks, lists of them, and chains. Cited by `read_cert` and `write_cert`, through the text of a certificate.
+-- The words that spell locks, lists of them, and chains. Cited by `read_cert` and `write_cert`, through a text.
 use Rattle.std.specs.Prelude.{ℕ, List, [], ◌∷◌, ◌++◌, codes}
 use Rattle.std.specs.Fmt.{decimal}
 use Rattle.std.specs.List.{join_with_byte}

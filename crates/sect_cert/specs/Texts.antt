@@ -106,7 +106,8 @@ pub record IsSection (s : CertSection) : Type 0 where
   pub chains : AllByRecursion IsChain s.chains
   pub rising : AreRising s.chains
 
--- a certificate has a text that is read: at most 4294967295 of everything, names that are names, chains that rise and have a step
+-- a certificate has a text that is read: at most 4294967295 of everything, names that are names, chains that rise and
+-- have a step
 pub record HasText (c : Cert) : Type 0 where
   pub k : IsNumber c.k
   pub count : IsNumber (length c.sections)

@@ -1,5 +1,6 @@
 -- What a text is answered with. Cited by `read_cert` and `write_cert`.
-use Rattle.std.specs.Prelude.{◌≡◌, ◌≢◌, ℕ, ◌+◌, Bool, true, false, nat_eq, List, [], ◌∷◌, ◌++◌, length, codes, Result, Ok, Err, ⊤, ◌⊎◌}
+use Rattle.std.specs.Prelude.{◌≡◌, ◌≢◌, ℕ, ◌+◌, Bool, true, false, nat_eq, List, [], ◌∷◌, ◌++◌, length, codes, Result}
+use Rattle.std.specs.Prelude.{Ok, Err, ⊤, ◌⊎◌}
 use Rattle.std.specs.List.{starts_with}
 use Rattle.sect_cert.specs.Parts.{parts}
 use Rattle.sect_cert.specs.Zeros.{plain}
@@ -39,7 +40,8 @@ pub record EndsInChain (front : List (List ℕ)) : Type 0 where
   pub chain : form_of last ≡ ChainForm
   pub split : front ≡ before ++ line_text last ∷ []
 
--- a form is allowed after these lines: some certificate's text goes on so; and a chain may follow a chain, whatever its number
+-- a form is allowed after these lines: some certificate's text goes on so; and a chain may follow a chain, whatever
+-- its number
 abbrev pub IsAllowed : List (List ℕ) → Form → Type 0
 IsAllowed front form = GoesOn front form ⊎ ((form ≡ ChainForm) × EndsInChain front)
 

@@ -10,7 +10,7 @@ pub enum CertFault {
     /// Want of memory.
     #[error("out of memory")]
     Memory,
-    /// A line that isn't of a form allowed there, or has a number above 4294967295; the first line of another version too.
+    /// A line that isn't of a form allowed there, or has a number above 4294967295.
     #[error("30 BadCertLine line {line}")]
     BadCertLine { line: usize },
     /// A line is still due, and no line feed is left.

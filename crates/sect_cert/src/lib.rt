@@ -8,7 +8,8 @@
 //!
 //! A list is `none`, or its locks joined by `, `. A step is a node's number, a blank and a lock. A lock is `W all`,
 //! `R p`, `W p`, `R class c`, `W class c` or `M class c`, a path p its base and its fields joined by points, a base a
-//! name, or a name, `#` and a number. Numbers are at most 4294967295, in decimal without leading zeros. So a certificate has one text, and a text at most one certificate.
+//! name, or a name, `#` and a number. Numbers are at most 4294967295, in decimal without leading zeros. So a
+//! certificate has one text, and a text at most one certificate.
 #![tactic(auto)]
 
 mod certificate;

@@ -3,7 +3,10 @@
 ghost use Rattle.std.specs.Prelude.{◌≡◌};
 ghost use Rattle.sect_cert.specs.Parts.{parts};
 ghost use Rattle.sect_cert.specs.steps.Readers.{ReadsAs};
-ghost use Rattle.sect_cert.specs.steps.Reading.{line_of as line_at, only_number as only_number_at, section_line as section_at, node_line as node_at, chain_line as chain_at, end_line as end_at, colon_number as colon_number_at};
+ghost use Rattle.sect_cert.specs.steps.Reading.{line_of as line_at, only_number as only_number_at};
+ghost use Rattle.sect_cert.specs.steps.Reading.{section_line as section_at, node_line as node_at};
+ghost use Rattle.sect_cert.specs.steps.Reading.{chain_line as chain_at, end_line as end_at};
+ghost use Rattle.sect_cert.specs.steps.Reading.{colon_number as colon_number_at};
 
 use crate::certificate::Chain;
 use crate::chain::steps_of;

@@ -92,7 +92,8 @@ pub fn read_cert(alloc: Global, bytes: &[u8]) -> Result<Cert, CertFault>
     // A certificate that has this text is given, unless memory runs out.
     ensures only { (cert : Cert) → HasText cert → bytes.now ≡ certificate_text cert → Gives cert result }
     // A fault that the text has is the answer, unless memory runs out.
-    ensures refuses { (fault : CertFault) → fault ≢ CertFault.Memory → Judges bytes.now (Err fault) → Refuses fault result }
+    ensures refuses { (fault : CertFault) → fault ≢ CertFault.Memory →
+        Judges bytes.now (Err fault) → Refuses fault result }
 {
     judge(alloc, bytes)
 }

@@ -2,7 +2,9 @@
 
 ghost use Rattle.std.specs.Prelude.{◌≡◌};
 ghost use Rattle.sect_cert.specs.steps.Readers.{ReadsAs};
-ghost use Rattle.sect_cert.specs.steps.Subjects.{base_of as base_in, path_of as path_in, mode_of as mode_in, path_lock as path_lock_of, class_lock as class_lock_of, all_lock as all_lock_of, subject_of};
+ghost use Rattle.sect_cert.specs.steps.Subjects.{base_of as base_in, path_of as path_in, mode_of as mode_in};
+ghost use Rattle.sect_cert.specs.steps.Subjects.{path_lock as path_lock_of, class_lock as class_lock_of};
+ghost use Rattle.sect_cert.specs.steps.Subjects.{all_lock as all_lock_of, subject_of};
 
 use crate::fault::LineFault;
 use crate::items::Items;

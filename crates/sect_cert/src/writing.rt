@@ -4,9 +4,10 @@ ghost use Rattle.std.specs.Prelude.{◌≡◌, ◌++◌, ◌∷◌, [], Result, 
 ghost use Rattle.std.specs.Fmt.{decimal};
 ghost use Rattle.std.specs.List.{flat_map};
 ghost use Rattle.sect_cert.specs.Spelling.{base_text, path_text, list_words, chain_words};
-ghost use Rattle.sect_cert.specs.Texts.{HasText, certificate_text};
+ghost use Rattle.sect_cert.specs.Texts.{HasText, header_text, certificate_text};
 ghost use Rattle.sect_cert.specs.Verdicts.{Judges, Gives};
-ghost use Rattle.sect_cert.specs.steps.Writes.{spaced, field_text, lock_text, next_lock, step_text, next_step, fed_line, chain_text, nodes_text, section_text, sections_text};
+ghost use Rattle.sect_cert.specs.steps.Writes.{spaced, field_text, lock_text, next_lock, step_text, next_step};
+ghost use Rattle.sect_cert.specs.steps.Writes.{fed_line, chain_text, nodes_text, section_text, sections_text};
 ghost use Rattle.sect_cert.specs.declared.lock.CertLock.TheVariants as lock;
 ghost use Rattle.sect_cert.specs.declared.line.CertLine.TheVariants as line;
 
@@ -278,7 +279,8 @@ fn put_sections(
 
 /// Writes the lines before the first section.
 fn put_front(alloc: Global, out: &mut Vec<u8>, k: u32, sections: usize) -> Result<(), AllocError>
-    ensures { OnOk result (out.new.items ≡ out.old.items ++ (codes "sect-cert 2" ++ 10 ∷ (fed_line (line.K k) ++ fed_line (line.Sections sections)))) }
+    ensures { OnOk result (out.new.items ≡
+        out.old.items ++ (header_text ++ 10 ∷ (fed_line (line.K k) ++ fed_line (line.Sections sections)))) }
 {
     out.extend_from_slice(b"sect-cert 2\nk")?;
     put_number(alloc, out, k as usize)?;
@@ -291,7 +293,8 @@ fn put_front(alloc: Global, out: &mut Vec<u8>, k: u32, sections: usize) -> Resul
 pub fn write_cert(alloc: Global, cert: &Cert) -> Result<Vec<u8>, AllocError>
     ensures text { IfOk result (λ text. text.items ≡ certificate_text cert.now) }
     // Where the certificate has a text, reading gives it back, unless memory runs out.
-    ensures reads_back { IfOk result (λ text. HasText cert.now → (answer : Result Cert CertFault) → Judges text.items answer → Gives cert.now answer) }
+    ensures reads_back { IfOk result (λ text. HasText cert.now →
+        (answer : Result Cert CertFault) → Judges text.items answer → Gives cert.now answer) }
 {
     let mut text = Vec::new(alloc);
     put_front(alloc, &mut text, cert.k, cert.sections.len())?;

@@ -1,5 +1,6 @@
 -- The steps of a chain, read word by word.
-use Rattle.std.specs.Prelude.{◌≡◌, ℕ, if◌then◌else◌, List, [], ◌∷◌, ◌++◌, Option, Some, None, option_and_then, codes, Result, Ok, Err, ⊤}
+use Rattle.std.specs.Prelude.{◌≡◌, ℕ, if◌then◌else◌, List, [], ◌∷◌, ◌++◌, Option, Some, None, option_and_then, codes}
+use Rattle.std.specs.Prelude.{Result, Ok, Err, ⊤}
 use Rattle.std.specs.Option.{option_map}
 use Rattle.std.specs.Str.{bytes_eq}
 use Rattle.sect_cert.specs.steps.Numbers.{number_of}
@@ -25,7 +26,8 @@ walk_of ss (due.Mode n) w = option_map (λ m. chain_state ss (due.Subject n m)) 
 walk_of ss (due.Subject n m) w =
     if bytes_eq w (codes "class") then Some (chain_state ss (due.Class n m)) else
     option_map (λ l. chain_state (ss ++ step_with n l ∷ []) due.Whole) (subject_of m w)
-walk_of ss (due.Class n m) w = option_map (λ c. chain_state (ss ++ step_with n (class_lock m c) ∷ []) due.Whole) (number_of w)
+walk_of ss (due.Class n m) w =
+    option_map (λ c. chain_state (ss ++ step_with n (class_lock m c) ∷ []) due.Whole) (number_of w)
 walk_of ss due.Whole w = if bytes_eq w (codes ">") then Some (chain_state ss due.Node) else None
 
 abbrev pub WalksTo : Result ChainWord LineFault → List CertStep → Option ChainState → Type 0

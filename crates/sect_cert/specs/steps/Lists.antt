@@ -1,5 +1,6 @@
 -- A list of locks, read word by word.
-use Rattle.std.specs.Prelude.{◌≡◌, ℕ, Bool, true, false, if◌then◌else◌, List, [], ◌∷◌, ◌++◌, Option, Some, None, option_and_then, codes, Result, Ok, Err, ⊤}
+use Rattle.std.specs.Prelude.{◌≡◌, ℕ, Bool, true, false, if◌then◌else◌, List, [], ◌∷◌, ◌++◌, Option, Some, None}
+use Rattle.std.specs.Prelude.{option_and_then, codes, Result, Ok, Err, ⊤}
 use Rattle.std.specs.Option.{option_map}
 use Rattle.std.specs.Str.{bytes_eq}
 use Rattle.sect_cert.specs.steps.Numbers.{ends_with, without_end, number_of}
@@ -28,7 +29,8 @@ step_of ls (due.Subject m) w =
     if bytes_eq w (codes "class") then Some (list_state ls (due.Class m)) else
     option_map (λ l. list_state (ls ++ l ∷ []) (place_behind (ends_with 44 w))) (subject_of m (without_end 44 w))
 step_of ls (due.Class m) w =
-    option_map (λ n. list_state (ls ++ class_lock m n ∷ []) (place_behind (ends_with 44 w))) (number_of (without_end 44 w))
+    option_map (λ n. list_state (ls ++ class_lock m n ∷ []) (place_behind (ends_with 44 w)))
+    (number_of (without_end 44 w))
 step_of ls due.Whole w = None
 
 abbrev pub StepsTo : Result ListWord LineFault → List CertLock → Option ListState → Type 0

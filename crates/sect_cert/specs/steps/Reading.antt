@@ -30,7 +30,8 @@ node_line (w ∷ ws) = option_and_then (λ j. option_map (λ ls. line.Node j ls)
 
 abbrev pub chain_line : List (List ℕ) → Option CertLine
 chain_line [] = None
-chain_line (w ∷ ws) = option_and_then (λ l. option_map (λ ss. line.Chain (chain_with l ss)) (steps_of ws)) (colon_number w)
+chain_line (w ∷ ws) =
+    option_and_then (λ l. option_map (λ ss. line.Chain (chain_with l ss)) (steps_of ws)) (colon_number w)
 
 abbrev pub end_line : List (List ℕ) → Option CertLine
 end_line [] = Some line.End

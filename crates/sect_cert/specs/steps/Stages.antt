@@ -1,5 +1,6 @@
 -- The lines of a certificate, taken one after another.
-use Rattle.std.specs.Prelude.{◌≡◌, ℕ, ◌==◌, nat_lt, Bool, true, false, if◌then◌else◌, List, [], ◌∷◌, ◌++◌, length, Option, Some, None, Result, Ok, Err, ⊤}
+use Rattle.std.specs.Prelude.{◌≡◌, ℕ, ◌==◌, nat_lt, Bool, true, false, if◌then◌else◌, List, [], ◌∷◌, ◌++◌, length}
+use Rattle.std.specs.Prelude.{Option, Some, None, Result, Ok, Err, ⊤}
 use Rattle.std.specs.Str.{bytes_eq}
 use Rattle.sect_cert.specs.Parts.{parts}
 use Rattle.sect_cert.specs.Zeros.{plain, is_exact}
@@ -38,7 +39,8 @@ abbrev pub open_with : ℕ → ℕ → List CertSection → Open
 open_with k n done = record { k = k; count = n; done = done }
 
 abbrev pub begin_of : Open → CertLine → Next
-begin_of o (line.Section i m) = if nat_lt (length o.done) o.count then (if i == length o.done then Goes (stage.Nodes o m []) else Odd) else Bad
+begin_of o (line.Section i m) =
+    if nat_lt (length o.done) o.count then (if i == length o.done then Goes (stage.Nodes o m []) else Odd) else Bad
 begin_of o line.End = if nat_lt (length o.done) o.count then Bad else Goes (stage.Finished (cert_with o.k o.done))
 begin_of o _ = Bad
 
@@ -46,12 +48,14 @@ abbrev pub close_of : Open → CertSection → Open
 close_of o s = open_with o.k o.count (o.done ++ s ∷ [])
 
 abbrev pub node_of : Open → ℕ → List (List CertLock) → CertLine → Next
-node_of o m ns (line.Node j ls) = if nat_lt (length ns) m then (if j == length ns then Goes (stage.Nodes o m (ns ++ ls ∷ [])) else Odd) else Bad
+node_of o m ns (line.Node j ls) =
+    if nat_lt (length ns) m then (if j == length ns then Goes (stage.Nodes o m (ns ++ ls ∷ [])) else Odd) else Bad
 node_of o m ns (line.Entry ls) = if nat_lt (length ns) m then Bad else Goes (stage.Chains o (section_with ns ls []))
 node_of o m ns _ = Bad
 
 abbrev pub chain_of : Open → CertSection → CertLine → Next
-chain_of o s (line.Chain c) = if is_rising s.chains c.lock then Goes (stage.Chains o (section_with s.nodes s.entry (s.chains ++ c ∷ []))) else Odd
+chain_of o s (line.Chain c) =
+    if is_rising s.chains c.lock then Goes (stage.Chains o (section_with s.nodes s.entry (s.chains ++ c ∷ []))) else Odd
 chain_of o s x = begin_of (close_of o s) x
 
 abbrev pub stage_of : CertStage → CertLine → Next

@@ -18,7 +18,9 @@ use Rattle.sect_cert.specs.declared.subject.CertMode.TheVariants as mode
 -- the mode that a word is
 abbrev pub mode_of : List ℕ → Option CertMode
 mode_of w =
-    if bytes_eq w (codes "R") then Some mode.Read else (if bytes_eq w (codes "W") then Some mode.Write else (if bytes_eq w (codes "M") then Some mode.Make else None))
+    if bytes_eq w (codes "R") then Some mode.Read else (
+    if bytes_eq w (codes "W") then Some mode.Write else (
+    if bytes_eq w (codes "M") then Some mode.Make else None))
 
 -- the base of a name, or of a name and a number
 abbrev pub base_at : List (List ℕ) → Option CertBase

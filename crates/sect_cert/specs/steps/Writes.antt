@@ -47,7 +47,9 @@ chain_text c = fed_line (line.Chain c)
 
 -- the lines of a section
 abbrev pub section_text : ℕ → CertSection → List ℕ
-section_text i s = fed_line (line.Section i (length s.nodes)) ++ (nodes_text 0 s.nodes ++ (fed_line (line.Entry s.entry) ++ flat_map chain_text s.chains))
+section_text i s =
+    fed_line (line.Section i (length s.nodes))
+    ++ (nodes_text 0 s.nodes ++ (fed_line (line.Entry s.entry) ++ flat_map chain_text s.chains))
 
 abbrev pub sections_text : ℕ → List CertSection → List ℕ
 sections_text i [] = []

@@ -1,4 +1,5 @@
-// What is locked.
+//! What is locked.
+
 ghost use Rattle.std.specs.Prelude.{◌≡◌, ◌↔◌, IsTrue};
 ghost use Rattle.sect_modes.specs.Key.{is_same_key, is_key_below};
 

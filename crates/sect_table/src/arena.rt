@@ -1,11 +1,12 @@
-// The nodes of a table, and the lists in which they stand.
+//! The nodes of a table, and the lists in which they stand.
+
 ghost use Rattle.std.specs.Prelude.{◌≡◌, ◌<◌, ◌≤◌, ◌+◌, ◌-◌, ◌++◌, ◌∷◌, [], ◌==◌, ◌||◌, ◌^◌, drop, length, slice_set, OnOk, OnErr, IfOk, IsOk, Some, vec_len, vec_capacity};
 ghost use Rattle.sect_modes.specs.Mode.{are_compatible};
 ghost use Rattle.sect_table.specs.Contents.{number_of, entry_of, no_entry, put, is_waiting, may_join, mode_for, held_by, first_of, first_hold, claim_of, give, with_holder, with_waiter, with_grant, without_holder, AreApart, IsEmptyFor};
 ghost use Rattle.std.specs.Option.{option_map};
-ghost use Rattle.sect_table.specs.Arena.{queue_at, no_node, SameLists, NumberAdded};
-ghost use Rattle.sect_table.specs.Keys.{place_in};
-ghost use Rattle.sect_table.specs.Links.{ArePlaced};
+ghost use Rattle.sect_table.specs.steps.Arena.{queue_at, no_node, SameLists, NumberAdded};
+ghost use Rattle.sect_table.specs.steps.Keys.{place_in};
+ghost use Rattle.sect_table.specs.steps.Links.{ArePlaced};
 
 use crate::claims::{Claim, Grant, Hold};
 use crate::keys::Keys;
@@ -28,7 +29,7 @@ pub(crate) struct Arena {
 
 impl Model for Arena {
     ghost use Rattle.sect_table.specs.Contents.{Contents};
-    ghost use Rattle.sect_table.specs.Arena.{shown, IsArena};
+    ghost use Rattle.sect_table.specs.steps.Arena.{shown, IsArena};
 
     ghost Value = { Contents };
 
@@ -286,7 +287,7 @@ impl Arena {
     }
 }
 
-// Makes room for one more node.
+/// Makes room for one more node.
 fn reserve_node(
     nodes: &mut Vec<Grant>,
     queues: &mut Lists,
@@ -306,7 +307,7 @@ fn reserve_node(
     chains.reserve()
 }
 
-// One more node, which is free.
+/// One more node, which is free.
 fn push_node(nodes: &mut Vec<Grant>, queues: &mut Lists, chains: &mut Lists)
     requires room { vec_len nodes.old < vec_capacity nodes.old }
     requires queues_room { 0 < queues.old.room }
@@ -326,7 +327,7 @@ fn push_node(nodes: &mut Vec<Grant>, queues: &mut Lists, chains: &mut Lists)
     chains.add_number(0);
 }
 
-// One more key, with no holders and no waiters.
+/// One more key, with no holders and no waiters.
 fn push_key(keys: &mut Keys, queues: &mut Lists, key: Key) -> Result<(), AllocError>
     requires queues { ArePlaced queues.old }
     requires new { place_in key keys.old ≡ length keys.old }
@@ -347,14 +348,14 @@ fn push_key(keys: &mut Keys, queues: &mut Lists, key: Key) -> Result<(), AllocEr
     Ok(())
 }
 
-// Whether this holder lets the thread's mode in.
+/// Whether this holder lets the thread's mode in.
 fn lets(holder: Grant, thread: u16, mode: Mode) -> bool
     ensures { result ≡ ((holder.thread == thread) || are_compatible holder.mode mode) }
 {
     holder.thread == thread || compatible(holder.mode, mode)
 }
 
-// Whether each other holder in a list lets a thread join.
+/// Whether each other holder in a list lets a thread join.
 fn all_let_in(nodes: &[Grant], queues: &Lists, list: usize, thread: u16, mode: Mode) -> bool
     requires list { list < length queues.now.lists }
     requires nodes { length nodes.now ≡ queues.now.size }
@@ -373,7 +374,7 @@ fn all_let_in(nodes: &[Grant], queues: &Lists, list: usize, thread: u16, mode: M
     true
 }
 
-// The mode in which a list has a thread.
+/// The mode in which a list has a thread.
 fn mode_among(nodes: &[Grant], queues: &Lists, list: usize, thread: u16) -> Option<Mode>
     requires list { list < length queues.now.lists }
     requires nodes { length nodes.now ≡ queues.now.size }

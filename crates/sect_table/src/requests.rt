@@ -1,4 +1,5 @@
-// Asking for keys.
+//! Asking for keys.
+
 ghost use Rattle.std.specs.Prelude.{◌≡◌, ◌≢◌, ◌<◌, ◌+◌, ◌-◌, [], length, true, ℕ, Err, OnOk, OnErr, IfOk, IfErr};
 ghost use Rattle.sect_modes.specs.declared.mode.Mode.TheVariants.{Exclusive};
 ghost use Rattle.sect_table.specs.declared.claims.Answer.TheVariants.{Granted};
@@ -20,7 +21,7 @@ pub(crate) fn held(arena: &Arena, thread: u16, key: Key) -> Option<Mode>
     held_at(arena, thread, key, arena.number_of(key))
 }
 
-// The mode in which a thread holds the key of this number.
+/// The mode in which a thread holds the key of this number.
 fn held_at(arena: &Arena, thread: u16, key: Key, at: usize) -> Option<Mode>
     requires kept { IsKept arena.now }
     requires number { at ≡ number_of key arena.now.entries }
@@ -43,7 +44,7 @@ pub(crate) fn first_waiter(arena: &Arena, key: Key) -> Option<Claim>
     arena.first_waiter(key, at)
 }
 
-// Whether nobody waits for a key, and its holders let the thread join.
+/// Whether nobody waits for a key, and its holders let the thread join.
 fn is_free_for(arena: &Arena, thread: u16, mode: Mode, key: Key, at: usize) -> bool
     requires number { at ≡ number_of key arena.now.entries }
     requires known { at < length arena.now.entries }
@@ -52,7 +53,7 @@ fn is_free_for(arena: &Arena, thread: u16, mode: Mode, key: Key, at: usize) -> b
     arena.first_waiter(key, at).is_none() && arena.lets_in(thread, mode, key, at)
 }
 
-// Grants the key or queues for it.
+/// Grants the key or queues for it.
 fn enter(arena: &mut Arena, thread: u16, mode: Mode, key: Key, at: usize) -> Answer
     requires thread { thread < length arena.old.held }
     requires number { at ≡ number_of key arena.old.entries }

@@ -1,10 +1,10 @@
 //! Certificates with long texts.
 
 use crate::failure::Failure;
-use sect_cert::certificate::{Cert, Chain, Section, Step};
-use sect_cert::items::Items;
-use sect_cert::lock::{Lock, Path};
-use sect_cert::{read_cert, write_cert};
+use sect_cert::{
+    Cert, CertBase, CertFault, CertLock, CertPath, CertSection, CertStep, Chain, Items, read_cert,
+    write_cert,
+};
 use sect_front::name::Name;
 use std::alloc::{AllocError, Global};
 
@@ -32,12 +32,12 @@ fn certificate(alloc: Global, count: u32, locks: u32) -> Result<Cert, AllocError
 }
 
 /// A section of `NODES` nodes, whose lists have so many locks.
-fn section(alloc: Global, locks: u32) -> Result<Section, AllocError> {
+fn section(alloc: Global, locks: u32) -> Result<CertSection, AllocError> {
     let mut nodes = Items::new(alloc);
     for _ in 0..NODES {
         nodes.push(list(alloc, locks)?)?;
     }
-    Ok(Section {
+    Ok(CertSection {
         nodes,
         entry: list(alloc, locks)?,
         chains: chains(alloc, locks)?,
@@ -45,7 +45,7 @@ fn section(alloc: Global, locks: u32) -> Result<Section, AllocError> {
 }
 
 /// So many locks, the forms in turn.
-fn list(alloc: Global, count: u32) -> Result<Items<Lock>, AllocError> {
+fn list(alloc: Global, count: u32) -> Result<Items<CertLock>, AllocError> {
     let mut locks = Items::new(alloc);
     for number in 0..count {
         locks.push(lock(alloc, number)?)?;
@@ -66,10 +66,10 @@ fn chains(alloc: Global, count: u32) -> Result<Items<Chain>, AllocError> {
 }
 
 /// A step at each node, with the lock of this number.
-fn steps(alloc: Global, number: u32) -> Result<Items<Step>, AllocError> {
+fn steps(alloc: Global, number: u32) -> Result<Items<CertStep>, AllocError> {
     let mut steps = Items::new(alloc);
     for node in 0..NODES {
-        steps.push(Step {
+        steps.push(CertStep {
             node,
             lock: lock(alloc, number)?,
         })?;
@@ -78,24 +78,24 @@ fn steps(alloc: Global, number: u32) -> Result<Items<Step>, AllocError> {
 }
 
 /// The lock of a number.
-fn lock(alloc: Global, number: u32) -> Result<Lock, AllocError> {
+fn lock(alloc: Global, number: u32) -> Result<CertLock, AllocError> {
     Ok(match number % 5 {
-        0 => Lock::ReadPath(path(alloc, number)?),
-        1 => Lock::WritePath(path(alloc, number)?),
-        2 => Lock::ReadClass(number),
-        3 => Lock::WriteClass(number),
-        _ => Lock::MakeClass(number),
+        0 => CertLock::ReadPath(path(alloc, number)?),
+        1 => CertLock::WritePath(path(alloc, number)?),
+        2 => CertLock::ReadClass(number),
+        3 => CertLock::WriteClass(number),
+        _ => CertLock::MakeClass(number),
     })
 }
 
 /// A path of no field to three, by the number.
-fn path(alloc: Global, number: u32) -> Result<Path, AllocError> {
+fn path(alloc: Global, number: u32) -> Result<CertPath, AllocError> {
     let mut fields = Items::new(alloc);
     for _ in 0..number % 4 {
         fields.push(Name::new(b"next"))?;
     }
-    Ok(Path {
-        base: Name::new(b"first_of_the_list"),
+    Ok(CertPath {
+        base: CertBase::Name(Name::new(b"first_of_the_list")),
         fields,
     })
 }

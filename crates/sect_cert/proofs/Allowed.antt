@@ -5,22 +5,22 @@ use Rattle.std.proofs.lemmas.List.{map-append}
 use Rattle.std.specs.List.{AllByRecursion}
 use Rattle.sect_cert.specs.Parts.{parts}
 use Rattle.sect_cert.specs.Zeros.{plain}
-use Rattle.sect_cert.specs.Certificates.{step_with, chain_with, section_with, cert_with, is_rising}
-use Rattle.sect_cert.specs.Reading.{line_of}
+use Rattle.sect_cert.specs.steps.Certificates.{step_with, chain_with, section_with, cert_with, is_rising}
+use Rattle.sect_cert.specs.steps.Reading.{line_of}
 use Rattle.sect_cert.specs.Lines.{line_text}
 use Rattle.sect_cert.specs.Forms.{Form, KForm, SectionsForm, SectionForm, NodeForm, EntryForm, ChainForm, EndForm, form_of}
 use Rattle.sect_cert.specs.Texts.{IsLine, header_text, nodes_lines, chains_lines, sections_lines}
-use Rattle.sect_cert.specs.Stages.{Goes, Bad, Odd, open_with, begin_of, close_of, stage_of, read_of}
+use Rattle.sect_cert.specs.steps.Stages.{Goes, Bad, Odd, open_with, begin_of, close_of, stage_of, read_of}
 use Rattle.sect_cert.specs.Verdicts.{GoesOn, EndsInChain, IsAllowed}
-use Rattle.sect_cert.specs.declared.lock.Lock.{Lock}
-use Rattle.sect_cert.specs.declared.lock.Lock.TheVariants as lock
+use Rattle.sect_cert.specs.declared.lock.CertLock.{CertLock}
+use Rattle.sect_cert.specs.declared.lock.CertLock.TheVariants as lock
 use Rattle.sect_cert.specs.declared.certificate.Chain.{Chain}
-use Rattle.sect_cert.specs.declared.certificate.Section.{Section}
-use Rattle.sect_cert.specs.declared.line.Line.{Line}
-use Rattle.sect_cert.specs.declared.line.Line.TheVariants as line
+use Rattle.sect_cert.specs.declared.certificate.CertSection.{CertSection}
+use Rattle.sect_cert.specs.declared.line.CertLine.{CertLine}
+use Rattle.sect_cert.specs.declared.line.CertLine.TheVariants as line
 use Rattle.sect_cert.specs.declared.stage.Open.{Open}
-use Rattle.sect_cert.specs.declared.stage.Stage.{Stage}
-use Rattle.sect_cert.specs.declared.stage.Stage.TheVariants as stage
+use Rattle.sect_cert.specs.declared.stage.CertStage.{CertStage}
+use Rattle.sect_cert.specs.declared.stage.CertStage.TheVariants as stage
 use Rattle.sect_cert.proofs.Passes.{goes}
 use Rattle.sect_cert.proofs.Counts.{same}
 use Rattle.sect_cert.proofs.Keeps.{stage_lines, open_lines, nodes_split, sections_split, open_split}
@@ -34,7 +34,7 @@ begin_due o SectionForm = nat_lt (length o.done) o.count
 begin_due o EndForm = not (nat_lt (length o.done) o.count)
 begin_due o _ = false
 
-abbrev pub is_due : Stage → Form → Bool
+abbrev pub is_due : CertStage → Form → Bool
 is_due stage.K KForm = true
 is_due (stage.Count k) SectionsForm = true
 is_due (stage.Between o) f = begin_due o f
@@ -44,7 +44,7 @@ is_due (stage.Chains o s) ChainForm = true
 is_due (stage.Chains o s) f = begin_due (close_of o s) f
 is_due _ f = false
 
-begin_takes : (o : Open) (x : Line) → begin_due o (form_of x) ≡ true → begin_of o x ≡ Bad → ⊥
+begin_takes : (o : Open) (x : CertLine) → begin_due o (form_of x) ≡ true → begin_of o x ≡ Bad → ⊥
 begin_takes o (line.Section i m) h e = go (nat_lt (length o.done) o.count) h (eqb i (length o.done)) e
   where
     go : (b : Bool) → b ≡ true → (c : Bool) → cond b (cond c (Goes (stage.Nodes o m [])) Odd) Bad ≡ Bad → ⊥
@@ -58,7 +58,7 @@ begin_takes o line.End h e = go (nat_lt (length o.done) o.count) h e
     go false h e = cc
 begin_takes o _ h e = cc
 
-begin_not : (o : Open) (x : Line) → begin_due o (form_of x) ≡ false → begin_of o x ≡ Bad
+begin_not : (o : Open) (x : CertLine) → begin_due o (form_of x) ≡ false → begin_of o x ≡ Bad
 begin_not o (line.Section i m) h = rw h refl
 begin_not o line.End h = go (nat_lt (length o.done) o.count) h
   where
@@ -67,7 +67,7 @@ begin_not o line.End h = go (nat_lt (length o.done) o.count) h
     go false h = cc
 begin_not o _ h = refl
 
-node_takes : (o : Open) (m : ℕ) (ns : List (List Lock)) (x : Line) → is_due (stage.Nodes o m ns) (form_of x) ≡ true → stage_of (stage.Nodes o m ns) x ≡ Bad → ⊥
+node_takes : (o : Open) (m : ℕ) (ns : List (List CertLock)) (x : CertLine) → is_due (stage.Nodes o m ns) (form_of x) ≡ true → stage_of (stage.Nodes o m ns) x ≡ Bad → ⊥
 node_takes o m ns (line.Node j ls) h e = go (nat_lt (length ns) m) h (eqb j (length ns)) e
   where
     go : (b : Bool) → b ≡ true → (c : Bool) → cond b (cond c (Goes (stage.Nodes o m (ns ++ ls ∷ []))) Odd) Bad ≡ Bad → ⊥
@@ -81,7 +81,7 @@ node_takes o m ns (line.Entry ls) h e = go (nat_lt (length ns) m) h e
     go false h e = cc
 node_takes o m ns _ h e = cc
 
-node_not : (o : Open) (m : ℕ) (ns : List (List Lock)) (x : Line) → is_due (stage.Nodes o m ns) (form_of x) ≡ false → stage_of (stage.Nodes o m ns) x ≡ Bad
+node_not : (o : Open) (m : ℕ) (ns : List (List CertLock)) (x : CertLine) → is_due (stage.Nodes o m ns) (form_of x) ≡ false → stage_of (stage.Nodes o m ns) x ≡ Bad
 node_not o m ns (line.Node j ls) h = rw h refl
 node_not o m ns (line.Entry ls) h = go (nat_lt (length ns) m) h
   where
@@ -91,7 +91,7 @@ node_not o m ns (line.Entry ls) h = go (nat_lt (length ns) m) h
 node_not o m ns _ h = refl
 
 -- what is due is taken, or refused for its numbers alone
-pub due_takes : (s : Stage) (x : Line) → is_due s (form_of x) ≡ true → stage_of s x ≡ Bad → ⊥
+pub due_takes : (s : CertStage) (x : CertLine) → is_due s (form_of x) ≡ true → stage_of s x ≡ Bad → ⊥
 due_takes stage.K (line.K k) h e = cc
 due_takes (stage.Count k) (line.Sections n) h e = cc
 due_takes (stage.Between o) x h e = begin_takes o x h e
@@ -105,7 +105,7 @@ due_takes (stage.Chains o s) x h e = begin_takes (close_of o s) x h e
 due_takes _ x h e = cc
 
 -- what is not due is refused as bad
-pub not_due : (s : Stage) (x : Line) → is_due s (form_of x) ≡ false → stage_of s x ≡ Bad
+pub not_due : (s : CertStage) (x : CertLine) → is_due s (form_of x) ≡ false → stage_of s x ≡ Bad
 not_due stage.K (line.K k) h = cc
 not_due (stage.Count k) (line.Sections n) h = cc
 not_due (stage.Between o) x h = begin_not o x h
@@ -115,7 +115,7 @@ not_due (stage.Chains o s) x h = begin_not (close_of o s) x h
 not_due _ x h = refl
 
 -- what a stage takes is allowed
-goes_on : (front : List (List ℕ)) (s m : Stage) (x : Line) → Reads front s → IsLine x → stage_of s x ≡ Goes m → GoesOn front (form_of x)
+goes_on : (front : List (List ℕ)) (s m : CertStage) (x : CertLine) → Reads front s → IsLine x → stage_of s x ≡ Goes m → GoesOn front (form_of x)
 goes_on front s m x r good e = record {
   next = x;
   good = good;
@@ -123,7 +123,7 @@ goes_on front s m x r good e = record {
   viable = viable (front ++ line_text x ∷ []) m (taken_text front s (line_text x) m r (taken_line s x r.begun good ∙ e));
 }
 
-begin_allowed : (front : List (List ℕ)) (s : Stage) (o : Open) → Reads front s → ((i m : ℕ) → stage_of s (line.Section i m) ≡ begin_of o (line.Section i m)) →
+begin_allowed : (front : List (List ℕ)) (s : CertStage) (o : Open) → Reads front s → ((i m : ℕ) → stage_of s (line.Section i m) ≡ begin_of o (line.Section i m)) →
     stage_of s line.End ≡ begin_of o line.End → o.count < 4294967296 → (f : Form) → begin_due o f ≡ true → GoesOn front f
 begin_allowed front s o r next last small SectionForm h =
     goes_on front s (stage.Nodes o 0 []) (line.Section (length o.done) 0) r (grind (arith, nat_tests), omega arith)
@@ -136,8 +136,8 @@ begin_allowed front s o r next last small EndForm h = goes_on front s (stage.Fin
 begin_allowed front s o r next last small _ h = cc
 
 -- the last of chains is a line at the end
-record LastChain (xs : List Line) : Type 0 where
-  before : List Line
+record LastChain (xs : List CertLine) : Type 0 where
+  before : List CertLine
   chain : Chain
   split : xs ≡ before ++ line.Chain chain ∷ []
 
@@ -146,13 +146,13 @@ last_chain c [] = record { before = []; chain = c; split = refl }
 last_chain c (d ∷ cs) = let l : LastChain (chains_lines (d ∷ cs) []) = last_chain d cs in
     record { before = line.Chain c ∷ l.before; chain = l.chain; split = ap (λ x. line.Chain c ∷ x) l.split }
 
-last_good : (xs : List Line) (x : Line) → AllByRecursion IsLine (xs ++ x ∷ []) → IsLine x
+last_good : (xs : List CertLine) (x : CertLine) → AllByRecursion IsLine (xs ++ x ∷ []) → IsLine x
 last_good [] x h = h.0
 last_good (y ∷ xs) x h = last_good xs x h.1
 
-chains_end : (front : List (List ℕ)) (o : Open) (s : Section) → Reads front (stage.Chains o s) → LastChain (chains_lines s.chains []) → EndsInChain front
+chains_end : (front : List (List ℕ)) (o : Open) (s : CertSection) → Reads front (stage.Chains o s) → LastChain (chains_lines s.chains []) → EndsInChain front
 chains_end front o s r l =
-    let begun : List Line = line.Section (length o.done) (length s.nodes) ∷ nodes_lines 0 s.nodes (line.Entry s.entry ∷ l.before) in
+    let begun : List CertLine = line.Section (length o.done) (length s.nodes) ∷ nodes_lines 0 s.nodes (line.Entry s.entry ∷ l.before) in
     let lines : stage_lines (stage.Chains o s) [] ≡ open_lines o begun ++ line.Chain l.chain ∷ [] =
     ap (λ x. open_lines o (line.Section (length o.done) (length s.nodes) ∷ nodes_lines 0 s.nodes (line.Entry s.entry ∷ x))) l.split
     ∙ (ap (λ x. open_lines o (line.Section (length o.done) (length s.nodes) ∷ x)) (nodes_split s.nodes 0 (line.Entry s.entry ∷ l.before) (line.Chain l.chain ∷ []))
@@ -169,7 +169,7 @@ chains_end front o s r l =
 abbrev first_chain : Chain
 first_chain = chain_with 0 (step_with 0 (lock.MakeClass 0) ∷ [])
 
-chain_allowed : (front : List (List ℕ)) (o : Open) (s : Section) → Reads front (stage.Chains o s) → IsAllowed front ChainForm
+chain_allowed : (front : List (List ℕ)) (o : Open) (s : CertSection) → Reads front (stage.Chains o s) → IsAllowed front ChainForm
 chain_allowed front o s r = go s.chains refl
   where
     go : (cs : List Chain) → s.chains ≡ cs → IsAllowed front ChainForm
@@ -179,7 +179,7 @@ chain_allowed front o s r = go s.chains refl
     go (c ∷ cs) e = inr (refl, chains_end front o s r (subst (λ x. LastChain (chains_lines x [])) (sym e) (last_chain c cs)))
 
 -- a form that is due is allowed: an example goes on so
-pub allowed : (front : List (List ℕ)) (s : Stage) → Reads front s → (f : Form) → is_due s f ≡ true → IsAllowed front f
+pub allowed : (front : List (List ℕ)) (s : CertStage) → Reads front s → (f : Form) → is_due s f ≡ true → IsAllowed front f
 allowed front stage.K r KForm h = inl (goes_on front stage.K (stage.Count 0) (line.K 0) r (omega arith) refl)
 allowed front (stage.Count k) r SectionsForm h = inl (goes_on front (stage.Count k) (stage.Between (open_with k 0 [])) (line.Sections 0) r (omega arith) refl)
 allowed front (stage.Between o) r f h = inl (begin_allowed front (stage.Between o) o r (λ i m. refl) refl r.good.1.0 f h)
@@ -196,45 +196,45 @@ allowed front (stage.Chains o s) r f h = inl (begin_allowed front (stage.Chains 
 allowed front _ r f h = cc
 
 -- the text of the last line, behind a first one
-abbrev last_text : List ℕ → List Line → List ℕ
+abbrev last_text : List ℕ → List CertLine → List ℕ
 last_text t [] = t
 last_text t (x ∷ xs) = last_text (line_text x) xs
 
-last_is : (t : List ℕ) (xs : List Line) (before : List (List ℕ)) (u : List ℕ) → t ∷ map line_text xs ≡ before ++ u ∷ [] → last_text t xs ≡ u
+last_is : (t : List ℕ) (xs : List CertLine) (before : List (List ℕ)) (u : List ℕ) → t ∷ map line_text xs ≡ before ++ u ∷ [] → last_text t xs ≡ u
 last_is t [] [] u h = cc
 last_is t [] (b ∷ []) u h = cc
 last_is t [] (b ∷ d ∷ before) u h = cc
 last_is t (x ∷ xs) [] u h = cc
 last_is t (x ∷ xs) (b ∷ before) u h = let e : line_text x ∷ map line_text xs ≡ before ++ u ∷ [] = cc in last_is (line_text x) xs before u e
 
-last_append : (t : List ℕ) (xs ys : List Line) → last_text t (xs ++ ys) ≡ last_text (last_text t xs) ys
+last_append : (t : List ℕ) (xs ys : List CertLine) → last_text t (xs ++ ys) ≡ last_text (last_text t xs) ys
 last_append t [] ys = refl
 last_append t (x ∷ xs) ys = last_append (line_text x) xs ys
 
-line_same : (x y : Line) → IsLine x → IsLine y → line_text x ≡ line_text y → x ≡ y
+line_same : (x y : CertLine) → IsLine x → IsLine y → line_text x ≡ line_text y → x ≡ y
 line_same x y g h e =
     let a : IsAgain x = line_again x g in
     let b : IsAgain y = line_again y h in
     let s : Some x ≡ Some y = sym a.line ∙ (ap (λ t. line_of (parts 32 (plain t))) e ∙ b.line) in cc
 
 -- no line after the first has its text
-pub not_header : (x : Line) → IsLine x → header_text ≡ line_text x → ⊥
+pub not_header : (x : CertLine) → IsLine x → header_text ≡ line_text x → ⊥
 not_header x h e = let a : IsAgain x = line_again x h in
     let none : None ≡ Some x = ap (λ t. line_of (parts 32 (plain t))) e ∙ a.line in cc
 
 -- a line that isn't a chain, and then nodes, end in no chain
-nodes_end : (x y : Line) → IsLine x → IsLine y → form_of y ≡ ChainForm → form_of x ≢ ChainForm → (ns : List (List Lock)) (j : ℕ) → AllByRecursion IsLine (nodes_lines j ns []) →
+nodes_end : (x y : CertLine) → IsLine x → IsLine y → form_of y ≡ ChainForm → form_of x ≢ ChainForm → (ns : List (List CertLock)) (j : ℕ) → AllByRecursion IsLine (nodes_lines j ns []) →
     last_text (line_text x) (nodes_lines j ns []) ≡ line_text y → ⊥
 nodes_end x y g h f n [] j k e = n (ap form_of (line_same x y g h e) ∙ f)
 nodes_end x y g h f n (ls ∷ ns) j k e = nodes_end (line.Node j ls) y k.0 h f (λ w. cc) ns (j + 1) k.1 e
 
-no_chain : (front : List (List ℕ)) (s : Stage) → Reads front s → is_due s ChainForm ≡ false → EndsInChain front → ⊥
+no_chain : (front : List (List ℕ)) (s : CertStage) → Reads front s → is_due s ChainForm ≡ false → EndsInChain front → ⊥
 no_chain front s r d e = go s r d (last_is header_text (stage_lines s []) e.before (line_text e.last) (sym r.lines ∙ e.split))
   where
-    differ : (x : Line) → IsLine x → form_of x ≢ ChainForm → line_text x ≡ line_text e.last → ⊥
+    differ : (x : CertLine) → IsLine x → form_of x ≢ ChainForm → line_text x ≡ line_text e.last → ⊥
     differ x g n h = n (ap form_of (line_same x e.last g e.good h) ∙ e.chain)
 
-    go : (s : Stage) → Reads front s → is_due s ChainForm ≡ false → last_text header_text (stage_lines s []) ≡ line_text e.last → ⊥
+    go : (s : CertStage) → Reads front s → is_due s ChainForm ≡ false → last_text header_text (stage_lines s []) ≡ line_text e.last → ⊥
     go stage.Header r d h = absurd r.begun
     go stage.K r d h = not_header e.last e.good h
     go (stage.Count k) r d h = differ (line.K k) r.good.0 (λ w. cc) h
@@ -250,7 +250,7 @@ no_chain front s r d e = go s r d (last_is header_text (stage_lines s []) e.befo
         ∙ (ap (last_text (line_text (line.Sections (length c.sections)))) (sym (sections_split c.sections 0 [] (line.End ∷ []))) ∙ h))
 
 -- what is allowed is taken
-pub allowed_is_due : (front : List (List ℕ)) (s : Stage) → Reads front s → (f : Form) → IsAllowed front f → is_due s f ≡ false → ⊥
+pub allowed_is_due : (front : List (List ℕ)) (s : CertStage) → Reads front s → (f : Form) → IsAllowed front f → is_due s f ≡ false → ⊥
 allowed_is_due front s r f a d = elim a [
   | inl g ↦ (let bad : read_of s (line_text g.next) ≡ Bad = taken_line s g.next r.begun g.good ∙ not_due s g.next (ap (is_due s) g.same ∙ d) in
       refused front s (line_text g.next) r.run (λ y. ap (λ k. goes k (λ m. read_all m y)) bad) g.viable)

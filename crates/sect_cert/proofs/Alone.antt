@@ -1,12 +1,12 @@
--- A text has one fault at most.
+-- A text has one fault at most, line by line.
 use Rattle.std.proofs.Common.{◌≡◌, ◌≢◌, ℕ, ◌+◌, List, [], ◌∷◌, ◌++◌, length, refl, sym, ◌∙◌, ap, subst, append_assoc, inl, inr}
-use Rattle.std.specs.Prelude.{◌⊎◌, Result, Ok, Err}
+use Rattle.std.specs.Prelude.{◌⊎◌, Err}
 use Rattle.sect_cert.specs.Parts.{parts}
-use Rattle.sect_cert.specs.Verdicts.{IsViable, IsWhole, HasForm, HasNoForm, IsEndAt, IsFaultAt, IsMoreAt, Judges, Refuses}
-use Rattle.sect_cert.specs.declared.certificate.Cert.{Cert}
+use Rattle.sect_cert.specs.Verdicts.{IsViable, IsWhole, HasForm, HasNoForm, IsEndAt, IsFaultAt, IsMoreAt}
+use Rattle.sect_cert.specs.steps.Closing.{JudgesLines}
 use Rattle.sect_cert.specs.declared.fault.CertFault.{CertFault}
 use Rattle.sect_cert.specs.declared.fault.CertFault.TheVariants as fault
-use Rattle.sect_cert.proofs.Only.{only, read_past}
+use Rattle.sect_cert.proofs.Only.{read_past}
 
 -- the second front is the first and more
 record IsLonger (f g u v : List (List ℕ)) : Type 0 where
@@ -128,8 +128,10 @@ odd_stop : (all : List (List ℕ)) (n : ℕ) → IsFaultAt HasForm all n ⊎ IsM
 odd_stop all n e = elim e [ inl a ↦ fault_stop HasForm all n a | inr a ↦ more_stop all n a ]
 
 -- a fault of a text is its only one
-pub alone : (bytes : List ℕ) (f g : CertFault) → f ≢ fault.Memory → g ≢ fault.Memory → Judges bytes (Err f) → Judges bytes (Err g) → g ≡ f
+pub alone : (bytes : List ℕ) (f g : CertFault) → f ≢ fault.Memory → g ≢ fault.Memory → JudgesLines bytes (Err f) → JudgesLines bytes (Err g) → g ≡ f
 alone bytes fault.Memory g a b j k = absurd (a refl)
+alone bytes fault.OldVersion g a b j k = absurd j
+alone bytes f fault.OldVersion a b j k = absurd k
 alone bytes (fault.CertEnd n) fault.Memory a b j k = absurd (b refl)
 alone bytes (fault.BadCertLine n) fault.Memory a b j k = absurd (b refl)
 alone bytes (fault.NotCanonical n) fault.Memory a b j k = absurd (b refl)
@@ -142,17 +144,3 @@ alone bytes (fault.BadCertLine n) (fault.NotCanonical m) a b j k = elim k [ inl 
 alone bytes (fault.NotCanonical n) (fault.CertEnd m) a b j k = elim j [ inl o ↦ absurd (no_end HasForm (parts 10 bytes) m n k o) | inr o ↦ absurd (end_not_more (parts 10 bytes) m n k o) ]
 alone bytes (fault.NotCanonical n) (fault.BadCertLine m) a b j k = elim j [ inl o ↦ absurd (not_both (parts 10 bytes) m n k o) | inr o ↦ absurd (fault_not_more HasNoForm (parts 10 bytes) m n k o) ]
 alone bytes (fault.NotCanonical n) (fault.NotCanonical m) a b j k = ap fault.NotCanonical (same_line (parts 10 bytes) m n (odd_stop (parts 10 bytes) m k) (odd_stop (parts 10 bytes) n j))
-
--- a fault that a text has is the one that it is answered with
-pub refuses : (bytes : List ℕ) (r : Result Cert CertFault) → Judges bytes r → (f : CertFault) → f ≢ fault.Memory → Judges bytes (Err f) → Refuses f r
-refuses bytes (Ok c) j f a k = go f a k
-  where
-    go : (f : CertFault) → f ≢ fault.Memory → Judges bytes (Err f) → ⊥
-    go fault.Memory a k = a refl
-    go (fault.CertEnd n) a k = only bytes (Err (fault.CertEnd n)) k c j.0 j.1
-    go (fault.BadCertLine n) a k = only bytes (Err (fault.BadCertLine n)) k c j.0 j.1
-    go (fault.NotCanonical n) a k = only bytes (Err (fault.NotCanonical n)) k c j.0 j.1
-refuses bytes (Err fault.Memory) j f a k = tt
-refuses bytes (Err (fault.CertEnd n)) j f a k = alone bytes f (fault.CertEnd n) a (λ h. cc) k j
-refuses bytes (Err (fault.BadCertLine n)) j f a k = alone bytes f (fault.BadCertLine n) a (λ h. cc) k j
-refuses bytes (Err (fault.NotCanonical n)) j f a k = alone bytes f (fault.NotCanonical n) a (λ h. cc) k j

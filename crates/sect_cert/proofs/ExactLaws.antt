@@ -5,13 +5,11 @@ use Rattle.std.proofs.lemmas.Bool.{eqb-true}
 use Rattle.std.proofs.lemmas.Bool.Decides.{nat_tests}
 use Rattle.std.specs.Prelude.{◌==◌, ◌||◌, nat_le}
 use Rattle.std.specs.Fmt.{decimal}
-use Rattle.std.specs.List.{list_all, join_with_byte}
+use Rattle.std.specs.List.{AllByRecursion, list_all, join_with_byte}
 use Rattle.sect_front.specs.Words.{is_digit, is_letter, is_name_byte, is_name, begins, is_keyword}
-use Rattle.sect_cert.specs.Numbers.{number_of, decimal_from}
+use Rattle.sect_cert.specs.steps.Numbers.{number_of, decimal_from}
 use Rattle.sect_cert.specs.Zeros.{leads, is_exact_from, is_exact}
-use Rattle.sect_cert.specs.Spelling.{path_names, path_text}
-use Rattle.sect_cert.specs.Texts.{IsPath, IsNumber}
-use Rattle.sect_cert.specs.declared.lock.Path.{Path}
+use Rattle.sect_cert.specs.Texts.{IsNumber}
 use Rattle.sect_cert.proofs.PartsLaws.{has_name_bytes}
 use Rattle.sect_cert.proofs.NumberLaws.{number_decimal, digits_of_decimal}
 
@@ -26,6 +24,9 @@ blank = record { name = refl; digit = refl; zero = refl }
 
 pub comma : IsMark 44
 comma = record { name = refl; digit = refl; zero = refl }
+
+pub hash : IsMark 35
+hash = record { name = refl; digit = refl; zero = refl }
 
 pub point : IsMark 46
 point = record { name = refl; digit = refl; zero = refl }
@@ -72,7 +73,7 @@ digit_is b h = rw h (or_true (is_letter b))
 letter_is : (b : ℕ) → is_letter b ≡ true → is_name_byte b ≡ true
 letter_is b h = rw h refl
 
-digits_are : (ds : List ℕ) → list_all is_digit ds ≡ true → list_all is_name_byte ds ≡ true
+pub digits_are : (ds : List ℕ) → list_all is_digit ds ≡ true → list_all is_name_byte ds ≡ true
 digits_are [] h = refl
 digits_are (d ∷ ds) h = go (is_digit d) refl h (λ k. digits_are ds k)
   where
@@ -126,23 +127,20 @@ exact_word (b ∷ w) h g = rw (no_lead false b w (no_zero b h), letter_is b h) (
     go true g = g
     go false g = cc
 
-exact_name : (w : List ℕ) → is_name w ≡ true → is_exact w ≡ true
+pub exact_name : (w : List ℕ) → is_name w ≡ true → is_exact w ≡ true
 exact_name w h = exact_word w (letter_first w h) (has_name_bytes w h)
 
--- nor a number in names joined by points
-pub exact_names : (names : List (List ℕ)) → list_all is_name names ≡ true → is_exact (join_with_byte 46 names) ≡ true
-exact_names [] h = refl
-exact_names (w ∷ []) h = go (is_name w) refl h
-  where
-    go : (t : Bool) → is_name w ≡ t → (t && true) ≡ true → is_exact w ≡ true
-    go true e h = exact_name w e
-    go false e h = cc
-exact_names (w ∷ v ∷ names) h = go (is_name w) refl h (λ k. exact_names (v ∷ names) k)
-  where
-    go : (t : Bool) → is_name w ≡ t → (t && list_all is_name (v ∷ names)) ≡ true → (list_all is_name (v ∷ names) ≡ true → is_exact (join_with_byte 46 (v ∷ names)) ≡ true) →
-        is_exact (join_with_byte 46 (w ∷ v ∷ names)) ≡ true
-    go true e h k = exact_mark 46 point false w (join_with_byte 46 (v ∷ names)) (exact_name w e) (k h)
-    go false e h k = cc
+-- nor a number in parts joined by points
+pub exact_joined : (ws : List (List ℕ)) → AllByRecursion (λ w. is_exact w ≡ true) ws → is_exact (join_with_byte 46 ws) ≡ true
+exact_joined [] h = refl
+exact_joined (w ∷ []) h = h.0
+exact_joined (w ∷ v ∷ ws) h = exact_mark 46 point false w (join_with_byte 46 (v ∷ ws)) h.0 (exact_joined (v ∷ ws) h.1)
 
-pub exact_path : (p : Path) → IsPath p → is_exact (path_text p) ≡ true
-exact_path p h = exact_names (path_names p) h
+pub exact_names : (names : List (List ℕ)) → list_all is_name names ≡ true → AllByRecursion (λ w. is_exact w ≡ true) names
+exact_names [] h = tt
+exact_names (w ∷ names) h = go (is_name w) refl h (λ k. exact_names names k)
+  where
+    go : (t : Bool) → is_name w ≡ t → (t && list_all is_name names) ≡ true → (list_all is_name names ≡ true → AllByRecursion (λ x. is_exact x ≡ true) names) →
+        (is_exact w ≡ true) × AllByRecursion (λ x. is_exact x ≡ true) names
+    go true e h k = (exact_name w e, k h)
+    go false e h k = cc

@@ -4,24 +4,24 @@ use Rattle.std.specs.Prelude.{⊤}
 use Rattle.std.proofs.lemmas.Bool.Decides.{nat_tests}
 use Rattle.std.proofs.lemmas.Bool.{eqb-true}
 use Rattle.sect_cert.proofs.TextLaws.{RiseAfter, RisingAll}
-use Rattle.sect_cert.specs.declared.certificate.Section.{Section}
-use Rattle.sect_cert.specs.Certificates.{section_with, cert_with, is_rising}
+use Rattle.sect_cert.specs.declared.certificate.CertSection.{CertSection}
+use Rattle.sect_cert.specs.steps.Certificates.{section_with, cert_with, is_rising}
 use Rattle.sect_cert.specs.Texts.{nodes_lines, chains_lines, section_lines, sections_lines}
-use Rattle.sect_cert.specs.Stages.{Next, Goes, Bad, Odd, begin_of, close_of, stage_of, node_of, chain_of}
-use Rattle.sect_cert.specs.declared.lock.Lock.{Lock}
+use Rattle.sect_cert.specs.steps.Stages.{Next, Goes, Bad, Odd, begin_of, close_of, stage_of, node_of, chain_of}
+use Rattle.sect_cert.specs.declared.lock.CertLock.{CertLock}
 use Rattle.sect_cert.specs.declared.certificate.Chain.{Chain}
-use Rattle.sect_cert.specs.declared.line.Line.{Line}
-use Rattle.sect_cert.specs.declared.line.Line.TheVariants as line
+use Rattle.sect_cert.specs.declared.line.CertLine.{CertLine}
+use Rattle.sect_cert.specs.declared.line.CertLine.TheVariants as line
 use Rattle.sect_cert.specs.declared.stage.Open.{Open}
-use Rattle.sect_cert.specs.declared.stage.Stage.{Stage}
-use Rattle.sect_cert.specs.declared.stage.Stage.TheVariants as stage
+use Rattle.sect_cert.specs.declared.stage.CertStage.{CertStage}
+use Rattle.sect_cert.specs.declared.stage.CertStage.TheVariants as stage
 use Rattle.sect_cert.proofs.Counts.{one_more}
 
 -- the lines that have been read, before what follows
-abbrev pub open_lines : Open → List Line → List Line
+abbrev pub open_lines : Open → List CertLine → List CertLine
 open_lines o w = line.K o.k ∷ line.Sections o.count ∷ sections_lines 0 o.done w
 
-abbrev pub stage_lines : Stage → List Line → List Line
+abbrev pub stage_lines : CertStage → List CertLine → List CertLine
 stage_lines (stage.Count k) w = line.K k ∷ w
 stage_lines (stage.Between o) w = open_lines o w
 stage_lines (stage.Nodes o m ns) w = open_lines o (line.Section (length o.done) m ∷ nodes_lines 0 ns w)
@@ -30,36 +30,36 @@ stage_lines (stage.Finished c) w = line.K c.k ∷ line.Sections (length c.sectio
 stage_lines _ w = w
 
 -- what holds of each stage
-abbrev pub IsSound : Stage → Type 0
+abbrev pub IsSound : CertStage → Type 0
 IsSound (stage.Between o) = [] ≡ o.done
 IsSound (stage.Nodes o m ns) = (length o.done < o.count) × RisingAll o.done × (length ns ≤ m)
 IsSound (stage.Chains o s) = (length o.done < o.count) × RisingAll o.done × RiseAfter [] s.chains
 IsSound (stage.Finished c) = RisingAll c.sections
 IsSound _ = ⊤
 
-abbrev pub IfGoes : Next → (Stage → Type 0) → Type 0
+abbrev pub IfGoes : Next → (CertStage → Type 0) → Type 0
 IfGoes (Goes s) P = P s
 IfGoes _ P = ⊤
 
 -- a stage after the first line
-abbrev pub IsBegun : Stage → Type 0
+abbrev pub IsBegun : CertStage → Type 0
 IsBegun stage.Header = ⊥
 IsBegun _ = ⊤
 
-pub record Kept (s : Stage) (x : Line) (t : Stage) : Type 0 where
+pub record Kept (s : CertStage) (x : CertLine) (t : CertStage) : Type 0 where
   pub begun : IsBegun t
   pub sound : IsSound t
-  pub lines : (w : List Line) → stage_lines t w ≡ stage_lines s (x ∷ w)
+  pub lines : (w : List CertLine) → stage_lines t w ≡ stage_lines s (x ∷ w)
 
-nodes_more : (ns : List (List Lock)) (i j : ℕ) (ls : List Lock) (w : List Line) → j ≡ i + length ns → nodes_lines i (ns ++ ls ∷ []) w ≡ nodes_lines i ns (line.Node j ls ∷ w)
+nodes_more : (ns : List (List CertLock)) (i j : ℕ) (ls : List CertLock) (w : List CertLine) → j ≡ i + length ns → nodes_lines i (ns ++ ls ∷ []) w ≡ nodes_lines i ns (line.Node j ls ∷ w)
 nodes_more [] i j ls w h = ap (λ n. line.Node n ls ∷ w) (omega arith)
 nodes_more (n ∷ ns) i j ls w h = ap (λ x. line.Node i n ∷ x) (nodes_more ns (i + 1) j ls w (omega (arith, h)))
 
-chains_more : (cs : List Chain) (c : Chain) (w : List Line) → chains_lines (cs ++ c ∷ []) w ≡ chains_lines cs (line.Chain c ∷ w)
+chains_more : (cs : List Chain) (c : Chain) (w : List CertLine) → chains_lines (cs ++ c ∷ []) w ≡ chains_lines cs (line.Chain c ∷ w)
 chains_more [] c w = refl
 chains_more (d ∷ cs) c w = ap (λ x. line.Chain d ∷ x) (chains_more cs c w)
 
-sections_more : (ss : List Section) (i j : ℕ) (s : Section) (w : List Line) → j ≡ i + length ss →
+sections_more : (ss : List CertSection) (i j : ℕ) (s : CertSection) (w : List CertLine) → j ≡ i + length ss →
     sections_lines i (ss ++ s ∷ []) w ≡ sections_lines i ss (line.Section j (length s.nodes) ∷ section_lines s w)
 sections_more [] i j s w h = ap (λ n. line.Section n (length s.nodes) ∷ section_lines s w) (omega arith)
 sections_more (t ∷ ss) i j s w h = ap (λ x. line.Section i (length t.nodes) ∷ section_lines t x) (sections_more ss (i + 1) j s w (omega (arith, h)))
@@ -68,12 +68,12 @@ rising_more : (before cs : List Chain) (c : Chain) → RiseAfter before cs → i
 rising_more before [] c h e = (ap (λ d. is_rising d c.lock) (sym (append-nil before)) ∙ e, tt)
 rising_more before (d ∷ cs) c h e = (h.0, rising_more (before ++ d ∷ []) cs c h.1 (ap (λ x. is_rising x c.lock) (append_assoc before (d ∷ []) cs) ∙ e))
 
-pub all_rising_more : (ss : List Section) (s : Section) → RisingAll ss → RiseAfter [] s.chains → RisingAll (ss ++ s ∷ [])
+pub all_rising_more : (ss : List CertSection) (s : CertSection) → RisingAll ss → RiseAfter [] s.chains → RisingAll (ss ++ s ∷ [])
 all_rising_more [] s h r = (r, tt)
 all_rising_more (t ∷ ss) s h r = (h.0, all_rising_more ss s h.1 r)
 
 -- the next section, or the end
-begin_law : (s : Stage) (o : Open) (x : Line) → length o.done ≤ o.count → RisingAll o.done → ((w : List Line) → open_lines o w ≡ stage_lines s w) →
+begin_law : (s : CertStage) (o : Open) (x : CertLine) → length o.done ≤ o.count → RisingAll o.done → ((w : List CertLine) → open_lines o w ≡ stage_lines s w) →
     IfGoes (begin_of o x) (λ t. Kept s x t)
 begin_law s o (line.Section i m) h r e = go (nat_lt (length o.done) o.count) refl (eqb i (length o.done)) refl
   where
@@ -97,7 +97,7 @@ begin_law s o line.End h r e = go (nat_lt (length o.done) o.count) refl
     }
 begin_law s o _ h r e = tt
 
-node_law : (o : Open) (m : ℕ) (ns : List (List Lock)) (x : Line) → IsSound (stage.Nodes o m ns) → IfGoes (node_of o m ns x) (λ t. Kept (stage.Nodes o m ns) x t)
+node_law : (o : Open) (m : ℕ) (ns : List (List CertLock)) (x : CertLine) → IsSound (stage.Nodes o m ns) → IfGoes (node_of o m ns x) (λ t. Kept (stage.Nodes o m ns) x t)
 node_law o m ns (line.Node j ls) h = go (nat_lt (length ns) m) refl (eqb j (length ns)) refl
   where
     go : (b : Bool) → nat_lt (length ns) m ≡ b → (c : Bool) → eqb j (length ns) ≡ c →
@@ -120,10 +120,10 @@ node_law o m ns (line.Entry ls) h = go (nat_lt (length ns) m) refl
     }
 node_law o m ns _ h = tt
 
-pub closed : (o : Open) (s : Section) (w : List Line) → open_lines (close_of o s) w ≡ stage_lines (stage.Chains o s) w
+pub closed : (o : Open) (s : CertSection) (w : List CertLine) → open_lines (close_of o s) w ≡ stage_lines (stage.Chains o s) w
 closed o s w = ap (λ x. line.K o.k ∷ line.Sections o.count ∷ x) (sections_more o.done 0 (length o.done) s w (omega arith))
 
-chain_law : (o : Open) (s : Section) (x : Line) → IsSound (stage.Chains o s) → IfGoes (chain_of o s x) (λ t. Kept (stage.Chains o s) x t)
+chain_law : (o : Open) (s : CertSection) (x : CertLine) → IsSound (stage.Chains o s) → IfGoes (chain_of o s x) (λ t. Kept (stage.Chains o s) x t)
 chain_law o s (line.Chain c) h = go (is_rising s.chains c.lock) refl
   where
     go : (b : Bool) → is_rising s.chains c.lock ≡ b → IfGoes (cond b (Goes (stage.Chains o (section_with s.nodes s.entry (s.chains ++ c ∷ [])))) Odd) (λ t. Kept (stage.Chains o s) (line.Chain c) t)
@@ -136,7 +136,7 @@ chain_law o s (line.Chain c) h = go (is_rising s.chains c.lock) refl
 chain_law o s x h = begin_law (stage.Chains o s) (close_of o s) x (omega (arith, h.0, one_more o.done s)) (all_rising_more o.done s h.1 h.2) (closed o s)
 
 -- a line that is taken is the next of the lines that were read
-pub stage_law : (s : Stage) (x : Line) → IsSound s → IfGoes (stage_of s x) (λ t. Kept s x t)
+pub stage_law : (s : CertStage) (x : CertLine) → IsSound s → IfGoes (stage_of s x) (λ t. Kept s x t)
 stage_law stage.K (line.K k) h = record { begun = tt; sound = tt; lines = λ w. refl }
 stage_law (stage.Count k) (line.Sections n) h = record { begun = tt; sound = refl; lines = λ w. refl }
 stage_law (stage.Between o) x h = begin_law (stage.Between o) o x (omega (arith, ap length h)) (subst RisingAll h tt) (λ w. refl)
@@ -145,26 +145,26 @@ stage_law (stage.Chains o s) x h = chain_law o s x h
 stage_law _ x h = tt
 
 -- what stands behind lines stands behind them
-pub nodes_split : (ns : List (List Lock)) (i : ℕ) (v w : List Line) → nodes_lines i ns (v ++ w) ≡ nodes_lines i ns v ++ w
+pub nodes_split : (ns : List (List CertLock)) (i : ℕ) (v w : List CertLine) → nodes_lines i ns (v ++ w) ≡ nodes_lines i ns v ++ w
 nodes_split [] i v w = refl
 nodes_split (n ∷ ns) i v w = ap (λ x. line.Node i n ∷ x) (nodes_split ns (i + 1) v w)
 
-pub chains_split : (cs : List Chain) (v w : List Line) → chains_lines cs (v ++ w) ≡ chains_lines cs v ++ w
+pub chains_split : (cs : List Chain) (v w : List CertLine) → chains_lines cs (v ++ w) ≡ chains_lines cs v ++ w
 chains_split [] v w = refl
 chains_split (c ∷ cs) v w = ap (λ x. line.Chain c ∷ x) (chains_split cs v w)
 
-section_split : (s : Section) (v w : List Line) → section_lines s (v ++ w) ≡ section_lines s v ++ w
+section_split : (s : CertSection) (v w : List CertLine) → section_lines s (v ++ w) ≡ section_lines s v ++ w
 section_split s v w = ap (λ x. nodes_lines 0 s.nodes (line.Entry s.entry ∷ x)) (chains_split s.chains v w) ∙ nodes_split s.nodes 0 (line.Entry s.entry ∷ chains_lines s.chains v) w
 
-pub sections_split : (ss : List Section) (i : ℕ) (v w : List Line) → sections_lines i ss (v ++ w) ≡ sections_lines i ss v ++ w
+pub sections_split : (ss : List CertSection) (i : ℕ) (v w : List CertLine) → sections_lines i ss (v ++ w) ≡ sections_lines i ss v ++ w
 sections_split [] i v w = refl
 sections_split (s ∷ ss) i v w = ap (λ x. line.Section i (length s.nodes) ∷ x) (ap (section_lines s) (sections_split ss (i + 1) v w) ∙ section_split s (sections_lines (i + 1) ss v) w)
 
-pub open_split : (o : Open) (v w : List Line) → open_lines o (v ++ w) ≡ open_lines o v ++ w
+pub open_split : (o : Open) (v w : List CertLine) → open_lines o (v ++ w) ≡ open_lines o v ++ w
 open_split o v w = ap (λ x. line.K o.k ∷ line.Sections o.count ∷ x) (sections_split o.done 0 v w)
 
 -- the lines of a stage stand before what follows
-pub stage_split : (s : Stage) (w : List Line) → stage_lines s w ≡ stage_lines s [] ++ w
+pub stage_split : (s : CertStage) (w : List CertLine) → stage_lines s w ≡ stage_lines s [] ++ w
 stage_split stage.Header w = refl
 stage_split stage.K w = refl
 stage_split (stage.Count k) w = refl

@@ -4,6 +4,7 @@ pub mod ZerosLemmas
 pub mod WriteLaws
 pub mod NumberLaws
 pub mod PartsLaws
+pub mod PathLaws
 pub mod SubjectLaws
 pub mod ListLaws
 pub mod TakeLaws
@@ -20,3 +21,4 @@ pub mod Allowed
 pub mod Verdict
 pub mod Only
 pub mod Alone
+pub mod Versions

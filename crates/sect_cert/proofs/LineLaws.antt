@@ -7,19 +7,19 @@ use Rattle.std.specs.Str.{bytes_eq}
 use Rattle.std.specs.List.{join_with_byte, AllByRecursion}
 use Rattle.std.proofs.lemmas.List.Splits.{join_with_byte-slice_split}
 use Rattle.sect_cert.specs.Parts.{parts}
-use Rattle.sect_cert.specs.Numbers.{number_of, ends_with}
+use Rattle.sect_cert.specs.steps.Numbers.{number_of, ends_with}
 use Rattle.sect_cert.specs.Spelling.{lock_words, list_words, some_words, chain_words}
-use Rattle.sect_cert.specs.Lists.{list_of, standing, Stand, after, whole_of, whole_at}
-use Rattle.sect_cert.specs.Chains.{steps_of}
-use Rattle.sect_cert.specs.Reading.{line_of, only_number, section_line, colon_number, node_line, chain_line, end_line}
+use Rattle.sect_cert.specs.steps.Lists.{list_of, list_state, ListState, after, whole_of, whole_at}
+use Rattle.sect_cert.specs.steps.Chains.{steps_of}
+use Rattle.sect_cert.specs.steps.Reading.{line_of, only_number, section_line, colon_number, node_line, chain_line, end_line}
 use Rattle.sect_cert.specs.Lines.{line_text, line_words}
 use Rattle.sect_cert.specs.Texts.{IsLine, IsLock, IsStep, IsNumber}
-use Rattle.sect_cert.specs.declared.lock.Lock.{Lock}
-use Rattle.sect_cert.specs.declared.certificate.Step.{Step}
-use Rattle.sect_cert.specs.declared.list.Place.{Place}
-use Rattle.sect_cert.specs.declared.list.Place.TheVariants as place
-use Rattle.sect_cert.specs.declared.line.Line.{Line}
-use Rattle.sect_cert.specs.declared.line.Line.TheVariants as line
+use Rattle.sect_cert.specs.declared.lock.CertLock.{CertLock}
+use Rattle.sect_cert.specs.declared.certificate.CertStep.{CertStep}
+use Rattle.sect_cert.specs.declared.list.ListWord.{ListWord}
+use Rattle.sect_cert.specs.declared.list.ListWord.TheVariants as due
+use Rattle.sect_cert.specs.declared.line.CertLine.{CertLine}
+use Rattle.sect_cert.specs.declared.line.CertLine.TheVariants as line
 use Rattle.sect_cert.specs.Verdicts.{IsOfForm}
 use Rattle.sect_cert.proofs.PartsLemmas.{same_bytes}
 use Rattle.sect_cert.proofs.PartsLaws.{ends_end, take_end}
@@ -30,31 +30,31 @@ use Rattle.sect_cert.proofs.StepLaws.{steps_again, steps_take}
 use Rattle.sect_cert.proofs.WordLaws.{line_cut, line_exact}
 use Rattle.sect_cert.proofs.ZerosLemmas.{plain_exact}
 use Rattle.sect_cert.specs.Zeros.{plain, is_exact}
-use Rattle.sect_cert.specs.Certificates.{chain_with}
-use Rattle.sect_cert.specs.Reading.{section_of}
+use Rattle.sect_cert.specs.steps.Certificates.{chain_with}
+use Rattle.sect_cert.specs.steps.Reading.{section_of}
 
-whole_list : (l : Lock) (ls : List Lock) → whole_words (l ∷ ls) [] ≡ some_words l ls
+whole_list : (l : CertLock) (ls : List CertLock) → whole_words (l ∷ ls) [] ≡ some_words l ls
 whole_list l [] = refl
 whole_list l (k ∷ ls) = ap (λ x. lock_words l (codes ",") x) (whole_list k ls)
 
-whole_take : (w v : List ℕ) (ws : List (List ℕ)) (ls : List Lock) → whole_words ls [] ≡ (w ∷ v ∷ ws) ++ [] → (w ∷ v ∷ ws) ≡ list_words ls
+whole_take : (w v : List ℕ) (ws : List (List ℕ)) (ls : List CertLock) → whole_words ls [] ≡ (w ∷ v ∷ ws) ++ [] → (w ∷ v ∷ ws) ≡ list_words ls
 whole_take w v ws [] h = cc
 whole_take w v ws (l ∷ ls) h = sym (append-nil (w ∷ v ∷ ws)) ∙ (sym h ∙ whole_list l ls)
 
-list_take : (ws : List (List ℕ)) (ls : List Lock) → list_of ws ≡ Some ls → (ws ≡ list_words ls) × AllByRecursion IsLock ls
+list_take : (ws : List (List ℕ)) (ls : List CertLock) → list_of ws ≡ Some ls → (ws ≡ list_words ls) × AllByRecursion IsLock ls
 list_take [] ls h = cc
 list_take (w ∷ []) ls h = go (bytes_eq w (codes "none")) refl h
   where
     go : (b : Bool) → bytes_eq w (codes "none") ≡ b → cond b (Some []) None ≡ Some ls → ((w ∷ []) ≡ list_words ls) × AllByRecursion IsLock ls
     go true e g = let is : [] ≡ ls = cc in subst (λ y. ((w ∷ []) ≡ list_words y) × AllByRecursion IsLock y) is (ap (λ y. y ∷ []) (same_bytes w (codes "none") e), tt)
     go false e g = cc
-list_take (w ∷ v ∷ ws) ls h = go (after (standing [] place.Mode) (w ∷ v ∷ ws)) (after_law [] place.Mode (w ∷ v ∷ ws)) h
+list_take (w ∷ v ∷ ws) ls h = go (after (list_state [] due.Mode) (w ∷ v ∷ ws)) (after_law [] due.Mode (w ∷ v ∷ ws)) h
   where
-    at : (ks : List Lock) (p : Place) → TakesAll [] place.Mode (w ∷ v ∷ ws) (standing ks p) → whole_at ks p ≡ Some ls → ((w ∷ v ∷ ws) ≡ list_words ls) × AllByRecursion IsLock ls
-    at ks place.Whole k g = let is : ks ≡ ls = cc in subst (λ y. ((w ∷ v ∷ ws) ≡ list_words y) × AllByRecursion IsLock y) is (whole_take w v ws ks (k.words []), k.good tt)
+    at : (ks : List CertLock) (p : ListWord) → TakesAll [] due.Mode (w ∷ v ∷ ws) (list_state ks p) → whole_at ks p ≡ Some ls → ((w ∷ v ∷ ws) ≡ list_words ls) × AllByRecursion IsLock ls
+    at ks due.Whole k g = let is : ks ≡ ls = cc in subst (λ y. ((w ∷ v ∷ ws) ≡ list_words y) × AllByRecursion IsLock y) is (whole_take w v ws ks (k.words []), k.good tt)
     at ks _ k g = cc
 
-    go : (o : Option Stand) → IfSome o (λ s. TakesAll [] place.Mode (w ∷ v ∷ ws) s) → option_and_then whole_of o ≡ Some ls → ((w ∷ v ∷ ws) ≡ list_words ls) × AllByRecursion IsLock ls
+    go : (o : Option ListState) → IfSome o (λ s. TakesAll [] due.Mode (w ∷ v ∷ ws) s) → option_and_then whole_of o ≡ Some ls → ((w ∷ v ∷ ws) ≡ list_words ls) × AllByRecursion IsLock ls
     go None k g = cc
     go (Some s) k g = at s.locks s.at k g
 
@@ -71,7 +71,7 @@ colon_take w n h = go (ends_with 58 w) refl h
     go false e g = cc
 
 -- the words of a line are read as it
-pub line_reads : (x : Line) → IsLine x → line_of (line_words x) ≡ Some x
+pub line_reads : (x : CertLine) → IsLine x → line_of (line_words x) ≡ Some x
 line_reads (line.K n) h = rw (number_decimal n h) refl
 line_reads (line.Sections n) h = rw (number_decimal n h) refl
 line_reads (line.Section i m) h = rw (number_decimal i h.0, number_decimal m h.1) refl
@@ -80,20 +80,20 @@ line_reads (line.Entry ls) h = rw (list_again ls h) refl
 line_reads (line.Chain c) h = rw (colon_again c.lock h.0, steps_again c.steps h.1 h.2) refl
 line_reads line.End h = refl
 
-pub record IsAgain (x : Line) : Type 0 where
+pub record IsAgain (x : CertLine) : Type 0 where
   pub line : line_of (parts 32 (plain (line_text x))) ≡ Some x
   pub exact : is_exact (line_text x) ≡ true
 
 -- a text of the form of a line is read as it
-pub form_again : (t : List ℕ) (x : Line) → IsOfForm t x → line_of (parts 32 (plain t)) ≡ Some x
+pub form_again : (t : List ℕ) (x : CertLine) → IsOfForm t x → line_of (parts 32 (plain t)) ≡ Some x
 form_again t x f = ap line_of (ap (parts 32) f.spells ∙ line_cut x f.good) ∙ line_reads x f.good
 
-pub line_again : (x : Line) → IsLine x → IsAgain x
+pub line_again : (x : CertLine) → IsLine x → IsAgain x
 line_again x h =
     let e : is_exact (line_text x) ≡ true = line_exact x h in
     record { line = form_again (line_text x) x (record { spells = plain_exact (line_text x) e; good = h }); exact = e }
 
-pub record Spells (ws : List (List ℕ)) (x : Line) : Type 0 where
+pub record Spells (ws : List (List ℕ)) (x : CertLine) : Type 0 where
   pub words : ws ≡ line_words x
   pub good : IsLine x
 
@@ -102,7 +102,7 @@ only_take [] n h = cc
 only_take (w ∷ []) n h = let t : (w ≡ decimal n) × (n < 4294967296) = decimal_number w n h in (ap (λ y. y ∷ []) t.0, t.1)
 only_take (w ∷ v ∷ ws) n h = cc
 
-section_take : (h : List ℕ) (ws : List (List ℕ)) (x : Line) → h ≡ codes "section" → section_line ws ≡ Some x → Spells (h ∷ ws) x
+section_take : (h : List ℕ) (ws : List (List ℕ)) (x : CertLine) → h ≡ codes "section" → section_line ws ≡ Some x → Spells (h ∷ ws) x
 section_take h (i ∷ s ∷ m ∷ []) x e g = go (bytes_eq s (codes "nodes")) refl g
   where
     both : (a : Option ℕ) → number_of i ≡ a → (b : Option ℕ) → number_of m ≡ b → s ≡ codes "nodes" → section_of a b ≡ Some x → Spells (h ∷ i ∷ s ∷ m ∷ []) x
@@ -121,22 +121,22 @@ section_take h (i ∷ []) x e g = cc
 section_take h (i ∷ s ∷ []) x e g = cc
 section_take h (i ∷ s ∷ m ∷ y ∷ ws) x e g = cc
 
-node_take : (h : List ℕ) (ws : List (List ℕ)) (x : Line) → h ≡ codes "node" → node_line ws ≡ Some x → Spells (h ∷ ws) x
+node_take : (h : List ℕ) (ws : List (List ℕ)) (x : CertLine) → h ≡ codes "node" → node_line ws ≡ Some x → Spells (h ∷ ws) x
 node_take h [] x e g = cc
 node_take h (w ∷ ws) x e g = go (colon_number w) refl (list_of ws) refl g
   where
-    go : (a : Option ℕ) → colon_number w ≡ a → (b : Option (List Lock)) → list_of ws ≡ b → option_and_then (λ j. option_map (λ ls. line.Node j ls) b) a ≡ Some x → Spells (h ∷ w ∷ ws) x
+    go : (a : Option ℕ) → colon_number w ≡ a → (b : Option (List CertLock)) → list_of ws ≡ b → option_and_then (λ j. option_map (λ ls. line.Node j ls) b) a ≡ Some x → Spells (h ∷ w ∷ ws) x
     go (Some j) p (Some ls) q k = let t : (w ≡ decimal j ++ codes ":") × IsNumber j = colon_take w j p in let u : (ws ≡ list_words ls) × AllByRecursion IsLock ls = list_take ws ls q in
         let is : line.Node j ls ≡ x = cc in
         subst (Spells (h ∷ w ∷ ws)) is (record { words = ap (λ y. y ∷ w ∷ ws) e ∙ (ap (λ y. codes "node" ∷ y ∷ ws) t.0 ∙ ap (λ y. codes "node" ∷ (decimal j ++ codes ":") ∷ y) u.0); good = (t.1, u.1) })
     go (Some j) p None q k = cc
     go None p b q k = cc
 
-chain_take : (h : List ℕ) (ws : List (List ℕ)) (x : Line) → h ≡ codes "chain" → chain_line ws ≡ Some x → Spells (h ∷ ws) x
+chain_take : (h : List ℕ) (ws : List (List ℕ)) (x : CertLine) → h ≡ codes "chain" → chain_line ws ≡ Some x → Spells (h ∷ ws) x
 chain_take h [] x e g = cc
 chain_take h (w ∷ ws) x e g = go (colon_number w) refl (steps_of ws) refl g
   where
-    go : (a : Option ℕ) → colon_number w ≡ a → (b : Option (List Step)) → steps_of ws ≡ b → option_and_then (λ l. option_map (λ ss. line.Chain (chain_with l ss)) b) a ≡ Some x → Spells (h ∷ w ∷ ws) x
+    go : (a : Option ℕ) → colon_number w ≡ a → (b : Option (List CertStep)) → steps_of ws ≡ b → option_and_then (λ l. option_map (λ ss. line.Chain (chain_with l ss)) b) a ≡ Some x → Spells (h ∷ w ∷ ws) x
     go (Some j) p (Some ss) q k = let t : (w ≡ decimal j ++ codes ":") × IsNumber j = colon_take w j p in let u : (ws ≡ chain_words ss) × (ss ≢ []) × AllByRecursion IsStep ss = steps_take ws ss q in
         let is : line.Chain (chain_with j ss) ≡ x = cc in
         subst (Spells (h ∷ w ∷ ws)) is (record { words = ap (λ y. y ∷ w ∷ ws) e ∙ (ap (λ y. codes "chain" ∷ y ∷ ws) t.0 ∙ ap (λ y. codes "chain" ∷ (decimal j ++ codes ":") ∷ y) u.0); good = (t.1, u.1, u.2) })
@@ -144,16 +144,16 @@ chain_take h (w ∷ ws) x e g = go (colon_number w) refl (steps_of ws) refl g
     go None p b q k = cc
 
 -- words that are read as a line are its words
-pub line_spells : (ws : List (List ℕ)) (x : Line) → line_of ws ≡ Some x → Spells ws x
+pub line_spells : (ws : List (List ℕ)) (x : CertLine) → line_of ws ≡ Some x → Spells ws x
 line_spells [] x h = cc
 line_spells (w ∷ ws) x h = go (bytes_eq w (codes "k")) refl (bytes_eq w (codes "sections")) refl (bytes_eq w (codes "section")) refl (bytes_eq w (codes "node")) refl (bytes_eq w (codes "entry:")) refl (bytes_eq w (codes "chain")) refl (bytes_eq w (codes "end")) refl h
   where
-    one : (head : List ℕ) (f : ℕ → Line) → w ≡ head → ((n : ℕ) → line_words (f n) ≡ head ∷ decimal n ∷ []) → ((n : ℕ) → IsNumber n → IsLine (f n)) → (o : Option ℕ) → only_number ws ≡ o → option_map f o ≡ Some x → Spells (w ∷ ws) x
+    one : (head : List ℕ) (f : ℕ → CertLine) → w ≡ head → ((n : ℕ) → line_words (f n) ≡ head ∷ decimal n ∷ []) → ((n : ℕ) → IsNumber n → IsLine (f n)) → (o : Option ℕ) → only_number ws ≡ o → option_map f o ≡ Some x → Spells (w ∷ ws) x
     one head f e s p None q g = cc
     one head f e s p (Some n) q g = let t : (ws ≡ decimal n ∷ []) × IsNumber n = only_take ws n q in let is : f n ≡ x = cc in
         subst (Spells (w ∷ ws)) is (record { words = ap (λ y. y ∷ ws) e ∙ (ap (λ y. head ∷ y) t.0 ∙ sym (s n)); good = p n t.1 })
 
-    entry : w ≡ codes "entry:" → (o : Option (List Lock)) → list_of ws ≡ o → option_map (λ ls. line.Entry ls) o ≡ Some x → Spells (w ∷ ws) x
+    entry : w ≡ codes "entry:" → (o : Option (List CertLock)) → list_of ws ≡ o → option_map (λ ls. line.Entry ls) o ≡ Some x → Spells (w ∷ ws) x
     entry e None q g = cc
     entry e (Some ls) q g = let u : (ws ≡ list_words ls) × AllByRecursion IsLock ls = list_take ws ls q in let is : line.Entry ls ≡ x = cc in
         subst (Spells (w ∷ ws)) is (record { words = ap (λ y. y ∷ ws) e ∙ ap (λ y. codes "entry:" ∷ y) u.0; good = u.1 })
@@ -174,16 +174,16 @@ line_spells (w ∷ ws) x h = go (bytes_eq w (codes "k")) refl (bytes_eq w (codes
     go false p false q false r false s false t false u true v k = last (same_bytes w (codes "end") v) ws refl k
     go false p false q false r false s false t false u false v k = cc
 
-pub record IsTaken (t : List ℕ) (x : Line) : Type 0 where
+pub record IsTaken (t : List ℕ) (x : CertLine) : Type 0 where
   pub text : t ≡ line_text x
   pub good : IsLine x
 
 -- a text that is read as a line is of its form
-pub form_takes : (t : List ℕ) (x : Line) → line_of (parts 32 (plain t)) ≡ Some x → IsOfForm t x
+pub form_takes : (t : List ℕ) (x : CertLine) → line_of (parts 32 (plain t)) ≡ Some x → IsOfForm t x
 form_takes t x h =
     let s : Spells (parts 32 (plain t)) x = line_spells (parts 32 (plain t)) x h in
     record { spells = sym (join_with_byte-slice_split 32 (plain t)) ∙ ap (join_with_byte 32) s.words; good = s.good }
 
 -- without leading zeros it is its text
-pub line_takes : (t : List ℕ) (x : Line) → line_of (parts 32 (plain t)) ≡ Some x → is_exact t ≡ true → IsTaken t x
+pub line_takes : (t : List ℕ) (x : CertLine) → line_of (parts 32 (plain t)) ≡ Some x → is_exact t ≡ true → IsTaken t x
 line_takes t x h e = let f : IsOfForm t x = form_takes t x h in record { text = sym (plain_exact t e) ∙ f.spells; good = f.good }

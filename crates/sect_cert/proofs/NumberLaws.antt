@@ -8,7 +8,7 @@ use Rattle.std.proofs.Common.{rules}
 use Rattle.std.specs.List.{list_all}
 use Rattle.std.specs.Fmt.{decimal}
 use Rattle.sect_front.specs.Words.{is_digit}
-use Rattle.sect_cert.specs.Numbers.{decimal_from, number_of}
+use Rattle.sect_cert.specs.steps.Numbers.{decimal_from, number_of}
 
 digit_test : (n : ℕ) → n < 10 → is_digit (48 + n) ≡ true
 digit_test n h = grind (arith, nat_tests)

@@ -6,12 +6,12 @@ use Rattle.sect_cert.specs.Zeros.{plain}
 use Rattle.sect_cert.proofs.TextLaws.{HasLines, lines_of}
 use Rattle.sect_cert.specs.declared.certificate.Cert.{Cert}
 use Rattle.sect_cert.specs.Lines.{line_text}
-use Rattle.sect_cert.specs.Reading.{line_of}
+use Rattle.sect_cert.specs.steps.Reading.{line_of}
 use Rattle.sect_cert.specs.Texts.{IsLine, HasText, body_lines, cert_lines, certificate_text}
-use Rattle.sect_cert.specs.Stages.{read_words}
-use Rattle.sect_cert.specs.Verdicts.{Judges}
-use Rattle.sect_cert.specs.declared.line.Line.{Line}
-use Rattle.sect_cert.specs.declared.stage.Stage.TheVariants as stage
+use Rattle.sect_cert.specs.steps.Stages.{read_words}
+use Rattle.sect_cert.specs.steps.Closing.{JudgesLines}
+use Rattle.sect_cert.specs.declared.line.CertLine.{CertLine}
+use Rattle.sect_cert.specs.declared.stage.CertStage.TheVariants as stage
 use Rattle.sect_cert.specs.declared.fault.CertFault.{CertFault}
 use Rattle.sect_cert.specs.declared.fault.CertFault.TheVariants as fault
 use Rattle.sect_cert.proofs.PartsLaws.{lacks, parts_fed}
@@ -21,7 +21,7 @@ use Rattle.sect_cert.proofs.Readings.{read_all, cert_read, read_append}
 use Rattle.sect_cert.specs.Zeros.{is_exact}
 use Rattle.sect_cert.specs.Verdicts.{Gives}
 
-feeds : (xs : List Line) → AllByRecursion IsLine xs → AllByRecursion (λ x. lacks 10 x ≡ true) (map line_text xs)
+feeds : (xs : List CertLine) → AllByRecursion IsLine xs → AllByRecursion (λ x. lacks 10 x ≡ true) (map line_text xs)
 feeds [] h = tt
 feeds (x ∷ xs) h = (line_feed x h.0, feeds xs h.1)
 
@@ -52,7 +52,7 @@ within (f ∷ front) (w ∷ whole) text last more h g =
 done : (c : Cert) (t : List ℕ) (ts : List (List ℕ)) → read_all (stage.Finished c) (t ∷ ts) ≡ None
 done c t ts = go (line_of (parts 32 (plain t)))
   where
-    go : (o : Option Line) → goes (read_words (stage.Finished c) o (is_exact t)) (λ n. read_all n ts) ≡ None
+    go : (o : Option CertLine) → goes (read_words (stage.Finished c) o (is_exact t)) (λ n. read_all n ts) ≡ None
     go None = refl
     go (Some x) = refl
 
@@ -86,10 +86,11 @@ same_cert : (c d : Cert) → HasText c → HasText d → cert_lines d ≡ cert_l
 same_cert c d h g e = let s : Some (stage.Finished d) ≡ Some (stage.Finished c) = sym (cert_read d g) ∙ (ap (read_all stage.Header) e ∙ cert_read c h) in let t : stage.Finished d ≡ stage.Finished c = cc in cc
 
 -- the text of a certificate is answered with it
-pub only : (bytes : List ℕ) (r : Result Cert CertFault) → Judges bytes r → (c : Cert) → HasText c → bytes ≡ certificate_text c → Gives c r
+pub only : (bytes : List ℕ) (r : Result Cert CertFault) → JudgesLines bytes r → (c : Cert) → HasText c → bytes ≡ certificate_text c → Gives c r
 only bytes (Ok d) j c h e =
     same_cert c d h j.0 (same_front (cert_lines d) (cert_lines c) [] [] (sym (cut_cert d j.0) ∙ (ap (parts 10) (sym j.1 ∙ e) ∙ cut_cert c h)))
 only bytes (Err fault.Memory) j c h e = tt
+only bytes (Err fault.OldVersion) j c h e = absurd j
 only bytes (Err (fault.CertEnd n)) j c h e =
     j.due (c, h, same_front (cert_lines c) j.front [] j.rest (sym (cut_cert c h) ∙ (ap (parts 10) (sym e) ∙ j.split)))
 only bytes (Err (fault.BadCertLine n)) j c h e =

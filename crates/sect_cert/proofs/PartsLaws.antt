@@ -6,12 +6,8 @@ use Rattle.std.specs.Prelude.{◌==◌, slice_get, take}
 use Rattle.std.specs.List.{onto_first, join_with_byte, list_all, AllByRecursion}
 use Rattle.sect_cert.specs.Parts.{parts}
 use Rattle.sect_front.specs.Words.{is_letter, is_name_byte, is_name, begins, is_keyword}
-use Rattle.sect_cert.specs.Numbers.{ends_with, without_end, is_byte}
-use Rattle.sect_cert.specs.Spelling.{path_names, path_text}
-use Rattle.sect_cert.specs.Certificates.{path_with}
-use Rattle.sect_cert.specs.Subjects.{path_at, path_of}
-use Rattle.sect_cert.specs.declared.lock.Path.{Path}
-use Rattle.sect_cert.specs.Texts.{IsPath, fed}
+use Rattle.sect_cert.specs.steps.Numbers.{ends_with, without_end, is_byte}
+use Rattle.sect_cert.specs.Texts.{fed}
 use Rattle.std.specs.Prelude.{nat_le}
 use Rattle.std.proofs.Common.{length-append}
 use Rattle.std.proofs.Math.Seq.{take-append_seam}
@@ -82,37 +78,11 @@ lacks_append c (b ∷ v) w h k = go (b == c) h (λ g. lacks_append c v w g k)
     go true h g = cc
     go false h g = g h
 
--- a path lacks what its names and the point lack
-pub path_lacks : (c : ℕ) → is_name_byte c ≡ false → (46 == c) ≡ false → (p : List (List ℕ)) → list_all is_name p ≡ true → lacks c (join_with_byte 46 p) ≡ true
-path_lacks c out dot p h = go p (names_lack c out p h)
-  where
-    go : (p : List (List ℕ)) → AllByRecursion (λ x. lacks c x ≡ true) p → lacks c (join_with_byte 46 p) ≡ true
-    go [] h = refl
-    go (w ∷ []) h = h.0
-    go (w ∷ v ∷ p) h = lacks_append c w (46 ∷ join_with_byte 46 (v ∷ p)) h.0 (rw dot (go (v ∷ p) h.1))
-
--- the text of a path is read as it
-pub path_again : (p : Path) → IsPath p → path_of (path_text p) ≡ Some p
-path_again p h = rw (parts_join 46 p.base p.fields (names_lack 46 refl (path_names p) h)) (go (is_name p.base) (list_all is_name p.fields) h)
-  where
-    go : (a b : Bool) → (a && b) ≡ true → cond a (cond b (Some (path_with p.base p.fields)) None) None ≡ Some p
-    go true true h = refl
-    go true false h = cc
-    go false b h = cc
-
--- a word that is read as a path is its text
-pub path_takes : (w : List ℕ) (p : Path) → path_of w ≡ Some p → (w ≡ path_text p) × IsPath p
-path_takes w p h = go (parts 46 w) refl h
-  where
-    at : (base : List ℕ) (fields : List (List ℕ)) (a b : Bool) → is_name base ≡ a → list_all is_name fields ≡ b → parts 46 w ≡ base ∷ fields → cond a (cond b (Some (path_with base fields)) None) None ≡ Some p → (w ≡ path_text p) × IsPath p
-    at base fields true true e f is g = let same_path : path_with base fields ≡ p = cc in
-        subst (λ y. (w ≡ path_text y) × IsPath y) same_path (sym (join_with_byte-slice_split 46 w) ∙ ap (join_with_byte 46) is, rw e f)
-    at base fields true false e f is g = cc
-    at base fields false b e f is g = cc
-
-    go : (ws : List (List ℕ)) → parts 46 w ≡ ws → path_at ws ≡ Some p → (w ≡ path_text p) × IsPath p
-    go [] e g = cc
-    go (base ∷ fields) e g = at base fields (is_name base) (list_all is_name fields) refl refl e g
+-- what is joined by points lacks what its parts and the point lack
+pub joined_lacks : (c : ℕ) → (46 == c) ≡ false → (ws : List (List ℕ)) → AllByRecursion (λ x. lacks c x ≡ true) ws → lacks c (join_with_byte 46 ws) ≡ true
+joined_lacks c dot [] h = refl
+joined_lacks c dot (w ∷ []) h = h.0
+joined_lacks c dot (w ∷ v ∷ ws) h = lacks_append c w (46 ∷ join_with_byte 46 (v ∷ ws)) h.0 (rw dot (joined_lacks c dot (v ∷ ws) h.1))
 
 -- the byte that ends a word
 last_byte : (w : List ℕ) (c : ℕ) → slice_get (w ++ c ∷ []) (length w) ≡ Some c

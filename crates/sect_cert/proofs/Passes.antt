@@ -2,30 +2,30 @@
 use Rattle.sect_cert.proofs.Counts.{same, less, not_less, one_more}
 use Rattle.std.proofs.Common.{◌≡◌, ℕ, ◌+◌, ◌≤◌, List, [], ◌∷◌, ◌++◌, Option, Some, None, length, refl, sym, ◌∙◌, ap, arith, append_assoc, append-nil}
 use Rattle.sect_cert.proofs.TextLaws.{RiseAfter, RisingAll}
-use Rattle.sect_cert.specs.declared.certificate.Section.{Section}
-use Rattle.sect_cert.specs.Certificates.{section_with, cert_with}
+use Rattle.sect_cert.specs.declared.certificate.CertSection.{CertSection}
+use Rattle.sect_cert.specs.steps.Certificates.{section_with, cert_with}
 use Rattle.sect_cert.specs.declared.certificate.Cert.{Cert}
 use Rattle.sect_cert.specs.Texts.{nodes_lines, chains_lines, section_lines, sections_lines, body_lines}
-use Rattle.sect_cert.specs.Stages.{Next, Goes, Bad, Odd, open_with, close_of, stage_of}
-use Rattle.sect_cert.specs.declared.lock.Lock.{Lock}
+use Rattle.sect_cert.specs.steps.Stages.{Next, Goes, Bad, Odd, open_with, close_of, stage_of}
+use Rattle.sect_cert.specs.declared.lock.CertLock.{CertLock}
 use Rattle.sect_cert.specs.declared.certificate.Chain.{Chain}
-use Rattle.sect_cert.specs.declared.line.Line.{Line}
-use Rattle.sect_cert.specs.declared.line.Line.TheVariants as line
+use Rattle.sect_cert.specs.declared.line.CertLine.{CertLine}
+use Rattle.sect_cert.specs.declared.line.CertLine.TheVariants as line
 use Rattle.sect_cert.specs.declared.stage.Open.{Open}
-use Rattle.sect_cert.specs.declared.stage.Stage.{Stage}
-use Rattle.sect_cert.specs.declared.stage.Stage.TheVariants as stage
+use Rattle.sect_cert.specs.declared.stage.CertStage.{CertStage}
+use Rattle.sect_cert.specs.declared.stage.CertStage.TheVariants as stage
 
-abbrev pub goes : Next → (Stage → Option Stage) → Option Stage
+abbrev pub goes : Next → (CertStage → Option CertStage) → Option CertStage
 goes (Goes s) f = f s
 goes Bad f = None
 goes Odd f = None
 
 -- the stage after these lines
-abbrev pub run : Stage → List Line → Option Stage
+abbrev pub run : CertStage → List CertLine → Option CertStage
 run s [] = Some s
 run s (x ∷ xs) = goes (stage_of s x) (λ t. run t xs)
 
-nodes_pass : (o : Open) (m : ℕ) (ns done : List (List Lock)) (w : List Line) → length done + length ns ≤ m →
+nodes_pass : (o : Open) (m : ℕ) (ns done : List (List CertLock)) (w : List CertLine) → length done + length ns ≤ m →
     run (stage.Nodes o m done) (nodes_lines (length done) ns w) ≡ run (stage.Nodes o m (done ++ ns)) w
 nodes_pass o m [] done w h = ap (λ d. run (stage.Nodes o m d) w) (sym (append-nil done))
 nodes_pass o m (ls ∷ ns) done w h =
@@ -34,26 +34,26 @@ nodes_pass o m (ls ∷ ns) done w h =
     ∙ (nodes_pass o m ns (done ++ ls ∷ []) w (omega (arith, h, one_more done ls))
     ∙ ap (λ d. run (stage.Nodes o m d) w) (append_assoc done (ls ∷ []) ns)))
 
-chains_pass : (o : Open) (ns : List (List Lock)) (e : List Lock) (cs done : List Chain) (w : List Line) → RiseAfter done cs →
+chains_pass : (o : Open) (ns : List (List CertLock)) (e : List CertLock) (cs done : List Chain) (w : List CertLine) → RiseAfter done cs →
     run (stage.Chains o (section_with ns e done)) (chains_lines cs w) ≡ run (stage.Chains o (section_with ns e (done ++ cs))) w
 chains_pass o ns e [] done w h = ap (λ d. run (stage.Chains o (section_with ns e d)) w) (sym (append-nil done))
 chains_pass o ns e (c ∷ cs) done w h =
     rw h.0 (chains_pass o ns e cs (done ++ c ∷ []) w h.1 ∙ ap (λ d. run (stage.Chains o (section_with ns e d)) w) (append_assoc done (c ∷ []) cs))
 
 -- the lines of one section, after its first
-section_pass : (o : Open) (s : Section) (w : List Line) → RiseAfter [] s.chains →
+section_pass : (o : Open) (s : CertSection) (w : List CertLine) → RiseAfter [] s.chains →
     run (stage.Nodes o (length s.nodes) []) (section_lines s w) ≡ run (stage.Chains o s) w
 section_pass o s w h =
     nodes_pass o (length s.nodes) s.nodes [] (line.Entry s.entry ∷ chains_lines s.chains w) (omega arith)
     ∙ rw (not_less (length s.nodes) (length s.nodes) (omega arith)) (chains_pass o s.nodes s.entry s.chains [] w h)
 
 -- after a section, and where none has begun, the next is read in one way
-settled : (o : Open) (s : Section) (i : ℕ) (ss : List Section) →
+settled : (o : Open) (s : CertSection) (i : ℕ) (ss : List CertSection) →
     run (stage.Chains o s) (sections_lines i ss (line.End ∷ [])) ≡ run (stage.Between (close_of o s)) (sections_lines i ss (line.End ∷ []))
 settled o s i [] = refl
 settled o s i (t ∷ ss) = refl
 
-sections_pass : (ss : List Section) (o : Open) → o.count ≡ length o.done + length ss → RisingAll ss →
+sections_pass : (ss : List CertSection) (o : Open) → o.count ≡ length o.done + length ss → RisingAll ss →
     run (stage.Between o) (sections_lines (length o.done) ss (line.End ∷ [])) ≡ Some (stage.Finished (cert_with o.k (o.done ++ ss)))
 sections_pass [] o h r = rw (not_less (length o.done) o.count (omega (arith, h)), append-nil o.done) refl
 sections_pass (s ∷ ss) o h r =

@@ -6,18 +6,18 @@ use Rattle.std.specs.Option.{option_map}
 use Rattle.std.specs.Str.{bytes_eq}
 use Rattle.std.specs.Fmt.{decimal}
 use Rattle.std.specs.List.{AllByRecursion}
-use Rattle.sect_cert.specs.Numbers.{ends_with, without_end, number_of, is_byte}
+use Rattle.sect_cert.specs.steps.Numbers.{ends_with, without_end, number_of, is_byte}
 use Rattle.sect_cert.specs.Spelling.{lock_words}
-use Rattle.sect_cert.specs.Subjects.{mode_of, class_lock}
+use Rattle.sect_cert.specs.steps.Subjects.{mode_of, class_lock}
 use Rattle.sect_cert.specs.Texts.{IsLock}
-use Rattle.sect_cert.specs.Lists.{place_behind, Stand, standing, step_of, after}
-use Rattle.sect_cert.specs.declared.subject.Mode.{Mode}
-use Rattle.sect_cert.specs.declared.list.Place.{Place}
-use Rattle.sect_cert.specs.declared.list.Place.TheVariants as place
-use Rattle.sect_cert.specs.declared.lock.Lock.{Lock}
+use Rattle.sect_cert.specs.steps.Lists.{place_behind, ListState, list_state, step_of, after}
+use Rattle.sect_cert.specs.declared.subject.CertMode.{CertMode}
+use Rattle.sect_cert.specs.declared.list.ListWord.{ListWord}
+use Rattle.sect_cert.specs.declared.list.ListWord.TheVariants as due
+use Rattle.sect_cert.specs.declared.lock.CertLock.{CertLock}
 use Rattle.sect_cert.proofs.PartsLemmas.{same_bytes}
 use Rattle.sect_cert.proofs.SubjectLaws.{mode_word, mode_law, mapped, class_lock_law, IsSpelledBy, subject_law}
-use Rattle.sect_cert.specs.Subjects.{subject_of}
+use Rattle.sect_cert.specs.steps.Subjects.{subject_of}
 use Rattle.sect_cert.proofs.NumberLaws.{decimal_number}
 
 -- a word, and the byte that ends it
@@ -42,57 +42,57 @@ end_split w = go (ends_with 44 w) refl
     go false e = append-nil w
 
 -- the words of locks, each before a comma, or all but the last
-abbrev pub comma_words : List Lock → List (List ℕ) → List (List ℕ)
+abbrev pub comma_words : List CertLock → List (List ℕ) → List (List ℕ)
 comma_words [] ws = ws
 comma_words (l ∷ ls) ws = lock_words l (codes ",") (comma_words ls ws)
 
-abbrev pub whole_words : List Lock → List (List ℕ) → List (List ℕ)
+abbrev pub whole_words : List CertLock → List (List ℕ) → List (List ℕ)
 whole_words [] ws = ws
 whole_words (l ∷ []) ws = lock_words l [] ws
 whole_words (l ∷ k ∷ ls) ws = lock_words l (codes ",") (whole_words (k ∷ ls) ws)
 
 -- the words that have been read, before what follows
-abbrev pub place_words : List Lock → Place → List (List ℕ) → List (List ℕ)
-place_words ls place.Mode ws = comma_words ls ws
-place_words ls (place.Subject m) ws = comma_words ls (mode_word m ∷ ws)
-place_words ls (place.Class m) ws = comma_words ls (mode_word m ∷ codes "class" ∷ ws)
-place_words ls place.Whole ws = whole_words ls ws
+abbrev pub place_words : List CertLock → ListWord → List (List ℕ) → List (List ℕ)
+place_words ls due.Mode ws = comma_words ls ws
+place_words ls (due.Subject m) ws = comma_words ls (mode_word m ∷ ws)
+place_words ls (due.Class m) ws = comma_words ls (mode_word m ∷ codes "class" ∷ ws)
+place_words ls due.Whole ws = whole_words ls ws
 
-comma_more : (ls : List Lock) (l : Lock) (ws : List (List ℕ)) → comma_words (ls ++ l ∷ []) ws ≡ comma_words ls (lock_words l (codes ",") ws)
+comma_more : (ls : List CertLock) (l : CertLock) (ws : List (List ℕ)) → comma_words (ls ++ l ∷ []) ws ≡ comma_words ls (lock_words l (codes ",") ws)
 comma_more [] l ws = refl
 comma_more (k ∷ ls) l ws = ap (lock_words k (codes ",")) (comma_more ls l ws)
 
-whole_more : (ls : List Lock) (l : Lock) (ws : List (List ℕ)) → whole_words (ls ++ l ∷ []) ws ≡ comma_words ls (lock_words l [] ws)
+whole_more : (ls : List CertLock) (l : CertLock) (ws : List (List ℕ)) → whole_words (ls ++ l ∷ []) ws ≡ comma_words ls (lock_words l [] ws)
 whole_more [] l ws = refl
 whole_more (k ∷ []) l ws = refl
 whole_more (k ∷ j ∷ ls) l ws = ap (lock_words k (codes ",")) (whole_more (j ∷ ls) l ws)
 
-behind : (ls : List Lock) (l : Lock) (b : Bool) (ws : List (List ℕ)) → place_words (ls ++ l ∷ []) (place_behind b) ws ≡ comma_words ls (lock_words l (ending b) ws)
+behind : (ls : List CertLock) (l : CertLock) (b : Bool) (ws : List (List ℕ)) → place_words (ls ++ l ∷ []) (place_behind b) ws ≡ comma_words ls (lock_words l (ending b) ws)
 behind ls l true ws = comma_more ls l ws
 behind ls l false ws = whole_more ls l ws
 
-record Takes (ls : List Lock) (p : Place) (w : List ℕ) (s : Stand) : Type 0 where
+record Takes (ls : List CertLock) (p : ListWord) (w : List ℕ) (s : ListState) : Type 0 where
   words : (ws : List (List ℕ)) → place_words s.locks s.at ws ≡ place_words ls p (w ∷ ws)
   good : AllByRecursion IsLock ls → AllByRecursion IsLock s.locks
 
-good_more : (ls : List Lock) (l : Lock) → IsLock l → AllByRecursion IsLock ls → AllByRecursion IsLock (ls ++ l ∷ [])
+good_more : (ls : List CertLock) (l : CertLock) → IsLock l → AllByRecursion IsLock ls → AllByRecursion IsLock (ls ++ l ∷ [])
 good_more [] l h g = (h, tt)
 good_more (k ∷ ls) l h g = (g.0, good_more ls l h g.1)
 
-subject_take : (ls : List Lock) (m : Mode) (w : List ℕ) → IfSome (subject_of m (without_end 44 w)) (λ l. Takes ls (place.Subject m) w (standing (ls ++ l ∷ []) (place_behind (ends_with 44 w))))
+subject_take : (ls : List CertLock) (m : CertMode) (w : List ℕ) → IfSome (subject_of m (without_end 44 w)) (λ l. Takes ls (due.Subject m) w (list_state (ls ++ l ∷ []) (place_behind (ends_with 44 w))))
 subject_take ls m w = go (subject_of m (without_end 44 w)) (subject_law m (without_end 44 w))
   where
-    go : (o : Option Lock) → IfSome o (λ l. IsSpelledBy m (without_end 44 w) l) → IfSome o (λ l. Takes ls (place.Subject m) w (standing (ls ++ l ∷ []) (place_behind (ends_with 44 w))))
+    go : (o : Option CertLock) → IfSome o (λ l. IsSpelledBy m (without_end 44 w) l) → IfSome o (λ l. Takes ls (due.Subject m) w (list_state (ls ++ l ∷ []) (place_behind (ends_with 44 w))))
     go None h = tt
     go (Some l) h = record {
       words = λ ws. behind ls l (ends_with 44 w) ws ∙ ap (comma_words ls) (h.words (ending (ends_with 44 w)) ws ∙ ap (λ x. mode_word m ∷ x ∷ ws) (end_split w));
       good = good_more ls l h.good;
     }
 
-class_take : (ls : List Lock) (m : Mode) (w : List ℕ) → IfSome (number_of (without_end 44 w)) (λ n. Takes ls (place.Class m) w (standing (ls ++ class_lock m n ∷ []) (place_behind (ends_with 44 w))))
+class_take : (ls : List CertLock) (m : CertMode) (w : List ℕ) → IfSome (number_of (without_end 44 w)) (λ n. Takes ls (due.Class m) w (list_state (ls ++ class_lock m n ∷ []) (place_behind (ends_with 44 w))))
 class_take ls m w = go (number_of (without_end 44 w)) refl
   where
-    go : (o : Option ℕ) → number_of (without_end 44 w) ≡ o → IfSome o (λ n. Takes ls (place.Class m) w (standing (ls ++ class_lock m n ∷ []) (place_behind (ends_with 44 w))))
+    go : (o : Option ℕ) → number_of (without_end 44 w) ≡ o → IfSome o (λ n. Takes ls (due.Class m) w (list_state (ls ++ class_lock m n ∷ []) (place_behind (ends_with 44 w))))
     go None e = tt
     go (Some n) e = let t : (without_end 44 w ≡ decimal n) × (n < 4294967296) = decimal_number (without_end 44 w) n e in
         let h : IsLock (class_lock m n) × ((e : List ℕ) (ws : List (List ℕ)) → lock_words (class_lock m n) e ws ≡ mode_word m ∷ codes "class" ∷ (decimal n ++ e) ∷ ws) = class_lock_law m n t.1 in record {
@@ -100,29 +100,29 @@ class_take ls m w = go (number_of (without_end 44 w)) refl
           good = good_more ls (class_lock m n) h.0;
         }
 
-step_law : (ls : List Lock) (p : Place) (w : List ℕ) → IfSome (step_of ls p w) (λ s. Takes ls p w s)
-step_law ls place.Mode w = mapped (mode_of w) (λ m. standing ls (place.Subject m)) (λ m. mode_word m ≡ w) (λ s. Takes ls place.Mode w s) (mode_law w) (λ m e. record { words = λ ws. ap (λ x. comma_words ls (x ∷ ws)) e; good = λ g. g })
-step_law ls (place.Subject m) w = go (bytes_eq w (codes "class")) refl
+step_law : (ls : List CertLock) (p : ListWord) (w : List ℕ) → IfSome (step_of ls p w) (λ s. Takes ls p w s)
+step_law ls due.Mode w = mapped (mode_of w) (λ m. list_state ls (due.Subject m)) (λ m. mode_word m ≡ w) (λ s. Takes ls due.Mode w s) (mode_law w) (λ m e. record { words = λ ws. ap (λ x. comma_words ls (x ∷ ws)) e; good = λ g. g })
+step_law ls (due.Subject m) w = go (bytes_eq w (codes "class")) refl
   where
-    go : (b : Bool) → bytes_eq w (codes "class") ≡ b → IfSome (cond b (Some (standing ls (place.Class m))) (option_map (λ l. standing (ls ++ l ∷ []) (place_behind (ends_with 44 w))) (subject_of m (without_end 44 w)))) (λ s. Takes ls (place.Subject m) w s)
+    go : (b : Bool) → bytes_eq w (codes "class") ≡ b → IfSome (cond b (Some (list_state ls (due.Class m))) (option_map (λ l. list_state (ls ++ l ∷ []) (place_behind (ends_with 44 w))) (subject_of m (without_end 44 w)))) (λ s. Takes ls (due.Subject m) w s)
     go true e = record { words = λ ws. ap (λ x. comma_words ls (mode_word m ∷ x ∷ ws)) (sym (same_bytes w (codes "class") e)); good = λ g. g }
-    go false e = mapped (subject_of m (without_end 44 w)) (λ l. standing (ls ++ l ∷ []) (place_behind (ends_with 44 w))) (λ l. Takes ls (place.Subject m) w (standing (ls ++ l ∷ []) (place_behind (ends_with 44 w)))) (λ s. Takes ls (place.Subject m) w s) (subject_take ls m w) (λ l h. h)
-step_law ls (place.Class m) w = mapped (number_of (without_end 44 w)) (λ n. standing (ls ++ class_lock m n ∷ []) (place_behind (ends_with 44 w))) (λ n. Takes ls (place.Class m) w (standing (ls ++ class_lock m n ∷ []) (place_behind (ends_with 44 w)))) (λ s. Takes ls (place.Class m) w s) (class_take ls m w) (λ n h. h)
-step_law ls place.Whole w = tt
+    go false e = mapped (subject_of m (without_end 44 w)) (λ l. list_state (ls ++ l ∷ []) (place_behind (ends_with 44 w))) (λ l. Takes ls (due.Subject m) w (list_state (ls ++ l ∷ []) (place_behind (ends_with 44 w)))) (λ s. Takes ls (due.Subject m) w s) (subject_take ls m w) (λ l h. h)
+step_law ls (due.Class m) w = mapped (number_of (without_end 44 w)) (λ n. list_state (ls ++ class_lock m n ∷ []) (place_behind (ends_with 44 w))) (λ n. Takes ls (due.Class m) w (list_state (ls ++ class_lock m n ∷ []) (place_behind (ends_with 44 w)))) (λ s. Takes ls (due.Class m) w s) (class_take ls m w) (λ n h. h)
+step_law ls due.Whole w = tt
 
-pub record TakesAll (ls : List Lock) (p : Place) (ws : List (List ℕ)) (s : Stand) : Type 0 where
+pub record TakesAll (ls : List CertLock) (p : ListWord) (ws : List (List ℕ)) (s : ListState) : Type 0 where
   pub words : (vs : List (List ℕ)) → place_words s.locks s.at vs ≡ place_words ls p (ws ++ vs)
   pub good : AllByRecursion IsLock ls → AllByRecursion IsLock s.locks
 
 -- words that are read as locks are theirs
-pub after_law : (ls : List Lock) (p : Place) (ws : List (List ℕ)) → IfSome (after (standing ls p) ws) (λ s. TakesAll ls p ws s)
+pub after_law : (ls : List CertLock) (p : ListWord) (ws : List (List ℕ)) → IfSome (after (list_state ls p) ws) (λ s. TakesAll ls p ws s)
 after_law ls p [] = record { words = λ vs. refl; good = λ g. g }
 after_law ls p (w ∷ ws) = go (step_of ls p w) (step_law ls p w) (λ t. after_law t.locks t.at ws)
   where
-    more : (t : Stand) → Takes ls p w t → (o : Option Stand) → IfSome o (λ s. TakesAll t.locks t.at ws s) → IfSome o (λ s. TakesAll ls p (w ∷ ws) s)
+    more : (t : ListState) → Takes ls p w t → (o : Option ListState) → IfSome o (λ s. TakesAll t.locks t.at ws s) → IfSome o (λ s. TakesAll ls p (w ∷ ws) s)
     more t h None k = tt
     more t h (Some s) k = record { words = λ vs. k.words vs ∙ h.words (ws ++ vs); good = λ g. k.good (h.good g) }
 
-    go : (o : Option Stand) → IfSome o (λ t. Takes ls p w t) → ((t : Stand) → IfSome (after t ws) (λ s. TakesAll t.locks t.at ws s)) → IfSome (option_and_then (λ t. after t ws) o) (λ s. TakesAll ls p (w ∷ ws) s)
+    go : (o : Option ListState) → IfSome o (λ t. Takes ls p w t) → ((t : ListState) → IfSome (after t ws) (λ s. TakesAll t.locks t.at ws s)) → IfSome (option_and_then (λ t. after t ws) o) (λ s. TakesAll ls p (w ∷ ws) s)
     go None h k = tt
     go (Some t) h k = more t h (after t ws) (k t)

@@ -3,21 +3,21 @@ use Rattle.sect_cert.proofs.Counts.{less, is_less}
 use Rattle.std.proofs.Common.{◌≡◌, ℕ, ◌+◌, ◌-◌, ◌<◌, ◌≤◌, true, nat_lt, List, [], ◌∷◌, ◌++◌, Some, length, refl, sym, ◌∙◌, arith, length-append}
 use Rattle.std.specs.Prelude.{⊤, slice_get}
 use Rattle.std.specs.List.{AllByRecursion}
-use Rattle.sect_cert.specs.Certificates.{is_rising}
+use Rattle.sect_cert.specs.steps.Certificates.{is_rising}
 use Rattle.sect_cert.specs.Texts.{nodes_lines, chains_lines, sections_lines, body_lines, IsLock, IsChain, IsLine, AreRising, IsSection, HasText}
-use Rattle.sect_cert.specs.declared.lock.Lock.{Lock}
+use Rattle.sect_cert.specs.declared.lock.CertLock.{CertLock}
 use Rattle.sect_cert.specs.declared.certificate.Chain.{Chain}
-use Rattle.sect_cert.specs.declared.certificate.Section.{Section}
+use Rattle.sect_cert.specs.declared.certificate.CertSection.{CertSection}
 use Rattle.sect_cert.specs.declared.certificate.Cert.{Cert}
-use Rattle.sect_cert.specs.declared.line.Line.{Line}
-use Rattle.sect_cert.specs.declared.line.Line.TheVariants as line
+use Rattle.sect_cert.specs.declared.line.CertLine.{CertLine}
+use Rattle.sect_cert.specs.declared.line.CertLine.TheVariants as line
 
 -- the numbers of these chains rise, after these before them
 abbrev pub RiseAfter : List Chain → List Chain → Type 0
 RiseAfter before [] = ⊤
 RiseAfter before (c ∷ cs) = (is_rising before c.lock ≡ true) × RiseAfter (before ++ c ∷ []) cs
 
-abbrev pub RisingAll : List Section → Type 0
+abbrev pub RisingAll : List CertSection → Type 0
 RisingAll ss = AllByRecursion (λ s. RiseAfter [] s.chains) ss
 
 -- the same as a certificate's having a text, by its lines
@@ -48,16 +48,16 @@ are_rising : (cs : List Chain) → RiseAfter [] cs → AreRising cs
 are_rising [] h = tt
 are_rising (c ∷ cs) h = rise_back [] c cs h.1
 
-nodes_good : (ns : List (List Lock)) (j : ℕ) (w : List Line) → AllByRecursion (λ ls. AllByRecursion IsLock ls) ns → j + length ns ≤ 4294967296 → AllByRecursion IsLine w →
+nodes_good : (ns : List (List CertLock)) (j : ℕ) (w : List CertLine) → AllByRecursion (λ ls. AllByRecursion IsLock ls) ns → j + length ns ≤ 4294967296 → AllByRecursion IsLine w →
     AllByRecursion IsLine (nodes_lines j ns w)
 nodes_good [] j w h low g = g
 nodes_good (ls ∷ ns) j w h low g = ((omega (arith, low), h.0), nodes_good ns (j + 1) w h.1 (omega (arith, low)) g)
 
-chains_good : (cs : List Chain) (w : List Line) → AllByRecursion IsChain cs → AllByRecursion IsLine w → AllByRecursion IsLine (chains_lines cs w)
+chains_good : (cs : List Chain) (w : List CertLine) → AllByRecursion IsChain cs → AllByRecursion IsLine w → AllByRecursion IsLine (chains_lines cs w)
 chains_good [] w h g = g
 chains_good (c ∷ cs) w h g = (h.0, chains_good cs w h.1 g)
 
-sections_good : (ss : List Section) (i : ℕ) (w : List Line) → AllByRecursion IsSection ss → i + length ss ≤ 4294967296 → AllByRecursion IsLine w → AllByRecursion IsLine (sections_lines i ss w)
+sections_good : (ss : List CertSection) (i : ℕ) (w : List CertLine) → AllByRecursion IsSection ss → i + length ss ≤ 4294967296 → AllByRecursion IsLine w → AllByRecursion IsLine (sections_lines i ss w)
 sections_good [] i w h low g = g
 sections_good (s ∷ ss) i w h low g =
     let rest : AllByRecursion IsLine (sections_lines (i + 1) ss w) = sections_good ss (i + 1) w h.1 (omega (arith, low)) g in
@@ -67,7 +67,7 @@ sections_good (s ∷ ss) i w h low g =
           (h.0.entry, chains_good s.chains (sections_lines (i + 1) ss w) h.0.chains rest),
     )
 
-sections_rising : (ss : List Section) → AllByRecursion IsSection ss → RisingAll ss
+sections_rising : (ss : List CertSection) → AllByRecursion IsSection ss → RisingAll ss
 sections_rising [] h = tt
 sections_rising (s ∷ ss) h = (rise_all s.chains h.0.rising, sections_rising ss h.1)
 
@@ -78,33 +78,33 @@ lines_of c h =
     record { lines = (h.k, (h.count, sections_good c.sections 0 (line.End ∷ []) h.sections (omega (arith, small)) (tt, tt))); rising = sections_rising c.sections h.sections }
 
 -- what stands behind whole nodes, chains and sections is good where all is
-behind_nodes : (ns : List (List Lock)) (j : ℕ) (w : List Line) → AllByRecursion IsLine (nodes_lines j ns w) → AllByRecursion IsLine w
+behind_nodes : (ns : List (List CertLock)) (j : ℕ) (w : List CertLine) → AllByRecursion IsLine (nodes_lines j ns w) → AllByRecursion IsLine w
 behind_nodes [] j w h = h
 behind_nodes (n ∷ ns) j w h = behind_nodes ns (j + 1) w h.1
 
-behind_chains : (cs : List Chain) (w : List Line) → AllByRecursion IsLine (chains_lines cs w) → AllByRecursion IsLine w
+behind_chains : (cs : List Chain) (w : List CertLine) → AllByRecursion IsLine (chains_lines cs w) → AllByRecursion IsLine w
 behind_chains [] w h = h
 behind_chains (c ∷ cs) w h = behind_chains cs w h.1
 
-pub behind_sections : (ss : List Section) (i : ℕ) (w : List Line) → AllByRecursion IsLine (sections_lines i ss w) → AllByRecursion IsLine w
+pub behind_sections : (ss : List CertSection) (i : ℕ) (w : List CertLine) → AllByRecursion IsLine (sections_lines i ss w) → AllByRecursion IsLine w
 behind_sections [] i w h = h
 behind_sections (s ∷ ss) i w h =
     behind_sections ss (i + 1) w
     (behind_chains s.chains (sections_lines (i + 1) ss w)
     (behind_nodes s.nodes 0 (line.Entry s.entry ∷ chains_lines s.chains (sections_lines (i + 1) ss w)) h.1).1)
 
-nodes_back : (ns : List (List Lock)) (j : ℕ) (w : List Line) → AllByRecursion IsLine (nodes_lines j ns w) → AllByRecursion (λ ls. AllByRecursion IsLock ls) ns
+nodes_back : (ns : List (List CertLock)) (j : ℕ) (w : List CertLine) → AllByRecursion IsLine (nodes_lines j ns w) → AllByRecursion (λ ls. AllByRecursion IsLock ls) ns
 nodes_back [] j w h = tt
 nodes_back (ls ∷ ns) j w h = (h.0.1, nodes_back ns (j + 1) w h.1)
 
-chains_back : (cs : List Chain) (w : List Line) → AllByRecursion IsLine (chains_lines cs w) → AllByRecursion IsChain cs
+chains_back : (cs : List Chain) (w : List CertLine) → AllByRecursion IsLine (chains_lines cs w) → AllByRecursion IsChain cs
 chains_back [] w h = tt
 chains_back (c ∷ cs) w h = (h.0, chains_back cs w h.1)
 
-sections_back : (ss : List Section) (i : ℕ) (w : List Line) → AllByRecursion IsLine (sections_lines i ss w) → RisingAll ss → AllByRecursion IsSection ss
+sections_back : (ss : List CertSection) (i : ℕ) (w : List CertLine) → AllByRecursion IsLine (sections_lines i ss w) → RisingAll ss → AllByRecursion IsSection ss
 sections_back [] i w h r = tt
 sections_back (s ∷ ss) i w h r =
-    let chains : List Line = chains_lines s.chains (sections_lines (i + 1) ss w) in
+    let chains : List CertLine = chains_lines s.chains (sections_lines (i + 1) ss w) in
     let behind : AllByRecursion IsLine (line.Entry s.entry ∷ chains) = behind_nodes s.nodes 0 (line.Entry s.entry ∷ chains) h.1 in (
       record {
         count = h.0.1;

@@ -6,22 +6,22 @@ use Rattle.std.specs.List.{join_with_byte}
 use Rattle.std.proofs.lemmas.List.Splits.{join_with_byte-slice_split}
 use Rattle.sect_cert.specs.Parts.{parts}
 use Rattle.sect_cert.specs.Zeros.{plain, is_exact}
-use Rattle.sect_cert.specs.Certificates.{cert_with}
-use Rattle.sect_cert.specs.Reading.{line_of}
+use Rattle.sect_cert.specs.steps.Certificates.{cert_with}
+use Rattle.sect_cert.specs.steps.Reading.{line_of}
 use Rattle.sect_cert.specs.Texts.{HasText, header_text, cert_lines}
 use Rattle.sect_cert.specs.Forms.{form_of}
-use Rattle.sect_cert.specs.Stages.{Next, Goes, Bad, Odd, stage_of, read_of, read_words, judged, header_of, GoesTo}
-use Rattle.sect_cert.specs.Closing.{is_finished_of, Closes, IsFaultOn}
-use Rattle.sect_cert.specs.Verdicts.{IsViable, IsWhole, IsAllowed, HasForm, HasNoForm, IsEndAt, IsFaultAt, IsMoreAt, Judges}
+use Rattle.sect_cert.specs.steps.Stages.{Next, Goes, Bad, Odd, stage_of, read_of, read_words, judged, header_of, GoesTo}
+use Rattle.sect_cert.specs.steps.Closing.{is_finished_of, Closes, IsFaultOn, JudgesLines}
+use Rattle.sect_cert.specs.Verdicts.{IsViable, IsWhole, IsAllowed, HasForm, HasNoForm, IsEndAt, IsFaultAt, IsMoreAt}
 use Rattle.sect_cert.proofs.TextLaws.{text_of}
 use Rattle.sect_cert.specs.declared.certificate.Cert.{Cert}
 use Rattle.sect_cert.specs.declared.fault.CertFault.{CertFault}
 use Rattle.sect_cert.specs.declared.fault.CertFault.TheVariants as fault
 use Rattle.sect_cert.specs.declared.fault.LineFault.{LineFault}
 use Rattle.sect_cert.specs.declared.fault.LineFault.TheVariants as lines
-use Rattle.sect_cert.specs.declared.line.Line.{Line}
-use Rattle.sect_cert.specs.declared.stage.Stage.{Stage}
-use Rattle.sect_cert.specs.declared.stage.Stage.TheVariants as stage
+use Rattle.sect_cert.specs.declared.line.CertLine.{CertLine}
+use Rattle.sect_cert.specs.declared.stage.CertStage.{CertStage}
+use Rattle.sect_cert.specs.declared.stage.CertStage.TheVariants as stage
 use Rattle.sect_cert.proofs.PartsLemmas.{same_bytes}
 use Rattle.sect_cert.proofs.PartsLaws.{fed_join}
 use Rattle.sect_cert.proofs.Passes.{goes}
@@ -30,25 +30,29 @@ use Rattle.sect_cert.proofs.Readings.{read_all, begun, cert_read, Reads, viable,
 use Rattle.sect_cert.proofs.Allowed.{is_due, due_takes, not_due, allowed, allowed_is_due, not_first}
 
 -- what has been read, at the head of the loop
-abbrev pub IsState : List (List ℕ) → Stage → Type 0
+abbrev pub IsState : List (List ℕ) → CertStage → Type 0
 IsState front s = ((front ≡ []) × (s ≡ stage.Header)) ⊎ Reads front s
 
-pub record IsReading (all left : List (List ℕ)) (s : Stage) (n : ℕ) : Type 0 where
+pub record IsReading (all left : List (List ℕ)) (s : CertStage) (n : ℕ) : Type 0 where
   pub front : List (List ℕ)
   pub split : all ≡ front ++ left
   pub count : n ≡ length front + 1
   pub state : IsState front s
 
-state_run : (front : List (List ℕ)) (s : Stage) → IsState front s → read_all stage.Header front ≡ Some s
+state_run : (front : List (List ℕ)) (s : CertStage) → IsState front s → read_all stage.Header front ≡ Some s
 state_run front s h = elim h [ inl g ↦ ap (read_all stage.Header) g.0 ∙ ap Some (sym g.1) | inr r ↦ r.run ]
 
-state_viable : (front : List (List ℕ)) (s : Stage) → IsState front s → IsViable front
+-- every certificate's text begins with no line
+pub nothing_viable : IsViable []
+nothing_viable = (cert_with 0 [], cert_lines (cert_with 0 []), record { k = omega arith; count = omega arith; sections = tt }, refl)
+
+state_viable : (front : List (List ℕ)) (s : CertStage) → IsState front s → IsViable front
 state_viable front s h = elim h [
-  | inl g ↦ subst IsViable (sym g.0) (cert_with 0 [], cert_lines (cert_with 0 []), record { k = omega arith; count = omega arith; sections = tt }, refl)
+  | inl g ↦ subst IsViable (sym g.0) nothing_viable
   | inr r ↦ viable front s r
 ]
 
-header_taken : (t : List ℕ) (m : Stage) → header_of t ≡ Goes m → Reads (t ∷ []) m
+header_taken : (t : List ℕ) (m : CertStage) → header_of t ≡ Goes m → Reads (t ∷ []) m
 header_taken t m e = go (bytes_eq t header_text) refl e
   where
     go : (b : Bool) → bytes_eq t header_text ≡ b → cond b (Goes stage.K) Bad ≡ Goes m → Reads (t ∷ []) m
@@ -57,7 +61,7 @@ header_taken t m e = go (bytes_eq t header_text) refl e
         subst (Reads (t ∷ [])) at (record { run = ap (λ y. read_all stage.Header (y ∷ [])) is; begun = tt; sound = tt; good = tt; lines = ap (λ y. y ∷ []) is })
     go false f g = cc
 
-state_taken : (front : List (List ℕ)) (s : Stage) (t : List ℕ) (m : Stage) → IsState front s → read_of s t ≡ Goes m → Reads (front ++ t ∷ []) m
+state_taken : (front : List (List ℕ)) (s : CertStage) (t : List ℕ) (m : CertStage) → IsState front s → read_of s t ≡ Goes m → Reads (front ++ t ∷ []) m
 state_taken front s t m h e = elim h [
   | inl g ↦ subst (λ y. Reads (y ++ t ∷ []) m) (sym g.0) (header_taken t m (ap (λ y. read_of y t) (sym g.1) ∙ e))
   | inr r ↦ taken_text front s t m r e
@@ -68,7 +72,7 @@ pub reading_begins : (all left : List (List ℕ)) → all ≡ left → IsReading
 reading_begins all left e = record { front = []; split = e; count = refl; state = inl (refl, refl) }
 
 -- one more line has been read
-pub reading_more : (all others : List (List ℕ)) (s m : Stage) (n : ℕ) (t : List ℕ) → IsReading all (t ∷ others) s n → read_of s t ≡ Goes m → IsReading all others m (n + 1)
+pub reading_more : (all others : List (List ℕ)) (s m : CertStage) (n : ℕ) (t : List ℕ) → IsReading all (t ∷ others) s n → read_of s t ≡ Goes m → IsReading all others m (n + 1)
 reading_more all others s m n t h g = record {
   front = h.front ++ t ∷ [];
   split = h.split ∙ sym (append_assoc h.front (t ∷ []) others);
@@ -76,14 +80,14 @@ reading_more all others s m n t h g = record {
   state = inr (state_taken h.front s t m h.state g);
 }
 
-not_whole : (front : List (List ℕ)) (s : Stage) → read_all stage.Header front ≡ Some s → is_finished_of s ≡ false → IsWhole front → ⊥
+not_whole : (front : List (List ℕ)) (s : CertStage) → read_all stage.Header front ≡ Some s → is_finished_of s ≡ false → IsWhole front → ⊥
 not_whole front s h f w =
     let all : Some s ≡ Some (stage.Finished w.0) = sym h ∙ (ap (read_all stage.Header) (sym w.2) ∙ cert_read w.0 w.1) in
     let same : s ≡ stage.Finished w.0 = cc in
     let no : true ≡ false = ap is_finished_of (sym same) ∙ f in cc
 
 -- what stands behind the last line feed, where a line is due
-ends : (all : List (List ℕ)) (s : Stage) (n : ℕ) (t : List ℕ) → IsReading all (t ∷ []) s n → is_finished_of s ≡ false → IsEndAt all n
+ends : (all : List (List ℕ)) (s : CertStage) (n : ℕ) (t : List ℕ) → IsReading all (t ∷ []) s n → is_finished_of s ≡ false → IsEndAt all n
 ends all s n t h f = record {
   front = h.front;
   rest = t;
@@ -94,7 +98,7 @@ ends all s n t h f = record {
 }
 
 -- a text after the first line, as it is read
-later : (front : List (List ℕ)) (s : Stage) (t : List ℕ) → Reads front s → read_of s t ≡ read_words s (line_of (parts 32 (plain t))) (is_exact t)
+later : (front : List (List ℕ)) (s : CertStage) (t : List ℕ) → Reads front s → read_of s t ≡ read_words s (line_of (parts 32 (plain t))) (is_exact t)
 later front s t r = ap (λ b. cond b (header_of t) (read_words s (line_of (parts 32 (plain t))) (is_exact t))) (begun s r.begun)
 
 judged_bad : (e : Bool) (n : Next) → judged e n ≡ Bad → n ≡ Bad
@@ -104,7 +108,7 @@ judged_bad e Bad h = refl
 judged_bad e Odd h = cc
 
 -- a text that is refused as bad has no form that is allowed
-bad_is : (front : List (List ℕ)) (s : Stage) (t : List ℕ) → IsState front s → read_of s t ≡ Bad → HasNoForm front t
+bad_is : (front : List (List ℕ)) (s : CertStage) (t : List ℕ) → IsState front s → read_of s t ≡ Bad → HasNoForm front t
 bad_is front s t h e f = elim h [
   | inl g ↦ not_first (form_of f.of) (subst (λ y. IsAllowed y (form_of f.of)) g.0 f.allowed)
   | inr r ↦ (let words : read_words s (Some f.of) (is_exact t) ≡ Bad = ap (λ o. read_words s o (is_exact t)) (sym (form_again t f.of f.form)) ∙ (sym (later front s t r) ∙ e) in
@@ -116,7 +120,7 @@ bad_is front s t h e f = elim h [
     go false d r n = allowed_is_due front s r (form_of f.of) f.allowed d
 
 -- a text that is refused for its numbers has a form that is allowed
-odd_is : (front : List (List ℕ)) (s : Stage) (t : List ℕ) → IsState front s → read_of s t ≡ Odd → HasForm front t
+odd_is : (front : List (List ℕ)) (s : CertStage) (t : List ℕ) → IsState front s → read_of s t ≡ Odd → HasForm front t
 odd_is front s t h e = elim h [
   | inl g ↦ absurd (header_law (bytes_eq t header_text) (ap (λ y. read_of y t) (sym g.1) ∙ e))
   | inr r ↦ go r (line_of (parts 32 (plain t))) refl (sym (later front s t r) ∙ e)
@@ -131,15 +135,15 @@ odd_is front s t h e = elim h [
     not_bad b (Goes m) k g = cc
     not_bad b Odd k g = cc
 
-    of_form : Reads front s → (x : Line) → line_of (parts 32 (plain t)) ≡ Some x → (stage_of s x ≡ Bad → ⊥) → (b : Bool) → is_due s (form_of x) ≡ b → HasForm front t
+    of_form : Reads front s → (x : CertLine) → line_of (parts 32 (plain t)) ≡ Some x → (stage_of s x ≡ Bad → ⊥) → (b : Bool) → is_due s (form_of x) ≡ b → HasForm front t
     of_form r x f n true d = record { of = x; form = form_takes t x f; allowed = allowed front s r (form_of x) d }
     of_form r x f n false d = absurd (n (not_due s x d))
 
-    go : Reads front s → (o : Option Line) → line_of (parts 32 (plain t)) ≡ o → read_words s o (is_exact t) ≡ Odd → HasForm front t
+    go : Reads front s → (o : Option CertLine) → line_of (parts 32 (plain t)) ≡ o → read_words s o (is_exact t) ≡ Odd → HasForm front t
     go r None f k = cc
     go r (Some x) f k = of_form r x f (not_bad (is_exact t) (stage_of s x) k) (is_due s (form_of x)) refl
 
-fault_is : (Kind : List (List ℕ) → List ℕ → Type 0) (all others : List (List ℕ)) (s : Stage) (n : ℕ) (t : List ℕ) (h : IsReading all (t ∷ others) s n) → others ≢ [] → is_finished_of s ≡ false →
+fault_is : (Kind : List (List ℕ) → List ℕ → Type 0) (all others : List (List ℕ)) (s : CertStage) (n : ℕ) (t : List ℕ) (h : IsReading all (t ∷ others) s n) → others ≢ [] → is_finished_of s ≡ false →
     ((y : List (List ℕ)) → goes (read_of s t) (λ m. read_all m y) ≡ None) → Kind h.front t → IsFaultAt Kind all n
 fault_is Kind all others s n t h some f none kind = record {
   front = h.front;
@@ -155,12 +159,12 @@ fault_is Kind all others s n t h some f none kind = record {
 }
 
 -- a line was refused
-pub reading_fails : (bytes : List ℕ) (others : List (List ℕ)) (s : Stage) (n : ℕ) (t : List ℕ) (e : LineFault) (f : CertFault) → IsReading (parts 10 bytes) (t ∷ others) s n → others ≢ [] →
-    is_finished_of s ≡ false → GoesTo (Err e) (read_of s t) → IsFaultOn e n f → Judges bytes (Err f)
-reading_fails bytes others s n t lines.Memory f h some d g k = subst (λ y. Judges bytes (Err y)) (sym k) tt
-reading_fails bytes others s n t lines.Bad f h some d g k = subst (λ y. Judges bytes (Err y)) (sym k)
+pub reading_fails : (bytes : List ℕ) (others : List (List ℕ)) (s : CertStage) (n : ℕ) (t : List ℕ) (e : LineFault) (f : CertFault) → IsReading (parts 10 bytes) (t ∷ others) s n → others ≢ [] →
+    is_finished_of s ≡ false → GoesTo (Err e) (read_of s t) → IsFaultOn e n f → JudgesLines bytes (Err f)
+reading_fails bytes others s n t lines.Memory f h some d g k = subst (λ y. JudgesLines bytes (Err y)) (sym k) tt
+reading_fails bytes others s n t lines.Bad f h some d g k = subst (λ y. JudgesLines bytes (Err y)) (sym k)
     (fault_is HasNoForm (parts 10 bytes) others s n t h some d (λ y. ap (λ k. goes k (λ m. read_all m y)) g) (bad_is h.front s t h.state g))
-reading_fails bytes others s n t lines.Odd f h some d g k = subst (λ y. Judges bytes (Err y)) (sym k)
+reading_fails bytes others s n t lines.Odd f h some d g k = subst (λ y. JudgesLines bytes (Err y)) (sym k)
     (inl (fault_is HasForm (parts 10 bytes) others s n t h some d (λ y. ap (λ k. goes k (λ m. read_all m y)) g) (odd_is h.front s t h.state g)))
 
 -- a certificate has been read
@@ -171,7 +175,7 @@ finished_state front c h = elim h [
 ]
 
 -- the certificate of a stage where one is
-is_finished : (s : Stage) → is_finished_of s ≡ true → (c : Cert) × (s ≡ stage.Finished c)
+is_finished : (s : CertStage) → is_finished_of s ≡ true → (c : Cert) × (s ≡ stage.Finished c)
 is_finished (stage.Finished c) h = (c, refl)
 is_finished stage.Header h = cc
 is_finished stage.K h = cc
@@ -181,14 +185,14 @@ is_finished (stage.Nodes o m ns) h = cc
 is_finished (stage.Chains o s) h = cc
 
 -- a line stands behind a certificate
-pub reading_goes_on : (all others : List (List ℕ)) (s : Stage) (n : ℕ) (t : List ℕ) → IsReading all (t ∷ others) s n → is_finished_of s ≡ true → t ∷ others ≢ [] ∷ [] → IsMoreAt all n
+pub reading_goes_on : (all others : List (List ℕ)) (s : CertStage) (n : ℕ) (t : List ℕ) → IsReading all (t ∷ others) s n → is_finished_of s ≡ true → t ∷ others ≢ [] ∷ [] → IsMoreAt all n
 reading_goes_on all others s n t h f some =
     let c : (c : Cert) × (s ≡ stage.Finished c) = is_finished s f in
     let got : HasText c.0 × (cert_lines c.0 ≡ h.front) = finished_state h.front c.0 (subst (IsState h.front) c.1 h.state) in
     record { front = h.front; text = t; more = others; split = h.split; some = some; line = h.count; whole = (c.0, got.0, got.1) }
 
 -- no line feed is left
-pub reading_closes : (bytes : List ℕ) (s : Stage) (n : ℕ) (t : List ℕ) (r : Result Cert CertFault) → IsReading (parts 10 bytes) (t ∷ []) s n → Closes s t n r → Judges bytes r
+pub reading_closes : (bytes : List ℕ) (s : CertStage) (n : ℕ) (t : List ℕ) (r : Result Cert CertFault) → IsReading (parts 10 bytes) (t ∷ []) s n → Closes s t n r → JudgesLines bytes r
 reading_closes bytes s n t (Ok c) h k =
     let got : HasText c × (cert_lines c ≡ h.front) = finished_state h.front c (subst (IsState h.front) k.0 h.state) in (
       got.0,
@@ -199,4 +203,5 @@ reading_closes bytes s n t (Err (fault.CertEnd line)) h k = subst (IsEndAt (part
 reading_closes bytes s n t (Err (fault.NotCanonical line)) h k =
     inr (subst (IsMoreAt (parts 10 bytes)) (sym k.0) (reading_goes_on (parts 10 bytes) [] s n t h k.1 (λ g. let blank : t ≡ [] = cc in k.2 blank)))
 reading_closes bytes s n t (Err fault.Memory) h k = absurd k
+reading_closes bytes s n t (Err fault.OldVersion) h k = absurd k
 reading_closes bytes s n t (Err (fault.BadCertLine line)) h k = absurd k

@@ -8,17 +8,17 @@ use Rattle.sect_front.specs.Words.{is_digit}
 use Rattle.sect_cert.specs.Spelling.{path_text, lock_words, some_words, list_words, steps_words, chain_words}
 use Rattle.sect_cert.specs.Texts.{IsPath, IsLock, IsNumber, IsLine, IsStep}
 use Rattle.sect_cert.specs.Lines.{line_words, line_text}
-use Rattle.sect_cert.specs.declared.lock.Lock.{Lock}
-use Rattle.sect_cert.specs.declared.lock.Lock.TheVariants as lock
-use Rattle.sect_cert.specs.declared.certificate.Step.{Step}
-use Rattle.sect_cert.specs.declared.line.Line.{Line}
-use Rattle.sect_cert.specs.declared.line.Line.TheVariants as line
-use Rattle.sect_cert.proofs.PartsLaws.{lacks, bytes_lack, path_lacks, lacks_append, parts_join}
+use Rattle.sect_cert.specs.declared.lock.CertLock.{CertLock}
+use Rattle.sect_cert.specs.declared.lock.CertLock.TheVariants as lock
+use Rattle.sect_cert.specs.declared.certificate.CertStep.{CertStep}
+use Rattle.sect_cert.specs.declared.line.CertLine.{CertLine}
+use Rattle.sect_cert.specs.declared.line.CertLine.TheVariants as line
+use Rattle.sect_cert.proofs.PartsLaws.{lacks, bytes_lack, lacks_append, parts_join}
+use Rattle.sect_cert.proofs.PathLaws.{path_lacks, exact_path}
 use Rattle.sect_cert.proofs.NumberLaws.{digits_of_decimal}
-use Rattle.sect_cert.proofs.ExactLaws.{blank, comma, colon, exact_mark, exact_number, exact_path}
+use Rattle.sect_cert.proofs.ExactLaws.{blank, comma, colon, exact_mark, exact_number}
 use Rattle.sect_cert.specs.Zeros.{is_exact}
-use Rattle.sect_cert.specs.Spelling.{path_names}
-use Rattle.sect_cert.specs.declared.lock.Path.{Path}
+use Rattle.sect_cert.specs.declared.lock.CertPath.{CertPath}
 
 pub record IsWord (w : List ℕ) : Type 0 where
   pub blank : lacks 32 w ≡ true
@@ -50,11 +50,18 @@ number_word n e h k = record {
 bare_number : (n : ℕ) → IsNumber n → IsWord (decimal n)
 bare_number n h = subst IsWord (append-nil (decimal n)) (number_word n [] h no_end)
 
-path_word : (p : Path) (e : List ℕ) → IsPath p → IsEnd e → IsWord (path_text p ++ e)
+path_word : (p : CertPath) (e : List ℕ) → IsPath p → IsEnd e → IsWord (path_text p ++ e)
 path_word p e h k = record {
-  blank = lacks_append 32 (path_text p) e (path_lacks 32 refl refl (path_names p) h) k.blank;
-  feed = lacks_append 10 (path_text p) e (path_lacks 10 refl refl (path_names p) h) k.feed;
+  blank = lacks_append 32 (path_text p) e (path_lacks 32 refl refl refl p h) k.blank;
+  feed = lacks_append 10 (path_text p) e (path_lacks 10 refl refl refl p h) k.feed;
   exact = k.exact (path_text p) (exact_path p h);
+}
+
+all_word : (e : List ℕ) → IsEnd e → IsWord (codes "all" ++ e)
+all_word e k = record {
+  blank = lacks_append 32 (codes "all") e refl k.blank;
+  feed = lacks_append 10 (codes "all") e refl k.feed;
+  exact = k.exact (codes "all") refl;
 }
 
 abbrev AreWords : List (List ℕ) → Type 0
@@ -63,30 +70,31 @@ AreWords ws = AllByRecursion IsWord ws
 fixed : (w : List ℕ) → lacks 32 w ≡ true → lacks 10 w ≡ true → is_exact w ≡ true → IsWord w
 fixed w a b c = record { blank = a; feed = b; exact = c }
 
-lock_are : (l : Lock) (e : List ℕ) (ws : List (List ℕ)) → IsLock l → IsEnd e → AreWords ws → AreWords (lock_words l e ws)
+lock_are : (l : CertLock) (e : List ℕ) (ws : List (List ℕ)) → IsLock l → IsEnd e → AreWords ws → AreWords (lock_words l e ws)
+lock_are lock.WriteAll e ws h k g = (fixed (codes "W") refl refl refl, (all_word e k, g))
 lock_are (lock.ReadPath p) e ws h k g = (fixed (codes "R") refl refl refl, (path_word p e h k, g))
 lock_are (lock.WritePath p) e ws h k g = (fixed (codes "W") refl refl refl, (path_word p e h k, g))
 lock_are (lock.ReadClass n) e ws h k g = (fixed (codes "R") refl refl refl, (fixed (codes "class") refl refl refl, (number_word n e h k, g)))
 lock_are (lock.WriteClass n) e ws h k g = (fixed (codes "W") refl refl refl, (fixed (codes "class") refl refl refl, (number_word n e h k, g)))
 lock_are (lock.MakeClass n) e ws h k g = (fixed (codes "M") refl refl refl, (fixed (codes "class") refl refl refl, (number_word n e h k, g)))
 
-some_are : (l : Lock) (ls : List Lock) → AllByRecursion IsLock (l ∷ ls) → AreWords (some_words l ls)
+some_are : (l : CertLock) (ls : List CertLock) → AllByRecursion IsLock (l ∷ ls) → AreWords (some_words l ls)
 some_are l [] h = lock_are l [] [] h.0 no_end tt
 some_are l (k ∷ ls) h = lock_are l (codes ",") (some_words k ls) h.0 comma_end (some_are k ls h.1)
 
-list_are : (ls : List Lock) → AllByRecursion IsLock ls → AreWords (list_words ls)
+list_are : (ls : List CertLock) → AllByRecursion IsLock ls → AreWords (list_words ls)
 list_are [] h = (fixed (codes "none") refl refl refl, tt)
 list_are (l ∷ ls) h = some_are l ls h
 
-steps_are : (s : Step) (ss : List Step) → AllByRecursion IsStep (s ∷ ss) → AreWords (steps_words s ss)
+steps_are : (s : CertStep) (ss : List CertStep) → AllByRecursion IsStep (s ∷ ss) → AreWords (steps_words s ss)
 steps_are s [] h = (bare_number s.node h.0.0, lock_are s.lock [] [] h.0.1 no_end tt)
 steps_are s (t ∷ ss) h = (bare_number s.node h.0.0, lock_are s.lock [] (codes ">" ∷ steps_words t ss) h.0.1 no_end (fixed (codes ">") refl refl refl, steps_are t ss h.1))
 
-chain_are : (ss : List Step) → AllByRecursion IsStep ss → AreWords (chain_words ss)
+chain_are : (ss : List CertStep) → AllByRecursion IsStep ss → AreWords (chain_words ss)
 chain_are [] h = tt
 chain_are (s ∷ ss) h = steps_are s ss h
 
-line_are : (x : Line) → IsLine x → AreWords (line_words x)
+line_are : (x : CertLine) → IsLine x → AreWords (line_words x)
 line_are (line.K n) h = (fixed (codes "k") refl refl refl, (bare_number n h, tt))
 line_are (line.Sections n) h = (fixed (codes "sections") refl refl refl, (bare_number n h, tt))
 line_are (line.Section i m) h = (fixed (codes "section") refl refl refl, (bare_number i h.0, (fixed (codes "nodes") refl refl refl, (bare_number m h.1, tt))))
@@ -113,7 +121,7 @@ cut_words : (ws : List (List ℕ)) → ws ≢ [] → AreWords ws → parts 32 (j
 cut_words [] n h = absurd (n refl)
 cut_words (w ∷ ws) n h = parts_join 32 w ws (blanks (w ∷ ws) h)
 
-some_words_of : (x : Line) → line_words x ≢ []
+some_words_of : (x : CertLine) → line_words x ≢ []
 some_words_of (line.K n) e = cc
 some_words_of (line.Sections n) e = cc
 some_words_of (line.Section i m) e = cc
@@ -123,13 +131,13 @@ some_words_of (line.Chain c) e = cc
 some_words_of line.End e = cc
 
 -- the text of a line is cut into its words
-pub line_cut : (x : Line) → IsLine x → parts 32 (line_text x) ≡ line_words x
+pub line_cut : (x : CertLine) → IsLine x → parts 32 (line_text x) ≡ line_words x
 line_cut x h = cut_words (line_words x) (some_words_of x) (line_are x h)
 
 -- no zero leads a number in the text of a line
-pub line_exact : (x : Line) → IsLine x → is_exact (line_text x) ≡ true
+pub line_exact : (x : CertLine) → IsLine x → is_exact (line_text x) ≡ true
 line_exact x h = exact_words (line_words x) (line_are x h)
 
 -- no line feed stands in the text of a line
-pub line_feed : (x : Line) → IsLine x → lacks 10 (line_text x) ≡ true
+pub line_feed : (x : CertLine) → IsLine x → lacks 10 (line_text x) ≡ true
 line_feed x h = feeds (line_words x) (line_are x h)

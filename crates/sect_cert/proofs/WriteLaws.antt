@@ -4,19 +4,19 @@ use Rattle.std.proofs.lemmas.List.{at_drop_all}
 use Rattle.std.specs.Prelude.{codes}
 use Rattle.std.specs.Fmt.{decimal}
 use Rattle.std.specs.List.{join_with_byte, flat_map}
-use Rattle.sect_cert.specs.Spelling.{path_text, lock_words, some_words, list_words, step_words, steps_words, chain_words}
+use Rattle.sect_cert.specs.Spelling.{base_text, path_text, lock_words, some_words, list_words, step_words, steps_words, chain_words}
 use Rattle.sect_cert.specs.Lines.{line_text}
 use Rattle.sect_cert.specs.Texts.{nodes_lines, chains_lines, section_lines, sections_lines, header_text, fed, certificate_text}
-use Rattle.sect_cert.specs.Writes.{spaced, field_text, lock_text, next_lock, step_text, next_step, fed_line, nodes_text, chain_text, section_text, sections_text}
-use Rattle.sect_cert.specs.declared.lock.Path.{Path}
-use Rattle.sect_cert.specs.declared.lock.Lock.{Lock}
-use Rattle.sect_cert.specs.declared.lock.Lock.TheVariants as lock
-use Rattle.sect_cert.specs.declared.certificate.Step.{Step}
+use Rattle.sect_cert.specs.steps.Writes.{spaced, field_text, lock_text, next_lock, step_text, next_step, fed_line, nodes_text, chain_text, section_text, sections_text}
+use Rattle.sect_cert.specs.declared.lock.CertPath.{CertPath}
+use Rattle.sect_cert.specs.declared.lock.CertLock.{CertLock}
+use Rattle.sect_cert.specs.declared.lock.CertLock.TheVariants as lock
+use Rattle.sect_cert.specs.declared.certificate.CertStep.{CertStep}
 use Rattle.sect_cert.specs.declared.certificate.Chain.{Chain}
-use Rattle.sect_cert.specs.declared.certificate.Section.{Section}
+use Rattle.sect_cert.specs.declared.certificate.CertSection.{CertSection}
 use Rattle.sect_cert.specs.declared.certificate.Cert.{Cert}
-use Rattle.sect_cert.specs.declared.line.Line.{Line}
-use Rattle.sect_cert.specs.declared.line.Line.TheVariants as line
+use Rattle.sect_cert.specs.declared.line.CertLine.{CertLine}
+use Rattle.sect_cert.specs.declared.line.CertLine.TheVariants as line
 
 path_joined : (base : List ℕ) (fields : List (List ℕ)) → join_with_byte 46 (base ∷ fields) ≡ base ++ flat_map field_text fields
 path_joined base [] = sym (append-nil base)
@@ -27,7 +27,7 @@ line_joined head [] = sym (append-nil head)
 line_joined head (w ∷ ws) = ap (λ x. head ++ 32 ∷ x) (line_joined w ws)
 
 -- a lock, and what ends and follows it
-lock_spaced : (l : Lock) (end : List ℕ) (ws : List (List ℕ)) → spaced (lock_words l end ws) ≡ lock_text l ++ (end ++ spaced ws)
+lock_spaced : (l : CertLock) (end : List ℕ) (ws : List (List ℕ)) → spaced (lock_words l end ws) ≡ lock_text l ++ (end ++ spaced ws)
 lock_spaced l end ws = go l
   where
     last : (w : List ℕ) → (w ++ end) ++ spaced ws ≡ (w ++ []) ++ (end ++ spaced ws)
@@ -36,23 +36,24 @@ lock_spaced l end ws = go l
     last_bare : (w : List ℕ) → (w ++ end) ++ spaced ws ≡ ((w ++ []) ++ []) ++ (end ++ spaced ws)
     last_bare w = last w ∙ ap (λ x. x ++ (end ++ spaced ws)) (sym (append-nil (w ++ [])))
 
-    go : (l : Lock) → spaced (lock_words l end ws) ≡ lock_text l ++ (end ++ spaced ws)
+    go : (l : CertLock) → spaced (lock_words l end ws) ≡ lock_text l ++ (end ++ spaced ws)
+    go lock.WriteAll = ap (λ x. codes " W " ++ x) (last_bare (codes "all"))
     go (lock.ReadPath p) = ap (λ x. codes " R " ++ x) (last_bare (path_text p))
     go (lock.WritePath p) = ap (λ x. codes " W " ++ x) (last_bare (path_text p))
     go (lock.ReadClass c) = ap (λ x. codes " R class " ++ x) (last_bare (decimal c))
     go (lock.WriteClass c) = ap (λ x. codes " W class " ++ x) (last_bare (decimal c))
     go (lock.MakeClass c) = ap (λ x. codes " M class " ++ x) (last_bare (decimal c))
 
-some_spaced : (l : Lock) (ls : List Lock) → spaced (some_words l ls) ≡ lock_text l ++ flat_map next_lock ls
+some_spaced : (l : CertLock) (ls : List CertLock) → spaced (some_words l ls) ≡ lock_text l ++ flat_map next_lock ls
 some_spaced l [] = sym (append-nil (lock_text l))
 some_spaced l (k ∷ ls) = lock_spaced l (codes ",") (some_words k ls) ∙ ap (λ x. lock_text l ++ 44 ∷ x) (some_spaced k ls)
 
-step_spaced : (s : Step) (ws : List (List ℕ)) → spaced (step_words s ws) ≡ step_text s ++ spaced ws
+step_spaced : (s : CertStep) (ws : List (List ℕ)) → spaced (step_words s ws) ≡ step_text s ++ spaced ws
 step_spaced s ws =
     ap (λ x. 32 ∷ (decimal s.node ++ x)) (lock_spaced s.lock [] ws)
     ∙ ap (λ x. 32 ∷ x) (sym (append_assoc (decimal s.node) (lock_text s.lock) (spaced ws)))
 
-steps_spaced : (s : Step) (ss : List Step) → spaced (steps_words s ss) ≡ step_text s ++ flat_map next_step ss
+steps_spaced : (s : CertStep) (ss : List CertStep) → spaced (steps_words s ss) ≡ step_text s ++ flat_map next_step ss
 steps_spaced s [] = sym (append-nil (step_text s))
 steps_spaced s (t ∷ ss) = step_spaced s (codes ">" ∷ steps_words t ss) ∙ ap (λ x. step_text s ++ 32 ∷ 62 ∷ x) (steps_spaced t ss)
 
@@ -65,16 +66,16 @@ behind_first f xs i old first whole front text h low g e =
     ∙ (g ∙ (ap (λ x. x ++ flat_map f xs) h ∙ (append_assoc old first (flat_map f xs) ∙ ap (λ x. old ++ x) (sym e)))))
 
 -- what is written of paths, lists and chains, a first element and then the others
-pub path_written : (p : Path) (i : ℕ) (old whole front : List ℕ) → front ≡ old ++ 32 ∷ p.base → length p.fields ≤ i →
+pub path_written : (p : CertPath) (i : ℕ) (old whole front : List ℕ) → front ≡ old ++ 32 ∷ base_text p.base → length p.fields ≤ i →
     whole ++ flat_map field_text (drop i p.fields) ≡ front ++ flat_map field_text p.fields → whole ≡ old ++ 32 ∷ path_text p
 path_written p i old whole front h low g =
-    behind_first field_text p.fields i old (32 ∷ p.base) whole front (32 ∷ path_text p) h low g (ap (λ x. 32 ∷ x) (path_joined p.base p.fields))
+    behind_first field_text p.fields i old (32 ∷ base_text p.base) whole front (32 ∷ path_text p) h low g (ap (λ x. 32 ∷ x) (path_joined (base_text p.base) p.fields))
 
-pub list_written : (l : Lock) (ls : List Lock) (i : ℕ) (old whole front : List ℕ) → front ≡ old ++ lock_text l → length ls ≤ i →
+pub list_written : (l : CertLock) (ls : List CertLock) (i : ℕ) (old whole front : List ℕ) → front ≡ old ++ lock_text l → length ls ≤ i →
     whole ++ flat_map next_lock (drop i ls) ≡ front ++ flat_map next_lock ls → whole ≡ old ++ spaced (list_words (l ∷ ls))
 list_written l ls i old whole front h low g = behind_first next_lock ls i old (lock_text l) whole front (spaced (list_words (l ∷ ls))) h low g (some_spaced l ls)
 
-pub steps_written : (s : Step) (ss : List Step) (i : ℕ) (old whole front : List ℕ) → front ≡ old ++ step_text s → length ss ≤ i →
+pub steps_written : (s : CertStep) (ss : List CertStep) (i : ℕ) (old whole front : List ℕ) → front ≡ old ++ step_text s → length ss ≤ i →
     whole ++ flat_map next_step (drop i ss) ≡ front ++ flat_map next_step ss → whole ≡ old ++ spaced (chain_words (s ∷ ss))
 steps_written s ss i old whole front h low g = behind_first next_step ss i old (step_text s) whole front (spaced (chain_words (s ∷ ss))) h low g (steps_spaced s ss)
 
@@ -88,37 +89,37 @@ numbered old head digits ws =
     ∙ (append_assoc old (head ++ (number ++ spaced ws)) (10 ∷ []) ∙ ap (λ x. old ++ ((head ++ 32 ∷ x) ++ 10 ∷ [])) (sym (line_joined (digits ++ 58 ∷ []) ws))))
 
 -- what is written of lines
-pub node_written : (old : List ℕ) (j : ℕ) (ls : List Lock) → ((((old ++ codes "node") ++ 32 ∷ decimal j) ++ 58 ∷ []) ++ spaced (list_words ls)) ++ 10 ∷ [] ≡ old ++ fed_line (line.Node j ls)
+pub node_written : (old : List ℕ) (j : ℕ) (ls : List CertLock) → ((((old ++ codes "node") ++ 32 ∷ decimal j) ++ 58 ∷ []) ++ spaced (list_words ls)) ++ 10 ∷ [] ≡ old ++ fed_line (line.Node j ls)
 node_written old j ls = numbered old (codes "node") (decimal j) (list_words ls)
 
 pub chain_written : (old : List ℕ) (c : Chain) →
     ((((old ++ codes "chain") ++ 32 ∷ decimal c.lock) ++ 58 ∷ []) ++ spaced (chain_words c.steps)) ++ 10 ∷ [] ≡ old ++ chain_text c
 chain_written old c = numbered old (codes "chain") (decimal c.lock) (chain_words c.steps)
 
-pub entry_written : (old : List ℕ) (ls : List Lock) → ((old ++ codes "entry:") ++ spaced (list_words ls)) ++ 10 ∷ [] ≡ old ++ fed_line (line.Entry ls)
+pub entry_written : (old : List ℕ) (ls : List CertLock) → ((old ++ codes "entry:") ++ spaced (list_words ls)) ++ 10 ∷ [] ≡ old ++ fed_line (line.Entry ls)
 entry_written old ls =
     ap (λ x. x ++ 10 ∷ []) (append_assoc old (codes "entry:") (spaced (list_words ls)))
     ∙ (append_assoc old (codes "entry:" ++ spaced (list_words ls)) (10 ∷ [])
     ∙ ap (λ x. old ++ (x ++ 10 ∷ [])) (sym (line_joined (codes "entry:") (list_words ls))))
 
 -- lines, each with its line feed
-fed_one : (x : Line) (xs : List Line) → fed (map line_text (x ∷ xs)) ≡ fed_line x ++ fed (map line_text xs)
+fed_one : (x : CertLine) (xs : List CertLine) → fed (map line_text (x ∷ xs)) ≡ fed_line x ++ fed (map line_text xs)
 fed_one x xs = sym (append_assoc (line_text x) (10 ∷ []) (fed (map line_text xs)))
 
-nodes_written : (ns : List (List Lock)) (j : ℕ) (w : List Line) → fed (map line_text (nodes_lines j ns w)) ≡ nodes_text j ns ++ fed (map line_text w)
+nodes_written : (ns : List (List CertLock)) (j : ℕ) (w : List CertLine) → fed (map line_text (nodes_lines j ns w)) ≡ nodes_text j ns ++ fed (map line_text w)
 nodes_written [] j w = refl
 nodes_written (ls ∷ ns) j w =
     fed_one (line.Node j ls) (nodes_lines (j + 1) ns w)
     ∙ (ap (λ x. fed_line (line.Node j ls) ++ x) (nodes_written ns (j + 1) w)
     ∙ sym (append_assoc (fed_line (line.Node j ls)) (nodes_text (j + 1) ns) (fed (map line_text w))))
 
-chains_written : (cs : List Chain) (w : List Line) → fed (map line_text (chains_lines cs w)) ≡ flat_map chain_text cs ++ fed (map line_text w)
+chains_written : (cs : List Chain) (w : List CertLine) → fed (map line_text (chains_lines cs w)) ≡ flat_map chain_text cs ++ fed (map line_text w)
 chains_written [] w = refl
 chains_written (c ∷ cs) w =
     fed_one (line.Chain c) (chains_lines cs w)
     ∙ (ap (λ x. chain_text c ++ x) (chains_written cs w) ∙ sym (append_assoc (chain_text c) (flat_map chain_text cs) (fed (map line_text w))))
 
-section_written : (i : ℕ) (s : Section) (w : List Line) → fed (map line_text (line.Section i (length s.nodes) ∷ section_lines s w)) ≡ section_text i s ++ fed (map line_text w)
+section_written : (i : ℕ) (s : CertSection) (w : List CertLine) → fed (map line_text (line.Section i (length s.nodes) ∷ section_lines s w)) ≡ section_text i s ++ fed (map line_text w)
 section_written i s w =
     let head : List ℕ = fed_line (line.Section i (length s.nodes)) in
     let nodes : List ℕ = nodes_text 0 s.nodes in
@@ -131,17 +132,17 @@ section_written i s w =
     ∙ sym (append_assoc nodes (entry ++ chains) rest)))
     ∙ sym (append_assoc head (nodes ++ (entry ++ chains)) rest))
 
-sections_written : (ss : List Section) (i : ℕ) (w : List Line) → fed (map line_text (sections_lines i ss w)) ≡ sections_text i ss ++ fed (map line_text w)
+sections_written : (ss : List CertSection) (i : ℕ) (w : List CertLine) → fed (map line_text (sections_lines i ss w)) ≡ sections_text i ss ++ fed (map line_text w)
 sections_written [] i w = refl
 sections_written (s ∷ ss) i w =
     section_written i s (sections_lines (i + 1) ss w)
     ∙ (ap (λ x. section_text i s ++ x) (sections_written ss (i + 1) w) ∙ sym (append_assoc (section_text i s) (sections_text (i + 1) ss) (fed (map line_text w))))
 
 pub front_written : (old : List ℕ) (k n : ℕ) →
-    ((((old ++ codes "sect-cert 1\nk") ++ 32 ∷ decimal k) ++ codes "\nsections") ++ 32 ∷ decimal n) ++ 10 ∷ []
+    ((((old ++ codes "sect-cert 2\nk") ++ 32 ∷ decimal k) ++ codes "\nsections") ++ 32 ∷ decimal n) ++ 10 ∷ []
     ≡ old ++ (header_text ++ 10 ∷ (fed_line (line.K k) ++ fed_line (line.Sections n)))
 front_written old k n =
-    let begun : List ℕ = codes "sect-cert 1\nk" in
+    let begun : List ℕ = codes "sect-cert 2\nk" in
     let first : List ℕ = 32 ∷ decimal k in
     let last : List ℕ = 32 ∷ (decimal n ++ 10 ∷ []) in
     let rest : List ℕ = codes "sections" ++ last in
@@ -156,7 +157,7 @@ cert_written c =
     let first : List ℕ = fed_line (line.K c.k) in
     let second : List ℕ = fed_line (line.Sections (length c.sections)) in
     let sections : List ℕ = sections_text 0 c.sections in
-    let rest : List Line = sections_lines 0 c.sections (line.End ∷ []) in
+    let rest : List CertLine = sections_lines 0 c.sections (line.End ∷ []) in
     append_assoc (header_text ++ 10 ∷ (first ++ second)) sections (codes "end\n")
     ∙ ap (λ x. header_text ++ 10 ∷ x)
     (append_assoc first second (sections ++ codes "end\n")

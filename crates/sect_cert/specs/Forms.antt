@@ -1,6 +1,6 @@
--- The forms of the lines after the first.
-use Rattle.sect_cert.specs.declared.line.Line.{Line}
-use Rattle.sect_cert.specs.declared.line.Line.TheVariants as line
+-- The forms of the lines after the first. Cited by `read_cert`, where a line has no form that is allowed.
+use Rattle.sect_cert.specs.declared.line.CertLine.{CertLine}
+use Rattle.sect_cert.specs.declared.line.CertLine.TheVariants as line
 
 pub data Form : Type 0 where
   KForm : Form
@@ -11,7 +11,7 @@ pub data Form : Type 0 where
   ChainForm : Form
   EndForm : Form
 
-abbrev pub form_of : Line → Form
+abbrev pub form_of : CertLine → Form
 form_of (line.K n) = KForm
 form_of (line.Sections n) = SectionsForm
 form_of (line.Section i m) = SectionForm

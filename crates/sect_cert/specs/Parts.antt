@@ -1,4 +1,4 @@
--- The parts of a text that is cut at a byte.
+-- The parts of a text that is cut at a byte. Cited by `read_cert`, for the lines of a text.
 use Rattle.std.specs.Prelude.{ℕ, ◌==◌, List, [], Option, Some, None}
 use Rattle.std.specs.List.{slice_split}
 

@@ -1,45 +1,46 @@
--- The text of a certificate, and which certificates have one.
+-- The text of a certificate, and which certificates have one. Cited by `read_cert` and `write_cert`.
 use Rattle.std.specs.Prelude.{◌≡◌, ◌≢◌, ℕ, ◌+◌, ◌<◌, true, List, [], ◌∷◌, ◌++◌, map, length, codes, ⊤}
 use Rattle.std.specs.List.{AllByRecursion, list_all}
 use Rattle.sect_front.specs.Words.{is_name}
-use Rattle.sect_cert.specs.Spelling.{path_names}
 use Rattle.sect_cert.specs.Lines.{line_text}
-use Rattle.sect_cert.specs.declared.lock.Path.{Path}
-use Rattle.sect_cert.specs.declared.lock.Lock.{Lock}
-use Rattle.sect_cert.specs.declared.lock.Lock.TheVariants as lock
-use Rattle.sect_cert.specs.declared.certificate.Step.{Step}
+use Rattle.sect_cert.specs.declared.lock.CertBase.{CertBase}
+use Rattle.sect_cert.specs.declared.lock.CertBase.TheVariants as base
+use Rattle.sect_cert.specs.declared.lock.CertPath.{CertPath}
+use Rattle.sect_cert.specs.declared.lock.CertLock.{CertLock}
+use Rattle.sect_cert.specs.declared.lock.CertLock.TheVariants as lock
+use Rattle.sect_cert.specs.declared.certificate.CertStep.{CertStep}
 use Rattle.sect_cert.specs.declared.certificate.Chain.{Chain}
-use Rattle.sect_cert.specs.declared.certificate.Section.{Section}
+use Rattle.sect_cert.specs.declared.certificate.CertSection.{CertSection}
 use Rattle.sect_cert.specs.declared.certificate.Cert.{Cert}
-use Rattle.sect_cert.specs.declared.line.Line.{Line}
-use Rattle.sect_cert.specs.declared.line.Line.TheVariants as line
+use Rattle.sect_cert.specs.declared.line.CertLine.{CertLine}
+use Rattle.sect_cert.specs.declared.line.CertLine.TheVariants as line
 
 -- the lines of nodes, by number from this one, before the lines that follow
-abbrev pub nodes_lines : ℕ → List (List Lock) → List Line → List Line
+abbrev pub nodes_lines : ℕ → List (List CertLock) → List CertLine → List CertLine
 nodes_lines j [] w = w
 nodes_lines j (ls ∷ ns) w = line.Node j ls ∷ nodes_lines (j + 1) ns w
 
 -- the lines of chains, before the lines that follow
-abbrev pub chains_lines : List Chain → List Line → List Line
+abbrev pub chains_lines : List Chain → List CertLine → List CertLine
 chains_lines [] w = w
 chains_lines (c ∷ cs) w = line.Chain c ∷ chains_lines cs w
 
 -- the lines of a section after its first
-abbrev pub section_lines : Section → List Line → List Line
+abbrev pub section_lines : CertSection → List CertLine → List CertLine
 section_lines s w = nodes_lines 0 s.nodes (line.Entry s.entry ∷ chains_lines s.chains w)
 
 -- the lines of sections, by number from this one
-abbrev pub sections_lines : ℕ → List Section → List Line → List Line
+abbrev pub sections_lines : ℕ → List CertSection → List CertLine → List CertLine
 sections_lines i [] w = w
 sections_lines i (s ∷ ss) w = line.Section i (length s.nodes) ∷ section_lines s (sections_lines (i + 1) ss w)
 
 -- the lines of a certificate after the first
-abbrev pub body_lines : Cert → List Line
+abbrev pub body_lines : Cert → List CertLine
 body_lines c = line.K c.k ∷ line.Sections (length c.sections) ∷ sections_lines 0 c.sections (line.End ∷ [])
 
 -- the first line
 abbrev pub header_text : List ℕ
-header_text = codes "sect-cert 1"
+header_text = codes "sect-cert 2"
 
 -- the texts of all lines
 abbrev pub cert_lines : Cert → List (List ℕ)
@@ -58,25 +59,31 @@ certificate_text c = fed (cert_lines c)
 abbrev pub IsNumber : ℕ → Type 0
 IsNumber n = n < 4294967296
 
--- each name of a path is one
-abbrev pub IsPath : Path → Type 0
-IsPath p = list_all is_name (path_names p) ≡ true
+-- the name of a base is one, and its number may be written
+abbrev pub IsBase : CertBase → Type 0
+IsBase (base.Name name) = is_name name ≡ true
+IsBase (base.InCall name call) = (is_name name ≡ true) × IsNumber call
 
-abbrev pub IsLock : Lock → Type 0
+-- each name of a path is one
+abbrev pub IsPath : CertPath → Type 0
+IsPath p = IsBase p.base × (list_all is_name p.fields ≡ true)
+
+abbrev pub IsLock : CertLock → Type 0
+IsLock lock.WriteAll = ⊤
 IsLock (lock.ReadPath p) = IsPath p
 IsLock (lock.WritePath p) = IsPath p
 IsLock (lock.ReadClass c) = IsNumber c
 IsLock (lock.WriteClass c) = IsNumber c
 IsLock (lock.MakeClass c) = IsNumber c
 
-abbrev pub IsStep : Step → Type 0
+abbrev pub IsStep : CertStep → Type 0
 IsStep s = IsNumber s.node × IsLock s.lock
 
 -- a chain has a step
 abbrev pub IsChain : Chain → Type 0
 IsChain c = IsNumber c.lock × (c.steps ≢ []) × AllByRecursion IsStep c.steps
 
-abbrev pub IsLine : Line → Type 0
+abbrev pub IsLine : CertLine → Type 0
 IsLine (line.K n) = IsNumber n
 IsLine (line.Sections n) = IsNumber n
 IsLine (line.Section i m) = IsNumber i × IsNumber m
@@ -92,14 +99,15 @@ AreRising (c ∷ []) = ⊤
 AreRising (c ∷ d ∷ cs) = (c.lock < d.lock) × AreRising (d ∷ cs)
 
 -- a section has lines that are read
-pub record IsSection (s : Section) : Type 0 where
+pub record IsSection (s : CertSection) : Type 0 where
   pub count : IsNumber (length s.nodes)
   pub nodes : AllByRecursion (λ ls. AllByRecursion IsLock ls) s.nodes
   pub entry : AllByRecursion IsLock s.entry
   pub chains : AllByRecursion IsChain s.chains
   pub rising : AreRising s.chains
 
--- a certificate has a text that is read: at most 4294967295 of everything, names that are names, chains that rise and have a step
+-- a certificate has a text that is read: at most 4294967295 of everything, names that are names, chains that rise and
+-- have a step
 pub record HasText (c : Cert) : Type 0 where
   pub k : IsNumber c.k
   pub count : IsNumber (length c.sections)

@@ -1,12 +1,14 @@
--- What a text is answered with.
-use Rattle.std.specs.Prelude.{◌≡◌, ◌≢◌, ℕ, ◌+◌, List, [], ◌∷◌, ◌++◌, length, Result, Ok, Err, ⊤, ◌⊎◌}
+-- What a text is answered with. Cited by `read_cert` and `write_cert`.
+use Rattle.std.specs.Prelude.{◌≡◌, ◌≢◌, ℕ, ◌+◌, Bool, true, false, nat_eq, List, [], ◌∷◌, ◌++◌, length, codes, Result}
+use Rattle.std.specs.Prelude.{Ok, Err, ⊤, ◌⊎◌}
+use Rattle.std.specs.List.{starts_with}
 use Rattle.sect_cert.specs.Parts.{parts}
 use Rattle.sect_cert.specs.Zeros.{plain}
 use Rattle.sect_cert.specs.Lines.{line_text}
 use Rattle.sect_cert.specs.Forms.{Form, form_of, ChainForm}
 use Rattle.sect_cert.specs.Texts.{cert_lines, certificate_text, HasText, IsLine}
 use Rattle.sect_cert.specs.declared.certificate.Cert.{Cert}
-use Rattle.sect_cert.specs.declared.line.Line.{Line}
+use Rattle.sect_cert.specs.declared.line.CertLine.{CertLine}
 use Rattle.sect_cert.specs.declared.fault.CertFault.{CertFault}
 use Rattle.sect_cert.specs.declared.fault.CertFault.TheVariants as fault
 
@@ -19,13 +21,13 @@ abbrev pub IsWhole : List (List ℕ) → Type 0
 IsWhole front = (c : Cert) × HasText c × (cert_lines c ≡ front)
 
 -- without the zeros that lead its numbers a text is this line's
-pub record IsOfForm (text : List ℕ) (x : Line) : Type 0 where
+pub record IsOfForm (text : List ℕ) (x : CertLine) : Type 0 where
   pub spells : plain text ≡ line_text x
   pub good : IsLine x
 
 -- a line of a form with which some certificate's text goes on
 pub record GoesOn (front : List (List ℕ)) (form : Form) : Type 0 where
-  pub next : Line
+  pub next : CertLine
   pub good : IsLine next
   pub same : form_of next ≡ form
   pub viable : IsViable (front ++ line_text next ∷ [])
@@ -33,18 +35,19 @@ pub record GoesOn (front : List (List ℕ)) (form : Form) : Type 0 where
 -- the last of these lines is a chain's
 pub record EndsInChain (front : List (List ℕ)) : Type 0 where
   pub before : List (List ℕ)
-  pub last : Line
+  pub last : CertLine
   pub good : IsLine last
   pub chain : form_of last ≡ ChainForm
   pub split : front ≡ before ++ line_text last ∷ []
 
--- a form is allowed after these lines: some certificate's text goes on so; and a chain may follow a chain, whatever its number
+-- a form is allowed after these lines: some certificate's text goes on so; and a chain may follow a chain, whatever
+-- its number
 abbrev pub IsAllowed : List (List ℕ) → Form → Type 0
 IsAllowed front form = GoesOn front form ⊎ ((form ≡ ChainForm) × EndsInChain front)
 
 -- a text is a line of a form that is allowed after these lines
 pub record HasForm (front : List (List ℕ)) (text : List ℕ) : Type 0 where
-  pub of : Line
+  pub of : CertLine
   pub form : IsOfForm text of
   pub allowed : IsAllowed front (form_of of)
 
@@ -83,11 +86,17 @@ pub record IsMoreAt (all : List (List ℕ)) (number : ℕ) : Type 0 where
   pub line : number ≡ length front + 1
   pub whole : IsWhole front
 
+-- the first line is that of version 1
+abbrev pub is_old : List ℕ → Bool
+is_old bytes = starts_with nat_eq bytes (codes "sect-cert 1\n")
+
+-- the answer to a text
 abbrev pub Judges : List ℕ → Result Cert CertFault → Type 0
 Judges bytes (Ok c) = HasText c × (bytes ≡ certificate_text c)
 Judges bytes (Err fault.Memory) = ⊤
+Judges bytes (Err fault.OldVersion) = is_old bytes ≡ true
 Judges bytes (Err (fault.CertEnd n)) = IsEndAt (parts 10 bytes) n
-Judges bytes (Err (fault.BadCertLine n)) = IsFaultAt HasNoForm (parts 10 bytes) n
+Judges bytes (Err (fault.BadCertLine n)) = IsFaultAt HasNoForm (parts 10 bytes) n × (is_old bytes ≡ false)
 Judges bytes (Err (fault.NotCanonical n)) = IsFaultAt HasForm (parts 10 bytes) n ⊎ IsMoreAt (parts 10 bytes) n
 
 -- this certificate is given, unless memory runs out

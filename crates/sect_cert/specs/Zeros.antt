@@ -1,4 +1,4 @@
--- Zeros that lead a number.
+-- Zeros that lead a number. Cited by `read_cert`, where a fault is a line's numbers.
 use Rattle.std.specs.Prelude.{ℕ, Bool, true, false, not, ◌&&◌, ◌==◌, if◌then◌else◌, List, [], ◌∷◌}
 use Rattle.sect_front.specs.Words.{is_digit, is_name_byte, begins}
 

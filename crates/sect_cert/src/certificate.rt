@@ -1,30 +1,33 @@
 //! What a certificate says. It knows no program: its lists stand in any order, and may repeat a lock.
 
 use crate::items::Items;
-use crate::lock::Lock;
+use crate::lock::CertLock;
 
 /// A node, by its number, and a lock that is needed from there on.
 #[derive(Drop)]
-pub struct Step {
+pub struct CertStep {
+    /// The node, by its number in the section.
     pub node: u32,
-    pub lock: Lock,
+    /// The lock that is needed from there on.
+    pub lock: CertLock,
 }
 
 /// Why a lock of the entry list, by its number there, is needed: steps from the entry to where it is generated.
 #[derive(Drop)]
 pub struct Chain {
+    /// The lock, by its number in the entry list.
     pub lock: u32,
     /// At least one where the certificate has a text.
-    pub steps: Items<Step>,
+    pub steps: Items<CertStep>,
 }
 
 /// What is said of one section.
 #[derive(Drop)]
-pub struct Section {
+pub struct CertSection {
     /// For each node, by number and the exit counted, the locks that are needed from there on.
-    pub nodes: Items<Items<Lock>>,
+    pub nodes: Items<Items<CertLock>>,
     /// The locks to take at the entry.
-    pub entry: Items<Lock>,
+    pub entry: Items<CertLock>,
     /// The chains, by rising numbers where the certificate has a text.
     pub chains: Items<Chain>,
 }
@@ -35,5 +38,5 @@ pub struct Cert {
     /// The most fields of a path that was inferred.
     pub k: u32,
     /// The sections, by number.
-    pub sections: Items<Section>,
+    pub sections: Items<CertSection>,
 }

@@ -1,24 +1,28 @@
 //! The words of a chain's steps, read one after another.
 
 ghost use Rattle.std.specs.Prelude.{◌≡◌};
-ghost use Rattle.sect_cert.specs.Readers.{ReadsAs};
-ghost use Rattle.sect_cert.specs.Chains.{WalksTo, walk_of, steps_of as steps_at};
+ghost use Rattle.sect_cert.specs.steps.Readers.{ReadsAs};
+ghost use Rattle.sect_cert.specs.steps.Chains.{WalksTo, walk_of, steps_of as steps_at};
 
-use crate::certificate::Step;
+use crate::certificate::CertStep;
 use crate::fault::LineFault;
 use crate::items::Items;
 use crate::numbers::number;
 use crate::parts::Parts;
-use crate::subject::{Mode, class_lock, mode_of, subject};
+use crate::subject::{CertMode, class_lock, mode_of, subject};
 use std::alloc::Global;
 
 /// What the next word of a chain is to be.
 #[derive(Clone, Copy)]
-pub enum Spot {
+pub enum ChainWord {
+    /// A node's number.
     Node,
+    /// The mode of the lock at this node.
     Mode(u32),
-    Subject(u32, Mode),
-    Class(u32, Mode),
+    /// What the lock at this node locks in this mode.
+    Subject(u32, CertMode),
+    /// The number of the class that the lock at this node locks in this mode.
+    Class(u32, CertMode),
     /// `>`: the chain may end here.
     Whole,
 }
@@ -26,45 +30,45 @@ pub enum Spot {
 /// Takes one more word.
 fn walk_word(
     alloc: Global,
-    steps: &mut Vec<Step>,
-    spot: Spot,
+    steps: &mut Vec<CertStep>,
+    spot: ChainWord,
     word: &[u8],
-) -> Result<Spot, LineFault>
+) -> Result<ChainWord, LineFault>
     ensures { WalksTo result steps.new.items (walk_of steps.old.items spot word.now) }
 {
     match spot {
-        Spot::Node => Ok(Spot::Mode(number(word).ok_or(LineFault::Bad)?)),
-        Spot::Mode(node) => Ok(Spot::Subject(node, mode_of(word).ok_or(LineFault::Bad)?)),
-        Spot::Subject(node, mode) => {
+        ChainWord::Node => Ok(ChainWord::Mode(number(word).ok_or(LineFault::Bad)?)),
+        ChainWord::Mode(node) => Ok(ChainWord::Subject(node, mode_of(word).ok_or(LineFault::Bad)?)),
+        ChainWord::Subject(node, mode) => {
             if word == b"class".as_slice() {
-                return Ok(Spot::Class(node, mode));
+                return Ok(ChainWord::Class(node, mode));
             }
             let lock = subject(alloc, mode, word)?;
-            steps.push(Step { node, lock })?;
-            Ok(Spot::Whole)
+            steps.push(CertStep { node, lock })?;
+            Ok(ChainWord::Whole)
         }
-        Spot::Class(node, mode) => {
+        ChainWord::Class(node, mode) => {
             let class = number(word).ok_or(LineFault::Bad)?;
             let lock = class_lock(mode, class);
-            steps.push(Step { node, lock })?;
-            Ok(Spot::Whole)
+            steps.push(CertStep { node, lock })?;
+            Ok(ChainWord::Whole)
         }
-        Spot::Whole if word == b">".as_slice() => Ok(Spot::Node),
-        Spot::Whole => Err(LineFault::Bad),
+        ChainWord::Whole if word == b">".as_slice() => Ok(ChainWord::Node),
+        ChainWord::Whole => Err(LineFault::Bad),
     }
 }
 
 /// The steps of the chain that these words are.
-pub fn steps_of(alloc: Global, mut words: Parts<'_>) -> Result<Items<Step>, LineFault>
+pub fn steps_of(alloc: Global, mut words: Parts<'_>) -> Result<Items<CertStep>, LineFault>
     ensures { ReadsAs result (steps_at words.entry) }
 {
     let mut steps = Vec::new(alloc);
-    let mut spot = Spot::Node;
+    let mut spot = ChainWord::Node;
     while let Some(word) = words.next() {
         spot = walk_word(alloc, &mut steps, spot, word)?;
     }
     match spot {
-        Spot::Whole => Ok(Items::from_vec(steps)),
+        ChainWord::Whole => Ok(Items::from_vec(steps)),
         _ => Err(LineFault::Bad),
     }
 }

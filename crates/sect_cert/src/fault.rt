@@ -20,11 +20,15 @@ pub enum CertFault {
     /// chain number that doesn't rise; or bytes after the line `end`.
     #[error("32 NotCanonical line {line}")]
     NotCanonical { line: usize },
+    /// The first line is that of version 1, `sect-cert 1` with its line feed.
+    #[error("33 OldVersion line 1")]
+    OldVersion,
 }
 
 /// Why a line isn't taken.
 #[derive(Clone, Copy, Debug)]
 pub enum LineFault {
+    /// Want of memory.
     Memory,
     /// Its form isn't allowed there, or a number is too great.
     Bad,

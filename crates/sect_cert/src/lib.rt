@@ -1,23 +1,24 @@
 //! Certificates as text: written line by line, and read back exactly where the text is the text of one.
 //!
 //! The text is these lines, each with a line feed behind it:
-//! - `sect-cert 1`, then `k K` and `sections N`;
+//! - `sect-cert 2`, then `k K` and `sections N`;
 //! - for each section I from 0: `section I nodes M`, `node J: LIST` for each node J from 0, `entry: LIST`, and lines
 //!   `chain L: STEP > STEP ..` with rising L and one step at least;
 //! - `end`.
 //!
-//! A list is `none`, or its locks joined by `, `. A step is a node's number, a blank and a lock. A lock is `R p`, `W p`,
-//! `R class c`, `W class c` or `M class c`, a path p its base and its fields joined by points. Numbers are at most
-//! 4294967295, in decimal without leading zeros. So a certificate has one text, and a text at most one certificate.
+//! A list is `none`, or its locks joined by `, `. A step is a node's number, a blank and a lock. A lock is `W all`,
+//! `R p`, `W p`, `R class c`, `W class c` or `M class c`, a path p its base and its fields joined by points, a base a
+//! name, or a name, `#` and a number. Numbers are at most 4294967295, in decimal without leading zeros. So a
+//! certificate has one text, and a text at most one certificate.
 #![tactic(auto)]
 
-pub mod certificate;
+mod certificate;
 mod chain;
-pub mod fault;
-pub mod items;
+mod fault;
+mod items;
 mod line;
 mod list;
-pub mod lock;
+mod lock;
 mod numbers;
 mod parts;
 mod reading;
@@ -26,5 +27,9 @@ mod subject;
 mod writing;
 mod zeros;
 
+pub use certificate::{Cert, CertSection, CertStep, Chain};
+pub use fault::CertFault;
+pub use items::Items;
+pub use lock::{CertBase, CertLock, CertPath};
 pub use reading::read_cert;
 pub use writing::write_cert;

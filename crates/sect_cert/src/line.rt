@@ -2,22 +2,25 @@
 
 ghost use Rattle.std.specs.Prelude.{◌≡◌};
 ghost use Rattle.sect_cert.specs.Parts.{parts};
-ghost use Rattle.sect_cert.specs.Readers.{ReadsAs};
-ghost use Rattle.sect_cert.specs.Reading.{line_of as line_at, only_number as only_number_at, section_line as section_at, node_line as node_at, chain_line as chain_at, end_line as end_at, colon_number as colon_number_at};
+ghost use Rattle.sect_cert.specs.steps.Readers.{ReadsAs};
+ghost use Rattle.sect_cert.specs.steps.Reading.{line_of as line_at, only_number as only_number_at};
+ghost use Rattle.sect_cert.specs.steps.Reading.{section_line as section_at, node_line as node_at};
+ghost use Rattle.sect_cert.specs.steps.Reading.{chain_line as chain_at, end_line as end_at};
+ghost use Rattle.sect_cert.specs.steps.Reading.{colon_number as colon_number_at};
 
 use crate::certificate::Chain;
 use crate::chain::steps_of;
 use crate::fault::LineFault;
 use crate::items::Items;
 use crate::list::locks_of;
-use crate::lock::Lock;
+use crate::lock::CertLock;
 use crate::numbers::{ends_with, number, without_end};
 use crate::parts::Parts;
 use std::alloc::Global;
 
 /// A line, by its form.
 #[derive(Drop)]
-pub enum Line {
+pub enum CertLine {
     /// `k K`
     K(u32),
     /// `sections N`
@@ -25,9 +28,9 @@ pub enum Line {
     /// `section I nodes M`
     Section(u32, u32),
     /// `node J: LIST`
-    Node(u32, Items<Lock>),
+    Node(u32, Items<CertLock>),
     /// `entry: LIST`
-    Entry(Items<Lock>),
+    Entry(Items<CertLock>),
     /// `chain L: STEP > STEP ..`
     Chain(Chain),
     /// `end`
@@ -42,7 +45,8 @@ fn only_number(mut words: Parts<'_>) -> Option<u32>
     if words.is_empty() { number(word) } else { None }
 }
 
-fn section_line(mut words: Parts<'_>) -> Option<Line>
+/// The first line of a section, by the words after `section`.
+fn section_line(mut words: Parts<'_>) -> Option<CertLine>
     ensures { result ≡ section_at words.entry }
 {
     let section = words.next()?;
@@ -51,7 +55,7 @@ fn section_line(mut words: Parts<'_>) -> Option<Line>
     if !words.is_empty() || mark != b"nodes".as_slice() {
         return None;
     }
-    Some(Line::Section(number(section)?, number(nodes)?))
+    Some(CertLine::Section(number(section)?, number(nodes)?))
 }
 
 /// A number before a colon.
@@ -65,48 +69,51 @@ fn colon_number(word: &[u8]) -> Option<u32>
     }
 }
 
-fn node_line(alloc: Global, mut words: Parts<'_>) -> Result<Line, LineFault>
+/// The line of a node, by the words after `node`.
+fn node_line(alloc: Global, mut words: Parts<'_>) -> Result<CertLine, LineFault>
     ensures { ReadsAs result (node_at words.entry) }
 {
     let word = words.next().ok_or(LineFault::Bad)?;
     let node = colon_number(word).ok_or(LineFault::Bad)?;
-    Ok(Line::Node(node, locks_of(alloc, words)?))
+    Ok(CertLine::Node(node, locks_of(alloc, words)?))
 }
 
-fn chain_line(alloc: Global, mut words: Parts<'_>) -> Result<Line, LineFault>
+/// The line of a chain, by the words after `chain`.
+fn chain_line(alloc: Global, mut words: Parts<'_>) -> Result<CertLine, LineFault>
     ensures { ReadsAs result (chain_at words.entry) }
 {
     let word = words.next().ok_or(LineFault::Bad)?;
     let lock = colon_number(word).ok_or(LineFault::Bad)?;
     let steps = steps_of(alloc, words)?;
-    Ok(Line::Chain(Chain { lock, steps }))
+    Ok(CertLine::Chain(Chain { lock, steps }))
 }
 
-fn end_line(words: Parts<'_>) -> Option<Line>
+/// The last line, by the words after `end`, of which there are none.
+fn end_line(words: Parts<'_>) -> Option<CertLine>
     ensures { result ≡ end_at words.entry }
 {
     if words.is_empty() {
-        Some(Line::End)
+        Some(CertLine::End)
     } else {
         None
     }
 }
 
 /// The line that a text is, where no zero leads its numbers.
-pub fn line_of(alloc: Global, text: &[u8]) -> Result<Line, LineFault>
+pub fn line_of(alloc: Global, text: &[u8]) -> Result<CertLine, LineFault>
     ensures { ReadsAs result (line_at (parts 32 text.now)) }
 {
     let (head, words) = Parts::of(text, b' ');
     if head == b"k".as_slice() {
-        Ok(Line::K(only_number(words).ok_or(LineFault::Bad)?))
+        Ok(CertLine::K(only_number(words).ok_or(LineFault::Bad)?))
     } else if head == b"sections".as_slice() {
-        Ok(Line::Sections(only_number(words).ok_or(LineFault::Bad)?))
+        Ok(CertLine::Sections(only_number(words).ok_or(LineFault::Bad)?))
     } else if head == b"section".as_slice() {
         section_line(words).ok_or(LineFault::Bad)
     } else if head == b"node".as_slice() {
         node_line(alloc, words)
     } else if head == b"entry:".as_slice() {
-        Ok(Line::Entry(locks_of(alloc, words)?))
+        Ok(CertLine::Entry(locks_of(alloc, words)?))
     } else if head == b"chain".as_slice() {
         chain_line(alloc, words)
     } else if head == b"end".as_slice() {

@@ -1,67 +1,71 @@
 //! The words of a list of locks, read one after another.
 
 ghost use Rattle.std.specs.Prelude.{◌≡◌};
-ghost use Rattle.sect_cert.specs.Readers.{ReadsAs};
-ghost use Rattle.sect_cert.specs.Numbers.{ends_with as ends_with_of};
-ghost use Rattle.sect_cert.specs.Lists.{place_behind, StepsTo, step_of, list_of};
+ghost use Rattle.sect_cert.specs.steps.Readers.{ReadsAs};
+ghost use Rattle.sect_cert.specs.steps.Numbers.{ends_with as ends_with_of};
+ghost use Rattle.sect_cert.specs.steps.Lists.{place_behind, StepsTo, step_of, list_of};
 
 use crate::fault::LineFault;
 use crate::items::Items;
-use crate::lock::Lock;
+use crate::lock::CertLock;
 use crate::numbers::{ends_with, number, without_end};
 use crate::parts::Parts;
-use crate::subject::{Mode, class_lock, mode_of, subject};
+use crate::subject::{CertMode, class_lock, mode_of, subject};
 use std::alloc::Global;
 
 /// What the next word of a list is to be.
 #[derive(Clone, Copy)]
-pub enum Place {
+pub enum ListWord {
+    /// A mode.
     Mode,
-    Subject(Mode),
-    Class(Mode),
+    /// What is locked in this mode.
+    Subject(CertMode),
+    /// The number of the class that is locked in this mode.
+    Class(CertMode),
     /// None: the list may end here.
     Whole,
 }
 
-fn place_after(word: &[u8]) -> Place
+/// What follows a word that ends a lock: another lock behind a comma alone.
+fn place_after(word: &[u8]) -> ListWord
     ensures { result ≡ place_behind (ends_with_of 44 word.now) }
 {
     if ends_with(word, b',') {
-        Place::Mode
+        ListWord::Mode
     } else {
-        Place::Whole
+        ListWord::Whole
     }
 }
 
 /// Takes one more word.
 fn take_word(
     alloc: Global,
-    locks: &mut Vec<Lock>,
-    place: Place,
+    locks: &mut Vec<CertLock>,
+    place: ListWord,
     word: &[u8],
-) -> Result<Place, LineFault>
+) -> Result<ListWord, LineFault>
     ensures { StepsTo result locks.new.items (step_of locks.old.items place word.now) }
 {
     match place {
-        Place::Mode => Ok(Place::Subject(mode_of(word).ok_or(LineFault::Bad)?)),
-        Place::Subject(mode) => {
+        ListWord::Mode => Ok(ListWord::Subject(mode_of(word).ok_or(LineFault::Bad)?)),
+        ListWord::Subject(mode) => {
             if word == b"class".as_slice() {
-                return Ok(Place::Class(mode));
+                return Ok(ListWord::Class(mode));
             }
             locks.push(subject(alloc, mode, without_end(word, b','))?)?;
             Ok(place_after(word))
         }
-        Place::Class(mode) => {
+        ListWord::Class(mode) => {
             let class = number(without_end(word, b',')).ok_or(LineFault::Bad)?;
             locks.push(class_lock(mode, class))?;
             Ok(place_after(word))
         }
-        Place::Whole => Err(LineFault::Bad),
+        ListWord::Whole => Err(LineFault::Bad),
     }
 }
 
 /// The locks of the list that these words are.
-pub fn locks_of(alloc: Global, mut words: Parts<'_>) -> Result<Items<Lock>, LineFault>
+pub fn locks_of(alloc: Global, mut words: Parts<'_>) -> Result<Items<CertLock>, LineFault>
     ensures { ReadsAs result (list_of words.entry) }
 {
     let mut locks = Vec::new(alloc);
@@ -73,12 +77,12 @@ pub fn locks_of(alloc: Global, mut words: Parts<'_>) -> Result<Items<Lock>, Line
             Err(LineFault::Bad)
         };
     }
-    let mut place = take_word(alloc, &mut locks, Place::Mode, first)?;
+    let mut place = take_word(alloc, &mut locks, ListWord::Mode, first)?;
     while let Some(word) = words.next() {
         place = take_word(alloc, &mut locks, place, word)?;
     }
     match place {
-        Place::Whole => Ok(Items::from_vec(locks)),
+        ListWord::Whole => Ok(Items::from_vec(locks)),
         _ => Err(LineFault::Bad),
     }
 }

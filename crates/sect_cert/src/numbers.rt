@@ -2,7 +2,8 @@
 
 ghost use Rattle.std.specs.Prelude.{◌≡◌, length, ◌<◌, ◌^◌};
 ghost use Rattle.sect_front.specs.Words.{is_digit as digit_of};
-ghost use Rattle.sect_cert.specs.Numbers.{number_of, decimal_from, ends_with as ends_with_of, without_end as without_end_of};
+ghost use Rattle.sect_cert.specs.steps.Numbers.{number_of, decimal_from, ends_with as ends_with_of};
+ghost use Rattle.sect_cert.specs.steps.Numbers.{without_end as without_end_of};
 
 /// Whether this byte is a digit.
 pub fn is_digit(byte: u8) -> bool
@@ -22,7 +23,7 @@ pub fn number(word: &[u8]) -> Option<u32>
     decimal(word)
 }
 
-/// The number that digits are, leading zeros or not.
+/// The number, at most 4294967295, whose decimal digits these are, leading zeros or not.
 fn decimal(digits: &[u8]) -> Option<u32>
     ensures { result ≡ decimal_from 0 digits.now }
 {

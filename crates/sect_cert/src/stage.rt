@@ -1,28 +1,32 @@
 //! A certificate, line by line.
 
 ghost use Rattle.std.specs.Prelude.{◌≡◌};
-ghost use Rattle.sect_cert.specs.Certificates.{is_rising};
-ghost use Rattle.sect_cert.specs.Stages.{GoesTo, ClosesTo, begin_of, close_of, node_of, chain_of, stage_of, later_of, header_of, read_of, is_header_due};
+ghost use Rattle.sect_cert.specs.steps.Certificates.{is_rising};
+ghost use Rattle.sect_cert.specs.steps.Stages.{GoesTo, ClosesTo, begin_of, close_of, node_of, chain_of, stage_of};
+ghost use Rattle.sect_cert.specs.steps.Stages.{later_of, header_of, read_of, is_header_due};
 
-use crate::certificate::{Cert, Chain, Section};
+use crate::certificate::{Cert, CertSection, Chain};
 use crate::fault::LineFault;
 use crate::items::Items;
-use crate::line::{Line, line_of};
-use crate::lock::Lock;
+use crate::line::{CertLine, line_of};
+use crate::lock::CertLock;
 use crate::zeros::{is_exact, without_zeros};
 use std::alloc::Global;
 
 /// The sections that are whole, and how many there are to be.
 #[derive(Drop)]
 pub struct Open {
+    /// The number k of the second line.
     pub k: u32,
+    /// How many sections there are to be.
     pub count: u32,
-    pub done: Items<Section>,
+    /// The sections that are whole, by number.
+    pub done: Items<CertSection>,
 }
 
 /// What has been read.
 #[derive(Drop)]
-pub enum Stage {
+pub enum CertStage {
     /// Nothing.
     Header,
     /// The first line.
@@ -32,34 +36,34 @@ pub enum Stage {
     /// The lines before the first section.
     Between(Open),
     /// A section's first line, with its number of nodes, and lists of nodes.
-    Nodes(Open, u32, Items<Items<Lock>>),
+    Nodes(Open, u32, Items<Items<CertLock>>),
     /// A section's entry list, and chains.
-    Chains(Open, Section),
+    Chains(Open, CertSection),
     /// The whole.
     Finished(Cert),
 }
 
 /// Takes the line of the next section, or the end.
-fn begin(alloc: Global, begun: Open, line: Line) -> Result<Stage, LineFault>
+fn begin(alloc: Global, begun: Open, line: CertLine) -> Result<CertStage, LineFault>
     ensures { GoesTo result (begin_of begun line) }
 {
     let here = begun.done.len();
     let more = here < begun.count as usize;
     match line {
-        Line::Section(section, nodes) => {
+        CertLine::Section(section, nodes) => {
             if !more {
                 Err(LineFault::Bad)
             } else if section as usize == here {
-                Ok(Stage::Nodes(begun, nodes, Items::new(alloc)))
+                Ok(CertStage::Nodes(begun, nodes, Items::new(alloc)))
             } else {
                 Err(LineFault::Odd)
             }
         }
-        Line::End => {
+        CertLine::End => {
             if more {
                 Err(LineFault::Bad)
             } else {
-                Ok(Stage::Finished(Cert {
+                Ok(CertStage::Finished(Cert {
                     k: begun.k,
                     sections: begun.done,
                 }))
@@ -70,7 +74,7 @@ fn begin(alloc: Global, begun: Open, line: Line) -> Result<Stage, LineFault>
 }
 
 /// The sections with one more.
-fn close(begun: Open, section: Section) -> Result<Open, LineFault>
+fn close(begun: Open, section: CertSection) -> Result<Open, LineFault>
     ensures { ClosesTo result (close_of begun section) }
 {
     let Open { k, count, mut done } = begun;
@@ -83,34 +87,34 @@ fn node(
     alloc: Global,
     begun: Open,
     count: u32,
-    mut lists: Items<Items<Lock>>,
-    line: Line,
-) -> Result<Stage, LineFault>
+    mut lists: Items<Items<CertLock>>,
+    line: CertLine,
+) -> Result<CertStage, LineFault>
     ensures { GoesTo result (node_of begun count lists line) }
 {
     let here = lists.len();
     let more = here < count as usize;
     match line {
-        Line::Node(number, locks) => {
+        CertLine::Node(number, locks) => {
             if !more {
                 Err(LineFault::Bad)
             } else if number as usize == here {
                 lists.push(locks)?;
-                Ok(Stage::Nodes(begun, count, lists))
+                Ok(CertStage::Nodes(begun, count, lists))
             } else {
                 Err(LineFault::Odd)
             }
         }
-        Line::Entry(entry) => {
+        CertLine::Entry(entry) => {
             if more {
                 return Err(LineFault::Bad);
             }
-            let section = Section {
+            let section = CertSection {
                 nodes: lists,
                 entry,
                 chains: Items::new(alloc),
             };
-            Ok(Stage::Chains(begun, section))
+            Ok(CertStage::Chains(begun, section))
         }
         _ => Err(LineFault::Bad),
     }
@@ -127,14 +131,19 @@ fn rises(chains: &[Chain], lock: u32) -> bool
 }
 
 /// Takes a chain, or what comes after the last chain of a section.
-fn chain(alloc: Global, begun: Open, mut section: Section, line: Line) -> Result<Stage, LineFault>
+fn chain(
+    alloc: Global,
+    begun: Open,
+    mut section: CertSection,
+    line: CertLine,
+) -> Result<CertStage, LineFault>
     ensures { GoesTo result (chain_of begun section line) }
 {
     match line {
-        Line::Chain(chain) => {
+        CertLine::Chain(chain) => {
             if rises(section.chains.as_slice(), chain.lock) {
                 section.chains.push(chain)?;
-                Ok(Stage::Chains(begun, section))
+                Ok(CertStage::Chains(begun, section))
             } else {
                 Err(LineFault::Odd)
             }
@@ -144,40 +153,42 @@ fn chain(alloc: Global, begun: Open, mut section: Section, line: Line) -> Result
 }
 
 /// Takes one more line after the first.
-fn take_line(alloc: Global, stage: Stage, line: Line) -> Result<Stage, LineFault>
+fn take_line(alloc: Global, stage: CertStage, line: CertLine) -> Result<CertStage, LineFault>
     ensures { GoesTo result (stage_of stage line) }
 {
     match stage {
-        Stage::Header => Err(LineFault::Bad),
-        Stage::K => match line {
-            Line::K(k) => Ok(Stage::Count(k)),
+        CertStage::Header => Err(LineFault::Bad),
+        CertStage::K => match line {
+            CertLine::K(k) => Ok(CertStage::Count(k)),
             _ => Err(LineFault::Bad),
         },
-        Stage::Count(k) => match line {
-            Line::Sections(count) => {
+        CertStage::Count(k) => match line {
+            CertLine::Sections(count) => {
                 let done = Items::new(alloc);
-                Ok(Stage::Between(Open { k, count, done }))
+                Ok(CertStage::Between(Open { k, count, done }))
             }
             _ => Err(LineFault::Bad),
         },
-        Stage::Between(begun) => begin(alloc, begun, line),
-        Stage::Nodes(begun, count, lists) => node(alloc, begun, count, lists, line),
-        Stage::Chains(begun, section) => chain(alloc, begun, section, line),
-        Stage::Finished(_) => Err(LineFault::Bad),
+        CertStage::Between(begun) => begin(alloc, begun, line),
+        CertStage::Nodes(begun, count, lists) => node(alloc, begun, count, lists, line),
+        CertStage::Chains(begun, section) => chain(alloc, begun, section, line),
+        CertStage::Finished(_) => Err(LineFault::Bad),
     }
 }
 
-fn is_header(stage: &Stage) -> bool
+/// Whether the first line is still to come.
+fn is_header(stage: &CertStage) -> bool
     ensures { result ≡ is_header_due stage.now }
 {
-    matches!(stage, Stage::Header)
+    matches!(stage, CertStage::Header)
 }
 
-fn header(text: &[u8]) -> Result<Stage, LineFault>
+/// Takes the text of the first line.
+fn header(text: &[u8]) -> Result<CertStage, LineFault>
     ensures { GoesTo result (header_of text.now) }
 {
-    if text == b"sect-cert 1".as_slice() {
-        Ok(Stage::K)
+    if text == b"sect-cert 2".as_slice() {
+        Ok(CertStage::K)
     } else {
         Err(LineFault::Bad)
     }
@@ -185,7 +196,7 @@ fn header(text: &[u8]) -> Result<Stage, LineFault>
 
 /// Takes the text of a line after the first. One with leading zeros is read without them, and then refused.
 #[tactic(auto, using(crate::proofs::ZerosLemmas::plain_exact))]
-fn later(alloc: Global, stage: Stage, text: &[u8]) -> Result<Stage, LineFault>
+fn later(alloc: Global, stage: CertStage, text: &[u8]) -> Result<CertStage, LineFault>
     ensures { GoesTo result (later_of stage text.now) }
 {
     if is_exact(text) {
@@ -199,7 +210,7 @@ fn later(alloc: Global, stage: Stage, text: &[u8]) -> Result<Stage, LineFault>
 }
 
 /// Takes the text of one more line.
-pub fn read_line(alloc: Global, stage: Stage, text: &[u8]) -> Result<Stage, LineFault>
+pub fn read_line(alloc: Global, stage: CertStage, text: &[u8]) -> Result<CertStage, LineFault>
     ensures { GoesTo result (read_of stage text.now) }
 {
     if is_header(&stage) {

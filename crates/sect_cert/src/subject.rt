@@ -1,12 +1,14 @@
 //! What stands in a lock: its mode, and what it locks.
 
 ghost use Rattle.std.specs.Prelude.{◌≡◌};
-ghost use Rattle.sect_cert.specs.Readers.{ReadsAs};
-ghost use Rattle.sect_cert.specs.Subjects.{path_of as path_at, mode_of as mode_at, path_lock as path_lock_of, class_lock as class_lock_of, subject_of};
+ghost use Rattle.sect_cert.specs.steps.Readers.{ReadsAs};
+ghost use Rattle.sect_cert.specs.steps.Subjects.{base_of as base_in, path_of as path_in, mode_of as mode_in};
+ghost use Rattle.sect_cert.specs.steps.Subjects.{path_lock as path_lock_of, class_lock as class_lock_of};
+ghost use Rattle.sect_cert.specs.steps.Subjects.{all_lock as all_lock_of, subject_of};
 
 use crate::fault::LineFault;
 use crate::items::Items;
-use crate::lock::{Lock, Path};
+use crate::lock::{CertBase, CertLock, CertPath};
 use crate::numbers::number;
 use crate::parts::Parts;
 use sect_front::is_name;
@@ -15,36 +17,54 @@ use std::alloc::Global;
 
 /// What a lock allows.
 #[derive(Clone, Copy)]
-pub enum Mode {
+pub enum CertMode {
+    /// `R`
     Read,
+    /// `W`
     Write,
+    /// `M`
     Make,
 }
 
 /// The mode that a word is.
-pub fn mode_of(word: &[u8]) -> Option<Mode>
-    ensures { result ≡ mode_at word.now }
+pub fn mode_of(word: &[u8]) -> Option<CertMode>
+    ensures { result ≡ mode_in word.now }
 {
     if word == b"R".as_slice() {
-        Some(Mode::Read)
+        Some(CertMode::Read)
     } else if word == b"W".as_slice() {
-        Some(Mode::Write)
+        Some(CertMode::Write)
     } else if word == b"M".as_slice() {
-        Some(Mode::Make)
+        Some(CertMode::Make)
     } else {
         None
     }
 }
 
+/// The base that a word is: a name, or a name, `#` and a number.
+fn base_of(word: &[u8]) -> Option<CertBase>
+    ensures { result ≡ base_in word.now }
+{
+    let (first, mut others) = Parts::of(word, b'#');
+    if !is_name(first) {
+        return None;
+    }
+    let name = Name::new(first);
+    let Some(call) = others.next() else {
+        return Some(CertBase::Name(name));
+    };
+    if !others.is_empty() {
+        return None;
+    }
+    Some(CertBase::InCall(name, number(call)?))
+}
+
 /// The path that a word is.
-fn path_of(alloc: Global, word: &[u8]) -> Result<Path, LineFault>
-    ensures { ReadsAs result (path_at word.now) }
+fn path_of(alloc: Global, word: &[u8]) -> Result<CertPath, LineFault>
+    ensures { ReadsAs result (path_in word.now) }
 {
     let (first, mut others) = Parts::of(word, b'.');
-    if !is_name(first) {
-        return Err(LineFault::Bad);
-    }
-    let base = Name::new(first);
+    let base = base_of(first).ok_or(LineFault::Bad)?;
     let mut fields = Vec::new(alloc);
     while let Some(piece) = others.next() {
         if !is_name(piece) {
@@ -52,37 +72,51 @@ fn path_of(alloc: Global, word: &[u8]) -> Result<Path, LineFault>
         }
         fields.push(Name::new(piece))?;
     }
-    Ok(Path {
+    Ok(CertPath {
         base,
         fields: Items::from_vec(fields),
     })
 }
 
-fn path_lock(mode: Mode, path: Path) -> Option<Lock>
+/// The lock of a path in a mode; none makes an object at a path.
+fn path_lock(mode: CertMode, path: CertPath) -> Option<CertLock>
     ensures { result ≡ path_lock_of mode path }
 {
     match mode {
-        Mode::Read => Some(Lock::ReadPath(path)),
-        Mode::Write => Some(Lock::WritePath(path)),
-        Mode::Make => None,
+        CertMode::Read => Some(CertLock::ReadPath(path)),
+        CertMode::Write => Some(CertLock::WritePath(path)),
+        CertMode::Make => None,
     }
 }
 
 /// The lock of a class in a mode.
-pub fn class_lock(mode: Mode, class: u32) -> Lock
+pub fn class_lock(mode: CertMode, class: u32) -> CertLock
     ensures { result ≡ class_lock_of mode class }
 {
     match mode {
-        Mode::Read => Lock::ReadClass(class),
-        Mode::Write => Lock::WriteClass(class),
-        Mode::Make => Lock::MakeClass(class),
+        CertMode::Read => CertLock::ReadClass(class),
+        CertMode::Write => CertLock::WriteClass(class),
+        CertMode::Make => CertLock::MakeClass(class),
+    }
+}
+
+/// The lock of everything, which is to write.
+fn all_lock(mode: CertMode) -> Option<CertLock>
+    ensures { result ≡ all_lock_of mode }
+{
+    match mode {
+        CertMode::Write => Some(CertLock::WriteAll),
+        CertMode::Read | CertMode::Make => None,
     }
 }
 
 /// The lock that a mode and the word after it are, where that word isn't `class`.
-pub fn subject(alloc: Global, mode: Mode, word: &[u8]) -> Result<Lock, LineFault>
+pub fn subject(alloc: Global, mode: CertMode, word: &[u8]) -> Result<CertLock, LineFault>
     ensures { ReadsAs result (subject_of mode word.now) }
 {
+    if word == b"all".as_slice() {
+        return all_lock(mode).ok_or(LineFault::Bad);
+    }
     let path = path_of(alloc, word)?;
     path_lock(mode, path).ok_or(LineFault::Bad)
 }

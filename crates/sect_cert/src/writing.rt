@@ -3,16 +3,18 @@
 ghost use Rattle.std.specs.Prelude.{◌≡◌, ◌++◌, ◌∷◌, [], Result, OnOk, IfOk, length, codes};
 ghost use Rattle.std.specs.Fmt.{decimal};
 ghost use Rattle.std.specs.List.{flat_map};
-ghost use Rattle.sect_cert.specs.Spelling.{path_text, list_words, chain_words};
-ghost use Rattle.sect_cert.specs.Texts.{HasText, certificate_text};
+ghost use Rattle.sect_cert.specs.Spelling.{base_text, path_text, list_words, chain_words};
+ghost use Rattle.sect_cert.specs.Texts.{HasText, header_text, certificate_text};
 ghost use Rattle.sect_cert.specs.Verdicts.{Judges, Gives};
-ghost use Rattle.sect_cert.specs.Writes.{spaced, field_text, lock_text, next_lock, step_text, next_step, fed_line, chain_text, nodes_text, section_text, sections_text};
-ghost use Rattle.sect_cert.specs.declared.line.Line.TheVariants as line;
+ghost use Rattle.sect_cert.specs.steps.Writes.{spaced, field_text, lock_text, next_lock, step_text, next_step};
+ghost use Rattle.sect_cert.specs.steps.Writes.{fed_line, chain_text, nodes_text, section_text, sections_text};
+ghost use Rattle.sect_cert.specs.declared.lock.CertLock.TheVariants as lock;
+ghost use Rattle.sect_cert.specs.declared.line.CertLine.TheVariants as line;
 
-use crate::certificate::{Cert, Chain, Section, Step};
+use crate::certificate::{Cert, CertSection, CertStep, Chain};
 use crate::fault::CertFault;
 use crate::items::Items;
-use crate::lock::{Lock, Path};
+use crate::lock::{CertBase, CertLock, CertPath};
 use sect_front::name::Name;
 use std::alloc::{AllocError, Global};
 
@@ -24,14 +26,37 @@ fn put_word(out: &mut Vec<u8>, word: &[u8]) -> Result<(), AllocError>
     out.extend_from_slice(word)
 }
 
+/// Writes a number.
+fn put_digits(alloc: Global, out: &mut Vec<u8>, number: usize) -> Result<(), AllocError>
+    ensures { OnOk result (out.new.items ≡ out.old.items ++ decimal number) }
+{
+    let digits = format!(in alloc; "{number}")?;
+    out.extend_from_slice(digits.as_bytes())
+}
+
 /// Writes a number behind a blank.
 fn put_number(alloc: Global, out: &mut Vec<u8>, number: usize) -> Result<(), AllocError>
     ensures { OnOk result (out.new.items ≡ out.old.items ++ 32 ∷ decimal number) }
 {
-    let digits = format!(in alloc; "{number}")?;
-    put_word(out, digits.as_bytes())
+    out.push(b' ')?;
+    put_digits(alloc, out, number)
 }
 
+/// Writes the base of a path behind a blank.
+fn put_base(alloc: Global, out: &mut Vec<u8>, base: &CertBase) -> Result<(), AllocError>
+    ensures { OnOk result (out.new.items ≡ out.old.items ++ 32 ∷ base_text base.now) }
+{
+    match base {
+        CertBase::Name(name) => put_word(out, name.as_bytes()),
+        CertBase::InCall(name, call) => {
+            put_word(out, name.as_bytes())?;
+            out.push(b'#')?;
+            put_digits(alloc, out, *call as usize)
+        }
+    }
+}
+
+/// Writes a field behind its point.
 fn put_field(out: &mut Vec<u8>, field: &Name) -> Result<(), AllocError>
     ensures { OnOk result (out.new.items ≡ out.old.items ++ field_text field.now) }
 {
@@ -39,24 +64,31 @@ fn put_field(out: &mut Vec<u8>, field: &Name) -> Result<(), AllocError>
     field.append_to(out)
 }
 
-/// Writes the names of a path, joined by points, behind a blank.
-fn put_path(out: &mut Vec<u8>, path: &Path) -> Result<(), AllocError>
+/// Writes a path behind a blank.
+fn put_path(alloc: Global, out: &mut Vec<u8>, path: &CertPath) -> Result<(), AllocError>
     ensures { OnOk result (out.new.items ≡ out.old.items ++ 32 ∷ path_text path.now) }
 {
-    put_word(out, path.base.as_bytes())?;
+    put_base(alloc, out, &path.base)?;
     for field in path.fields.as_slice() {
         put_field(out, field)?;
     }
     Ok(())
 }
 
-fn put_path_lock(out: &mut Vec<u8>, mode: &[u8], path: &Path) -> Result<(), AllocError>
+/// Writes the words of a lock of a path, each behind a blank.
+fn put_path_lock(
+    alloc: Global,
+    out: &mut Vec<u8>,
+    mode: &[u8],
+    path: &CertPath,
+) -> Result<(), AllocError>
     ensures { OnOk result (out.new.items ≡ out.old.items ++ spaced (mode.now ∷ path_text path.now ∷ [])) }
 {
     put_word(out, mode)?;
-    put_path(out, path)
+    put_path(alloc, out, path)
 }
 
+/// Writes the words of a lock of a class, each behind a blank.
 fn put_class_lock(
     alloc: Global,
     out: &mut Vec<u8>,
@@ -70,20 +102,30 @@ fn put_class_lock(
     put_number(alloc, out, class as usize)
 }
 
+/// Writes the words of the lock of everything, each behind a blank.
+fn put_all_lock(out: &mut Vec<u8>) -> Result<(), AllocError>
+    ensures { OnOk result (out.new.items ≡ out.old.items ++ lock_text lock.WriteAll) }
+{
+    put_word(out, b"W")?;
+    put_word(out, b"all")
+}
+
 /// Writes the words of a lock, each behind a blank.
-fn put_lock(alloc: Global, out: &mut Vec<u8>, lock: &Lock) -> Result<(), AllocError>
+fn put_lock(alloc: Global, out: &mut Vec<u8>, lock: &CertLock) -> Result<(), AllocError>
     ensures { OnOk result (out.new.items ≡ out.old.items ++ lock_text lock.now) }
 {
     match lock {
-        Lock::ReadPath(path) => put_path_lock(out, b"R", path),
-        Lock::WritePath(path) => put_path_lock(out, b"W", path),
-        Lock::ReadClass(class) => put_class_lock(alloc, out, b"R", *class),
-        Lock::WriteClass(class) => put_class_lock(alloc, out, b"W", *class),
-        Lock::MakeClass(class) => put_class_lock(alloc, out, b"M", *class),
+        CertLock::WriteAll => put_all_lock(out),
+        CertLock::ReadPath(path) => put_path_lock(alloc, out, b"R", path),
+        CertLock::WritePath(path) => put_path_lock(alloc, out, b"W", path),
+        CertLock::ReadClass(class) => put_class_lock(alloc, out, b"R", *class),
+        CertLock::WriteClass(class) => put_class_lock(alloc, out, b"W", *class),
+        CertLock::MakeClass(class) => put_class_lock(alloc, out, b"M", *class),
     }
 }
 
-fn put_next_lock(alloc: Global, out: &mut Vec<u8>, lock: &Lock) -> Result<(), AllocError>
+/// Writes a comma and the words of a lock.
+fn put_next_lock(alloc: Global, out: &mut Vec<u8>, lock: &CertLock) -> Result<(), AllocError>
     ensures { OnOk result (out.new.items ≡ out.old.items ++ next_lock lock.now) }
 {
     out.push(b',')?;
@@ -91,7 +133,7 @@ fn put_next_lock(alloc: Global, out: &mut Vec<u8>, lock: &Lock) -> Result<(), Al
 }
 
 /// Writes a list of locks, behind a blank.
-fn put_list(alloc: Global, out: &mut Vec<u8>, locks: &[Lock]) -> Result<(), AllocError>
+fn put_list(alloc: Global, out: &mut Vec<u8>, locks: &[CertLock]) -> Result<(), AllocError>
     ensures { OnOk result (out.new.items ≡ out.old.items ++ spaced (list_words locks.now)) }
 {
     let Some((first, others)) = locks.split_first() else {
@@ -104,14 +146,16 @@ fn put_list(alloc: Global, out: &mut Vec<u8>, locks: &[Lock]) -> Result<(), Allo
     Ok(())
 }
 
-fn put_step(alloc: Global, out: &mut Vec<u8>, step: &Step) -> Result<(), AllocError>
+/// Writes the words of a step, each behind a blank.
+fn put_step(alloc: Global, out: &mut Vec<u8>, step: &CertStep) -> Result<(), AllocError>
     ensures { OnOk result (out.new.items ≡ out.old.items ++ step_text step.now) }
 {
     put_number(alloc, out, step.node as usize)?;
     put_lock(alloc, out, &step.lock)
 }
 
-fn put_next_step(alloc: Global, out: &mut Vec<u8>, step: &Step) -> Result<(), AllocError>
+/// Writes an arrow and the words of a step, each behind a blank.
+fn put_next_step(alloc: Global, out: &mut Vec<u8>, step: &CertStep) -> Result<(), AllocError>
     ensures { OnOk result (out.new.items ≡ out.old.items ++ next_step step.now) }
 {
     put_word(out, b">")?;
@@ -119,7 +163,7 @@ fn put_next_step(alloc: Global, out: &mut Vec<u8>, step: &Step) -> Result<(), Al
 }
 
 /// Writes the steps of a chain, joined by arrows, behind a blank.
-fn put_steps(alloc: Global, out: &mut Vec<u8>, steps: &[Step]) -> Result<(), AllocError>
+fn put_steps(alloc: Global, out: &mut Vec<u8>, steps: &[CertStep]) -> Result<(), AllocError>
     ensures { OnOk result (out.new.items ≡ out.old.items ++ spaced (chain_words steps.now)) }
 {
     let Some((first, others)) = steps.split_first() else {
@@ -132,7 +176,13 @@ fn put_steps(alloc: Global, out: &mut Vec<u8>, steps: &[Step]) -> Result<(), All
     Ok(())
 }
 
-fn put_node(alloc: Global, out: &mut Vec<u8>, node: usize, locks: &[Lock]) -> Result<(), AllocError>
+/// Writes the line of a node.
+fn put_node(
+    alloc: Global,
+    out: &mut Vec<u8>,
+    node: usize,
+    locks: &[CertLock],
+) -> Result<(), AllocError>
     ensures { OnOk result (out.new.items ≡ out.old.items ++ fed_line (line.Node node locks.now)) }
 {
     out.extend_from_slice(b"node")?;
@@ -142,7 +192,8 @@ fn put_node(alloc: Global, out: &mut Vec<u8>, node: usize, locks: &[Lock]) -> Re
     Ok(out.push(b'\n')?)
 }
 
-fn put_nodes(alloc: Global, out: &mut Vec<u8>, nodes: &[Items<Lock>]) -> Result<(), AllocError>
+/// Writes the lines of a section's nodes.
+fn put_nodes(alloc: Global, out: &mut Vec<u8>, nodes: &[Items<CertLock>]) -> Result<(), AllocError>
     ensures { OnOk result (out.new.items ≡ out.old.items ++ nodes_text 0 nodes.now) }
 {
     for (node, locks) in nodes.iter().enumerate() {
@@ -151,7 +202,8 @@ fn put_nodes(alloc: Global, out: &mut Vec<u8>, nodes: &[Items<Lock>]) -> Result<
     Ok(())
 }
 
-fn put_entry(alloc: Global, out: &mut Vec<u8>, locks: &[Lock]) -> Result<(), AllocError>
+/// Writes the line of an entry list.
+fn put_entry(alloc: Global, out: &mut Vec<u8>, locks: &[CertLock]) -> Result<(), AllocError>
     ensures { OnOk result (out.new.items ≡ out.old.items ++ fed_line (line.Entry locks.now)) }
 {
     out.extend_from_slice(b"entry:")?;
@@ -159,6 +211,7 @@ fn put_entry(alloc: Global, out: &mut Vec<u8>, locks: &[Lock]) -> Result<(), All
     Ok(out.push(b'\n')?)
 }
 
+/// Writes the line of a chain.
 fn put_chain(alloc: Global, out: &mut Vec<u8>, chain: &Chain) -> Result<(), AllocError>
     ensures { OnOk result (out.new.items ≡ out.old.items ++ chain_text chain.now) }
 {
@@ -169,6 +222,7 @@ fn put_chain(alloc: Global, out: &mut Vec<u8>, chain: &Chain) -> Result<(), Allo
     Ok(out.push(b'\n')?)
 }
 
+/// Writes the lines of chains.
 fn put_chains(alloc: Global, out: &mut Vec<u8>, chains: &[Chain]) -> Result<(), AllocError>
     ensures { OnOk result (out.new.items ≡ out.old.items ++ flat_map chain_text chains.now) }
 {
@@ -194,11 +248,12 @@ fn put_head(
     Ok(out.push(b'\n')?)
 }
 
+/// Writes the lines of a section.
 fn put_section(
     alloc: Global,
     out: &mut Vec<u8>,
     number: usize,
-    section: &Section,
+    section: &CertSection,
 ) -> Result<(), AllocError>
     ensures { OnOk result (out.new.items ≡ out.old.items ++ section_text number section.now) }
 {
@@ -208,7 +263,12 @@ fn put_section(
     put_chains(alloc, out, section.chains.as_slice())
 }
 
-fn put_sections(alloc: Global, out: &mut Vec<u8>, sections: &[Section]) -> Result<(), AllocError>
+/// Writes the lines of all sections.
+fn put_sections(
+    alloc: Global,
+    out: &mut Vec<u8>,
+    sections: &[CertSection],
+) -> Result<(), AllocError>
     ensures { OnOk result (out.new.items ≡ out.old.items ++ sections_text 0 sections.now) }
 {
     for (number, section) in sections.iter().enumerate() {
@@ -219,9 +279,10 @@ fn put_sections(alloc: Global, out: &mut Vec<u8>, sections: &[Section]) -> Resul
 
 /// Writes the lines before the first section.
 fn put_front(alloc: Global, out: &mut Vec<u8>, k: u32, sections: usize) -> Result<(), AllocError>
-    ensures { OnOk result (out.new.items ≡ out.old.items ++ (codes "sect-cert 1" ++ 10 ∷ (fed_line (line.K k) ++ fed_line (line.Sections sections)))) }
+    ensures { OnOk result (out.new.items ≡
+        out.old.items ++ (header_text ++ 10 ∷ (fed_line (line.K k) ++ fed_line (line.Sections sections)))) }
 {
-    out.extend_from_slice(b"sect-cert 1\nk")?;
+    out.extend_from_slice(b"sect-cert 2\nk")?;
     put_number(alloc, out, k as usize)?;
     out.extend_from_slice(b"\nsections")?;
     put_number(alloc, out, sections)?;
@@ -232,7 +293,8 @@ fn put_front(alloc: Global, out: &mut Vec<u8>, k: u32, sections: usize) -> Resul
 pub fn write_cert(alloc: Global, cert: &Cert) -> Result<Vec<u8>, AllocError>
     ensures text { IfOk result (λ text. text.items ≡ certificate_text cert.now) }
     // Where the certificate has a text, reading gives it back, unless memory runs out.
-    ensures reads_back { IfOk result (λ text. HasText cert.now → (answer : Result Cert CertFault) → Judges text.items answer → Gives cert.now answer) }
+    ensures reads_back { IfOk result (λ text. HasText cert.now →
+        (answer : Result Cert CertFault) → Judges text.items answer → Gives cert.now answer) }
 {
     let mut text = Vec::new(alloc);
     put_front(alloc, &mut text, cert.k, cert.sections.len())?;

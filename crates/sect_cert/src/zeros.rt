@@ -7,12 +7,14 @@ ghost use Rattle.sect_cert.specs.Zeros.{leads as leads_of, is_exact as exact_lin
 use crate::numbers::is_digit;
 use std::alloc::{AllocError, Global};
 
+/// Whether a byte may stand in a name or number.
 fn is_name_byte(byte: u8) -> bool
     ensures { result ≡ name_byte byte }
 {
     byte.is_ascii_alphabetic() || byte == b'_' || is_digit(byte)
 }
 
+/// Whether a digit stands first.
 fn begins_digit(bytes: &[u8]) -> bool
     ensures { result ≡ begins digit_of bytes.now }
 {

@@ -1,4 +1,5 @@
-// Laws of the modes, for the crates that build on them.
+//! Laws of the modes, for the crates that build on them.
+
 ghost use Rattle.sect_modes.specs.Mode.{IsPartialOrder, SharesDownwards, KeepsApart};
 
 use crate::mode::Mode;

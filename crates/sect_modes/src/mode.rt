@@ -1,4 +1,5 @@
-// The five modes, and what they allow beside each other.
+//! The five modes, and what they allow beside each other.
+
 ghost use Rattle.std.specs.Prelude.{◌≡◌};
 ghost use Rattle.sect_modes.specs.Mode.{are_compatible, join_of, is_at_least, intention_of, IsLeastUpperBound};
 

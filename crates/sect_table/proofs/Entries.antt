@@ -1,10 +1,12 @@
 -- Entries by their keys.
-use Rattle.std.proofs.Common.{◌≡◌, inl, inr, suc, ◌<◌, ◌≤◌, List, [], ◌∷◌, ◌++◌, length, get_or, true, false, refl, sym, ◌∙◌, ap, arith}
+use Rattle.std.proofs.Common.{◌≡◌, inl, inr, ℕ, zero, suc, ◌<◌, ◌≤◌, List, [], ◌∷◌, ◌++◌, length, get_or, true, false, refl, sym, ◌∙◌, ap, subst, arith}
 use Rattle.std.specs.Prelude.{if◌then◌else◌}
 use Rattle.std.proofs.lemmas.List.{get_or_past}
 use Rattle.sect_modes.specs.declared.key.Key.{Key}
 use Rattle.sect_modes.specs.Key.{is_same_key}
+use Rattle.std.specs.List.{Contains}
 use Rattle.sect_table.specs.Contents.{Entry, number_of, entry_of, no_entry, put}
+use Rattle.sect_table.specs.Sound.{AreEntriesApart}
 use Rattle.sect_table.proofs.Shown.{cases_of, same_key, key_itself, entry_of-here, entry_of-later, put-here, put-later}
 
 pub number-here : (k : Key) (e : Entry) (es : List Entry) → is_same_key k e.key ≡ true → number_of k (e ∷ es) ≡ 0
@@ -90,3 +92,51 @@ put-put e f (g ∷ es) is = elim (cases_of (is_same_key e.key g.key)) [
       ap (put e) (put-later f g es (ap (λ z. is_same_key z g.key) (sym is) ∙ later))
       ∙ (put-later e g (put f es) later ∙ (ap (λ z. g ∷ z) (put-put e f es is) ∙ sym (put-later e g es later)))
 ]
+
+other_way : (a b : Key) → is_same_key a b ≡ false → is_same_key b a ≡ false
+other_way a b ne = elim (cases_of (is_same_key b a)) [
+  | inl same ↦ (let e : b ≡ a = same_key b a same in let on : is_same_key a b ≡ true = ap (is_same_key a) e ∙ key_itself a in absurd (let both : false ≡ true = sym ne ∙ on in cc))
+  | inr apart ↦ apart
+]
+
+-- another key's entry that is put leaves an unknown key unknown
+unknown-put : (k : Key) (e : Entry) (es : List Entry) → is_same_key k e.key ≡ false → number_of k es ≡ length es → number_of k (put e es) ≡ length (put e es)
+unknown-put k e [] ne is = number-later k e [] ne
+unknown-put k e (f ∷ es) ne is = elim (cases_of (is_same_key k f.key)) [
+  | inl at ↦ let none = number-here k f es at in absurd (omega arith)
+  | inr past ↦
+      let n = number-later k f es past in
+      let rest : number_of k es ≡ length es = omega arith in
+      elim (cases_of (is_same_key e.key f.key)) [
+        | inl here ↦ subst (λ z. number_of k z ≡ length z) (sym (put-here e f es here)) (number-later k e es ne ∙ ap suc rest)
+        | inr later ↦ subst (λ z. number_of k z ≡ length z) (sym (put-later e f es later)) (number-later k f (put e es) past ∙ ap suc (unknown-put k e es ne rest))
+      ]
+]
+
+-- no key gets a second entry
+pub put_apart : (e : Entry) (es : List Entry) → AreEntriesApart es → AreEntriesApart (put e es)
+put_apart e [] a = (refl, tt)
+put_apart e (f ∷ es) a = elim (cases_of (is_same_key e.key f.key)) [
+  | inl here ↦ subst AreEntriesApart (sym (put-here e f es here)) (ap (λ k. number_of k es) (same_key e.key f.key here) ∙ a.0, a.1)
+  | inr later ↦ subst AreEntriesApart (sym (put-later e f es later)) (unknown-put f.key e es (other_way e.key f.key later) a.0, put_apart e es a.1)
+]
+
+-- each entry is the one of its key
+pub entry_known : (es : List Entry) → AreEntriesApart es → (e : Entry) → Contains es e → entry_of e.key es ≡ e
+entry_known [] a e h = absurd (omega (arith, h.1))
+entry_known (f ∷ es) a e h = at (λ k. entry_known es a.1 e k) h.0 h.1 h.2
+  where
+    unknown : (n : ℕ) (fs : List Entry) → number_of e.key fs ≡ length fs → n < length fs → get_or fs n e ≡ e → ⊥
+    unknown n [] new lt is = absurd (omega arith)
+    unknown zero (g ∷ fs) new lt is = let here = number-here e.key g fs (ap (λ (z : Entry). is_same_key e.key z.key) is ∙ key_itself e.key) in absurd (omega arith)
+    unknown (suc n) (g ∷ fs) new lt is = elim (cases_of (is_same_key e.key g.key)) [
+      | inl here ↦ let none = number-here e.key g fs here in absurd (omega arith)
+      | inr later ↦ let some = number-later e.key g fs later in unknown n fs (omega arith) (omega arith) is
+    ]
+
+    at : (Contains es e → entry_of e.key es ≡ e) → (k : ℕ) → k < length (f ∷ es) → get_or (f ∷ es) k e ≡ e → entry_of e.key (f ∷ es) ≡ e
+    at more zero lt is = entry_of-here e.key f es (ap (λ (z : Entry). is_same_key e.key z.key) is ∙ key_itself e.key) ∙ is
+    at more (suc n) lt is = elim (cases_of (is_same_key e.key f.key)) [
+      | inl here ↦ absurd (unknown n es (ap (λ k. number_of k es) (same_key e.key f.key here) ∙ a.0) (omega arith) is)
+      | inr later ↦ entry_of-later e.key f es later ∙ more (n, omega arith, is)
+    ]

@@ -9,9 +9,9 @@ use Rattle.sect_table.specs.declared.claims.Hold.{Hold}
 use Rattle.sect_table.specs.declared.claims.Claim.{Claim}
 use Rattle.sect_table.specs.declared.claims.Grant.{Grant}
 use Rattle.sect_table.specs.Contents.{no_entry, hold_of, claim_of}
-use Rattle.sect_table.specs.Keys.{place_in}
-use Rattle.sect_table.specs.Links.{Shape, list_at, label_at, Each, ArePlaced}
-use Rattle.sect_table.specs.Arena.{SameLists, NumberAdded, node_at, no_node, claims, holds_at, queue_at, chain_at, entry_at, entries_from, held_from, shown, HasRole, IsArena}
+use Rattle.sect_table.specs.steps.Keys.{place_in}
+use Rattle.sect_table.specs.steps.Links.{Shape, list_at, label_at, Each, ArePlaced}
+use Rattle.sect_table.specs.steps.Arena.{SameLists, NumberAdded, node_at, no_node, claims, holds_at, queue_at, chain_at, entry_at, entries_from, held_from, shown, HasRole, IsArena}
 use Rattle.sect_table.proofs.Runs.{each_map}
 use Rattle.sect_table.proofs.Shown.{cases_of, entries-kept, held-kept, place-here, place-later}
 

@@ -7,11 +7,11 @@ use Rattle.sect_modes.specs.declared.key.Key.{Key}
 use Rattle.sect_table.specs.declared.claims.Claim.{Claim}
 use Rattle.sect_table.specs.declared.claims.Hold.{Hold}
 use Rattle.sect_table.specs.Contents.{Entry, Contents, number_of, entry_of, no_entry, put, held_by, is_among, is_waiting, is_free, holds, mode_in, mode_for, may_join, first_of, give, claim_of, with_holder, with_waiter, IsEmptyFor}
-use Rattle.sect_table.specs.Sound.{IsFirstBlocked, AreKeysApart, waits_of, IsSound, IsKept}
+use Rattle.sect_table.specs.Sound.{IsFirstBlocked, AreKeysApart, AreEntriesApart, waits_of, IsSound, IsKept}
 use Rattle.sect_table.specs.declared.claims.Answer.{Answer}
 use Rattle.sect_table.specs.declared.claims.Answer.TheVariants.{Granted, Queued}
 use Rattle.sect_table.specs.Answers.{IsAnswered}
-use Rattle.sect_table.proofs.Entries.{number_of-le, entry_key, entry-new, entry_of-put, put-put}
+use Rattle.sect_table.proofs.Entries.{number_of-le, entry_key, entry-new, entry_of-put, put-put, put_apart}
 use Rattle.sect_table.proofs.Claiming.{and_true, true_or_false, among_append, missing-mode_for, missing-claims_by}
 use Rattle.sect_table.proofs.Sounding.{put_all, waits_at-le, waits_for_none, sound_of, holder_sound, waiter_sound}
 
@@ -37,6 +37,7 @@ granted_kept c c' t k m s lt idle none free h e =
     let both = and_true (not (is_some (first_of (entry_of k c.entries).waiters))) (may_join (entry_of k c.entries).holders t m) free in
     let e' : Entry = with_holder (claim_of t m) (entry_of k c.entries) in
     record {
+      apart = subst AreEntriesApart (sym e) (put_apart e' c.entries s.apart);
       sound = sound_of (record { held = give t k m c.held; entries = put e' c.entries; spare = c'.spare }) c' h e
           (holder_sound c.held c.entries c.spare c'.spare t m k (sound_of c (record { held = c.held; entries = c.entries; spare = c.spare }) refl refl s.sound) lt (no_claim c t k s.sound idle none) both.1);
       settled = subst (λ es. (j : Key) → IsFirstBlocked (entry_of j es).holders (entry_of j es).waiters) (sym e)
@@ -52,6 +53,7 @@ pub queued_kept : (c c' : Contents) (t : ℕ) (k : Key) (m : Mode) → IsKept c 
 queued_kept c c' t k m s lt idle none free h e =
     let e' : Entry = with_waiter (claim_of t m) (entry_of k c.entries) in
     record {
+      apart = subst AreEntriesApart (sym e) (put_apart e' c.entries s.apart);
       sound = sound_of (record { held = c.held; entries = put e' c.entries; spare = c'.spare }) c' h e
           (waiter_sound c.held c.entries c.spare c'.spare t m k (sound_of c (record { held = c.held; entries = c.entries; spare = c.spare }) refl refl s.sound) lt (no_claim c t k s.sound idle none) (waits_for_none t c.entries idle));
       settled = subst (λ es. (j : Key) → IsFirstBlocked (entry_of j es).holders (entry_of j es).waiters) (sym e)
@@ -66,6 +68,7 @@ pub fresh_kept : (c c' : Contents) (t : ℕ) (k : Key) (m : Mode) → IsKept c �
 fresh_kept c c' t k m s lt hs ws h e =
     let e' : Entry = with_holder (claim_of t m) (entry_of k c.entries) in
     record {
+      apart = subst AreEntriesApart (sym e) (put_apart e' c.entries s.apart);
       sound = sound_of (record { held = give t k m c.held; entries = put e' c.entries; spare = c'.spare }) c' h e
           (holder_sound c.held c.entries c.spare c'.spare t m k (sound_of c (record { held = c.held; entries = c.entries; spare = c.spare }) refl refl s.sound) lt
           (ap (λ z. is_among t (z ++ (entry_of k c.entries).waiters)) hs ∙ ap (is_among t) ws) (ap (λ z. may_join z t m) hs));
@@ -92,6 +95,7 @@ empty_held (suc n) (suc t) = empty_held n t
 
 pub empty_kept : (threads : ℕ) (c : Contents) → IsEmptyFor threads c → IsKept c
 empty_kept threads c e = record {
+  apart = subst AreEntriesApart (sym e.entries) tt;
   sound = sound_of (record { held = replicate threads []; entries = []; spare = 0 }) c e.held e.entries (record {
     together = λ k. tt;
     apart = λ k. tt;

@@ -9,9 +9,9 @@ use Rattle.sect_table.specs.declared.claims.Hold.{Hold}
 use Rattle.sect_table.specs.declared.claims.Claim.{Claim}
 use Rattle.sect_table.specs.declared.claims.Grant.{Grant}
 use Rattle.sect_table.specs.Contents.{Entry, Contents, number_of, entry_of, first_of, put, is_among, AreApart, stay, give, hold_of, claim_of, with_holder, with_waiter, with_grant, without_holder}
-use Rattle.sect_table.specs.Keys.{place_in}
-use Rattle.sect_table.specs.Links.{Shape, list_at, label_at, Among, AreDistinct, IsAbsent, ArePlaced, without, moved}
-use Rattle.sect_table.specs.Arena.{node_at, no_node, claims, holds_at, queue_at, chain_at, entry_at, entries_from, held_from, shown, HasRole, IsArena}
+use Rattle.sect_table.specs.steps.Keys.{place_in}
+use Rattle.sect_table.specs.steps.Links.{Shape, list_at, label_at, Among, AreDistinct, IsAbsent, ArePlaced, without, moved}
+use Rattle.sect_table.specs.steps.Arena.{node_at, no_node, claims, holds_at, queue_at, chain_at, entry_at, entries_from, held_from, shown, HasRole, IsArena}
 use Rattle.sect_table.proofs.Runs.{each_map, without-same, without-other, without_absent}
 use Rattle.sect_table.proofs.Whole.{length-without}
 use Rattle.sect_table.proofs.Shown.{seen, entries-put, entries-kept, held-set, held-kept, queues-seen, chain-seen, one_place}

@@ -4,16 +4,23 @@ use Rattle.std.specs.Prelude.{if◌then◌else◌, nat_lt}
 use Rattle.std.specs.List.{position, position_or_len, list_any}
 use Rattle.std.proofs.lemmas.List.Recursion.{is_position_or_len}
 use Rattle.sect_modes.specs.declared.key.Key.{Key}
-use Rattle.sect_modes.specs.declared.key.Key.TheVariants.{Class, Global, Made}
+use Rattle.sect_modes.specs.declared.key.Key.TheVariants.{All, Class, Global, Made}
 use Rattle.sect_modes.specs.Key.{is_same_key}
 use Rattle.sect_modes.specs.contracts.key.KeyPartialEq.TheImpl.{eq-value}
-use Rattle.sect_table.specs.Keys.{place_in}
+use Rattle.sect_table.specs.steps.Keys.{place_in}
 
 -- the derived comparison of keys
 key_eq-same : (a b : Key) → eq-value.it a b ≡ is_same_key a b
 key_eq-same (Class a) (Class b) = search rules
 key_eq-same (Global a) (Global b) = search rules
 key_eq-same (Made t n) (Made u m) = search rules
+key_eq-same All All = refl
+key_eq-same All (Class _) = refl
+key_eq-same All (Global _) = refl
+key_eq-same All (Made _ _) = refl
+key_eq-same (Class _) All = refl
+key_eq-same (Global _) All = refl
+key_eq-same (Made _ _) All = refl
 key_eq-same (Class _) (Global _) = refl
 key_eq-same (Class _) (Made _ _) = refl
 key_eq-same (Global _) (Class _) = refl

@@ -9,7 +9,7 @@ use Rattle.sect_table.specs.declared.claims.Hold.{Hold}
 use Rattle.sect_table.specs.declared.claims.Grant.{Grant}
 use Rattle.sect_table.specs.Contents.{Entry, Contents, number_of, entry_of, put, is_among, may_join, first_of, give, hold_of, grant_of, with_grant, let_in, let_through, give_all}
 use Rattle.sect_table.specs.Sound.{waiting_count}
-use Rattle.sect_table.specs.Letting.{LettingIn}
+use Rattle.sect_table.specs.steps.Letting.{LettingIn}
 use Rattle.sect_table.proofs.Shown.{cases_of, key_itself, put-here, put-later}
 use Rattle.sect_table.proofs.Entries.{number-here, number-later, entry_key, entry_of-put, put-itself, put-put}
 use Rattle.sect_table.proofs.Claiming.{or_false}

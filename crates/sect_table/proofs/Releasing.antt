@@ -8,12 +8,12 @@ use Rattle.sect_table.specs.declared.claims.Claim.{Claim}
 use Rattle.sect_table.specs.declared.claims.Hold.{Hold}
 use Rattle.sect_table.specs.declared.claims.Grant.{Grant}
 use Rattle.sect_table.specs.Contents.{Entry, Contents, Released, number_of, entry_of, put, held_by, mode_in, is_among, is_waiting, first_hold, grant_of, without_holder, let_in, let_through, give_all, release_key, release_each, AreApart}
-use Rattle.sect_table.specs.Sound.{IsFirstBlocked, claims_by, one_if, waits_of, waiting_count, AreThreadsBelow, AreWaitersBelow, IsSound, IsKept}
-use Rattle.sect_table.specs.Links.{Each, IsAbsent, AreDistinct}
-use Rattle.sect_table.specs.Letting.{Releasing}
+use Rattle.sect_table.specs.Sound.{IsFirstBlocked, AreEntriesApart, claims_by, one_if, waits_of, waiting_count, AreThreadsBelow, AreWaitersBelow, IsSound, IsKept}
+use Rattle.sect_table.specs.steps.Links.{Each, IsAbsent, AreDistinct}
+use Rattle.sect_table.specs.steps.Letting.{Releasing}
 use Rattle.sect_table.proofs.Whole.{few_distinct}
 use Rattle.sect_table.proofs.Shown.{key_itself}
-use Rattle.sect_table.proofs.Entries.{entry_key, put-put}
+use Rattle.sect_table.proofs.Entries.{entry_key, put-put, put_apart}
 use Rattle.sect_table.proofs.Claiming.{apart_left, mode_in-here, claims_by-drop, missing-claims_by}
 use Rattle.sect_table.proofs.Sounding.{put_all, waits_of-put, waiting_count-put, waits_at-le, waits_for_none, sound_of, release_sound}
 use Rattle.sect_table.proofs.Keeping.{held_known}
@@ -88,6 +88,7 @@ few_waiters c s =
 -- the beginning of a release
 pub releasing_first : (t room : ℕ) (old : Contents) (g : List Grant) → IsKept old → is_waiting t old ≡ false → length old.held ≤ room → g ≡ [] → Releasing t room old old g
 releasing_first t room old g s idle fits none = record {
+  apart = s.apart;
   sound = s.sound;
   settled = s.settled;
   passes = ap (λ z. release_each t (held_by old t) (record { held = set old.held t []; entries = old.entries; grants = z })) none;
@@ -190,6 +191,7 @@ releasing_on t room old now mid now' g g' h r lt first held entries spare sound 
     let fewer : claims_by t (let_in e).waiters ≤ claims_by t e.waiters = claims_by-drop t (length through) e.waiters in
     let now_waits : waits_of t now'.entries ≡ waits_of t (put (let_in e) now.entries) = ap (waits_of t) done in (
       record {
+        apart = subst AreEntriesApart (sym done) (put_apart (let_in e) now.entries r.apart);
         sound = sound;
         settled = subst (λ es. (j : Key) → IsFirstBlocked (entry_of j es).holders (entry_of j es).waiters) (sym done)
             (put_all (λ z. IsFirstBlocked z.holders z.waiters) (let_in e) now.entries (subst (λ (z : Entry). IsFirstBlocked z.holders z.waiters) at_k blocked) (λ j ne. r.settled j));

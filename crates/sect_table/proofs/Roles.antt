@@ -7,9 +7,9 @@ use Rattle.sect_modes.specs.declared.key.Key.{Key}
 use Rattle.sect_table.specs.declared.claims.Claim.{Claim}
 use Rattle.sect_table.specs.declared.claims.Grant.{Grant}
 use Rattle.sect_table.specs.Contents.{Contents, is_among, is_waiting}
-use Rattle.sect_table.specs.Keys.{place_in}
-use Rattle.sect_table.specs.Links.{Shape, head_or, list_at, label_at, Each, Among, ArePlaced}
-use Rattle.sect_table.specs.Arena.{node_at, claims, queue_at, entries_from, shown, HasRole, IsArena}
+use Rattle.sect_table.specs.steps.Keys.{place_in}
+use Rattle.sect_table.specs.steps.Links.{Shape, head_or, list_at, label_at, Each, Among, ArePlaced}
+use Rattle.sect_table.specs.steps.Arena.{node_at, claims, queue_at, entries_from, shown, HasRole, IsArena}
 use Rattle.sect_table.proofs.Runs.{each_map}
 use Rattle.sect_table.proofs.Shown.{seen}
 

@@ -4,7 +4,7 @@ use Rattle.std.specs.Prelude.{◌==◌, if◌then◌else◌}
 use Rattle.std.proofs.lemmas.Bool.{cases_eq, eq-eqb}
 use Rattle.sect_table.specs.declared.links.Link.{Link}
 use Rattle.sect_table.specs.declared.links.Ends.{Ends}
-use Rattle.sect_table.specs.Links.{link_at, walk, Run, head_or, last_or, Each, IsAbsent, Among, AreDistinct, without, IsDetached, IsAppended}
+use Rattle.sect_table.specs.steps.Links.{link_at, walk, Run, head_or, last_or, Each, IsAbsent, Among, AreDistinct, without, IsDetached, IsAppended}
 
 pub each_map : (P Q : ℕ → Type 0) → ((y : ℕ) → P y → Q y) → (xs : List ℕ) → Each P xs → Each Q xs
 each_map P Q f [] e = tt

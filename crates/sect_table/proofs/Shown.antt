@@ -4,15 +4,15 @@ use Rattle.std.specs.Prelude.{if◌then◌else◌, ◌==◌, ◌&&◌, IsSome}
 use Rattle.std.specs.Option.{option_map}
 use Rattle.std.proofs.lemmas.Bool.{eqb-true, eq-eqb}
 use Rattle.sect_modes.specs.declared.key.Key.{Key}
-use Rattle.sect_modes.specs.declared.key.Key.TheVariants.{Class, Global, Made}
+use Rattle.sect_modes.specs.declared.key.Key.TheVariants.{All, Class, Global, Made}
 use Rattle.sect_modes.specs.Key.{is_same_key}
 use Rattle.sect_table.specs.declared.claims.Hold.{Hold}
 use Rattle.sect_table.specs.declared.claims.Claim.{Claim}
 use Rattle.sect_table.specs.declared.claims.Grant.{Grant}
 use Rattle.sect_table.specs.Contents.{Entry, Contents, number_of, entry_of, no_entry, put, first_of, first_hold, claim_of, hold_of}
-use Rattle.sect_table.specs.Keys.{place_in}
-use Rattle.sect_table.specs.Links.{Shape, head_or}
-use Rattle.sect_table.specs.Arena.{node_at, claims, holds_at, queue_at, chain_at, entry_at, entries_from, held_from, shown, IsArena}
+use Rattle.sect_table.specs.steps.Keys.{place_in}
+use Rattle.sect_table.specs.steps.Links.{Shape, head_or}
+use Rattle.sect_table.specs.steps.Arena.{node_at, claims, holds_at, queue_at, chain_at, entry_at, entries_from, held_from, shown, IsArena}
 
 -- the two cases of a test, with what it says
 pub cases_of : (b : Bool) → (b ≡ true) ⊎ (b ≡ false)
@@ -27,6 +27,13 @@ pub same_key : (a b : Key) → is_same_key a b ≡ true → a ≡ b
 same_key (Class a) (Class b) e = ap Class (eqb-true a b e)
 same_key (Global a) (Global b) e = ap Global (eqb-true a b e)
 same_key (Made t n) (Made u m) e = let p = both_true (t == u) (n == m) e in ap (λ z. Made z n) (eqb-true t u p.0) ∙ ap (Made u) (eqb-true n m p.1)
+same_key All All e = refl
+same_key All (Class _) e = absurd (let off : false ≡ true = e in cc)
+same_key All (Global _) e = absurd (let off : false ≡ true = e in cc)
+same_key All (Made _ _) e = absurd (let off : false ≡ true = e in cc)
+same_key (Class _) All e = absurd (let off : false ≡ true = e in cc)
+same_key (Global _) All e = absurd (let off : false ≡ true = e in cc)
+same_key (Made _ _) All e = absurd (let off : false ≡ true = e in cc)
 same_key (Class _) (Global _) e = absurd (let off : false ≡ true = e in cc)
 same_key (Class _) (Made _ _) e = absurd (let off : false ≡ true = e in cc)
 same_key (Global _) (Class _) e = absurd (let off : false ≡ true = e in cc)
@@ -35,6 +42,7 @@ same_key (Made _ _) (Class _) e = absurd (let off : false ≡ true = e in cc)
 same_key (Made _ _) (Global _) e = absurd (let off : false ≡ true = e in cc)
 
 pub key_itself : (a : Key) → is_same_key a a ≡ true
+key_itself All = refl
 key_itself (Class a) = eq-eqb a a refl
 key_itself (Global a) = eq-eqb a a refl
 key_itself (Made t n) = let e : (t == t) ≡ true = eq-eqb t t refl in let f : (n == n) ≡ true = eq-eqb n n refl in ap (λ b. b && (n == n)) e ∙ f

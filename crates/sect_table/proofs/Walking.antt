@@ -10,8 +10,8 @@ use Rattle.std.specs.List.{find}
 use Rattle.std.specs.Option.{option_map}
 use Rattle.sect_table.specs.declared.claims.Claim.{Claim}
 use Rattle.sect_table.specs.Contents.{may_join, mode_for, claim_of}
-use Rattle.sect_table.specs.Arena.{node_at, no_node, claims}
-use Rattle.sect_table.specs.Links.{head_or}
+use Rattle.sect_table.specs.steps.Arena.{node_at, no_node, claims}
+use Rattle.sect_table.specs.steps.Links.{head_or}
 
 pub rest_at : (xs : List ℕ) (i node : ℕ) → i < length xs → head_or (drop i xs) None ≡ Some node → drop i xs ≡ node ∷ drop (i + 1) xs
 rest_at xs i node lt is =

@@ -5,7 +5,7 @@ use Rattle.std.proofs.lemmas.Bool.{cases_eq}
 use Rattle.std.specs.Prelude.{IfSome}
 use Rattle.sect_table.specs.declared.links.Link.{Link}
 use Rattle.sect_table.specs.declared.links.Ends.{Ends}
-use Rattle.sect_table.specs.Links.{link_at, ends_at, no_ends, list_at, lists_of, walk, Run, head_or, last_or, Each, IsAbsent, Among, AreDistinct, without, IsList, IsDetached, IsAppended, AreLists, moved, no_link, labels_of, ArePlaced}
+use Rattle.sect_table.specs.steps.Links.{link_at, ends_at, no_ends, list_at, lists_of, walk, Run, head_or, last_or, Each, IsAbsent, Among, AreDistinct, without, IsList, IsDetached, IsAppended, AreLists, moved, no_link, labels_of, ArePlaced}
 use Rattle.sect_table.proofs.Runs.{each_map, each_among, without-same, without-other, without_absent, distinct_without, absent_without_itself, walk-run, run_frame, labels, previous_apart, next_apart, last_apart, detach-run, append-run}
 
 pub absent_by_label : (links : List Link) (l y : ℕ) → (link_at links y).list ≢ l → (xs : List ℕ) → Each (λ z. (link_at links z).list ≡ l) xs → IsAbsent y xs

@@ -1,8 +1,5 @@
 pub mod Answers
-pub mod Arena
 pub mod Contents
 pub mod Granted
-pub mod Keys
-pub mod Letting
-pub mod Links
 pub mod Sound
+pub mod steps

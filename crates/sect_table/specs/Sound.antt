@@ -5,7 +5,7 @@ use Rattle.sect_modes.specs.declared.key.Key.{Key}
 use Rattle.sect_modes.specs.Mode.{are_compatible}
 use Rattle.sect_table.specs.declared.claims.Claim.{Claim}
 use Rattle.sect_table.specs.declared.claims.Hold.{Hold}
-use Rattle.sect_table.specs.Contents.{Entry, Contents, may_join, mode_in, mode_for, held_by, entry_of, AreApart}
+use Rattle.sect_table.specs.Contents.{Entry, Contents, may_join, mode_in, mode_for, held_by, number_of, entry_of, AreApart}
 
 -- this mode is compatible with each of these
 abbrev pub SharesWith : Mode → List Claim → Type 0
@@ -55,6 +55,11 @@ abbrev pub AreWaitersBelow : ℕ → List Entry → Type 0
 AreWaitersBelow n [] = Unit {0}
 AreWaitersBelow n (e ∷ es) = AreThreadsBelow n e.waiters × AreWaitersBelow n es
 
+-- no key has two entries
+abbrev pub AreEntriesApart : List Entry → Type 0
+AreEntriesApart [] = Unit {0}
+AreEntriesApart (e ∷ es) = (number_of e.key es ≡ length es) × AreEntriesApart es
+
 -- what holds at each moment of a call
 pub record IsSound (c : Contents) : Type 0 where
   pub together : (k : Key) → AreTogether (entry_of k c.entries).holders
@@ -66,8 +71,9 @@ pub record IsSound (c : Contents) : Type 0 where
   pub once : (t : ℕ) → waits_of t c.entries ≤ 1
   pub threads : AreWaitersBelow (length c.held) c.entries
 
--- what holds between calls: the holders of a key are pairwise compatible, a thread waits for one key at most, and no
--- first waiter is compatible with all holders of its key
+-- what holds between calls: no key has two entries, the holders of a key are pairwise compatible, a thread waits for
+-- one key at most, and no first waiter is compatible with all holders of its key
 pub record IsKept (c : Contents) : Type 0 where
+  pub apart : AreEntriesApart c.entries
   pub sound : IsSound c
   pub settled : (k : Key) → IsFirstBlocked (entry_of k c.entries).holders (entry_of k c.entries).waiters

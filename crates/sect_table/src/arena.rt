@@ -1,11 +1,12 @@
-// The nodes of a table, and the lists in which they stand.
+//! The nodes of a table, and the lists in which they stand.
+
 ghost use Rattle.std.specs.Prelude.{◌≡◌, ◌<◌, ◌≤◌, ◌+◌, ◌-◌, ◌++◌, ◌∷◌, [], ◌==◌, ◌||◌, ◌^◌, drop, length, slice_set, OnOk, OnErr, IfOk, IsOk, Some, vec_len, vec_capacity};
 ghost use Rattle.sect_modes.specs.Mode.{are_compatible};
 ghost use Rattle.sect_table.specs.Contents.{number_of, entry_of, no_entry, put, is_waiting, may_join, mode_for, held_by, first_of, first_hold, claim_of, give, with_holder, with_waiter, with_grant, without_holder, AreApart, IsEmptyFor};
 ghost use Rattle.std.specs.Option.{option_map};
-ghost use Rattle.sect_table.specs.Arena.{queue_at, no_node, SameLists, NumberAdded};
-ghost use Rattle.sect_table.specs.Keys.{place_in};
-ghost use Rattle.sect_table.specs.Links.{ArePlaced};
+ghost use Rattle.sect_table.specs.steps.Arena.{queue_at, no_node, SameLists, NumberAdded};
+ghost use Rattle.sect_table.specs.steps.Keys.{place_in};
+ghost use Rattle.sect_table.specs.steps.Links.{ArePlaced};
 
 use crate::claims::{Claim, Grant, Hold};
 use crate::keys::Keys;
@@ -28,7 +29,7 @@ pub(crate) struct Arena {
 
 impl Model for Arena {
     ghost use Rattle.sect_table.specs.Contents.{Contents};
-    ghost use Rattle.sect_table.specs.Arena.{shown, IsArena};
+    ghost use Rattle.sect_table.specs.steps.Arena.{shown, IsArena};
 
     ghost Value = { Contents };
 

@@ -1,4 +1,5 @@
-// What stands in a table, and what its calls answer.
+//! What stands in a table, and what its calls answer.
+
 use sect_modes::{Key, Mode};
 use std::alloc::AllocError;
 use thiserror::Error;

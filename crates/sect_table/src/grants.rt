@@ -1,4 +1,5 @@
-// The grants of one release.
+//! The grants of one release.
+
 ghost use Rattle.std.specs.Prelude.{◌≡◌, [], IfOk};
 
 use crate::claims::Grant;
@@ -39,6 +40,13 @@ impl Grants {
         ensures { result ≡ self.now.threads }
     {
         self.threads
+    }
+
+    /// Forgets the grants, and keeps the room.
+    pub fn clear(&mut self)
+        ensures { self.new ≡ record { threads = self.old.threads; list = [] } }
+    {
+        self.list.clear();
     }
 
     /// The grants in their order.

@@ -1,6 +1,7 @@
-// Keys by their numbers.
+//! Keys by their numbers.
+
 ghost use Rattle.std.specs.Prelude.{◌≡◌, ◌<◌, ◌≤◌, ◌^◌, ◌++◌, ◌∷◌, [], OnOk, OnErr, length};
-ghost use Rattle.sect_table.specs.Keys.{place_in};
+ghost use Rattle.sect_table.specs.steps.Keys.{place_in};
 
 use indexmap::IndexSet;
 use sect_modes::Key;

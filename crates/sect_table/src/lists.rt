@@ -1,6 +1,7 @@
-// Lists over the numbers below a bound, each number in one list, linked through one arena.
+//! Lists over the numbers below a bound, each number in one list, linked through one arena.
+
 ghost use Rattle.std.specs.Prelude.{◌≡◌, ◌<◌, ◌+◌, ◌++◌, ◌∷◌, [], ◌^◌, length, slice_set, OnOk, OnErr, IfSome, ℕ, List, map, None};
-ghost use Rattle.sect_table.specs.Links.{moved, list_at, head_or, Among, ArePlaced, without};
+ghost use Rattle.sect_table.specs.steps.Links.{moved, list_at, head_or, Among, ArePlaced, without};
 
 use crate::links::{Ends, Link, append, detach};
 use std::alloc::{AllocError, Global};
@@ -15,7 +16,7 @@ pub(crate) struct Lists {
 
 impl Model for Lists {
     ghost use Rattle.std.specs.Prelude.{◌-◌, None};
-    ghost use Rattle.sect_table.specs.Links.{Shape, AreLists, lists_of, labels_of};
+    ghost use Rattle.sect_table.specs.steps.Links.{Shape, AreLists, lists_of, labels_of};
 
     ghost Value = { Shape };
 

@@ -1,4 +1,5 @@
-// Giving keys back.
+//! Giving keys back.
+
 ghost use Rattle.std.specs.Prelude.{◌≡◌, ◌+◌, ◌<◌, ◌≤◌, ◌++◌, [], length, map, false, vec_len, vec_capacity};
 ghost use Rattle.sect_table.specs.Contents.{number_of, entry_of, put, held_by, is_waiting, let_in as let_in_entry, let_through, give_all, grant_of, released};
 ghost use Rattle.sect_table.specs.Sound.{IsSound, IsKept, IsFirstBlocked, waiting_count};
@@ -19,7 +20,7 @@ fn let_in(arena: &mut Arena, grants: &mut Vec<Grant>, key: Key, at: usize)
     ensures entries { arena.new.entries ≡ put (let_in_entry (entry_of key arena.old.entries)) arena.old.entries }
     ensures spare { arena.new.spare ≡ arena.old.spare }
     ensures grants { grants.new.items ≡ grants.old.items ++ map (grant_of key) (let_through (entry_of key arena.old.entries).holders (entry_of key arena.old.entries).waiters) }
-    ensures room { vec_len grants.new + waiting_count arena.new.entries ≤ vec_capacity grants.new }
+    ensures few { vec_len grants.new + waiting_count arena.new.entries ≤ vec_len grants.old + waiting_count arena.old.entries }
     ensures capacity { vec_capacity grants.new ≡ vec_capacity grants.old }
 {
     while let Some(waiter) = arena.first_waiter(key, at) {
@@ -41,6 +42,7 @@ pub(crate) fn release_all(arena: &mut Arena, grants: &mut Vec<Grant>, thread: u1
     ensures entries { arena.new.entries ≡ (released thread arena.old).entries }
     ensures spare { arena.new.spare ≡ arena.old.spare + length (held_by arena.old thread) }
     ensures grants { grants.new.items ≡ (released thread arena.old).grants }
+    ensures few { length grants.new.items ≤ length arena.new.held }
     ensures kept { IsKept arena.new }
     ensures capacity { vec_capacity grants.new ≡ vec_capacity grants.old }
 {

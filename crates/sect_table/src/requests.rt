@@ -1,4 +1,5 @@
-// Asking for keys.
+//! Asking for keys.
+
 ghost use Rattle.std.specs.Prelude.{◌≡◌, ◌≢◌, ◌<◌, ◌+◌, ◌-◌, [], length, true, ℕ, Err, OnOk, OnErr, IfOk, IfErr};
 ghost use Rattle.sect_modes.specs.declared.mode.Mode.TheVariants.{Exclusive};
 ghost use Rattle.sect_table.specs.declared.claims.Answer.TheVariants.{Granted};

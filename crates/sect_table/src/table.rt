@@ -1,4 +1,5 @@
-// The lock table.
+//! The lock table.
+
 ghost use Rattle.std.specs.Prelude.{◌≡◌, ◌≢◌, ◌+◌, ◌-◌, ◌<◌, ◌≤◌, [], ℕ, length, true, false, Err, OnOk, OnErr, IfOk, IfErr};
 ghost use Rattle.sect_modes.specs.declared.mode.Mode.TheVariants.{Exclusive};
 ghost use Rattle.sect_table.specs.declared.claims.Answer.TheVariants.{Granted};
@@ -17,7 +18,7 @@ use std::marker::Model;
 
 /// Who holds which key in which mode, and who waits.
 ///
-/// Threads are numbered from 0. The holders of a key are pairwise compatible, a thread waits for one key at most, and no
+/// Threads are numbered from 0. No key has two entries. The holders of a key are pairwise compatible, a thread waits for one key at most, and no
 /// first waiter is compatible with all holders of its key.
 #[derive(Drop)]
 pub struct Table {
@@ -48,7 +49,8 @@ impl Table {
 
     /// The number of threads.
     pub fn threads(&self) -> usize
-        ensures { result ≡ length self.now.held }
+        ensures count { result ≡ length self.now.held }
+        ensures kept { IsKept self.now }
     {
         self.arena.thread_count()
     }
@@ -56,7 +58,8 @@ impl Table {
     /// Whether a thread waits for a key.
     pub fn is_waiting(&self, thread: u16) -> bool
         requires { thread < length self.now.held }
-        ensures { result ≡ is_waiting thread self.now }
+        ensures waits { result ≡ is_waiting thread self.now }
+        ensures kept { IsKept self.now }
     {
         self.arena.waits(thread)
     }
@@ -80,7 +83,8 @@ impl Table {
 
     /// The number of free nodes: of requests that need no memory, on keys that were asked for before.
     pub fn spare(&self) -> usize
-        ensures { result ≡ self.now.spare }
+        ensures count { result ≡ self.now.spare }
+        ensures kept { IsKept self.now }
     {
         self.arena.spare()
     }
@@ -128,6 +132,7 @@ impl Table {
         ensures held { self.new.held ≡ (released thread self.old).held }
         ensures entries { self.new.entries ≡ (released thread self.old).entries }
         ensures grants { grants.new.list ≡ (released thread self.old).grants }
+        ensures few { length grants.new.list ≤ length self.new.held }
         ensures threads { grants.new.threads ≡ grants.old.threads }
         ensures spare { self.new.spare ≡ self.old.spare + length (held_by self.old thread) }
         ensures kept { IsKept self.new }

@@ -1,11 +1,10 @@
 //! Certificates that are read and written back, and texts that are refused, each with its number and its line, both
 //! counted by hand.
 
-use sect_cert::certificate::{Cert, Chain, Section, Step};
-use sect_cert::fault::CertFault;
-use sect_cert::items::Items;
-use sect_cert::lock::{Lock, Path};
-use sect_cert::{read_cert, write_cert};
+use sect_cert::{
+    Cert, CertBase, CertFault, CertLock, CertPath, CertSection, CertStep, Chain, Items, read_cert,
+    write_cert,
+};
 use sect_front::is_name;
 use sect_front::name::Name;
 use std::alloc::{AllocError, Global};
@@ -14,12 +13,12 @@ use std::test::Fail;
 
 /// The certificate of a section that adds one to a field of a global.
 const ADDS_ONE: &[u8] =
-    b"sect-cert 1\nk 2\nsections 1\nsection 0 nodes 4\nnode 0: W a\nnode 1: W a\nnode 2: W a\n\
+    b"sect-cert 2\nk 2\nsections 1\nsection 0 nodes 4\nnode 0: W a\nnode 1: W a\nnode 2: W a\n\
 node 3: none\nentry: W a\nchain 0: 0 W a > 1 W a > 2 W a\nend\n";
 
 /// Every form of a lock, of a list and of a chain, sections of no node and of no chain, and numbers at their ends.
 const ALL_FORMS: &[u8] =
-    b"sect-cert 1\nk 4294967295\nsections 3\nsection 0 nodes 0\nentry: none\nsection 1 nodes 2\n\
+    b"sect-cert 2\nk 4294967295\nsections 3\nsection 0 nodes 0\nentry: none\nsection 1 nodes 2\n\
 node 0: R a, W _b.next.val9, R class 0, W class 4294967295, M class 10, R a\nnode 1: none\nentry: M class 1, R x0\n\
 chain 0: 4294967295 M class 1\nchain 4294967295: 0 R x0 > 10 W class 7 > 2 R a.b.c.d.e\nsection 2 nodes 1\n\
 node 0: W a\nentry: none\nend\n";
@@ -65,7 +64,7 @@ fn reads_back(rt: &(impl Abort + AllocGlobal), text: &[u8]) -> Result<(), Fail> 
 fn certificates_are_written_back(rt: HostRuntime) -> Result<(), Fail> {
     reads_back(&rt, ADDS_ONE)?;
     reads_back(&rt, ALL_FORMS)?;
-    reads_back(&rt, b"sect-cert 1\nk 0\nsections 0\nend\n")
+    reads_back(&rt, b"sect-cert 2\nk 0\nsections 0\nend\n")
 }
 
 /// What stands at a place.
@@ -104,10 +103,15 @@ fn a_chain_is_read_as_what_it_says(rt: HostRuntime) -> Result<(), Fail> {
     let step = at(chain.steps.as_slice(), 2)?;
     assert_eq!(rt; step.node, 2);
     match &step.lock {
-        Lock::WritePath(path) => {
-            assert!(rt; path.base.as_bytes() == b"a".as_slice());
+        CertLock::WritePath(path) => {
             assert_eq!(rt; path.fields.len(), 0);
-            Ok(())
+            match path.base {
+                CertBase::Name(name) => {
+                    assert!(rt; name.as_bytes() == b"a".as_slice());
+                    Ok(())
+                }
+                CertBase::InCall(_, _) => Err(Fail::from("another base")),
+            }
         }
         _ => Err(Fail::from("another lock")),
     }
@@ -126,31 +130,31 @@ fn name(bytes: &[u8]) -> Result<Name, Fail> {
 fn a_certificate_that_is_made_is_written(rt: HostRuntime) -> Result<(), Fail> {
     let mut fields = Items::new(rt.alloc());
     fields.push(name(b"next")?)?;
-    let base = name(b"head")?;
+    let base = CertBase::Name(name(b"head")?);
     let mut list = Items::new(rt.alloc());
-    list.push(Lock::ReadPath(Path { base, fields }))?;
-    list.push(Lock::MakeClass(3))?;
+    list.push(CertLock::ReadPath(CertPath { base, fields }))?;
+    list.push(CertLock::MakeClass(3))?;
     let mut nodes = Items::new(rt.alloc());
     nodes.push(list)?;
     nodes.push(Items::new(rt.alloc()))?;
     let mut entry = Items::new(rt.alloc());
-    entry.push(Lock::WriteClass(10))?;
+    entry.push(CertLock::WriteClass(10))?;
     let mut steps = Items::new(rt.alloc());
-    steps.push(Step {
+    steps.push(CertStep {
         node: 0,
-        lock: Lock::ReadClass(7),
+        lock: CertLock::ReadClass(7),
     })?;
     let mut chains = Items::new(rt.alloc());
     chains.push(Chain { lock: 2, steps })?;
     let mut sections = Items::new(rt.alloc());
-    sections.push(Section {
+    sections.push(CertSection {
         nodes,
         entry,
         chains,
     })?;
     let text = write_cert(rt.alloc(), &Cert { k: 1, sections })?;
     let wanted =
-        b"sect-cert 1\nk 1\nsections 1\nsection 0 nodes 2\nnode 0: R head.next, M class 3\nnode 1: none\n\
+        b"sect-cert 2\nk 1\nsections 1\nsection 0 nodes 2\nnode 0: R head.next, M class 3\nnode 1: none\n\
 entry: W class 10\nchain 2: 0 R class 7\nend\n";
     assert!(rt; text.as_slice() == wanted.as_slice());
     Ok(())
@@ -182,23 +186,23 @@ fn nothing_follows_the_end(rt: HostRuntime) -> Result<(), Fail> {
 /// Texts that are refused at one of their first lines, or behind it.
 const FIRST_LINES: [(&[u8], &str); 18] = [
     (b"", "31 CertEnd line 1"),
-    (b"sect-cert 1", "31 CertEnd line 1"),
-    (b"sect-cert 1\r\n", "30 BadCertLine line 1"),
+    (b"sect-cert 2", "31 CertEnd line 1"),
+    (b"sect-cert 2\r\n", "30 BadCertLine line 1"),
     (b"sect-cert 01\n", "30 BadCertLine line 1"),
-    (b"sect-cert 2\n", "30 BadCertLine line 1"),
+    (b"sect-cert 3\n", "30 BadCertLine line 1"),
     (b"\n", "30 BadCertLine line 1"),
-    (b"sect-cert 1\n", "31 CertEnd line 2"),
-    (b"sect-cert 1\nk 2", "31 CertEnd line 2"),
-    (b"sect-cert 1\nk 02\n", "32 NotCanonical line 2"),
-    (b"sect-cert 1\nk 00\n", "32 NotCanonical line 2"),
-    (b"sect-cert 1\nk 4294967296\n", "30 BadCertLine line 2"),
-    (b"sect-cert 1\nk 04294967296\n", "30 BadCertLine line 2"),
-    (b"sect-cert 1\nk 04294967295\n", "32 NotCanonical line 2"),
-    (b"sect-cert 1\nk\n", "30 BadCertLine line 2"),
-    (b"sect-cert 1\nk 1 \n", "30 BadCertLine line 2"),
-    (b"sect-cert 1\nk -1\n", "30 BadCertLine line 2"),
-    (b"sect-cert 1\nsections 01\n", "30 BadCertLine line 2"),
-    (b"sect-cert 1\nk 2\nk 2\n", "30 BadCertLine line 3"),
+    (b"sect-cert 2\n", "31 CertEnd line 2"),
+    (b"sect-cert 2\nk 2", "31 CertEnd line 2"),
+    (b"sect-cert 2\nk 02\n", "32 NotCanonical line 2"),
+    (b"sect-cert 2\nk 00\n", "32 NotCanonical line 2"),
+    (b"sect-cert 2\nk 4294967296\n", "30 BadCertLine line 2"),
+    (b"sect-cert 2\nk 04294967296\n", "30 BadCertLine line 2"),
+    (b"sect-cert 2\nk 04294967295\n", "32 NotCanonical line 2"),
+    (b"sect-cert 2\nk\n", "30 BadCertLine line 2"),
+    (b"sect-cert 2\nk 1 \n", "30 BadCertLine line 2"),
+    (b"sect-cert 2\nk -1\n", "30 BadCertLine line 2"),
+    (b"sect-cert 2\nsections 01\n", "30 BadCertLine line 2"),
+    (b"sect-cert 2\nk 2\nk 2\n", "30 BadCertLine line 3"),
 ];
 
 #[test]
@@ -251,13 +255,13 @@ const SECTION_LINES: [(&[u8], &str); 17] = [
 #[test]
 fn section_lines_are_refused(rt: HostRuntime) -> Result<(), Fail> {
     for (text, wanted) in SECTION_LINES {
-        refused_after(&rt, b"sect-cert 1\nk 2\n", text, wanted)?;
+        refused_after(&rt, b"sect-cert 2\nk 2\n", text, wanted)?;
     }
     Ok(())
 }
 
 /// The lines before a section's two nodes.
-const BEFORE_NODES: &[u8] = b"sect-cert 1\nk 2\nsections 1\nsection 0 nodes 2\n";
+const BEFORE_NODES: &[u8] = b"sect-cert 2\nk 2\nsections 1\nsection 0 nodes 2\n";
 
 /// What may stand where two nodes are due, and is refused.
 const NODE_LINES: [(&[u8], &str); 14] = [
@@ -318,7 +322,7 @@ const NO_LISTS: [&[u8]; 24] = [
     b"node 0: R a..b\n",
     b"node 0: R 9a\n",
     b"node 0: R a.01\n",
-    b"node 0: R a#1\n",
+    b"node 0: R a# 1\n",
     b"node 0: R a12345678901234567890123456789012\n",
 ];
 
@@ -345,7 +349,7 @@ fn lists_that_are_no_lists_are_refused(rt: HostRuntime) -> Result<(), Fail> {
 
 /// The lines before a section's chains.
 const BEFORE_CHAINS: &[u8] =
-    b"sect-cert 1\nk 2\nsections 1\nsection 0 nodes 1\nnode 0: none\nentry: W a\n";
+    b"sect-cert 2\nk 2\nsections 1\nsection 0 nodes 1\nnode 0: none\nentry: W a\n";
 
 /// What may stand where a chain is due, and is refused.
 const CHAIN_LINES: [(&[u8], &str); 18] = [
@@ -392,5 +396,60 @@ fn want_of_memory_is_printed(rt: HostRuntime) -> Result<(), Fail> {
         format!(in rt.alloc(); "{}", CertFault::Memory)?.as_str(),
         "out of memory"
     );
+    Ok(())
+}
+
+// Version 2: everything locked, locals of calls, and the first line of version 1.
+
+#[test]
+fn version_one_is_refused(rt: HostRuntime) -> Result<(), Fail> {
+    let table: [(&[u8], &str); 9] = [
+        (b"sect-cert 1\n", "33 OldVersion line 1"),
+        (b"sect-cert 1\nk 2\n", "33 OldVersion line 1"),
+        (b"sect-cert 1\nk 02\n", "33 OldVersion line 1"),
+        (b"sect-cert 1\n\xff", "33 OldVersion line 1"),
+        (b"sect-cert 1", "31 CertEnd line 1"),
+        (b"sect-cert 1 \n", "30 BadCertLine line 1"),
+        (b"sect-cert 10\n", "30 BadCertLine line 1"),
+        (b"sect-cert 3\n", "30 BadCertLine line 1"),
+        (b"\nsect-cert 1\n", "30 BadCertLine line 1"),
+    ];
+    for (text, wanted) in table {
+        answers(&rt, text, wanted)?;
+    }
+    let mut old = Vec::new(rt.alloc());
+    old.extend_from_slice(b"sect-cert 1")?;
+    old.extend_from_slice(&ADDS_ONE[11..])?;
+    answers(&rt, old.as_slice(), "33 OldVersion line 1")
+}
+
+#[test]
+fn locks_of_everything_and_of_calls_are_read(rt: HostRuntime) -> Result<(), Fail> {
+    reads_back(
+        &rt,
+        b"sect-cert 2\nk 2\nsections 1\nsection 0 nodes 2\nnode 0: W all, R t#3.next\n\
+node 1: W t#0, W t#4294967295.a.b, W all\nentry: W all\nchain 0: 0 W all > 1 R x#10\nend\n",
+    )?;
+    let table: [(&[u8], &str); 16] = [
+        (b"node 0: W all, R t#3.next\n", "31 CertEnd line 6"),
+        (b"node 0: R all\n", "30 BadCertLine line 5"),
+        (b"node 0: M all\n", "30 BadCertLine line 5"),
+        (b"node 0: W all.next\n", "30 BadCertLine line 5"),
+        (b"node 0: W a.all\n", "30 BadCertLine line 5"),
+        (b"node 0: W all#1\n", "30 BadCertLine line 5"),
+        (b"node 0: W alls\n", "31 CertEnd line 6"),
+        (b"node 0: R t#03\n", "32 NotCanonical line 5"),
+        (b"node 0: R t#00.next\n", "32 NotCanonical line 5"),
+        (b"node 0: R t#\n", "30 BadCertLine line 5"),
+        (b"node 0: R #3\n", "30 BadCertLine line 5"),
+        (b"node 0: R t#3#4\n", "30 BadCertLine line 5"),
+        (b"node 0: R t.f#3\n", "30 BadCertLine line 5"),
+        (b"node 0: R t#a\n", "30 BadCertLine line 5"),
+        (b"node 0: R t#4294967296\n", "30 BadCertLine line 5"),
+        (b"node 0: R t#04294967296\n", "30 BadCertLine line 5"),
+    ];
+    for (text, wanted) in table {
+        refused_after(&rt, BEFORE_NODES, text, wanted)?;
+    }
     Ok(())
 }

@@ -1,5 +1,5 @@
 use Rattle.std.proofs.Common.{◌≡◌, ◌<◌, length}
-use Rattle.sect_cert.specs.Numbers.{decimal_from}
+use Rattle.sect_cert.specs.steps.Numbers.{decimal_from}
 use Rattle.sect_cert.proofs.numbers.decimal.Given as goal
 
 abbrev pub invariant-loop-first : goal.invariant-loop-first

@@ -1,5 +1,4 @@
-use Rattle.sect_cert.proofs.Only.{only}
-use Rattle.sect_cert.proofs.Alone.{refuses}
+use Rattle.sect_cert.proofs.Versions.{only, refuses}
 use Rattle.sect_cert.proofs.reading.read_cert.Goals as goal
 
 pub returns-clause-only : goal.returns-clause-only

@@ -1,5 +1,5 @@
 use Rattle.std.proofs.Common.{◌≡◌, ◌++◌, drop}
-use Rattle.sect_cert.specs.Writes.{nodes_text}
+use Rattle.sect_cert.specs.steps.Writes.{nodes_text}
 use Rattle.sect_cert.proofs.writing.put_nodes.Given as goal
 
 abbrev pub invariant-loop-node : goal.invariant-loop-node

@@ -1,5 +1,5 @@
 use Rattle.std.proofs.Common.{◌≡◌, ◌++◌, drop}
-use Rattle.sect_cert.specs.Writes.{sections_text}
+use Rattle.sect_cert.specs.steps.Writes.{sections_text}
 use Rattle.sect_cert.proofs.writing.put_sections.Given as goal
 
 abbrev pub invariant-loop-number : goal.invariant-loop-number

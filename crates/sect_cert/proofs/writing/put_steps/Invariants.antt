@@ -1,6 +1,6 @@
 use Rattle.std.proofs.Common.{◌≡◌, ◌++◌, drop}
 use Rattle.std.specs.List.{flat_map}
-use Rattle.sect_cert.specs.Writes.{next_step}
+use Rattle.sect_cert.specs.steps.Writes.{next_step}
 use Rattle.sect_cert.proofs.writing.put_steps.Given as goal
 
 abbrev pub invariant-loop-step : goal.invariant-loop-step

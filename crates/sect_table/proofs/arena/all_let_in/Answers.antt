@@ -1,5 +1,5 @@
 use Rattle.std.proofs.Common.{arith, ◌≡◌, ◌<◌, ◌+◌, length, drop, take, sym, ◌∙◌, subst, Some, None, IfSome}
-use Rattle.sect_table.specs.Links.{list_at, head_or}
+use Rattle.sect_table.specs.steps.Links.{list_at, head_or}
 use Rattle.sect_table.proofs.Walking.{split_here, join_step}
 use Rattle.sect_table.proofs.arena.all_let_in.Goals as goal
 

@@ -1,7 +1,8 @@
-use Rattle.std.proofs.Common.{rules, arith, ◌≡◌, ◌<◌, length, vec_len, vec_capacity, sym, ◌∙◌, ap, subst, Some, true}
+use Rattle.std.proofs.Common.{rules, arith, ◌≡◌, ◌+◌, ◌<◌, length, vec_len, vec_capacity, sym, ◌∙◌, ap, subst, Some, true}
 use Rattle.sect_table.specs.declared.claims.Claim.{Claim}
 use Rattle.sect_table.specs.Contents.{Entry, entry_of, claim_of, may_join}
-use Rattle.sect_table.specs.Letting.{LettingIn}
+use Rattle.sect_table.specs.Sound.{waiting_count}
+use Rattle.sect_table.specs.steps.Letting.{LettingIn}
 use Rattle.sect_table.proofs.Passing.{letting_on, letting_done, nobody_let, first_stopped, room_left}
 use Rattle.sect_table.proofs.releases.let_in.Goals as goal
 
@@ -10,10 +11,11 @@ push_reserved-requires c =
     let inv = c.loop-waiter.invariant in
     let n : length c.loop-waiter.grants.items ≡ vec_len c.loop-waiter.grants = search rules in
     let capacity = inv.capacity in
-    let less : length c.loop-waiter.grants.items < vec_capacity c.args.grants.now = room_left c.args.key _ c.loop-waiter.arena.entries (length c.loop-waiter.grants.items) c.in-Some.waiter (sym c.in-Some.ensures) inv.letting.fits in
+    let room = c.requires.room in
+    let less : length c.loop-waiter.grants.items < vec_len c.args.grants.now + waiting_count c.args.arena.now.entries = room_left c.args.key _ c.loop-waiter.arena.entries (length c.loop-waiter.grants.items) c.in-Some.waiter (sym c.in-Some.ensures) inv.letting.fits in
     omega arith
 
-outcome : (c : goal.After-push_reserved) → LettingIn c.args.key c.args.at (vec_capacity c.args.grants.now) c.args.arena.now c.grant_first.new.self c.args.grants.now.items c.push_reserved.new.self.items
+outcome : (c : goal.After-push_reserved) → LettingIn c.args.key c.args.at (vec_len c.args.grants.now + waiting_count c.args.arena.now.entries) c.args.arena.now c.grant_first.new.self c.args.grants.now.items c.push_reserved.new.self.items
     × (length (entry_of c.args.key c.grant_first.new.self.entries).waiters < length (entry_of c.args.key c.loop-waiter.arena.entries).waiters)
 outcome c =
     let r = c.grant_first.result in

@@ -1,14 +1,12 @@
 use Rattle.std.proofs.Common.{rules, arith, ◌≡◌, ◌<◌, length, vec_len, vec_capacity, sym, ◌∙◌, refl}
 use Rattle.sect_table.specs.Contents.{held_by}
-use Rattle.sect_table.specs.Letting.{Releasing}
+use Rattle.sect_table.specs.steps.Letting.{Releasing}
 use Rattle.sect_table.proofs.Releasing.{releasing_first, first_known, first_apart, FirstOut, first_out, releasing_on}
 use Rattle.sect_table.proofs.releases.release_all.Goals as goal
 
 pub loop-hold-init : goal.loop-hold-init
 loop-hold-init c =
-    let kept = c.clear.ensures.capacity in
-    let room = c.requires.room in
-    record { releasing = releasing_first c.args.thread (vec_capacity c.clear.new.self) c.args.arena.now c.clear.new.self.items c.requires.kept c.requires.waits (omega arith) c.clear.ensures.items; capacity = refl }
+    record { releasing = releasing_first c.args.thread (length c.args.arena.now.held) c.args.arena.now c.clear.new.self.items c.requires.kept c.requires.waits (omega arith) c.clear.ensures.items; capacity = refl }
 
 pub release_first-requires-clause-known : goal.release_first-requires-clause-known
 release_first-requires-clause-known c =
@@ -44,16 +42,23 @@ let_in-requires-clause-room c =
     let n : length c.loop-hold.grants.items ≡ vec_len c.loop-hold.grants = search rules in
     let fits = c.loop-hold.invariant.releasing.fits in
     let capacity = c.loop-hold.invariant.capacity in
+    let kept = c.clear.ensures.capacity in
+    let room = c.requires.room in
     let same = (out c).waiting in
     omega arith
 
-outcome : (c : goal.After-let_in) → Releasing c.args.thread (vec_capacity c.clear.new.self) c.args.arena.now c.let_in.new.arena c.let_in.new.grants.items × (length (held_by c.let_in.new.arena c.args.thread) < length (held_by c.loop-hold.arena c.args.thread))
+outcome : (c : goal.After-let_in) → Releasing c.args.thread (length c.args.arena.now.held) c.args.arena.now c.let_in.new.arena c.let_in.new.grants.items × (length (held_by c.let_in.new.arena c.args.thread) < length (held_by c.loop-hold.arena c.args.thread))
 outcome c =
     let e = c.let_in.ensures in
     let n : length c.let_in.new.grants.items ≡ vec_len c.let_in.new.grants = search rules in
-    let room = e.room in
-    let capacity = c.loop-hold.invariant.capacity in
-    let capacity' = e.capacity in
+    let m : length c.loop-hold.grants.items ≡ vec_len c.loop-hold.grants = search rules in
+    let fits = c.loop-hold.invariant.releasing.fits in
+    let count = c.loop-hold.invariant.releasing.count in
+    let lt = c.requires.thread in
+    let freed : FirstOut c.args.thread c.in-Some.hold.key c.loop-hold.arena c.release_first.new.self = first_out c.args.thread c.in-Some.hold c.loop-hold.arena c.release_first.new.self
+    c.loop-hold.invariant.releasing.sound (omega arith) (sym c.in-Some.ensures) c.release_first.ensures.held c.release_first.ensures.entries in
+    let same = freed.waiting in
+    let few = e.few in
     releasing_on c.args.thread _ c.args.arena.now c.loop-hold.arena c.release_first.new.self c.let_in.new.arena c.loop-hold.grants.items c.let_in.new.grants.items c.in-Some.hold
     c.loop-hold.invariant.releasing c.requires.thread (sym c.in-Some.ensures) c.release_first.ensures.held c.release_first.ensures.entries c.release_first.ensures.spare
     e.sound e.blocked e.held e.entries e.spare e.grants (omega arith)

@@ -1,8 +1,8 @@
 use Rattle.std.proofs.Common.{rules, arith, ◌≡◌, ◌<◌, ◌+◌, length, set, sym, ◌∙◌, vec_len, None, Some, get_or-set_same}
 use Rattle.sect_table.specs.declared.claims.Grant.{Grant}
 use Rattle.sect_table.specs.Contents.{put, entry_of, with_holder, claim_of, give}
-use Rattle.sect_table.specs.Links.{head_or, list_at}
-use Rattle.sect_table.specs.Arena.{no_node}
+use Rattle.sect_table.specs.steps.Links.{head_or, list_at}
+use Rattle.sect_table.specs.steps.Arena.{no_node}
 use Rattle.sect_table.proofs.Shown.{seen, uncons}
 use Rattle.sect_table.proofs.Roles.{labelled_first}
 use Rattle.sect_table.proofs.Moving.{Shows, goes, filled, holder_added}

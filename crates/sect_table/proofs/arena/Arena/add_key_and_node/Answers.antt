@@ -1,6 +1,6 @@
 use Rattle.std.proofs.Common.{◌++◌, ◌∷◌, [], sym, ◌∙◌, ap, refl}
 use Rattle.sect_table.specs.Contents.{Contents, no_entry}
-use Rattle.sect_table.specs.Arena.{no_node}
+use Rattle.sect_table.specs.steps.Arena.{no_node}
 use Rattle.sect_table.proofs.Shown.{seen}
 use Rattle.sect_table.proofs.Growing.{NodeAdded, KeyAdded, key_added, node_added, arena_same, shown_same}
 use Rattle.sect_table.proofs.arena.Arena.add_key_and_node.Goals as goal

@@ -1,6 +1,6 @@
 use Rattle.std.proofs.Common.{◌∙◌, ap}
 use Rattle.sect_table.specs.Contents.{Contents}
-use Rattle.sect_table.specs.Arena.{no_node}
+use Rattle.sect_table.specs.steps.Arena.{no_node}
 use Rattle.sect_table.proofs.Growing.{NodeAdded, node_added, arena_same, shown_same}
 use Rattle.sect_table.proofs.arena.Arena.add_node.Goals as goal
 

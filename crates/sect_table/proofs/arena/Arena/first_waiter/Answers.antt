@@ -1,8 +1,8 @@
 use Rattle.std.proofs.Common.{rules, arith, ◌≡◌, ◌+◌, length, sym, ◌∙◌, ap, vec_len}
 use Rattle.std.proofs.lemmas.List.{get_or_read}
-use Rattle.sect_table.specs.Links.{list_at}
+use Rattle.sect_table.specs.steps.Links.{list_at}
 use Rattle.sect_table.specs.Contents.{Entry, first_of}
-use Rattle.sect_table.specs.Arena.{no_node}
+use Rattle.sect_table.specs.steps.Arena.{no_node}
 use Rattle.sect_table.proofs.Shown.{seen, queues-seen, first_claim, no_claim}
 use Rattle.sect_table.proofs.arena.Arena.first_waiter.Goals as goal
 

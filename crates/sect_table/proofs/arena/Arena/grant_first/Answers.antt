@@ -2,8 +2,8 @@ use Rattle.std.proofs.Common.{rules, arith, ◌≡◌, ◌<◌, ◌+◌, length,
 use Rattle.std.specs.Prelude.{IsSome}
 use Rattle.std.proofs.lemmas.List.{get_or_read}
 use Rattle.sect_table.specs.Contents.{Entry, put, entry_of, with_grant, claim_of, give}
-use Rattle.sect_table.specs.Links.{head_or, list_at}
-use Rattle.sect_table.specs.Arena.{no_node, claims}
+use Rattle.sect_table.specs.steps.Links.{head_or, list_at}
+use Rattle.sect_table.specs.steps.Arena.{no_node, claims}
 use Rattle.sect_table.proofs.Shown.{seen, uncons, queues-seen, claimed_first}
 use Rattle.sect_table.proofs.Roles.{labelled_first}
 use Rattle.sect_table.proofs.Moving.{Shows, goes, first_granted, Waiter, first_waiting}

@@ -1,6 +1,6 @@
 use Rattle.std.proofs.Common.{arith, ◌+◌, sym, ◌∙◌, ap}
 use Rattle.sect_table.specs.Contents.{Entry, may_join}
-use Rattle.sect_table.specs.Arena.{queue_at}
+use Rattle.sect_table.specs.steps.Arena.{queue_at}
 use Rattle.sect_table.proofs.Shown.{seen, queues-seen}
 use Rattle.sect_table.proofs.arena.Arena.lets_in.Goals as goal
 

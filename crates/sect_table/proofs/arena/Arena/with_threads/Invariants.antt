@@ -1,5 +1,5 @@
 use Rattle.std.proofs.Common.{◌≡◌, ◌+◌, length}
-use Rattle.sect_table.specs.Links.{ArePlaced}
+use Rattle.sect_table.specs.steps.Links.{ArePlaced}
 use Rattle.sect_table.proofs.Growing.{AreEmpty}
 use Rattle.sect_table.proofs.arena.Arena.with_threads.Given as goal
 

@@ -1,6 +1,6 @@
 use Rattle.std.proofs.Common.{◌≡◌, ◌++◌, ◌∷◌, [], length, ap, subst, sym, ◌∙◌}
 use Rattle.std.specs.Prelude.{if◌then◌else◌}
-use Rattle.sect_table.specs.Keys.{place_in}
+use Rattle.sect_table.specs.steps.Keys.{place_in}
 use Rattle.sect_table.proofs.Numbers.{none_has}
 use Rattle.sect_table.proofs.keys.Keys.add.Goals as goal
 

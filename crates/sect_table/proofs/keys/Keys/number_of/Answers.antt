@@ -1,5 +1,5 @@
 use Rattle.std.proofs.Common.{ap, sym, ◌∙◌}
-use Rattle.sect_table.specs.Keys.{place_in}
+use Rattle.sect_table.specs.steps.Keys.{place_in}
 use Rattle.sect_table.proofs.Numbers.{found_place, no_place}
 use Rattle.sect_table.proofs.keys.Keys.number_of.Goals as goal
 

@@ -1,5 +1,5 @@
 use Rattle.std.proofs.Common.{rules, arith, ◌≡◌, ◌<◌, ◌++◌, ◌∷◌, [], length, subst, sym, ◌∙◌, ap, set, vec_len}
-use Rattle.sect_table.specs.Links.{lists_of, list_at, Shape}
+use Rattle.sect_table.specs.steps.Links.{lists_of, list_at, Shape}
 use Rattle.sect_table.proofs.Whole.{labels-added, added_all, room_added, closed, lists-found, placed_sized, last_added}
 use Rattle.sect_table.proofs.lists.Lists.add_number.Goals as goal
 

@@ -1,5 +1,5 @@
 use Rattle.std.proofs.Common.{rules, arith, ◌≡◌, ◌<◌, length, ap, subst, ◌∙◌, vec_len, IfSome}
-use Rattle.sect_table.specs.Links.{Shape}
+use Rattle.sect_table.specs.steps.Links.{Shape}
 use Rattle.sect_table.proofs.Whole.{after_is, after_within}
 use Rattle.sect_table.proofs.lists.Lists.after.Goals as goal
 

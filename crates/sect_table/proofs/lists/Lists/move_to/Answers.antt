@@ -1,5 +1,5 @@
 use Rattle.std.proofs.Common.{rules, arith, ◌≡◌, ◌<◌, length, subst, ◌∙◌, ap, set, vec_len, None}
-use Rattle.sect_table.specs.Links.{moved, lists_of, AreLists, Shape}
+use Rattle.sect_table.specs.steps.Links.{moved, lists_of, AreLists, Shape}
 use Rattle.sect_table.proofs.Whole.{labels-moved, moved_all, room_read, closed, lists-found, placed_sized, previous_within, next_link_within, last_read, map-without}
 use Rattle.sect_table.proofs.lists.Lists.move_to.Goals as goal
 

@@ -2,42 +2,43 @@
 use Rattle.std.specs.Prelude.{ℕ, if◌then◌else◌, List, [], ◌∷◌, Option, Some, None, option_and_then, codes}
 use Rattle.std.specs.Option.{option_map}
 use Rattle.std.specs.Str.{bytes_eq}
-use Rattle.sect_cert.specs.Numbers.{ends_with, without_end, number_of}
-use Rattle.sect_cert.specs.Certificates.{chain_with}
-use Rattle.sect_cert.specs.Lists.{list_of}
-use Rattle.sect_cert.specs.Chains.{steps_of}
-use Rattle.sect_cert.specs.declared.line.Line.{Line}
-use Rattle.sect_cert.specs.declared.line.Line.TheVariants as line
+use Rattle.sect_cert.specs.steps.Numbers.{ends_with, without_end, number_of}
+use Rattle.sect_cert.specs.steps.Certificates.{chain_with}
+use Rattle.sect_cert.specs.steps.Lists.{list_of}
+use Rattle.sect_cert.specs.steps.Chains.{steps_of}
+use Rattle.sect_cert.specs.declared.line.CertLine.{CertLine}
+use Rattle.sect_cert.specs.declared.line.CertLine.TheVariants as line
 
 abbrev pub only_number : List (List ℕ) → Option ℕ
 only_number (w ∷ []) = number_of w
 only_number _ = None
 
-abbrev pub section_of : Option ℕ → Option ℕ → Option Line
+abbrev pub section_of : Option ℕ → Option ℕ → Option CertLine
 section_of (Some i) (Some m) = Some (line.Section i m)
 section_of _ _ = None
 
-abbrev pub section_line : List (List ℕ) → Option Line
+abbrev pub section_line : List (List ℕ) → Option CertLine
 section_line (i ∷ s ∷ m ∷ []) = if bytes_eq s (codes "nodes") then section_of (number_of i) (number_of m) else None
 section_line _ = None
 
 abbrev pub colon_number : List ℕ → Option ℕ
 colon_number w = if ends_with 58 w then number_of (without_end 58 w) else None
 
-abbrev pub node_line : List (List ℕ) → Option Line
+abbrev pub node_line : List (List ℕ) → Option CertLine
 node_line [] = None
 node_line (w ∷ ws) = option_and_then (λ j. option_map (λ ls. line.Node j ls) (list_of ws)) (colon_number w)
 
-abbrev pub chain_line : List (List ℕ) → Option Line
+abbrev pub chain_line : List (List ℕ) → Option CertLine
 chain_line [] = None
-chain_line (w ∷ ws) = option_and_then (λ l. option_map (λ ss. line.Chain (chain_with l ss)) (steps_of ws)) (colon_number w)
+chain_line (w ∷ ws) =
+    option_and_then (λ l. option_map (λ ss. line.Chain (chain_with l ss)) (steps_of ws)) (colon_number w)
 
-abbrev pub end_line : List (List ℕ) → Option Line
+abbrev pub end_line : List (List ℕ) → Option CertLine
 end_line [] = Some line.End
 end_line _ = None
 
 -- the line that words are
-abbrev pub line_of : List (List ℕ) → Option Line
+abbrev pub line_of : List (List ℕ) → Option CertLine
 line_of [] = None
 line_of (h ∷ ws) =
     if bytes_eq h (codes "k") then option_map (λ n. line.K n) (only_number ws) else (

@@ -3,7 +3,7 @@ use Rattle.std.specs.Prelude.{◌≡◌, ℕ, ◌+◌, ◌<◌, ◌≤◌, List,
 use Rattle.sect_modes.specs.declared.key.Key.{Key}
 use Rattle.sect_table.specs.declared.claims.Grant.{Grant}
 use Rattle.sect_table.specs.Contents.{Contents, number_of, entry_of, put, held_by, let_in, let_through, give_all, grant_of, release_each, released}
-use Rattle.sect_table.specs.Sound.{IsSound, IsFirstBlocked, waits_of, waiting_count}
+use Rattle.sect_table.specs.Sound.{IsSound, IsFirstBlocked, AreEntriesApart, waits_of, waiting_count}
 
 -- what is still to be let in makes up what was to be let in at first
 pub record Passes (k : Key) (old now : Contents) (grants0 grants : List Grant) : Type 0 where
@@ -21,6 +21,7 @@ pub record LettingIn (k : Key) (at room : ℕ) (old now : Contents) (grants0 gra
 
 -- what is still to be given back makes up what was to be given back at first
 pub record Releasing (t room : ℕ) (old now : Contents) (grants : List Grant) : Type 0 where
+  pub apart : AreEntriesApart now.entries
   pub sound : IsSound now
   pub settled : (k : Key) → IsFirstBlocked (entry_of k now.entries).holders (entry_of k now.entries).waiters
   pub passes : release_each t (held_by now t) (record { held = slice_set now.held t []; entries = now.entries; grants = grants }) ≡ released t old

@@ -4,7 +4,7 @@ use Rattle.std.proofs.lemmas.List.Splits.{length-slice_split}
 use Rattle.std.proofs.lemmas.List.Sums.{count_by-le-length}
 use Rattle.sect_cert.specs.Parts.{parts}
 use Rattle.sect_cert.proofs.Verdict.{IsReading, reading_more, reading_goes_on, reading_fails, reading_closes}
-use Rattle.sect_cert.proofs.reading.judge.Goals as goal
+use Rattle.sect_cert.proofs.reading.read_lines.Goals as goal
 
 pub overflow_add-line : goal.overflow_add-line
 overflow_add-line c =

@@ -7,8 +7,8 @@ use Rattle.sect_table.specs.declared.claims.Hold.{Hold}
 use Rattle.sect_table.specs.declared.claims.Claim.{Claim}
 use Rattle.sect_table.specs.declared.claims.Grant.{Grant}
 use Rattle.sect_table.specs.Contents.{Entry, Contents, hold_of, claim_of}
-use Rattle.sect_table.specs.Keys.{place_in}
-use Rattle.sect_table.specs.Links.{Shape, list_at, label_at, ArePlaced}
+use Rattle.sect_table.specs.steps.Keys.{place_in}
+use Rattle.sect_table.specs.steps.Links.{Shape, list_at, label_at, ArePlaced}
 
 abbrev pub no_node : Grant
 no_node = record { thread = 0; key = Class 0; mode = Exclusive }

@@ -3,12 +3,12 @@ use Rattle.std.specs.Prelude.{ℕ, ◌+◌, List, [], ◌∷◌, ◌++◌, lengt
 use Rattle.std.specs.List.{flat_map}
 use Rattle.sect_cert.specs.Spelling.{lock_words, step_words}
 use Rattle.sect_cert.specs.Lines.{line_text}
-use Rattle.sect_cert.specs.declared.lock.Lock.{Lock}
-use Rattle.sect_cert.specs.declared.certificate.Step.{Step}
+use Rattle.sect_cert.specs.declared.lock.CertLock.{CertLock}
+use Rattle.sect_cert.specs.declared.certificate.CertStep.{CertStep}
 use Rattle.sect_cert.specs.declared.certificate.Chain.{Chain}
-use Rattle.sect_cert.specs.declared.certificate.Section.{Section}
-use Rattle.sect_cert.specs.declared.line.Line.{Line}
-use Rattle.sect_cert.specs.declared.line.Line.TheVariants as line
+use Rattle.sect_cert.specs.declared.certificate.CertSection.{CertSection}
+use Rattle.sect_cert.specs.declared.line.CertLine.{CertLine}
+use Rattle.sect_cert.specs.declared.line.CertLine.TheVariants as line
 
 -- words, each behind a blank
 abbrev pub spaced : List (List ℕ) → List ℕ
@@ -20,25 +20,25 @@ abbrev pub field_text : List ℕ → List ℕ
 field_text name = 46 ∷ name
 
 -- a lock, behind a blank, and behind a comma
-abbrev pub lock_text : Lock → List ℕ
+abbrev pub lock_text : CertLock → List ℕ
 lock_text l = spaced (lock_words l [] [])
 
-abbrev pub next_lock : Lock → List ℕ
+abbrev pub next_lock : CertLock → List ℕ
 next_lock l = 44 ∷ lock_text l
 
 -- a step, behind a blank, and behind an arrow
-abbrev pub step_text : Step → List ℕ
+abbrev pub step_text : CertStep → List ℕ
 step_text s = spaced (step_words s [])
 
-abbrev pub next_step : Step → List ℕ
+abbrev pub next_step : CertStep → List ℕ
 next_step s = codes " >" ++ step_text s
 
 -- a line with its line feed
-abbrev pub fed_line : Line → List ℕ
+abbrev pub fed_line : CertLine → List ℕ
 fed_line x = line_text x ++ 10 ∷ []
 
 -- the lines of nodes, by number from this one
-abbrev pub nodes_text : ℕ → List (List Lock) → List ℕ
+abbrev pub nodes_text : ℕ → List (List CertLock) → List ℕ
 nodes_text j [] = []
 nodes_text j (ls ∷ ns) = fed_line (line.Node j ls) ++ nodes_text (j + 1) ns
 
@@ -46,9 +46,11 @@ abbrev pub chain_text : Chain → List ℕ
 chain_text c = fed_line (line.Chain c)
 
 -- the lines of a section
-abbrev pub section_text : ℕ → Section → List ℕ
-section_text i s = fed_line (line.Section i (length s.nodes)) ++ (nodes_text 0 s.nodes ++ (fed_line (line.Entry s.entry) ++ flat_map chain_text s.chains))
+abbrev pub section_text : ℕ → CertSection → List ℕ
+section_text i s =
+    fed_line (line.Section i (length s.nodes))
+    ++ (nodes_text 0 s.nodes ++ (fed_line (line.Entry s.entry) ++ flat_map chain_text s.chains))
 
-abbrev pub sections_text : ℕ → List Section → List ℕ
+abbrev pub sections_text : ℕ → List CertSection → List ℕ
 sections_text i [] = []
 sections_text i (s ∷ ss) = section_text i s ++ sections_text (i + 1) ss

@@ -1,7 +1,7 @@
 use Rattle.std.proofs.Common.{◌∷◌, length}
 use Rattle.sect_cert.specs.Parts.{parts}
 use Rattle.sect_cert.proofs.Verdict.{IsReading}
-use Rattle.sect_cert.proofs.reading.judge.Given as goal
+use Rattle.sect_cert.proofs.reading.read_lines.Given as goal
 
 abbrev pub invariant-loop-next : goal.invariant-loop-next
 invariant-loop-next l = IsReading (parts 10 l.bytes) (l.text ∷ l.others) l.stage l.line

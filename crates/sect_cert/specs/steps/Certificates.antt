@@ -1,25 +1,26 @@
 -- The parts of a certificate.
 use Rattle.std.specs.Prelude.{ℕ, ◌-◌, Bool, true, nat_lt, List, length, slice_get, Option, Some, None}
-use Rattle.sect_cert.specs.declared.lock.Path.{Path}
-use Rattle.sect_cert.specs.declared.lock.Lock.{Lock}
-use Rattle.sect_cert.specs.declared.certificate.Step.{Step}
+use Rattle.sect_cert.specs.declared.lock.CertBase.{CertBase}
+use Rattle.sect_cert.specs.declared.lock.CertPath.{CertPath}
+use Rattle.sect_cert.specs.declared.lock.CertLock.{CertLock}
+use Rattle.sect_cert.specs.declared.certificate.CertStep.{CertStep}
 use Rattle.sect_cert.specs.declared.certificate.Chain.{Chain}
-use Rattle.sect_cert.specs.declared.certificate.Section.{Section}
+use Rattle.sect_cert.specs.declared.certificate.CertSection.{CertSection}
 use Rattle.sect_cert.specs.declared.certificate.Cert.{Cert}
 
-abbrev pub path_with : List ℕ → List (List ℕ) → Path
+abbrev pub path_with : CertBase → List (List ℕ) → CertPath
 path_with base fields = record { base = base; fields = fields }
 
-abbrev pub step_with : ℕ → Lock → Step
+abbrev pub step_with : ℕ → CertLock → CertStep
 step_with node lock = record { node = node; lock = lock }
 
-abbrev pub chain_with : ℕ → List Step → Chain
+abbrev pub chain_with : ℕ → List CertStep → Chain
 chain_with lock steps = record { lock = lock; steps = steps }
 
-abbrev pub section_with : List (List Lock) → List Lock → List Chain → Section
+abbrev pub section_with : List (List CertLock) → List CertLock → List Chain → CertSection
 section_with nodes entry chains = record { nodes = nodes; entry = entry; chains = chains }
 
-abbrev pub cert_with : ℕ → List Section → Cert
+abbrev pub cert_with : ℕ → List CertSection → Cert
 cert_with k sections = record { k = k; sections = sections }
 
 abbrev pub is_past : Option Chain → ℕ → Bool

@@ -1,0 +1,52 @@
+-- The steps of a chain, read word by word.
+use Rattle.std.specs.Prelude.{◌≡◌, ℕ, if◌then◌else◌, List, [], ◌∷◌, ◌++◌, Option, Some, None, option_and_then, codes}
+use Rattle.std.specs.Prelude.{Result, Ok, Err, ⊤}
+use Rattle.std.specs.Option.{option_map}
+use Rattle.std.specs.Str.{bytes_eq}
+use Rattle.sect_cert.specs.steps.Numbers.{number_of}
+use Rattle.sect_cert.specs.steps.Certificates.{step_with}
+use Rattle.sect_cert.specs.steps.Subjects.{mode_of, class_lock, subject_of}
+use Rattle.sect_cert.specs.declared.fault.LineFault.{LineFault}
+use Rattle.sect_cert.specs.declared.fault.LineFault.TheVariants as fault
+use Rattle.sect_cert.specs.declared.certificate.CertStep.{CertStep}
+use Rattle.sect_cert.specs.declared.chain.ChainWord.{ChainWord}
+use Rattle.sect_cert.specs.declared.chain.ChainWord.TheVariants as due
+
+-- steps, and what the next word is to be
+pub record ChainState : Type 0 where
+  pub steps : List CertStep
+  pub at : ChainWord
+
+abbrev pub chain_state : List CertStep → ChainWord → ChainState
+chain_state ss p = record { steps = ss; at = p }
+
+abbrev pub walk_of : List CertStep → ChainWord → List ℕ → Option ChainState
+walk_of ss due.Node w = option_map (λ n. chain_state ss (due.Mode n)) (number_of w)
+walk_of ss (due.Mode n) w = option_map (λ m. chain_state ss (due.Subject n m)) (mode_of w)
+walk_of ss (due.Subject n m) w =
+    if bytes_eq w (codes "class") then Some (chain_state ss (due.Class n m)) else
+    option_map (λ l. chain_state (ss ++ step_with n l ∷ []) due.Whole) (subject_of m w)
+walk_of ss (due.Class n m) w =
+    option_map (λ c. chain_state (ss ++ step_with n (class_lock m c) ∷ []) due.Whole) (number_of w)
+walk_of ss due.Whole w = if bytes_eq w (codes ">") then Some (chain_state ss due.Node) else None
+
+abbrev pub WalksTo : Result ChainWord LineFault → List CertStep → Option ChainState → Type 0
+WalksTo (Ok p) ss next = next ≡ Some (chain_state ss p)
+WalksTo (Err fault.Memory) ss next = ⊤
+WalksTo (Err fault.Bad) ss next = next ≡ None
+WalksTo (Err fault.Odd) ss next = ⊥
+
+abbrev pub walk_on : ChainState → List (List ℕ) → Option ChainState
+walk_on s [] = Some s
+walk_on s (w ∷ ws) = option_and_then (λ t. walk_on t ws) (walk_of s.steps s.at w)
+
+abbrev pub steps_when : List CertStep → ChainWord → Option (List CertStep)
+steps_when ss due.Whole = Some ss
+steps_when ss _ = None
+
+abbrev pub steps_in : ChainState → Option (List CertStep)
+steps_in s = steps_when s.steps s.at
+
+-- the steps that words are
+abbrev pub steps_of : List (List ℕ) → Option (List CertStep)
+steps_of ws = option_and_then steps_in (walk_on (chain_state [] due.Node) ws)

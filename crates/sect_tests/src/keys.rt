@@ -5,6 +5,7 @@ use sect_modes::{Key, is_below, is_same};
 #[test]
 fn keys_in_order(rt: HostRuntime) {
     let keys = [
+        Key::All,
         Key::Class(0),
         Key::Class(9),
         Key::Global(0),

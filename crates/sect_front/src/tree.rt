@@ -68,7 +68,7 @@ pub enum Primitive {
     Print(Operand),
 }
 
-/// TextView, one after another.
+/// Statements, one after another.
 #[cycle(tree)]
 #[derive(Drop)]
 pub struct Block {

@@ -1,4 +1,4 @@
-//! GraphView of small programs.
+//! Graphs of small programs.
 
 use crate::programs::program_of;
 use sect_graph::{Flow, Graph, Successors, graph_of};

@@ -213,6 +213,18 @@ fn along_either_branch(rt: HostRuntime) -> Result<(), Fail> {
     )
 }
 
+/// A section that locks everything, and one beside it that doesn't.
+const EVERYTHING: &[u8] = b"record Acct { int bal; } global Acct a; \
+thread p { int t; atomic all { t = a.bal; } } thread q { atomic { a.bal = 2; } }";
+
+#[test]
+fn a_section_locks_everything(rt: HostRuntime) -> Result<(), Fail> {
+    let all = [Wanted::Everything];
+    holds(&rt, (EVERYTHING, 2, 0), 1, &all, &[(0, &all), (1, &all)])?;
+    holds(&rt, (EVERYTHING, 2, 1), 1, &[At(HEAD, 0, Write)], &[(1, &[])])?;
+    holds(&rt, (b"thread e { atomic all { } }", 2, 0), 0, &all, &[(0, &all)])
+}
+
 #[test]
 fn an_empty_section_takes_nothing(rt: HostRuntime) -> Result<(), Fail> {
     holds(&rt, (b"thread e { atomic { } }", 2, 0), 0, &[], &[])

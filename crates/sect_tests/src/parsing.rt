@@ -1,4 +1,4 @@
-//! TreeView texts that are read, printed or refused.
+//! Source texts that are read, printed or refused.
 
 use crate::programs::{ACCOUNTS, APART, CHAIN, GUARDED, LIST, NULL, SHARED};
 use sect_front::MOST_BYTES;
@@ -75,7 +75,7 @@ fn every_beginning_of_a_program(rt: HostRuntime) -> Result<(), Fail> {
 }
 
 /// Texts that are refused, and the line that says why.
-const REFUSALS: [(&[u8], &[u8]); 27] = [
+const REFUSALS: [(&[u8], &[u8]); 29] = [
     (b"thread t } $", b"1 BadByte line 1"),
     (b"thread\n\n #", b"1 BadByte line 3"),
     (b"thread t {\n x = 1 ! = 2; }", b"1 BadByte line 2"),
@@ -107,7 +107,9 @@ const REFUSALS: [(&[u8], &[u8]); 27] = [
         b"4 Unexpected line 2",
     ),
     (b"thread t { new = 1; }", b"4 Unexpected line 1"),
-    (b"thread e { atomic all { } }\n", b"4 Unexpected line 1"),
+    (b"thread e { atomic all all { } }\n", b"4 Unexpected line 1"),
+    (b"thread e {\n int all; }", b"4 Unexpected line 2"),
+    (b"thread e { all { } }", b"4 Unexpected line 1"),
     (b"thread t { } }", b"4 Unexpected line 1"),
     (b"thread t { atomic {", b"5 UnexpectedEnd line 1"),
     (b"thread t {\n\n", b"5 UnexpectedEnd line 2"),

@@ -45,7 +45,7 @@ const ACCEPTED: [&str; 20] = [
 ];
 
 /// Texts with a fault, and the fault.
-const REFUSED: [(&str, &str); 76] = [
+const REFUSED: [(&str, &str); 77] = [
     // An unknown name.
     ("record A { B f; }", "10 Unknown item 1"),
     ("record A { int f; A g; B h; }", "10 Unknown item 3"),
@@ -261,6 +261,7 @@ const REFUSED: [(&str, &str); 76] = [
     ("thread t { print null; }", "12 WrongType item 1"),
     // A section in a section.
     ("thread t { atomic { atomic { } } }", "14 Nested item 2"),
+    ("thread t { atomic { atomic all { } } }", "14 Nested item 2"),
     (
         "thread t { atomic { if (1 == 1) { } else { while (1 < 2) { atomic { } } } } }",
         "14 Nested item 4",

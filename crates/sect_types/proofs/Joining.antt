@@ -1,4 +1,4 @@
--- TextView one after another.
+-- Statements one after another.
 use Rattle.std.proofs.Common.{◌≡◌, Bool, refl, ap}
 use Rattle.sect_types.specs.Environments.{Environment}
 use Rattle.sect_types.specs.Statements.{TextView, Stop, Do, Choose, Loop, Section, joined}

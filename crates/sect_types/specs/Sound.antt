@@ -1,4 +1,4 @@
--- TextView that agree with the declarations by number.
+-- Statements that agree with the declarations by number.
 use Rattle.std.specs.Prelude.{◌≡◌, ◌<◌, ℕ, length, ⊤, Bool, true, false, List, [], ◌∷◌, Option, Some, None, slice_get}
 use Rattle.sect_front.specs.declared.tree.Comparison.{Comparison}
 use Rattle.sect_front.specs.declared.tree.Comparison.TheVariants as comparison

@@ -1,4 +1,4 @@
-//! TextView by numbers. A name is replaced by the number of its declaration: records, globals and threads are
+//! Statements by numbers. A name is replaced by the number of its declaration: records, globals and threads are
 //! numbered in text order, fields in their record, locals in their thread. Sites are the globals, then the `new`
 //! statements in text order.
 

@@ -1,4 +1,4 @@
-//! TextView by numbers: what their names denote is given, and their types are compared.
+//! Statements by numbers: what their names denote is given, and their types are compared.
 
 ghost use Rattle.std.specs.Prelude.{◌≡◌};
 ghost use Rattle.sect_types.specs.Sight.{kind_of as kind_by, same_name};

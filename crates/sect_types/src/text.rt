@@ -7,7 +7,7 @@ use crate::action::{Action, Condition};
 use std::alloc::{AllocError, Global};
 use std::marker::Model;
 
-/// TextView, one after another.
+/// Statements, one after another.
 #[cycle(text)]
 #[derive(Drop)]
 pub struct Text {

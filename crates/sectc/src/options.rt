@@ -31,9 +31,7 @@ pub enum UsageFault {
     #[error("{0}\nThe source text is read on standard input, as in: sectc locks < FILE\n")]
     Words(clap::Error),
     /// A value that isn't decimal digits alone or lies outside `least` to `most`, and its option.
-    #[error(
-        "error: invalid value '{value}' for '--{option}': a number from {least} to {most} is wanted, in digits alone\n"
-    )]
+    #[error("error: invalid value '{value}' for '--{option}': a number from {least} to {most} is wanted, in digits alone\n")]
     Number {
         value: String,
         option: &'static str,

@@ -41,7 +41,9 @@ pub fn serial_command<'a>(alloc: Global) -> Result<Command<'a>, AllocError>
 {
     let threads = thread_words(alloc, "the threads of the sections, in their order");
     let command = Command::new(alloc, "serial")
-        .about("runs the program of the source text by whole sections in an order, and prints the outcome")
+        .about(
+            "runs the program of the source text by whole sections in an order, and prints the outcome",
+        )
         .arg(fuel_option(alloc))?
         .arg(threads)?;
     Ok(command)

@@ -14,7 +14,7 @@ thread t { Node x; Node y; Node z; Node w;
 ";
 
 /// Programs and the most fields of a path, with the lock sets.
-const LOCKS: [(&str, &str, &str); 5] = [
+const LOCKS: [(&str, &str, &str); 7] = [
     (
         "locks --k 0",
         ALIASED_STORE,
@@ -37,6 +37,18 @@ const LOCKS: [(&str, &str, &str); 5] = [
         "locks",
         "record A { int f; } global A a; thread t { atomic { while (1 == 2) { a.f = 1; } } }",
         "section 0: W a\n",
+    ),
+    // A section that locks everything takes one lock, also where it does nothing.
+    (
+        "locks",
+        "record Acct { int bal; } global Acct a; thread p { int t; atomic all { t = a.bal; } } \
+        thread q { atomic { a.bal = 2; } }",
+        "section 0: W all\nsection 1: W a\n",
+    ),
+    (
+        "locks --k 0",
+        "thread e { atomic all { } }",
+        "section 0: W all\n",
     ),
 ];
 

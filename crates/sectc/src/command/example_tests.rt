@@ -139,8 +139,19 @@ global Lock g; global Cell c; global Cell d;
 thread t { int v; atomic { c.val = 1; v = d.val; } }
 ";
 
+/// `examples/locks_everything.sect`
+pub(super) const LOCKS_EVERYTHING: &str =
+    "// A section marked `all` takes one lock that keeps every other section with locks out.
+// section 0: W all
+// section 1: W a
+record Acct { int bal; }
+global Acct a;
+thread p { int t; atomic all { t = a.bal; } }
+thread q { atomic { a.bal = 2; } }
+";
+
 /// The text of each example, and the lines that are printed of it.
-const EXAMPLES: [(&str, &str); 13] = [
+const EXAMPLES: [(&str, &str); 14] = [
     (EMPTY_SECTION, "section 0: none\n"),
     (ACCOUNT, "section 0: W a\n"),
     (TWO_THREADS, "section 0: W a\nsection 1: W a\n"),
@@ -163,6 +174,7 @@ const EXAMPLES: [(&str, &str); 13] = [
     (NULL_REFERENCE, "section 0: R head, W b\nsection 1: R b\n"),
     (NEVER_FILLED, "section 0: R a\n"),
     (PROTECTED, "section 0: W g\n"),
+    (LOCKS_EVERYTHING, "section 0: W all\nsection 1: W a\n"),
 ];
 
 #[test]

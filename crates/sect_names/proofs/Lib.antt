@@ -20,3 +20,5 @@ pub mod Named
 pub mod Uniqueness
 pub mod Preceding
 pub mod Refusing
+pub mod Facts
+pub mod OneScheme

@@ -1,5 +1,5 @@
 -- The steps of a program, and what the carrying of locks over them keeps.
-use Rattle.std.specs.Prelude.{◌≡◌, ℕ, ⊤, List, Some, slice_get}
+use Rattle.std.specs.Prelude.{◌≡◌, ◌↔◌, ℕ, ⊤, List, Some, slice_get}
 use Rattle.sect_types.specs.Lists.{Has}
 use Rattle.sect_types.specs.Programs.{ProgramView, environment_at}
 use Rattle.sect_types.specs.Sections.{SectionView, sections_of}
@@ -8,6 +8,8 @@ use Rattle.sect_types.specs.declared.action.Label.{Label}
 use Rattle.sect_types.specs.declared.action.Label.TheVariants.{Act, Test, Section}
 use Rattle.sect_graph.specs.declared.flow.Node.{Node}
 use Rattle.sect_points.specs.Places.{Place}
+use Rattle.sect_points.specs.Sets.{InSets}
+use Rattle.sect_points.specs.declared.flow.Holder.{Holder}
 use Rattle.sect_points.specs.PathClasses.{Agree}
 use Rattle.sect_points.specs.Statements.{placed, statements_of}
 use Rattle.sect_names.specs.declared.lock.Lock.{Lock}
@@ -41,3 +43,11 @@ abbrev pub StandsIn : SchemeView → SectionView → Node → Type 0
 StandsIn s section x =
     (i : ℕ) × (g : List Node) × (j : ℕ) × (slice_get (sections_of s.program.texts) i ≡ Some section)
     × (slice_get s.graphs.sections i ≡ Some g) × (slice_get g j ≡ Some x)
+
+-- two schemes know the same: one number for each site's class, the same sites for each holder, the same guards, the same
+-- graphs
+pub record AreOneScheme (s r : SchemeView) : Type 0 where
+  pub numbers : s.classes.numbers ≡ r.classes.numbers
+  pub sets : (h : Holder) (site : ℕ) → InSets s.classes.sets h site ↔ InSets r.classes.sets h site
+  pub guards : s.guards ≡ r.guards
+  pub graphs : s.graphs ≡ r.graphs

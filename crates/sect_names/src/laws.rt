@@ -13,7 +13,7 @@ ghost use Rattle.sect_names.specs.Carrying.{Generated, CarriedBack};
 ghost use Rattle.sect_types.specs.Statements.{TextView};
 ghost use Rattle.sect_names.specs.Needed.{IsLeast};
 ghost use Rattle.sect_names.specs.Order.{AreInOrder};
-ghost use Rattle.sect_names.specs.Laws.{IsProgramStep, IsSoundStep, KeepsItsClass, RespectsCover, StandsIn};
+ghost use Rattle.sect_names.specs.Laws.{IsProgramStep, IsSoundStep, KeepsItsClass, RespectsCover, StandsIn, AreOneScheme};
 
 /// A path that may denote before a step of the program what another denotes after it has no class but that one's.
 pub fn carried_paths_keep_their_class()
@@ -53,4 +53,9 @@ pub fn steps_of_sections()
 pub fn least_sets_are_one()
     ensures { (s : SchemeView) (t : ℕ) (last : List Lock) (body : TextView) (locks others : List Lock) → IsLeast s t last body locks
         → IsLeast s t last body others → AreInOrder locks → AreInOrder others → locks ≡ others }
+{}
+
+/// A program has one scheme: what two schemes of it know is the same, however many fields their paths may have.
+pub fn schemes_are_one()
+    ensures { (s r : SchemeView) → IsScheme s → IsScheme r → s.program ≡ r.program → AreOneScheme s r }
 {}

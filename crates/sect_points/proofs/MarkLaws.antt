@@ -23,9 +23,10 @@ use Rattle.sect_points.specs.Sites.{InBoth}
 use Rattle.sect_points.specs.Partitions.{AreSlotsOfSites}
 use Rattle.sect_points.specs.Flow.{Family, ValueHas, BaseHas, Within, Moved, IsClosed, IsLeastFlow, family_of}
 use Rattle.sect_points.specs.Sets.{Sets, InSets, IsPlace, IsEmpty, SamePlaces, Adds, sites_for, spread_to, sets_room}
-use Rattle.sect_points.specs.Solving.{FitsBase, FitsAction, AllFit, AreBelow}
+use Rattle.sect_points.specs.steps.Solving.{FitsBase, FitsAction, AllFit}
+use Rattle.sect_points.specs.Sets.{AreBelow}
 use Rattle.sect_types.specs.declared.action.Field.{Field}
-use Rattle.sect_points.specs.Marks.{Marked, HasMark, IsMarkable, Suits, Grows, Grown, grown, GrewBy, Reads, ReadsValue, ReadsBase, ReadsGrowth, IsBase, AreBases, MovedBy, IsGrowth, Handles, Covers, IsThere, IsBaseAlone, IsOnlyBase, IsStretch, AreMoved, IsGoing, IsLeft, IsSpan}
+use Rattle.sect_points.specs.steps.Marks.{Marked, HasMark, IsMarkable, Suits, Grows, Grown, grown, GrewBy, Reads, ReadsValue, ReadsBase, ReadsGrowth, IsBase, AreBases, MovedBy, IsGrowth, Handles, Covers, IsThere, IsBaseAlone, IsOnlyBase, IsStretch, AreMoved, IsGoing, IsLeft, IsSpan}
 use Rattle.std.proofs.lemmas.List.{get_or_past}
 use Rattle.sect_points.specs.Rows.{RowHas}
 use Rattle.sect_points.proofs.SetLaws.{row_past, both_false, one_true, adds_as, spread_below, spread_more, spread_all}

@@ -4,7 +4,7 @@ ghost use Rattle.std.specs.Prelude.{◌≡◌, length, IfOk};
 ghost use Rattle.sect_types.specs.Programs.{sites_of};
 ghost use Rattle.sect_points.specs.Flow.{IsLeastFlow};
 ghost use Rattle.sect_points.specs.Sets.{InSets, IsEmpty};
-ghost use Rattle.sect_points.specs.Solving.{AreBelow};
+ghost use Rattle.sect_points.specs.Sets.{AreBelow};
 ghost use Rattle.sect_points.specs.Statements.{statements_of, IsRoomFor};
 
 use crate::marks::Marks;
@@ -25,7 +25,7 @@ pub fn points_to(alloc: Global, program: &Program) -> Result<PointsTo, AllocErro
     let mut sets = empty_sets(alloc, program)?;
     let mut moved = empty_sets(alloc, program)?;
     let mut marks = Marks::new(alloc, sets.locals().len())?;
-    let readers = Readers::new(statements);
+    let readers = Readers::new(alloc, statements)?;
     sets.bounds();
     moved.bounds();
     program.typing();

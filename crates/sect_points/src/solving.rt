@@ -4,8 +4,9 @@ ghost use Rattle.std.specs.Prelude.{◌≡◌, ◌↔◌, ◌≤◌, ◌<◌, �
 ghost use Rattle.sect_points.specs.Sites.{HasSite};
 ghost use Rattle.sect_points.specs.Flow.{ValueHas, BaseHas, Moved, Within, IsLeastFlow};
 ghost use Rattle.sect_points.specs.Sets.{InSets, IsEmpty, IsPlace, SamePlaces, sets_room, sites_for, spread_to};
-ghost use Rattle.sect_points.specs.Solving.{FitsValue, FitsBase, FitsAction, AllFit, AreBelow};
-ghost use Rattle.sect_points.specs.Marks.{Suits, Grows, AreBases, IsBase, MovedBy, IsOnlyBase, IsThere, grown, Covers, Handles, IsStretch, IsGoing, IsLeft, IsSpan, HasMark};
+ghost use Rattle.sect_points.specs.steps.Solving.{FitsValue, FitsBase, FitsAction, AllFit};
+ghost use Rattle.sect_points.specs.Sets.{AreBelow};
+ghost use Rattle.sect_points.specs.steps.Marks.{Suits, Grows, AreBases, IsBase, MovedBy, IsOnlyBase, IsThere, grown, Covers, Handles, IsStretch, IsGoing, IsLeft, IsSpan, HasMark};
 ghost use Rattle.sect_types.specs.Lists.{Has};
 ghost use Rattle.sect_points.specs.declared.flow.Placed.{Placed};
 ghost use Rattle.sect_points.specs.declared.flow.Holder.{Holder};
@@ -180,13 +181,13 @@ fn pass(
     new: &SiteSet,
     marks: &mut Marks,
 ) -> bool
-    requires fits { AllFit sets.old readers.now.all.items }
+    requires fits { AllFit sets.old readers.now }
     requires below { AreBelow sets.old }
     requires most { sets.old.sites ≤ MOST_SITES }
     requires suits { Suits sets.old marks.old }
     requires there { IsThere growth new.now.words sets.old }
-    ensures stretch { IsStretch readers.now.all.items sets.old sets.new marks.old marks.new result }
-    ensures handled { (p : Placed) → Has readers.now.all.items p → Handles sets.old sets.new (grown growth new.now.words) p }
+    ensures stretch { IsStretch readers.now sets.old sets.new marks.old marks.new result }
+    ensures handled { (p : Placed) → Has readers.now p → Handles sets.old sets.new (grown growth new.now.words) p }
 {
     let mut grew = false;
     for placed in readers.of_growth(growth) {
@@ -205,11 +206,11 @@ fn carry_local(
     local: u16,
     marks: &mut Marks,
 ) -> bool
-    requires fits { AllFit sets.old readers.now.all.items }
+    requires fits { AllFit sets.old readers.now }
     requires most { sets.old.sites ≤ MOST_SITES }
-    requires going { IsGoing readers.now.all.items sets.old moved.old marks.old }
-    ensures stretch { IsStretch readers.now.all.items sets.old sets.new marks.old marks.new result }
-    ensures going { IsGoing readers.now.all.items sets.new moved.new marks.new }
+    requires going { IsGoing readers.now sets.old moved.old marks.old }
+    ensures stretch { IsStretch readers.now sets.old sets.new marks.old marks.new result }
+    ensures going { IsGoing readers.now sets.new moved.new marks.new }
     ensures more { Within (InSets moved.old) (InSets moved.new) }
     ensures here { (site : ℕ) → InSets sets.old (Local thread local) site → InSets moved.new (Local thread local) site }
 {
@@ -231,12 +232,12 @@ fn carry_locals(
     thread: u16,
     marks: &mut Marks,
 ) -> bool
-    requires fits { AllFit sets.old readers.now.all.items }
+    requires fits { AllFit sets.old readers.now }
     requires most { sets.old.sites ≤ MOST_SITES }
-    requires going { IsGoing readers.now.all.items sets.old moved.old marks.old }
+    requires going { IsGoing readers.now sets.old moved.old marks.old }
     requires left { IsLeft sets.old moved.old marks.old (λ h. ⊥) }
     ensures span { IsSpan sets.old sets.new marks.old marks.new result }
-    ensures going { IsGoing readers.now.all.items sets.new moved.new marks.new }
+    ensures going { IsGoing readers.now sets.new moved.new marks.new }
     ensures left { IsLeft sets.new moved.new marks.new (λ h. ⊥) }
     ensures gone { result ≡ false → (local : ℕ) → HasMark marks.new (Local thread local) → ⊥ }
 {
@@ -259,12 +260,12 @@ fn carry_field(
     marks: &mut Marks,
 ) -> bool
     requires field { field < 16 }
-    requires fits { AllFit sets.old readers.now.all.items }
+    requires fits { AllFit sets.old readers.now }
     requires most { sets.old.sites ≤ MOST_SITES }
-    requires going { IsGoing readers.now.all.items sets.old moved.old marks.old }
+    requires going { IsGoing readers.now sets.old moved.old marks.old }
     requires left { IsLeft sets.old moved.old marks.old (λ h. ⊥) }
     ensures span { IsSpan sets.old sets.new marks.old marks.new result }
-    ensures going { IsGoing readers.now.all.items sets.new moved.new marks.new }
+    ensures going { IsGoing readers.now sets.new moved.new marks.new }
     ensures left { IsLeft sets.new moved.new marks.new (λ h. ⊥) }
     ensures gone { result ≡ false → (base : ℕ) → HasMark marks.new (Slot base field) → ⊥ }
 {
@@ -286,12 +287,12 @@ fn carry_field(
 
 /// Moves on all that grew, and tells whether some set grew by that.
 fn round(sets: &mut PointsTo, moved: &mut PointsTo, readers: &Readers, marks: &mut Marks) -> bool
-    requires fits { AllFit sets.old readers.now.all.items }
+    requires fits { AllFit sets.old readers.now }
     requires most { sets.old.sites ≤ MOST_SITES }
     requires few { length sets.old.locals ≤ MOST_THREADS }
-    requires going { IsGoing readers.now.all.items sets.old moved.old marks.old }
+    requires going { IsGoing readers.now sets.old moved.old marks.old }
     requires left { IsLeft sets.old moved.old marks.old (λ h. ⊥) }
-    ensures going { IsGoing readers.now.all.items sets.new moved.new marks.new }
+    ensures going { IsGoing readers.now sets.new moved.new marks.new }
     ensures left { IsLeft sets.new moved.new marks.new (λ h. ⊥) }
     ensures places { SamePlaces sets.old sets.new }
     ensures less { result ≡ true → sets_room sets.new < sets_room sets.old }
@@ -309,14 +310,14 @@ fn round(sets: &mut PointsTo, moved: &mut PointsTo, readers: &Readers, marks: &m
 
 /// Moves what the statements move until nothing grows: from empty sets, the least that are closed.
 pub fn close(sets: &mut PointsTo, moved: &mut PointsTo, readers: &Readers, marks: &mut Marks)
-    requires fits { AllFit sets.old readers.now.all.items }
+    requires fits { AllFit sets.old readers.now }
     requires empty { IsEmpty sets.old }
     requires unmoved { IsEmpty moved.old }
     requires same { SamePlaces sets.old moved.old }
     requires most { sets.old.sites ≤ MOST_SITES }
     requires few { length sets.old.locals ≤ MOST_THREADS }
     requires suits { Suits sets.old marks.old }
-    ensures least { IsLeastFlow (InSets sets.new) readers.now.all.items }
+    ensures least { IsLeastFlow (InSets sets.new) readers.now }
     ensures below { AreBelow sets.new }
     ensures places { SamePlaces sets.old sets.new }
 {

@@ -1,7 +1,7 @@
 use Rattle.std.proofs.Common.{◌≡◌, ◌∙◌, sym, ap, length, subst}
 use Rattle.sect_points.specs.Flow.{IsLeastFlow}
 use Rattle.sect_points.specs.Sets.{InSets}
-use Rattle.sect_points.specs.Solving.{AllFit}
+use Rattle.sect_points.specs.steps.Solving.{AllFit}
 use Rattle.sect_points.specs.Statements.{statements_of}
 use Rattle.sect_points.proofs.StatementLaws.{all_fit, same_places, few_rows, all_markable}
 use Rattle.sect_points.proofs.points.points_to.Goals as goal
@@ -9,7 +9,7 @@ use Rattle.sect_points.proofs.points.points_to.Goals as goal
 pub close-requires-clause-fits : goal.close-requires-clause-fits
 close-requires-clause-fits c =
     let sets = c.in_ok-sets.sets in
-    subst (AllFit sets) (sym (c.new-readers.ensures ∙ c.in_ok-statements.ensures)) (all_fit c.args.program.now sets c.in_ok-sets.ensures.room c.typing.ensures.sound c.typing.ensures.sites c.typing.ensures.limits)
+    subst (AllFit sets) (sym (c.in_ok-readers.ensures ∙ c.in_ok-statements.ensures)) (all_fit c.args.program.now sets c.in_ok-sets.ensures.room c.typing.ensures.sound c.typing.ensures.sites c.typing.ensures.limits)
 
 pub close-requires-clause-same : goal.close-requires-clause-same
 close-requires-clause-same c = same_places c.args.program.now c.in_ok-sets.sets c.in_ok-moved.moved c.in_ok-sets.ensures.room c.in_ok-moved.ensures.room c.bounds.ensures.rows c.bounds-2.ensures.rows
@@ -24,4 +24,4 @@ close-requires-clause-suits c =
 
 pub returns-clause-least : goal.returns-clause-least
 returns-clause-least c =
-    subst (IsLeastFlow (InSets c.close.new.sets)) (c.new-readers.ensures ∙ c.in_ok-statements.ensures) c.close.ensures.least
+    subst (IsLeastFlow (InSets c.close.new.sets)) (c.in_ok-readers.ensures ∙ c.in_ok-statements.ensures) c.close.ensures.least

@@ -7,7 +7,7 @@ use Rattle.sect_points.proofs.solving.close.Goals as goal
 pub loop-placed-init : goal.loop-placed-init
 loop-placed-init c = record {
   items = c.all-placed-items.ensures;
-  start = starting_none c.args.readers.now.all.items c.args.sets.now c.args.moved.now c.args.marks.now;
+  start = starting_none c.args.readers.now c.args.sets.now c.args.moved.now c.args.marks.now;
 }
 
 pub all_bases-bases-requires-clause-fits : goal.all_bases-bases-requires-clause-fits
@@ -15,23 +15,23 @@ all_bases-bases-requires-clause-fits c =
     let l = c.loop-placed in
     let p = c.placed-item.result in
     let items = c.all-placed-items.result.now in
-    let has : Has c.args.readers.now.all.items p = subst (λ xs. Has xs p) l.invariant.items (subst (Has items) (sym c.placed-item.is) (Has-get_or items l.placed-index p (omega arith))) in
-    fits_after c.args.readers.now.all.items p c.args.sets.now l.sets c.requires.fits l.invariant.start.stretch.1.places has
+    let has : Has c.args.readers.now p = subst (λ xs. Has xs p) l.invariant.items (subst (Has items) (sym c.placed-item.is) (Has-get_or items l.placed-index p (omega arith))) in
+    fits_after c.args.readers.now p c.args.sets.now l.sets c.requires.fits l.invariant.start.stretch.1.places has
 
 pub turn-requires-clause-fits : goal.turn-requires-clause-fits
 turn-requires-clause-fits c =
     let l = c.loop-placed in
     let p = c.placed-item.result in
     let items = c.all-placed-items.result.now in
-    let has : Has c.args.readers.now.all.items p = subst (λ xs. Has xs p) l.invariant.items (subst (Has items) (sym c.placed-item.is) (Has-get_or items l.placed-index p (omega arith))) in
-    fits_after c.args.readers.now.all.items p c.args.sets.now l.sets c.requires.fits l.invariant.start.stretch.1.places has
+    let has : Has c.args.readers.now p = subst (λ xs. Has xs p) l.invariant.items (subst (Has items) (sym c.placed-item.is) (Has-get_or items l.placed-index p (omega arith))) in
+    fits_after c.args.readers.now p c.args.sets.now l.sets c.requires.fits l.invariant.start.stretch.1.places has
 
 pub loop-placed-preserved : goal.loop-placed-preserved
 loop-placed-preserved c =
     let l = c.loop-placed in
     let p = c.placed-item.result in
     let items = c.all-placed-items.result.now in
-    let list = c.args.readers.now.all.items in
+    let list = c.args.readers.now in
     let is : p ≡ get_or list l.placed-index p = c.placed-item.is ∙ ap (λ xs. get_or xs l.placed-index p) l.invariant.items in
     record {
       items = l.invariant.items;
@@ -42,8 +42,8 @@ loop-placed-preserved c =
 pub loop-init : goal.loop-init
 loop-init c =
     let l = c.loop-placed in
-    let s = started l.placed-index c.args.readers.now.all.items c.args.sets.now l.sets c.args.moved.now c.args.marks.now l.marks (omega (arith, ap length l.invariant.items)) c.requires.empty c.requires.unmoved c.requires.same c.requires.suits l.invariant.start in
+    let s = started l.placed-index c.args.readers.now c.args.sets.now l.sets c.args.moved.now c.args.marks.now l.marks (omega (arith, ap length l.invariant.items)) c.requires.empty c.requires.unmoved c.requires.same c.requires.suits l.invariant.start in
     record { going = s.0; left = s.1; places = l.invariant.start.stretch.1.places }
 
 pub returns-clause-least : goal.returns-clause-least
-returns-clause-least c = arrived c.args.readers.now.all.items c.round.new.sets c.round.new.moved c.round.new.marks c.round.ensures.going (c.round.ensures.still c.loop-test.false)
+returns-clause-least c = arrived c.args.readers.now c.round.new.sets c.round.new.moved c.round.new.marks c.round.ensures.going (c.round.ensures.still c.loop-test.false)

@@ -1,7 +1,7 @@
 use Rattle.std.proofs.Common.{◌≡◌, ◌||◌, refl, arith, subst, sym}
 use Rattle.sect_types.specs.Lists.{Has}
 use Rattle.sect_types.proofs.Membership.{Has-get_or}
-use Rattle.sect_points.specs.Marks.{grown}
+use Rattle.sect_points.specs.steps.Marks.{grown}
 use Rattle.sect_points.proofs.MarkLaws.{stretch_none, stretch_then, stretch_by, handled_more, handled_all, fits_after, there_after}
 use Rattle.sect_points.proofs.solving.pass.Goals as goal
 use Rattle.sect_points.proofs.solving.pass.Goals.{then-turn, else-turn}
@@ -10,7 +10,7 @@ pub loop-placed-init : goal.loop-placed-init
 loop-placed-init c = record {
   each = λ p h r. c.of_growth-placed-items.ensures.each c.args.new.now.words p h r;
   only = c.of_growth-placed-items.ensures.only;
-  stretch = stretch_none c.args.readers.now.all.items c.args.sets.now c.args.marks.now;
+  stretch = stretch_none c.args.readers.now c.args.sets.now c.args.marks.now;
   handled = λ p h. absurd h;
 }
 
@@ -18,8 +18,8 @@ pub bases_of-bases-requires-clause-fits : goal.bases_of-bases-requires-clause-fi
 bases_of-bases-requires-clause-fits c =
     let l = c.loop-placed in
     let p = c.placed-item.result in
-    let has : Has c.args.readers.now.all.items p = l.invariant.only p (subst (Has c.of_growth-placed-items.result.now) (sym c.placed-item.is) (Has-get_or c.of_growth-placed-items.result.now l.placed-index p (omega arith))) in
-    fits_after c.args.readers.now.all.items p c.args.sets.now l.sets c.requires.fits l.invariant.stretch.places has
+    let has : Has c.args.readers.now p = l.invariant.only p (subst (Has c.of_growth-placed-items.result.now) (sym c.placed-item.is) (Has-get_or c.of_growth-placed-items.result.now l.placed-index p (omega arith))) in
+    fits_after c.args.readers.now p c.args.sets.now l.sets c.requires.fits l.invariant.stretch.places has
 
 pub bases_of-bases-requires-clause-there : goal.bases_of-bases-requires-clause-there
 bases_of-bases-requires-clause-there c = there_after c.args.growth c.args.new.now.words c.args.sets.now c.loop-placed.sets c.loop-placed.invariant.stretch.more c.requires.there
@@ -28,14 +28,14 @@ pub turn-requires-clause-fits : goal.turn-requires-clause-fits
 turn-requires-clause-fits c =
     let l = c.loop-placed in
     let p = c.placed-item.result in
-    let has : Has c.args.readers.now.all.items p = l.invariant.only p (subst (Has c.of_growth-placed-items.result.now) (sym c.placed-item.is) (Has-get_or c.of_growth-placed-items.result.now l.placed-index p (omega arith))) in
-    fits_after c.args.readers.now.all.items p c.args.sets.now l.sets c.requires.fits l.invariant.stretch.places has
+    let has : Has c.args.readers.now p = l.invariant.only p (subst (Has c.of_growth-placed-items.result.now) (sym c.placed-item.is) (Has-get_or c.of_growth-placed-items.result.now l.placed-index p (omega arith))) in
+    fits_after c.args.readers.now p c.args.sets.now l.sets c.requires.fits l.invariant.stretch.places has
 
 pub loop-placed-preserved : goal.loop-placed-preserved
 loop-placed-preserved c =
     let l = c.loop-placed in
     let p = c.placed-item.result in
-    let list = c.args.readers.now.all.items in
+    let list = c.args.readers.now in
     let g = grown c.args.growth c.args.new.now.words in
     let bases = c.bases_of-bases.result.words in
     let has : Has list p = l.invariant.only p (subst (Has c.of_growth-placed-items.result.now) (sym c.placed-item.is) (Has-get_or c.of_growth-placed-items.result.now l.placed-index p (omega arith))) in
@@ -56,4 +56,4 @@ loop-placed-preserved c =
 pub returns-clause-handled : goal.returns-clause-handled
 returns-clause-handled c p has =
     let l = c.loop-placed in
-    handled_all l.placed-index c.args.readers.now.all.items c.of_growth-placed-items.result.now (grown c.args.growth c.args.new.now.words) c.args.sets.now l.sets (omega arith) l.invariant.each l.invariant.handled p has
+    handled_all l.placed-index c.args.readers.now c.of_growth-placed-items.result.now (grown c.args.growth c.args.new.now.words) c.args.sets.now l.sets (omega arith) l.invariant.each l.invariant.handled p has

@@ -26,7 +26,7 @@ use Rattle.sect_points.specs.Sets.{Sets, InSets, IsPlace, IsEmpty, SamePlaces, A
 use Rattle.sect_points.specs.steps.Solving.{FitsBase, FitsAction, AllFit}
 use Rattle.sect_points.specs.Sets.{AreBelow}
 use Rattle.sect_types.specs.declared.action.Field.{Field}
-use Rattle.sect_points.specs.steps.Marks.{Marked, HasMark, IsMarkable, Suits, Grows, Grown, grown, GrewBy, Reads, ReadsValue, ReadsBase, ReadsGrowth, IsBase, AreBases, MovedBy, IsGrowth, Handles, Covers, IsThere, IsBaseAlone, IsOnlyBase, IsStretch, AreMoved, IsGoing, IsLeft, IsSpan}
+use Rattle.sect_points.specs.steps.Marks.{IsUntouched, MissesBases, Marked, HasMark, IsMarkable, Suits, Grows, Grown, grown, GrewBy, Reads, ReadsValue, ReadsBase, ReadsGrowth, IsBase, AreBases, MovedBy, IsGrowth, Handles, Covers, IsThere, IsBaseAlone, IsOnlyBase, IsStretch, AreMoved, IsGoing, IsLeft, IsSpan}
 use Rattle.std.proofs.lemmas.List.{get_or_past}
 use Rattle.sect_points.specs.Rows.{RowHas}
 use Rattle.sect_points.proofs.SetLaws.{row_past, both_false, one_true, adds_as, spread_below, spread_more, spread_all}
@@ -188,6 +188,32 @@ covers_field sets p f new all bases are both before after grew-so sub h s m = by
     by (action.Store b g v) are m = inl (m.0, base_before b m.0 m.1, m.2, value_before v s m.3)
     by (action.Print v) are m = inl m
 
+-- by the growth of a field of other sites a load moves nothing
+untouched : (sets : Sets) (p : Placed) (g : Growth) (new : List ℕ) → IsUntouched sets p g new → Handles sets sets (grown g new) p
+untouched sets p (growth.Local t x) new none before after grew-so sub h s m = absurd none
+untouched sets p (growth.Field f) new none before after grew-so sub h s m = inl (by p.action none m)
+  where
+    local_before : (y r : ℕ) → InSets after (Local p.thread y) r → InSets before (Local p.thread y) r
+    local_before y r k = elim (grew-so (Local p.thread y) r k) [ inl j ↦ j | inr (o, is, j) ↦ (let e : Local p.thread y ≡ Slot o f = is in absurd cc) ]
+
+    base_before : (b : Base) (o : ℕ) → BaseHas (InSets after) p.thread b o → BaseHas (InSets before) p.thread b o
+    base_before (base.Local y) o k = local_before y o k
+    base_before (base.Global g) o k = k
+
+    by : (a : Action) → MissesBases (InSets sets) p.thread a new → Moved (InSets after) p.thread a h s → Moved (InSets before) p.thread a h s
+    by (action.Assign y v) none m = absurd none
+    by (action.Compute y v o w) none m = absurd none
+    by (action.New y r i) none m = absurd none
+    by (action.Load y b g) none m = elim (grew-so (Slot m.1.0 g.number) s m.1.2) [
+      | inl k ↦ (m.0, (m.1.0, base_before b m.1.0 m.1.1, k))
+      | inr (o, is, k) ↦
+          let e : Slot m.1.0 g.number ≡ Slot o f = is in
+          let same : o ≡ m.1.0 = cc in
+          absurd (none m.1.0 (covers_base (InSets after) (InSets sets) p.thread b m.1.0 sub m.1.1) (subst (HasSite new) same k))
+    ]
+    by (action.Store b g v) none m = absurd none
+    by (action.Print v) none m = absurd none
+
 -- a new base is one
 pub only_bases : (sets : Sets) (p : Placed) (t x : ℕ) (new : List ℕ) → IsOnlyBase p (growth.Local t x) → IsThere (growth.Local t x) new sets → AreBases (InSets sets) p new
 only_bases sets p t x new (same, alone) there o k = by p.action alone
@@ -290,6 +316,18 @@ handled_more i items p g bases old now new before after grew lt is more covers g
       | inl k ↦ handles_more q g old now new (λ k s i. (grows.adds.has k s).1 (inl i)) (handled q k)
       | inr k ↦ elim k [
         | inl same ↦ subst (Handles old new g) same (handles_by p g bases old now new before after grew more covers grows)
+        | inr k ↦ absurd k
+      ]
+    ]
+
+pub handled_past : (i : ℕ) (items : List Placed) (p : Placed) (g : Growth) (words : List ℕ) (old now : Sets) → i < length items → p ≡ get_or items i p → Within (InSets old) (InSets now) → IsUntouched now p g words
+    → ((q : Placed) → Has (take i items) q → Handles old now (grown g words) q) → (q : Placed) → Has (take (i + 1) items) q → Handles old now (grown g words) q
+handled_past i items p g words old now lt is more none handled q h =
+    let next : take (i + 1) items ≡ take i items ++ p ∷ [] = take_more items i p lt ∙ ap (λ r. take i items ++ r ∷ []) (sym is) in
+    elim (Has-cases (take i items) (p ∷ []) q (subst (λ l. Has l q) next h)) [
+      | inl k ↦ handled q k
+      | inr k ↦ elim k [
+        | inl same ↦ subst (Handles old now (grown g words)) same (λ before after grew-so sub r s m. untouched now p g words none before after grew-so (λ k t j. more k t (sub k t j)) r s m)
         | inr k ↦ absurd k
       ]
     ]

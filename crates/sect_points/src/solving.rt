@@ -6,7 +6,7 @@ ghost use Rattle.sect_points.specs.Flow.{ValueHas, BaseHas, Moved, Within, IsLea
 ghost use Rattle.sect_points.specs.Sets.{InSets, IsEmpty, IsPlace, SamePlaces, sets_room, sites_for, spread_to};
 ghost use Rattle.sect_points.specs.steps.Solving.{FitsValue, FitsBase, FitsAction, AllFit};
 ghost use Rattle.sect_points.specs.Sets.{AreBelow};
-ghost use Rattle.sect_points.specs.steps.Marks.{Suits, Grows, AreBases, IsBase, MovedBy, IsOnlyBase, IsThere, grown, Covers, Handles, IsStretch, IsGoing, IsLeft, IsSpan, HasMark};
+ghost use Rattle.sect_points.specs.steps.Marks.{Suits, Grows, AreBases, IsBase, MovedBy, IsOnlyBase, IsThere, IsUntouched, grown, Covers, Handles, IsStretch, IsGoing, IsLeft, IsSpan, HasMark};
 ghost use Rattle.sect_types.specs.Lists.{Has};
 ghost use Rattle.sect_points.specs.declared.flow.Placed.{Placed};
 ghost use Rattle.sect_points.specs.declared.flow.Holder.{Holder};
@@ -173,6 +173,34 @@ fn bases_of(sets: &PointsTo, placed: &Placed, growth: Growth, new: &SiteSet) -> 
     }
 }
 
+/// Whether a base has one of these sites.
+fn base_meets(sets: &PointsTo, thread: u16, base: Base, sites: &SiteSet) -> bool
+    requires fits { FitsBase sets.now thread base }
+    requires most { sets.now.sites ≤ MOST_SITES }
+    ensures { result ≡ false →
+        (site : ℕ) → BaseHas (InSets sets.now) thread base site → HasSite sites.now.words site → ⊥ }
+{
+    match base {
+        Base::Local(local) => sets.local_meets(thread, local, sites),
+        Base::Global(global) => sites.contains(global),
+    }
+}
+
+/// Whether a field of these sites grew, and a statement loads from others alone.
+fn is_untouched(sets: &PointsTo, placed: &Placed, growth: Growth, new: &SiteSet) -> bool
+    requires fits { FitsAction sets.now placed.now.thread placed.now.action }
+    requires most { sets.now.sites ≤ MOST_SITES }
+    ensures { result ≡ true → IsUntouched sets.now placed.now growth new.now.words }
+{
+    match growth {
+        Growth::Local(_, _) => false,
+        Growth::Field(_) => match placed.action {
+            Action::Load(_, base, _) => !base_meets(sets, placed.thread, base, new),
+            _ => false,
+        },
+    }
+}
+
 /// Moves on what grew.
 fn pass(
     sets: &mut PointsTo,
@@ -191,6 +219,9 @@ fn pass(
 {
     let mut grew = false;
     for placed in readers.of_growth(growth) {
+        if is_untouched(sets, placed, growth, new) {
+            continue;
+        }
         let bases = bases_of(sets, placed, growth, new);
         grew = turn(sets, *placed, &bases, marks) || grew;
     }

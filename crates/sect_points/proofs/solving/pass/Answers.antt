@@ -2,7 +2,7 @@ use Rattle.std.proofs.Common.{◌≡◌, ◌||◌, refl, arith, subst, sym}
 use Rattle.sect_types.specs.Lists.{Has}
 use Rattle.sect_types.proofs.Membership.{Has-get_or}
 use Rattle.sect_points.specs.steps.Marks.{grown}
-use Rattle.sect_points.proofs.MarkLaws.{stretch_none, stretch_then, stretch_by, handled_more, handled_all, fits_after, there_after}
+use Rattle.sect_points.proofs.MarkLaws.{stretch_none, stretch_then, stretch_by, handled_more, handled_past, handled_all, fits_after, there_after}
 use Rattle.sect_points.proofs.solving.pass.Goals as goal
 use Rattle.sect_points.proofs.solving.pass.Goals.{then-turn, else-turn}
 
@@ -13,6 +13,24 @@ loop-placed-init c = record {
   stretch = stretch_none c.args.readers.now c.args.sets.now c.args.marks.now;
   handled = λ p h. absurd h;
 }
+
+pub is_untouched-requires-clause-fits : goal.is_untouched-requires-clause-fits
+is_untouched-requires-clause-fits c =
+    let l = c.loop-placed in
+    let p = c.placed-item.result in
+    let has : Has c.args.readers.now p = l.invariant.only p (subst (Has c.of_growth-placed-items.result.now) (sym c.placed-item.is) (Has-get_or c.of_growth-placed-items.result.now l.placed-index p (omega arith))) in
+    fits_after c.args.readers.now p c.args.sets.now l.sets c.requires.fits l.invariant.stretch.places has
+
+pub loop-placed-preserved-then-is_untouched : goal.loop-placed-preserved-then-is_untouched
+loop-placed-preserved-then-is_untouched c =
+    let l = c.loop-placed in
+    record {
+      each = l.invariant.each;
+      only = l.invariant.only;
+      stretch = l.invariant.stretch;
+      handled = handled_past l.placed-index c.of_growth-placed-items.result.now c.placed-item.result c.args.growth c.args.new.now.words c.args.sets.now l.sets (omega arith) c.placed-item.is
+      l.invariant.stretch.more (c.is_untouched.ensures c.if-is_untouched.true) l.invariant.handled;
+    }
 
 pub bases_of-bases-requires-clause-fits : goal.bases_of-bases-requires-clause-fits
 bases_of-bases-requires-clause-fits c =

@@ -73,6 +73,11 @@ growth_reads (growth.Field f) new p r = field_reads p.thread p.action r.3.0 f (s
 pub found_each : (all : List Placed) (rows : List (List Placed)) → AreFiled all rows → (g : Growth) (new : List ℕ) (p : Placed) → Has all p → ReadsGrowth (grown g new) p → Has (row_at rows (row_of g)) p
 found_each all rows filed g new p has r = filed.each p has (row_of g) (growth_reads g new p r)
 
+same_item : (rows : List (List Placed)) (k : ℕ) (x y : List Placed) → k < length rows → get_or rows k x ≡ get_or rows k y
+same_item [] k x y lt = absurd (omega (arith, lt))
+same_item (row ∷ rows) zero x y lt = refl
+same_item (row ∷ rows) (suc k) x y lt = same_item rows k x y (omega (arith, lt))
+
 -- one row gets one statement more
 pub put_one : (rows : List (List Placed)) (row : ℕ) (p : Placed) → row < length rows → IsPut rows (set rows row (row_at rows row ++ p ∷ [])) (row ∷ []) p
 put_one rows row p lt = record {
@@ -98,6 +103,18 @@ put_one rows row p lt = record {
 
 pub put_none : (rows : List (List Placed)) (p : Placed) → IsPut rows rows [] p
 put_none rows p = record { long = refl; there = λ r h. absurd h; keeps = λ r q h. h; only = λ r q h. inl h }
+
+-- a statement that stands in its row stays there
+pub put_there : (rows : List (List Placed)) (row : ℕ) (p : Placed) (item : List Placed) → row < length rows → item ≡ get_or rows row item → Has item p → IsPut rows rows (row ∷ []) p
+put_there rows row p item lt is has = record {
+  long = refl;
+  there = λ r h. elim h [
+    | inl e ↦ subst (λ k. Has (row_at rows k) p) e (subst (λ l. Has l p) (is ∙ same_item rows row item [] lt) has)
+    | inr h ↦ absurd h
+  ];
+  keeps = λ r q h. h;
+  only = λ r q h. inl h;
+}
 
 pub put_then : (old mid new : List (List Placed)) (xs ys : List ℕ) (p : Placed) → IsPut old mid xs p → IsPut mid new ys p → IsPut old new (xs ++ ys) p
 put_then old mid new xs ys p a b = record {
@@ -142,11 +159,6 @@ none_more (row ∷ rows) p none (suc r) h = none_more rows p (λ k. none (suc k)
 
 pub no_rows_more : (n : ℕ) (rows : List (List Placed)) → AreNoRows n rows → AreNoRows (n + 1) (rows ++ [] ∷ [])
 no_rows_more n rows h = record { long = omega (arith, h.long, length-append rows ([] ∷ [])); none = λ r p. none_more rows p (λ k. h.none k p) r }
-
-same_item : (rows : List (List Placed)) (k : ℕ) (x y : List Placed) → k < length rows → get_or rows k x ≡ get_or rows k y
-same_item [] k x y lt = absurd (omega (arith, lt))
-same_item (row ∷ rows) zero x y lt = refl
-same_item (row ∷ rows) (suc k) x y lt = same_item rows k x y (omega (arith, lt))
 
 -- the row that was found
 pub row_found : (rows : List (List Placed)) (k n : ℕ) (item out : List Placed) → k ≡ n → k < length rows → out ≡ item → item ≡ get_or rows k item → row_at rows n ≡ out

@@ -29,7 +29,7 @@ loop-placed-preserved-then-is_untouched c =
       only = l.invariant.only;
       stretch = l.invariant.stretch;
       handled = handled_past l.placed-index c.of_growth-placed-items.result.now c.placed-item.result c.args.growth c.args.new.now.words c.args.sets.now l.sets (omega arith) c.placed-item.is
-      l.invariant.stretch.more (c.is_untouched.ensures c.if-is_untouched.true) l.invariant.handled;
+          l.invariant.stretch.more (c.is_untouched.ensures c.if-is_untouched.true) l.invariant.handled;
     }
 
 pub bases_of-bases-requires-clause-fits : goal.bases_of-bases-requires-clause-fits

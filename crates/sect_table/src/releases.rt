@@ -18,12 +18,15 @@ fn let_in(arena: &mut Arena, grants: &mut Vec<Grant>, key: Key, at: usize)
     ensures sound { IsSound arena.new }
     ensures blocked { IsFirstBlocked (entry_of key arena.new.entries).holders (entry_of key arena.new.entries).waiters }
     ensures held { arena.new.held ≡
-        give_all key (let_through (entry_of key arena.old.entries).holders (entry_of key arena.old.entries).waiters) arena.old.held }
+        give_all key (let_through (entry_of key arena.old.entries).holders
+        (entry_of key arena.old.entries).waiters) arena.old.held }
     ensures entries { arena.new.entries ≡ put (let_in_entry (entry_of key arena.old.entries)) arena.old.entries }
     ensures spare { arena.new.spare ≡ arena.old.spare }
     ensures grants { grants.new.items ≡
-        grants.old.items ++ map (grant_of key) (let_through (entry_of key arena.old.entries).holders (entry_of key arena.old.entries).waiters) }
-    ensures few { vec_len grants.new + waiting_count arena.new.entries ≤ vec_len grants.old + waiting_count arena.old.entries }
+        grants.old.items ++ map (grant_of key) (let_through (entry_of key arena.old.entries).holders
+        (entry_of key arena.old.entries).waiters) }
+    ensures few { vec_len grants.new + waiting_count arena.new.entries ≤
+        vec_len grants.old + waiting_count arena.old.entries }
     ensures capacity { vec_capacity grants.new ≡ vec_capacity grants.old }
 {
     while let Some(waiter) = arena.first_waiter(key, at) {

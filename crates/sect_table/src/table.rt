@@ -20,8 +20,8 @@ use std::marker::Model;
 
 /// Who holds which key in which mode, and who waits.
 ///
-/// Threads are numbered from 0. No key has two entries. The holders of a key are pairwise compatible, a thread waits for
-/// one key at most, and no first waiter is compatible with all holders of its key.
+/// Threads are numbered from 0. No key has two entries. The holders of a key are pairwise compatible, a thread waits
+/// for one key at most, and no first waiter is compatible with all holders of its key.
 #[derive(Drop)]
 pub struct Table {
     arena: Arena,

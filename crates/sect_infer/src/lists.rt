@@ -19,12 +19,12 @@ pub struct Locks {
 impl Model for Locks {
     ghost use Rattle.std.specs.Prelude.{[], map, slice_index_or, length, ◌<◌};
     ghost use Rattle.std.specs.Coded.{codes};
-    ghost use Rattle.sect_points.specs.Places.{place_code};
+    ghost use Rattle.sect_points.specs.Paths.{path_code};
     ghost use Rattle.sect_infer.specs.Sets.{LocksView};
 
     ghost Value = { LocksView };
 
-    ghost coded = { Prim.hlevel (codes, place_code) };
+    ghost coded = { Prim.hlevel (codes, path_code) };
 
     ghost view = { λ l. record { at = map (λ v. v.items) l.lists.items; entry = slice_index_or (map (λ v. v.items) l.lists.items) 0 [] } };
 

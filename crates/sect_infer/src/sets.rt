@@ -21,11 +21,11 @@ impl Model for NodeLocks {
     ghost use Rattle.std.specs.Prelude.{List, map};
     ghost use Rattle.sect_names.specs.declared.lock.Lock.{Lock};
     ghost use Rattle.std.specs.Coded.{codes};
-    ghost use Rattle.sect_points.specs.Places.{place_code};
+    ghost use Rattle.sect_points.specs.Paths.{path_code};
 
     ghost Value = { List (List Lock) };
 
-    ghost coded = { Prim.hlevel (codes, place_code) };
+    ghost coded = { Prim.hlevel (codes, path_code) };
 
     ghost view = { λ n. map (λ s. s.keys) n.lists.items };
 }

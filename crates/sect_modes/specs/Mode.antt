@@ -1,7 +1,8 @@
--- The tables of the five modes.
+-- The tables of the five modes. Cited by `compatible`, `at_least`, `join`, `intention` and the laws of modes.
 use Rattle.std.specs.Prelude.{◌≡◌, Bool, true, false}
 use Rattle.sect_modes.specs.declared.mode.Mode.{Mode}
-use Rattle.sect_modes.specs.declared.mode.Mode.TheVariants.{IntentionShared, IntentionExclusive, Shared, SharedIntentionExclusive, Exclusive}
+use Rattle.sect_modes.specs.declared.mode.Mode.TheVariants.{IntentionShared, IntentionExclusive, Shared}
+use Rattle.sect_modes.specs.declared.mode.Mode.TheVariants.{SharedIntentionExclusive, Exclusive}
 
 -- two threads may hold one key in these modes
 abbrev pub are_compatible : Mode → Mode → Bool

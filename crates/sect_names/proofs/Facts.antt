@@ -7,12 +7,12 @@ use Rattle.std.proofs.lemmas.Bool.{cases_lt, cases_eq}
 use Rattle.std.proofs.lemmas.List.{get_or_past}
 use Rattle.sect_types.specs.Lists.{Has}
 use Rattle.sect_types.proofs.Membership.{Has-left, Has-right, Has-cases}
-use Rattle.sect_points.specs.declared.flow.Fact.{Fact}
-use Rattle.sect_points.specs.declared.flow.Holder.{Holder}
-use Rattle.sect_points.specs.declared.flow.Holder.TheVariants.{Local, Slot}
+use Rattle.sect_points.specs.declared.holders.Fact.{Fact}
+use Rattle.sect_points.specs.declared.holders.Holder.{Holder}
+use Rattle.sect_points.specs.declared.holders.Holder.TheVariants.{Local, Slot}
 use Rattle.sect_points.specs.Flow.{fact}
 use Rattle.sect_points.specs.Rows.{no_sites}
-use Rattle.sect_points.specs.Sets.{Sets, InSets, rows_of, AreBelow}
+use Rattle.sect_points.specs.Sets.{PointsToView, InSets, rows_of, AreBelow}
 use Rattle.sect_points.specs.Partitions.{AreSlotsOfSites}
 use Rattle.sect_points.proofs.SetLaws.{row_past}
 use Rattle.sect_names.proofs.Finiteness.{below, Has-below, Has-map, Has-flat_map}
@@ -38,7 +38,7 @@ from_flat f (x ∷ xs) y h = elim (Has-cases (f x) (flat_map f xs) y h) [
   | inr b ↦ (let r = from_flat f xs y b in (r.0, inr r.1, r.2))
 ]
 
-module _ (sets : Sets) where
+module _ (sets : PointsToView) where
   in_or_not : (h : Holder) (s : ℕ) → InSets sets h s ⊎ (InSets sets h s → ⊥)
   in_or_not (Local t x) s = cases_eq (bit_at (slice_index (slice_index_or (rows_of sets t) x no_sites).words (s / 64)) (s % 64)) 1
   in_or_not (Slot o f) s = elim (cases_lt f 16) [

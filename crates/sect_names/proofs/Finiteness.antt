@@ -8,9 +8,9 @@ use Rattle.sect_types.specs.Lists.{Has}
 use Rattle.sect_types.specs.Programs.{ProgramView}
 use Rattle.sect_types.specs.declared.action.Field.{Field}
 use Rattle.sect_types.proofs.Membership.{Has-left, Has-right}
-use Rattle.sect_points.specs.declared.flow.Variable.{Variable}
-use Rattle.sect_points.specs.declared.flow.Variable.TheVariants.{Global, Local}
-use Rattle.sect_points.specs.Places.{Place, var, dot}
+use Rattle.sect_points.specs.declared.holders.Variable.{Variable}
+use Rattle.sect_points.specs.declared.holders.Variable.TheVariants.{Global, Local}
+use Rattle.sect_points.specs.Paths.{PathView, var, dot}
 use Rattle.sect_names.specs.declared.lock.Effect.TheVariants as effect
 use Rattle.sect_names.specs.declared.lock.Right.TheVariants as right
 use Rattle.sect_names.specs.declared.lock.Lock.{Lock}
@@ -70,14 +70,14 @@ Has-fields p f (ts, at, h) =
     (Has-map (field_at f.of) (below (length (slice_index_or p.records f.of []))) f.number (Has-below (length (slice_index_or p.records f.of [])) f.number within))
 
 -- its paths of at most k fields
-abbrev longer_by : List Field → Place → List Place
+abbrev longer_by : List Field → PathView → List PathView
 longer_by fields q = map (dot q) fields
 
-abbrev all_paths : ProgramView → ℕ → List Place
+abbrev all_paths : ProgramView → ℕ → List PathView
 all_paths p zero = map var (all_variables p)
 all_paths p (suc k) = map var (all_variables p) ++ flat_map (longer_by (all_fields p)) (all_paths p k)
 
-Has-paths : (p : ProgramView) (k : ℕ) (q : Place) → IsPathOf p q → depth q ≤ k → Has (all_paths p k) q
+Has-paths : (p : ProgramView) (k : ℕ) (q : PathView) → IsPathOf p q → depth q ≤ k → Has (all_paths p k) q
 Has-paths p zero (var v) h few = Has-map var (all_variables p) v (Has-variables p v h)
 Has-paths p zero (dot q f) h few = absurd (omega arith)
 Has-paths p (suc k) (var v) h few =
@@ -86,7 +86,7 @@ Has-paths p (suc k) (dot q f) h few =
     Has-right (map var (all_variables p)) (flat_map (longer_by (all_fields p)) (all_paths p k)) (dot q f)
     (Has-flat_map (longer_by (all_fields p)) (all_paths p k) q (dot q f) (Has-paths p k q h.0 (omega arith)) (Has-map (dot q) (all_fields p) f (Has-fields p f h.1)))
 
-abbrev on_path : Place → List Lock
+abbrev on_path : PathView → List Lock
 on_path q = lock.Path q effect.Read ∷ lock.Path q effect.Write ∷ []
 
 abbrev on_class : ℕ → List Lock
@@ -96,7 +96,7 @@ on_class c = lock.Class c right.Read ∷ lock.Class c right.Write ∷ lock.Class
 pub all_locks : SchemeView → List Lock
 all_locks s = lock.All ∷ flat_map on_path (all_paths s.program s.most) ++ flat_map on_class s.classes.numbers
 
-on_paths : (s : SchemeView) (q : Place) (l : Lock) → IsPathOf s.program q → depth q ≤ s.most → Has (on_path q) l → Has (all_locks s) l
+on_paths : (s : SchemeView) (q : PathView) (l : Lock) → IsPathOf s.program q → depth q ≤ s.most → Has (on_path q) l → Has (all_locks s) l
 unfolding all_locks
 on_paths s q l there short h =
     inr (Has-left (flat_map on_path (all_paths s.program s.most)) (flat_map on_class s.classes.numbers) l

@@ -1,7 +1,7 @@
 -- What a statement needs of itself, as it is found.
 use Rattle.std.proofs.Common.{◌≡◌, ◌↔◌, ℕ, Option, Some, None, sym, ap}
-use Rattle.sect_points.specs.declared.flow.Variable.{Variable}
-use Rattle.sect_points.specs.Places.{var}
+use Rattle.sect_points.specs.declared.holders.Variable.{Variable}
+use Rattle.sect_points.specs.Paths.{var}
 use Rattle.sect_points.specs.Partitions.{HasClass}
 use Rattle.sect_names.specs.declared.lock.Effect.{Effect}
 use Rattle.sect_names.specs.declared.lock.Lock.{Lock}

@@ -1,7 +1,7 @@
 -- The lock on a path, as it is found.
 use Rattle.std.proofs.Common.{◌≡◌, ◌↔◌, ℕ, ◌≤◌, ◌<◌, Option, Some, None, sym, ap, ◌∙◌, inl, inr, arith}
 use Rattle.std.proofs.lemmas.Bool.{cases_lt}
-use Rattle.sect_points.specs.Places.{Place}
+use Rattle.sect_points.specs.Paths.{PathView}
 use Rattle.sect_points.specs.Partitions.{HasClass}
 use Rattle.sect_names.specs.declared.lock.Effect.{Effect}
 use Rattle.sect_names.specs.declared.lock.Lock.{Lock}
@@ -10,7 +10,7 @@ use Rattle.sect_names.specs.Schemes.{SchemeView}
 use Rattle.sect_names.specs.Locks.{depth}
 use Rattle.sect_names.specs.Carrying.{LockOn, right_for}
 
-module _ (s : SchemeView) (e : Effect) (p : Place) (o : Option ℕ) (tells : (n : ℕ) → (o ≡ Some n) ↔ HasClass s.classes p n) where
+module _ (s : SchemeView) (e : Effect) (p : PathView) (o : Option ℕ) (tells : (n : ℕ) → (o ≡ Some n) ↔ HasClass s.classes p n) where
   pub no_lock : o ≡ None → (l : Lock) → (None ≡ Some l) ↔ LockOn s e p l
   no_lock is l = (λ h. absurd cc, λ h. let t = (tells h.0).1 h.1 in absurd cc)
 

@@ -10,11 +10,11 @@ use Rattle.sect_types.specs.Sections.{SectionView, sections_of}
 use Rattle.sect_graph.specs.declared.flow.Node.{Node}
 use Rattle.sect_graph.specs.Layout.{flow_nodes}
 use Rattle.sect_graph.specs.Graphs.{GraphView, AreGraphs}
-use Rattle.sect_points.specs.declared.flow.Placed.{Placed}
-use Rattle.sect_points.specs.declared.flow.Holder.{Holder}
+use Rattle.sect_points.specs.declared.holders.ThreadAction.{ThreadAction}
+use Rattle.sect_points.specs.declared.holders.Holder.{Holder}
 use Rattle.sect_points.specs.Flow.{Family, Moved, Within, IsClosed, family_of, IsLeastFlow}
-use Rattle.sect_points.specs.Sets.{Sets, InSets, AreBelow}
-use Rattle.sect_points.specs.Partitions.{Parted, Together, Respects, IsParted, AreSlotsOfSites}
+use Rattle.sect_points.specs.Sets.{PointsToView, InSets, AreBelow}
+use Rattle.sect_points.specs.Partitions.{ClassesView, Together, Respects, IsParted, AreSlotsOfSites}
 use Rattle.sect_points.specs.Statements.{statements_of}
 use Rattle.sect_points.proofs.SolvingLaws.{moved_more}
 use Rattle.sect_hints.specs.Hints.{AreGuards}
@@ -33,11 +33,11 @@ same_places d (x ∷ xs) (y ∷ ys) e h =
     ap (λ z. z ∷ xs) first ∙ ap (λ l. y ∷ l) rest
 
 -- a family that lies within another one and has it within has the same moved
-closed_as : (F G : Family) (list : List Placed) → Within G F → Within F G → IsClosed F list → IsClosed G list
+closed_as : (F G : Family) (list : List ThreadAction) → Within G F → Within F G → IsClosed F list → IsClosed G list
 closed_as F G list to from closed p h k s moved = from k s (closed p h k s (moved_more G F p.thread p.action to k s moved))
 
 -- sets that are least lie within others that are
-least_within : (a b : Sets) (list : List Placed) → IsLeastFlow (InSets a) list → IsLeastFlow (InSets b) list → AreBelow b → AreSlotsOfSites b → Within (InSets a) (InSets b)
+least_within : (a b : PointsToView) (list : List ThreadAction) → IsLeastFlow (InSets a) list → IsLeastFlow (InSets b) list → AreBelow b → AreSlotsOfSites b → Within (InSets a) (InSets b)
 least_within a b list least other low slots h s here =
     let tell = facts_tell b low slots in
     let G = family_of (facts b) in
@@ -45,12 +45,12 @@ least_within a b list least other low slots h s here =
     (tell h s).1 (least.within (facts b) closed h s here)
 
 -- partitions that are finest for the same sets keep the same sites together
-finest_together : (a b : Parted) → IsParted a → IsParted b → length a.numbers ≡ length b.numbers → Within (InSets a.sets) (InSets b.sets)
+finest_together : (a b : ClassesView) → IsParted a → IsParted b → length a.numbers ≡ length b.numbers → Within (InSets a.sets) (InSets b.sets)
     → (x y : ℕ) → x < length a.numbers → y < length a.numbers → Together a.numbers x y → Together b.numbers x y
 finest_together a b is_a is_b long to x y within_x within_y =
     is_a.finest.finest b.numbers (λ h k m n at_h at_k linked. is_b.finest.respects h k m n (to h m at_h) (to k n at_k) linked) x y within_x within_y
 
-module _ (a b : Parted) (is_a : IsParted a) (is_b : IsParted b) (long : length a.numbers ≡ length b.numbers)
+module _ (a b : ClassesView) (is_a : IsParted a) (is_b : IsParted b) (long : length a.numbers ≡ length b.numbers)
          (to : Within (InSets a.sets) (InSets b.sets)) (from : Within (InSets b.sets) (InSets a.sets)) where
   -- an earlier number of one is an earlier number of the other
   not_below : (i : ℕ) → i < length a.numbers → ((j : ℕ) → j < i → slice_index a.numbers j ≡ slice_index b.numbers j) → slice_index a.numbers i < slice_index b.numbers i → ⊥
@@ -62,7 +62,7 @@ module _ (a b : Parted) (is_a : IsParted a) (is_b : IsParted b) (long : length a
       omega (arith, less, together, earlier.2)
 
 -- so sites have the same numbers, up to each site
-same_below : (a b : Parted) → IsParted a → IsParted b → length a.numbers ≡ length b.numbers → Within (InSets a.sets) (InSets b.sets) → Within (InSets b.sets) (InSets a.sets)
+same_below : (a b : ClassesView) → IsParted a → IsParted b → length a.numbers ≡ length b.numbers → Within (InSets a.sets) (InSets b.sets) → Within (InSets b.sets) (InSets a.sets)
     → (n : ℕ) → n ≤ length a.numbers → (j : ℕ) → j < n → slice_index a.numbers j ≡ slice_index b.numbers j
 same_below a b is_a is_b long to from zero most j less = absurd (omega (arith, less))
 same_below a b is_a is_b long to from (suc n) most j less =

@@ -8,10 +8,10 @@ use Rattle.sect_types.specs.declared.action.Field.{Field}
 use Rattle.sect_types.specs.declared.action.Action.TheVariants as action
 use Rattle.sect_types.specs.declared.action.Label.{Label}
 use Rattle.sect_types.specs.declared.action.Label.TheVariants as label
-use Rattle.sect_points.specs.declared.flow.Variable.{Variable}
-use Rattle.sect_points.specs.declared.flow.Variable.TheVariants.{Global, Local}
-use Rattle.sect_points.specs.Places.{Place, var, dot}
-use Rattle.sect_points.specs.Partitions.{Parted}
+use Rattle.sect_points.specs.declared.holders.Variable.{Variable}
+use Rattle.sect_points.specs.declared.holders.Variable.TheVariants.{Global, Local}
+use Rattle.sect_points.specs.Paths.{PathView, var, dot}
+use Rattle.sect_points.specs.Partitions.{ClassesView}
 use Rattle.sect_points.specs.PathClasses.{variable_of, variable_in}
 use Rattle.sect_names.specs.Locks.{IsOwn}
 use Rattle.sect_names.specs.Carrying.{Replaced, BeforeStore, BeforeAssignment, Before}
@@ -28,31 +28,31 @@ module _ (t : ℕ) where
   own_value (value.Local x) u e = let is : Local t x ≡ u = cc in subst (λ y. IsOwn t (var y)) is refl
   own_value (value.Global g) u e = let is : Global g ≡ u = cc in subst (λ y. IsOwn t (var y)) is tt
 
-  replaced_own : (x : Variable) (source : Option Place) → ((z : Place) → source ≡ Some z → IsOwn t z) → (p q : Place) → Replaced x source p q → IsOwn t p → IsOwn t q
+  replaced_own : (x : Variable) (source : Option PathView) → ((z : PathView) → source ≡ Some z → IsOwn t z) → (p q : PathView) → Replaced x source p q → IsOwn t p → IsOwn t q
   replaced_own x source own (var v) q h k = elim h [ inl a ↦ own q a.1 | inr b ↦ subst (IsOwn t) (sym b.1) k ]
   replaced_own x source own (dot p f) q (r, before, is) k = subst (IsOwn t) (sym is) (replaced_own x source own p r before k)
 
-  copied_own : (x : Variable) (source : Place) → IsOwn t source → (p q : Place) → Replaced x (Some source) p q → IsOwn t p → IsOwn t q
+  copied_own : (x : Variable) (source : PathView) → IsOwn t source → (p q : PathView) → Replaced x (Some source) p q → IsOwn t p → IsOwn t q
   copied_own x source own p q h k = replaced_own x (Some source) (λ z e. (let is : source ≡ z = cc in subst (IsOwn t) is own)) p q h k
 
-  gone_own : (x : Variable) (p q : Place) → Replaced x None p q → IsOwn t p → IsOwn t q
+  gone_own : (x : Variable) (p q : PathView) → Replaced x None p q → IsOwn t p → IsOwn t q
   gone_own x p q h k = replaced_own x None (λ z e. absurd cc) p q h k
 
-  stored_own : (c : Parted) (z : Variable) (f : Field) (w : Option Variable) → ((v : Variable) → w ≡ Some v → IsOwn t (var v)) → (p q : Place) → BeforeStore c z f w p q → IsOwn t p → IsOwn t q
+  stored_own : (c : ClassesView) (z : Variable) (f : Field) (w : Option Variable) → ((v : Variable) → w ≡ Some v → IsOwn t (var v)) → (p q : PathView) → BeforeStore c z f w p q → IsOwn t p → IsOwn t q
   stored_own c z f w own (var v) q is k = subst (IsOwn t) (sym is) k
   stored_own c z f w own (dot p g) q h k = elim h [
     | inl (r, before, goes) ↦ subst (IsOwn t) (sym goes.1) (stored_own c z f w own p r before k)
     | inr (same, one, (v, reads, is)) ↦ subst (IsOwn t) (sym is) (own v reads)
   ]
 
-  assigned_own : (x : ℕ) (v : Value) (p q : Place) → BeforeAssignment t x v p q → IsOwn t p → IsOwn t q
+  assigned_own : (x : ℕ) (v : Value) (p q : PathView) → BeforeAssignment t x v p q → IsOwn t p → IsOwn t q
   assigned_own x (value.Number n) p q is k = subst (IsOwn t) (sym is) k
   assigned_own x value.Null p q h k = gone_own (Local t x) p q h k
   assigned_own x (value.Local y) p q h k = copied_own (Local t x) (var (Local t y)) refl p q h k
   assigned_own x (value.Global g) p q h k = copied_own (Local t x) (var (Global g)) tt p q h k
 
   -- what is carried back in a thread begins there too
-  pub own_before : (c : Parted) (step : Label) (p q : Place) → Before c t step p q → IsOwn t p → IsOwn t q
+  pub own_before : (c : ClassesView) (step : Label) (p q : PathView) → Before c t step p q → IsOwn t p → IsOwn t q
   own_before c (label.Act (action.Assign x v)) p q h k = assigned_own x v p q h k
   own_before c (label.Act (action.Compute x v o w)) p q is k = subst (IsOwn t) (sym is) k
   own_before c (label.Act (action.New x r i)) p q h k = gone_own (Local t x) p q h k

@@ -13,11 +13,11 @@ use Rattle.sect_types.specs.Lists.{Has}
 use Rattle.sect_types.specs.declared.action.Field.{Field}
 use Rattle.sect_types.specs.contracts.action.FieldOrd.TheImpl.{ghosts as the_field_order}
 use Rattle.sect_types.specs.contracts.action.FieldOrd.TheImpl.Laws.{matches_eq-law as the_field_ties}
-use Rattle.sect_points.specs.declared.flow.Variable.{Variable}
-use Rattle.sect_points.specs.declared.flow.Variable.TheVariants.{Global, Local}
-use Rattle.sect_points.specs.contracts.flow.VariableOrd.TheImpl.{ghosts as the_variable_order}
-use Rattle.sect_points.specs.contracts.flow.VariableOrd.TheImpl.Laws.{matches_eq-law as the_variable_ties}
-use Rattle.sect_points.specs.Places.{Place, base_of, fields_of}
+use Rattle.sect_points.specs.declared.holders.Variable.{Variable}
+use Rattle.sect_points.specs.declared.holders.Variable.TheVariants.{Global, Local}
+use Rattle.sect_points.specs.contracts.holders.VariableOrd.TheImpl.{ghosts as the_variable_order}
+use Rattle.sect_points.specs.contracts.holders.VariableOrd.TheImpl.Laws.{matches_eq-law as the_variable_ties}
+use Rattle.sect_points.specs.Paths.{PathView, base_of, fields_of}
 use Rattle.sect_names.specs.declared.lock.Effect.TheVariants as effect
 use Rattle.sect_names.specs.declared.lock.Right.TheVariants as right
 use Rattle.sect_names.specs.declared.lock.Lock.{Lock}
@@ -57,13 +57,13 @@ fields_before (f ∷ fs) (g ∷ gs) e = elim (then_less (the_field_order.cmp f g
   | inr b ↦ inr (field_level f g b.0, fields_before fs gs b.1)
 ]
 
-path_before : (p q : Place) → path_cmp p q ≡ Less → PathBefore p q
+path_before : (p q : PathView) → path_cmp p q ≡ Less → PathBefore p q
 path_before p q e = elim (then_less (the_variable_order.cmp (base_of p) (base_of q)) (slice_cmp the_field_order.cmp (fields_of p) (fields_of q)) e) [
   | inl a ↦ inl (variable_before (base_of p) (base_of q) a)
   | inr b ↦ inr (variable_level (base_of p) (base_of q) b.0, fields_before (fields_of p) (fields_of q) b.1)
 ]
 
-path_level : (p q : Place) → path_cmp p q ≡ Equal → p ≡ q
+path_level : (p q : PathView) → path_cmp p q ≡ Equal → p ≡ q
 path_level p q e = (path_tells p q).0 (path_ties p q ∙ ap is_eq e)
 
 pub lock_before : (l m : Lock) → the_lock_order.cmp l m ≡ Less → LockBefore l m

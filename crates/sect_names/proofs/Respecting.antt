@@ -1,7 +1,7 @@
 -- Carrying back respects covering.
 use Rattle.std.proofs.Common.{◌≡◌, ℕ, refl, sym, subst, inl, inr}
 use Rattle.sect_types.specs.declared.action.Label.{Label}
-use Rattle.sect_points.specs.Places.{Place}
+use Rattle.sect_points.specs.Paths.{PathView}
 use Rattle.sect_points.specs.Partitions.{HasClass}
 use Rattle.sect_names.specs.declared.lock.Effect.{Effect}
 use Rattle.sect_names.specs.declared.lock.Effect.TheVariants as effect
@@ -29,14 +29,14 @@ rights_grant right.Read effect.Write h = absurd h
 rights_grant right.Make f h = absurd h
 
 -- of the locks on one path, that with the effect which allows more covers the other
-cover_on : (s : SchemeView) (e f : Effect) (q : Place) (r : Lock) → Allows e f → LockOn s f q r → (over : Lock) × LockOn s e q over × Covers s over r
+cover_on : (s : SchemeView) (e f : Effect) (q : PathView) (r : Lock) → Allows e f → LockOn s f q r → (over : Lock) × LockOn s e q over × Covers s over r
 cover_on s e f q r allows (n, class, limit) = elim limit [
   | inl (short, is) ↦ (lock.Path q e, (n, class, inl (short, refl)), subst (Covers s (lock.Path q e)) (sym is) (refl, allows))
   | inr (long, is) ↦ (lock.Class n (right_for e), (n, class, inr (long, refl)), subst (Covers s (lock.Class n (right_for e))) (sym is) (refl, rights_allow e f allows))
 ]
 
 -- a lock on a class covers the lock on a path of that class
-class_covers : (s : SchemeView) (c : ℕ) (r : Right) (f : Effect) (q : Place) (l : Lock) → ((n : ℕ) → HasClass s.classes q n → n ≡ c) → Grants r f → LockOn s f q l → Covers s (lock.Class c r) l
+class_covers : (s : SchemeView) (c : ℕ) (r : Right) (f : Effect) (q : PathView) (l : Lock) → ((n : ℕ) → HasClass s.classes q n → n ≡ c) → Grants r f → LockOn s f q l → Covers s (lock.Class c r) l
 class_covers s c r f q l same grants (n, class, limit) = elim limit [
   | inl (short, is) ↦ subst (Covers s (lock.Class c r)) (sym is) (subst (HasClass s.classes q) (same n class) class, grants)
   | inr (long, is) ↦ subst (Covers s (lock.Class c r)) (sym is) (sym (same n class), rights_grant r f grants)

@@ -21,7 +21,7 @@ use Rattle.sect_graph.specs.Paths.{IsPath}
 use Rattle.sect_graph.specs.Graphs.{IsGraphOf}
 use Rattle.sect_graph.proofs.Paths.{path_join}
 use Rattle.sect_points.specs.Flow.{actions_of}
-use Rattle.sect_points.specs.Statements.{placed, placed_from}
+use Rattle.sect_points.specs.Statements.{thread_action, actions_from}
 use Rattle.sect_names.specs.Schemes.{SchemeView, IsScheme}
 use Rattle.sect_names.specs.Laws.{IsProgramStep, IsSoundStep, StandsIn}
 use Rattle.sect_names.proofs.Finiteness.{Has-map}
@@ -142,15 +142,15 @@ abbrev section_with : ℕ → TextView → SectionView
 section_with t body = record { thread = t; body = body }
 
 section_placed : (t : ℕ) (texts : List TextView) (section : SectionView) → Has (sections_from t texts) section → (a : Action) → Has (actions_of section.body) a
-    → Has (placed_from t texts) (placed section.thread a)
+    → Has (actions_from t texts) (thread_action section.thread a)
 section_placed t [] section h a k = absurd h
 section_placed t (text ∷ texts) section h a k = elim (Has-cases (map (section_with t) (section_bodies text)) (sections_from (t + 1) texts) section h) [
   | inl h ↦
       let from = Has-unmap (section_with t) (section_bodies text) section h in
       let stands = body_actions text from.0 from.1 a (subst (λ (x : SectionView). Has (actions_of x.body) a) (sym from.2) k) in
-      Has-left (map (placed t) (actions_of text)) (placed_from (t + 1) texts) (placed section.thread a)
-      (subst (λ (x : SectionView). Has (map (placed t) (actions_of text)) (placed x.thread a)) from.2 (Has-map (placed t) (actions_of text) a stands))
-  | inr h ↦ Has-right (map (placed t) (actions_of text)) (placed_from (t + 1) texts) (placed section.thread a) (section_placed (t + 1) texts section h a k)
+      Has-left (map (thread_action t) (actions_of text)) (actions_from (t + 1) texts) (thread_action section.thread a)
+      (subst (λ (x : SectionView). Has (map (thread_action t) (actions_of text)) (thread_action x.thread a)) from.2 (Has-map (thread_action t) (actions_of text) a stands))
+  | inr h ↦ Has-right (map (thread_action t) (actions_of text)) (actions_from (t + 1) texts) (thread_action section.thread a) (section_placed (t + 1) texts section h a k)
 ]
 
 -- each text of a sound program has its thread's locals

@@ -15,9 +15,9 @@ use Rattle.sect_types.specs.declared.action.Action.{Action}
 use Rattle.sect_types.specs.declared.action.Action.TheVariants as action
 use Rattle.sect_types.specs.declared.action.Label.{Label}
 use Rattle.sect_types.specs.declared.action.Label.TheVariants as label
-use Rattle.sect_points.specs.declared.flow.Variable.{Variable}
-use Rattle.sect_points.specs.declared.flow.Variable.TheVariants.{Global, Local}
-use Rattle.sect_points.specs.Places.{Place, var, dot}
+use Rattle.sect_points.specs.declared.holders.Variable.{Variable}
+use Rattle.sect_points.specs.declared.holders.Variable.TheVariants.{Global, Local}
+use Rattle.sect_points.specs.Paths.{PathView, var, dot}
 use Rattle.sect_points.specs.PathClasses.{variable_of}
 use Rattle.sect_names.specs.declared.lock.Effect.{Effect}
 use Rattle.sect_names.specs.declared.lock.Effect.TheVariants as effect
@@ -45,7 +45,7 @@ module _ (p : ProgramView) where
       by (Some ts) is h = (ts, is, slice_get_within ts f (Refers r) h)
 
   -- what a path that refers to objects names is there
-  pub path_there : (q : Place) (r : ℕ) → PathTo p q r → IsPathOf p q
+  pub path_there : (q : PathView) (r : ℕ) → PathTo p q r → IsPathOf p q
   path_there (var v) r to = variable_there v r to
   path_there (dot q f) r to = (path_there q f.of to.0, field_there f.of f.number r to.1)
 
@@ -92,7 +92,7 @@ module _ (s : SchemeView) (scheme : IsScheme s) where
     action_in (action.Store b f v) sound l h = base_in b f.of effect.Write l (base_to s.program t b f.of sound.1) h
     action_in (action.Print v) sound l h = absurd h
 
-    lock_on_path : (e : Effect) (q : Place) (r : ℕ) (l : Lock) → IsOwn t q → PathTo s.program q r → LockOn s e q l → IsLockOf s t l
+    lock_on_path : (e : Effect) (q : PathView) (r : ℕ) (l : Lock) → IsOwn t q → PathTo s.program q r → LockOn s e q l → IsLockOf s t l
     lock_on_path e q r l own to (n, class, limit) = elim limit [
       | inl (short, is) ↦ subst (IsLockOf s t) (sym is) (record { own = own; of = r; refers = to; short = short; classed = (n, class) })
       | inr (long, is) ↦ subst (IsLockOf s t) (sym is) (Has-slice_get s.classes.numbers class.0 n class.2)

@@ -3,16 +3,16 @@ use Rattle.std.proofs.Common.{◌≡◌, ◌↔◌, List, [], ◌∷◌, ◌++�
 use Rattle.sect_types.specs.Lists.{Has}
 use Rattle.sect_types.proofs.Membership.{Has-cases, Has-left, Has-right}
 use Rattle.sect_types.specs.declared.action.Field.{Field}
-use Rattle.sect_points.specs.declared.flow.Variable.{Variable}
-use Rattle.sect_points.specs.Places.{Place, var, dot}
-use Rattle.sect_points.specs.Partitions.{Parted}
+use Rattle.sect_points.specs.declared.holders.Variable.{Variable}
+use Rattle.sect_points.specs.Paths.{PathView, var, dot}
+use Rattle.sect_points.specs.Partitions.{ClassesView}
 use Rattle.sect_names.specs.Carrying.{GoesOn, AreOfOneClass, BeforeStore, OverField}
 use Rattle.sect_names.proofs.Making.{one_has}
 
-module _ (c : Parted) (z : Variable) (f : Field) (w : Option Variable) (p : Place) (g : Field) (paths : List Place) where
-  module _ (longer : List Place) (goes : (q : Place) → Has longer q ↔ ((r : Place) × Has paths r × GoesOn z f g r q)) (o : Option Variable) (reads : (v : Variable) → (o ≡ Some v) ↔ ((g ≡ f) × AreOfOneClass c p (var z) × (w ≡ Some v))) where
+module _ (c : ClassesView) (z : Variable) (f : Field) (w : Option Variable) (p : PathView) (g : Field) (paths : List PathView) where
+  module _ (longer : List PathView) (goes : (q : PathView) → Has longer q ↔ ((r : PathView) × Has paths r × GoesOn z f g r q)) (o : Option Variable) (reads : (v : Variable) → (o ≡ Some v) ↔ ((g ≡ f) × AreOfOneClass c p (var z) × (w ≡ Some v))) where
     -- no value is read through the path
-    pub over_none : o ≡ None → (q : Place) → Has longer q ↔ OverField c z f w p g paths q
+    pub over_none : o ≡ None → (q : PathView) → Has longer q ↔ OverField c z f w p g paths q
     over_none is q = (
       λ h. inl ((goes q).0 h),
       λ h. elim h [
@@ -22,7 +22,7 @@ module _ (c : Parted) (z : Variable) (f : Field) (w : Option Variable) (p : Plac
     )
 
     -- the value v may be read
-    pub over_value : (v : Variable) → o ≡ Some v → (q : Place) → Has (longer ++ var v ∷ []) q ↔ OverField c z f w p g paths q
+    pub over_value : (v : Variable) → o ≡ Some v → (q : PathView) → Has (longer ++ var v ∷ []) q ↔ OverField c z f w p g paths q
     over_value v is q = (
       λ h. elim (Has-cases longer (var v ∷ []) q h) [
         | inl a ↦ inl ((goes q).0 a)
@@ -35,7 +35,7 @@ module _ (c : Parted) (z : Variable) (f : Field) (w : Option Variable) (p : Plac
     )
 
   -- one field more
-  pub over_before : ((q : Place) → Has paths q ↔ BeforeStore c z f w p q) → (q : Place) → OverField c z f w p g paths q ↔ BeforeStore c z f w (dot p g) q
+  pub over_before : ((q : PathView) → Has paths q ↔ BeforeStore c z f w p q) → (q : PathView) → OverField c z f w p g paths q ↔ BeforeStore c z f w (dot p g) q
   over_before before q = (
     λ h. elim h [ inl a ↦ inl (a.0, (before a.0).0 a.1, a.2) | inr b ↦ inr b ],
     λ h. elim h [ inl a ↦ inl (a.0, (before a.0).1 a.1, a.2) | inr b ↦ inr b ],

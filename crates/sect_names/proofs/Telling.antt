@@ -6,10 +6,10 @@ use Rattle.std.specs.Cmp.{first_so, second_so}
 use Rattle.std.specs.Cmp.Lexicographic.{pointwise, pointwise_decides}
 use Rattle.sect_types.specs.declared.action.Field.{Field}
 use Rattle.sect_types.specs.contracts.action.FieldPartialEq.TheImpl.{ghosts as the_field_eq}
-use Rattle.sect_points.specs.declared.flow.Variable.{Variable}
-use Rattle.sect_points.specs.declared.flow.Variable.TheVariants.{Global, Local}
-use Rattle.sect_points.specs.contracts.flow.VariablePartialEq.TheImpl.{ghosts as the_variable_eq}
-use Rattle.sect_points.specs.Places.{Place, base_of, fields_of}
+use Rattle.sect_points.specs.declared.holders.Variable.{Variable}
+use Rattle.sect_points.specs.declared.holders.Variable.TheVariants.{Global, Local}
+use Rattle.sect_points.specs.contracts.holders.VariablePartialEq.TheImpl.{ghosts as the_variable_eq}
+use Rattle.sect_points.specs.Paths.{PathView, base_of, fields_of}
 use Rattle.std.specs.List.{list_any}
 use Rattle.sect_types.specs.Lists.{Has}
 use Rattle.sect_names.specs.declared.lock.Lock.{Lock}
@@ -30,7 +30,7 @@ field_tells f g = search rules
 each : (a b : Bool) → a ≡ true → b ≡ true → (a && b) ≡ true
 each a b p q = ap (λ x. x && b) p ∙ q
 
-pub path_tells : (p q : Place) → Decides (path_eq p q) (p ≡ q)
+pub path_tells : (p q : PathView) → Decides (path_eq p q) (p ≡ q)
 path_tells p q =
     let base = variable_tells (base_of p) (base_of q) in
     let fields = pointwise_decides field_tells (fields_of p) (fields_of q) in (

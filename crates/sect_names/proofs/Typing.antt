@@ -14,10 +14,10 @@ use Rattle.sect_types.specs.declared.action.Action.{Action}
 use Rattle.sect_types.specs.declared.action.Action.TheVariants as action
 use Rattle.sect_types.specs.declared.action.Label.{Label}
 use Rattle.sect_types.specs.declared.action.Label.TheVariants as label
-use Rattle.sect_points.specs.declared.flow.Variable.{Variable}
-use Rattle.sect_points.specs.declared.flow.Variable.TheVariants.{Global, Local}
-use Rattle.sect_points.specs.Places.{Place, var, dot}
-use Rattle.sect_points.specs.Partitions.{Parted}
+use Rattle.sect_points.specs.declared.holders.Variable.{Variable}
+use Rattle.sect_points.specs.declared.holders.Variable.TheVariants.{Global, Local}
+use Rattle.sect_points.specs.Paths.{PathView, var, dot}
+use Rattle.sect_points.specs.Partitions.{ClassesView}
 use Rattle.sect_points.specs.PathClasses.{variable_of, variable_in}
 use Rattle.sect_names.specs.Carrying.{Replaced, BeforeStore, BeforeAssignment, BeforeAction, Before}
 use Rattle.sect_names.specs.Laws.{IsSoundStep}
@@ -49,22 +49,22 @@ module _ (p : ProgramView) where
   value_to t (value.Local x) r h w e = let is : Local t x ≡ w = cc in subst (λ u. VariableTo p u r) is h
   value_to t (value.Global g) r h w e = let is : Global g ≡ w = cc in subst (λ u. VariableTo p u r) is (reference_of (slice_get p.globals g) r h)
 
-  replaced_to : (x : Variable) (source : Option Place) → ((z : Place) → source ≡ Some z → (r : ℕ) → VariableTo p x r → PathTo p z r)
-      → (path q : Place) (r : ℕ) → Replaced x source path q → PathTo p path r → PathTo p q r
+  replaced_to : (x : Variable) (source : Option PathView) → ((z : PathView) → source ≡ Some z → (r : ℕ) → VariableTo p x r → PathTo p z r)
+      → (path q : PathView) (r : ℕ) → Replaced x source path q → PathTo p path r → PathTo p q r
   replaced_to x source to (var v) q r h k = elim h [
     | inl a ↦ to q a.1 r (subst (λ u. VariableTo p u r) a.0 k)
     | inr b ↦ subst (λ z. PathTo p z r) (sym b.1) k
   ]
   replaced_to x source to (dot e f) q r (z, before, is) k = subst (λ z. PathTo p z r) (sym is) (replaced_to x source to e z f.of before k.0, k.1)
 
-  copied_to : (x : Variable) (source : Place) → ((r : ℕ) → VariableTo p x r → PathTo p source r) → (path q : Place) (r : ℕ) → Replaced x (Some source) path q → PathTo p path r → PathTo p q r
+  copied_to : (x : Variable) (source : PathView) → ((r : ℕ) → VariableTo p x r → PathTo p source r) → (path q : PathView) (r : ℕ) → Replaced x (Some source) path q → PathTo p path r → PathTo p q r
   copied_to x source to path q r h k = replaced_to x (Some source) (λ z e. (let is : source ≡ z = cc in subst (λ z. (r : ℕ) → VariableTo p x r → PathTo p z r) is to)) path q r h k
 
-  gone_to : (x : Variable) (path q : Place) (r : ℕ) → Replaced x None path q → PathTo p path r → PathTo p q r
+  gone_to : (x : Variable) (path q : PathView) (r : ℕ) → Replaced x None path q → PathTo p path r → PathTo p q r
   gone_to x path q r h k = replaced_to x None (λ z e. absurd cc) path q r h k
 
-  stored_to : (c : Parted) (z : Variable) (f : Field) (w : Option Variable) → ((v : Variable) (r : ℕ) → w ≡ Some v → FieldTo p f.of f.number r → VariableTo p v r)
-      → (path q : Place) (r : ℕ) → BeforeStore c z f w path q → PathTo p path r → PathTo p q r
+  stored_to : (c : ClassesView) (z : Variable) (f : Field) (w : Option Variable) → ((v : Variable) (r : ℕ) → w ≡ Some v → FieldTo p f.of f.number r → VariableTo p v r)
+      → (path q : PathView) (r : ℕ) → BeforeStore c z f w path q → PathTo p path r → PathTo p q r
   stored_to c z f w to (var v) q r is k = subst (λ x. PathTo p x r) (sym is) k
   stored_to c z f w to (dot e g) q r h k = elim h [
     | inl (x, before, goes) ↦ subst (λ y. PathTo p y r) (sym goes.1) (stored_to c z f w to e x g.of before k.0, k.1)
@@ -72,7 +72,7 @@ module _ (p : ProgramView) where
   ]
 
   assigned_to : (t x : ℕ) (v : Value) (ty : ValueType) → slice_get (slice_index_or p.locals t []) x ≡ Some ty → HasType (environment_at p t) v ty
-      → (path q : Place) (r : ℕ) → BeforeAssignment t x v path q → PathTo p path r → PathTo p q r
+      → (path q : PathView) (r : ℕ) → BeforeAssignment t x v path q → PathTo p path r → PathTo p q r
   assigned_to t x (value.Number n) ty at sound path q r is k = subst (λ y. PathTo p y r) (sym is) k
   assigned_to t x value.Null ty at sound path q r h k = gone_to (Local t x) path q r h k
   assigned_to t x (value.Local y) ty at sound path q r h k =
@@ -80,7 +80,7 @@ module _ (p : ProgramView) where
   assigned_to t x (value.Global g) ty at sound path q r h k =
       copied_to (Local t x) (var (Global g)) (λ r e. reference_of (slice_get p.globals g) r (sound ∙ ap (λ u. Some u) (same_type (slice_get (slice_index_or p.locals t []) x) ty (Refers r) at e))) path q r h k
 
-  action_to : (c : Parted) (t : ℕ) (a : Action) → IsSoundAction (environment_at p t) a → (path q : Place) (r : ℕ) → BeforeAction c t a path q → PathTo p path r → PathTo p q r
+  action_to : (c : ClassesView) (t : ℕ) (a : Action) → IsSoundAction (environment_at p t) a → (path q : PathView) (r : ℕ) → BeforeAction c t a path q → PathTo p path r → PathTo p q r
   action_to c t (action.Assign x v) sound path q r h k = assigned_to t x v sound.0 sound.1 sound.2 path q r h k
   action_to c t (action.Compute x v o w) sound path q r is k = subst (λ y. PathTo p y r) (sym is) k
   action_to c t (action.New x of i) sound path q r h k = gone_to (Local t x) path q r h k
@@ -95,7 +95,7 @@ module _ (p : ProgramView) where
   action_to c t (action.Print v) sound path q r is k = subst (λ y. PathTo p y r) (sym is) k
 
   -- over a sound step a typed path comes from a typed one, of the same record
-  pub path_to : (c : Parted) (t : ℕ) (step : Label) → IsSoundStep p t step → (path q : Place) (r : ℕ) → Before c t step path q → PathTo p path r → PathTo p q r
+  pub path_to : (c : ClassesView) (t : ℕ) (step : Label) → IsSoundStep p t step → (path q : PathView) (r : ℕ) → Before c t step path q → PathTo p path r → PathTo p q r
   path_to c t (label.Act a) sound path q r h k = action_to c t a sound path q r h k
   path_to c t (label.Test d) sound path q r is k = subst (λ y. PathTo p y r) (sym is) k
   path_to c t (label.Section i) sound path q r is k = subst (λ y. PathTo p y r) (sym is) k

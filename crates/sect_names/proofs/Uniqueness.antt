@@ -3,9 +3,9 @@ use Rattle.std.proofs.Common.{◌≡◌, ◌↔◌, ◌⊎◌, ℕ, ◌<◌, Lis
 use Rattle.sect_types.specs.Lists.{Has}
 use Rattle.sect_types.specs.Statements.{TextView}
 use Rattle.sect_types.specs.declared.action.Field.{Field}
-use Rattle.sect_points.specs.declared.flow.Variable.{Variable}
-use Rattle.sect_points.specs.declared.flow.Variable.TheVariants.{Global, Local}
-use Rattle.sect_points.specs.Places.{Place, base_of, fields_of}
+use Rattle.sect_points.specs.declared.holders.Variable.{Variable}
+use Rattle.sect_points.specs.declared.holders.Variable.TheVariants.{Global, Local}
+use Rattle.sect_points.specs.Paths.{PathView, base_of, fields_of}
 use Rattle.sect_names.specs.declared.lock.Effect.{Effect}
 use Rattle.sect_names.specs.declared.lock.Effect.TheVariants as effect
 use Rattle.sect_names.specs.declared.lock.Right.{Right}
@@ -43,7 +43,7 @@ fields_once (f ∷ fs) (g ∷ gs) (inl a) (inr b) = let c = subst (FieldBefore f
 fields_once (f ∷ fs) (g ∷ gs) (inr a) (inl b) = let c = subst (FieldBefore g) a.0 b in field_once g g c c
 fields_once (f ∷ fs) (g ∷ gs) (inr a) (inr b) = fields_once fs gs a.1 b.1
 
-path_once : (p q : Place) → PathBefore p q → PathBefore q p → ⊥
+path_once : (p q : PathView) → PathBefore p q → PathBefore q p → ⊥
 path_once p q (inl a) (inl b) = variable_once (base_of p) (base_of q) a b
 path_once p q (inl a) (inr b) = let c = subst (VariableBefore (base_of p)) b.0 a in variable_once (base_of p) (base_of p) c c
 path_once p q (inr a) (inl b) = let c = subst (VariableBefore (base_of q)) a.0 b in variable_once (base_of q) (base_of q) c c

@@ -8,10 +8,10 @@ use Rattle.sect_types.specs.declared.action.Action.{Action}
 use Rattle.sect_types.specs.declared.action.Action.TheVariants as action
 use Rattle.sect_types.specs.declared.action.Label.{Label}
 use Rattle.sect_types.specs.declared.action.Label.TheVariants as label
-use Rattle.sect_points.specs.declared.flow.Variable.{Variable}
-use Rattle.sect_points.specs.declared.flow.Variable.TheVariants.{Global, Local}
-use Rattle.sect_points.specs.Places.{Place, var, dot}
-use Rattle.sect_points.specs.Partitions.{Parted, HasClass}
+use Rattle.sect_points.specs.declared.holders.Variable.{Variable}
+use Rattle.sect_points.specs.declared.holders.Variable.TheVariants.{Global, Local}
+use Rattle.sect_points.specs.Paths.{PathView, var, dot}
+use Rattle.sect_points.specs.Partitions.{ClassesView, HasClass}
 use Rattle.sect_points.specs.PathClasses.{variable_of, variable_in}
 use Rattle.sect_names.specs.declared.lock.Effect.{Effect}
 use Rattle.sect_names.specs.declared.lock.Effect.TheVariants as effect
@@ -51,41 +51,41 @@ Generated s t (label.Test c) l = ⊥
 Generated s t (label.Section i) l = ⊥
 
 -- q is the path p with this in place of the base x; where nothing takes its place, a path with that base is none
-abbrev pub Replaced : Variable → Option Place → Place → Place → Type 0
+abbrev pub Replaced : Variable → Option PathView → PathView → PathView → Type 0
 Replaced x source (var v) q = ((v ≡ x) × (source ≡ Some q)) ⊎ ((v ≡ x → ⊥) × (q ≡ var v))
-Replaced x source (dot p f) q = (r : Place) × Replaced x source p r × (q ≡ dot r f)
+Replaced x source (dot p f) q = (r : PathView) × Replaced x source p r × (q ≡ dot r f)
 
 -- both have a class, and it is one
-abbrev pub AreOfOneClass : Parted → Place → Place → Type 0
+abbrev pub AreOfOneClass : ClassesView → PathView → PathView → Type 0
 AreOfOneClass c p q = (n : ℕ) × HasClass c p n × HasClass c q n
 
 -- q is r with the field g more, unless it is `z.f` itself
-abbrev pub GoesOn : Variable → Field → Field → Place → Place → Type 0
+abbrev pub GoesOn : Variable → Field → Field → PathView → PathView → Type 0
 GoesOn z f g r q = ((g ≡ f) × (r ≡ var z) → ⊥) × (q ≡ dot r g)
 
 -- q may denote before the store `z.f = w` what p denotes after it: a variable stays, a field of a path is that field of
 -- what may denote the path, and the field f of what z may denote is w
-abbrev pub BeforeStore : Parted → Variable → Field → Option Variable → Place → Place → Type 0
+abbrev pub BeforeStore : ClassesView → Variable → Field → Option Variable → PathView → PathView → Type 0
 BeforeStore c z f w (var v) q = q ≡ var v
 BeforeStore c z f w (dot p g) q =
-    ((r : Place) × BeforeStore c z f w p r × GoesOn z f g r q)
+    ((r : PathView) × BeforeStore c z f w p r × GoesOn z f g r q)
     ⊎ ((g ≡ f) × AreOfOneClass c p (var z) × ((v : Variable) × (w ≡ Some v) × (q ≡ var v)))
 
 -- the same for `p.g`, where these paths may denote what p denotes
-abbrev pub OverField : Parted → Variable → Field → Option Variable → Place → Field → List Place → Place → Type 0
+abbrev pub OverField : ClassesView → Variable → Field → Option Variable → PathView → Field → List PathView → PathView → Type 0
 OverField c z f w p g paths q =
-    ((r : Place) × Has paths r × GoesOn z f g r q)
+    ((r : PathView) × Has paths r × GoesOn z f g r q)
     ⊎ ((g ≡ f) × AreOfOneClass c p (var z) × ((v : Variable) × (w ≡ Some v) × (q ≡ var v)))
 
 -- q may denote before `x = value` what p denotes after it
-abbrev pub BeforeAssignment : ℕ → ℕ → Value → Place → Place → Type 0
+abbrev pub BeforeAssignment : ℕ → ℕ → Value → PathView → PathView → Type 0
 BeforeAssignment t x (value.Number n) p q = q ≡ p
 BeforeAssignment t x value.Null p q = Replaced (Local t x) None p q
 BeforeAssignment t x (value.Local y) p q = Replaced (Local t x) (Some (var (Local t y))) p q
 BeforeAssignment t x (value.Global g) p q = Replaced (Local t x) (Some (var (Global g))) p q
 
 -- q may denote before the statement what p denotes after it
-abbrev pub BeforeAction : Parted → ℕ → Action → Place → Place → Type 0
+abbrev pub BeforeAction : ClassesView → ℕ → Action → PathView → PathView → Type 0
 BeforeAction c t (action.Assign x v) p q = BeforeAssignment t x v p q
 BeforeAction c t (action.Compute x v o w) p q = q ≡ p
 BeforeAction c t (action.New x r i) p q = Replaced (Local t x) None p q
@@ -93,7 +93,7 @@ BeforeAction c t (action.Load x b f) p q = Replaced (Local t x) (Some (dot (var 
 BeforeAction c t (action.Store b f v) p q = BeforeStore c (variable_of t b) f (variable_in t v) p q
 BeforeAction c t (action.Print v) p q = q ≡ p
 
-abbrev pub Before : Parted → ℕ → Label → Place → Place → Type 0
+abbrev pub Before : ClassesView → ℕ → Label → PathView → PathView → Type 0
 Before c t (label.Act a) p q = BeforeAction c t a p q
 Before c t (label.Test d) p q = q ≡ p
 Before c t (label.Section i) p q = q ≡ p
@@ -104,7 +104,7 @@ right_for effect.Read = right.Read
 right_for effect.Write = right.Write
 
 -- the lock on a path: that of its class where the path has more than k fields, and none where it has no class
-abbrev pub LockOn : SchemeView → Effect → Place → Lock → Type 0
+abbrev pub LockOn : SchemeView → Effect → PathView → Lock → Type 0
 LockOn s e p l =
     (n : ℕ) × HasClass s.classes p n
     × (((depth p ≤ s.most) × (l ≡ lock.Path p e)) ⊎ ((s.most < depth p) × (l ≡ lock.Class n (right_for e))))
@@ -113,4 +113,4 @@ LockOn s e p l =
 abbrev pub CarriedBack : SchemeView → ℕ → Label → Lock → Lock → Type 0
 CarriedBack s t step lock.All l = l ≡ lock.All
 CarriedBack s t step (lock.Class c r) l = l ≡ lock.Class c r
-CarriedBack s t step (lock.Path p e) l = (q : Place) × Before s.classes t step p q × LockOn s e q l
+CarriedBack s t step (lock.Path p e) l = (q : PathView) × Before s.classes t step p q × LockOn s e q l

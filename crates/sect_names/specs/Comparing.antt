@@ -12,21 +12,21 @@ use Rattle.sect_types.specs.contracts.action.FieldHash.TheImpl.{ghosts as the_fi
 use Rattle.sect_types.specs.contracts.action.FieldHash.TheImpl.Laws.{respects_eq-law as the_field_alike}
 use Rattle.sect_types.specs.contracts.action.FieldOrd.TheImpl.{ghosts as the_field_order}
 use Rattle.sect_types.specs.contracts.action.FieldOrd.TheImpl.Laws.{total-law as the_field_total, matches_eq-law as the_field_ties}
-use Rattle.sect_points.specs.contracts.flow.VariablePartialEq.TheImpl.{ghosts as the_variable_eq}
-use Rattle.sect_points.specs.contracts.flow.VariableEq.TheImpl.Laws.{laws-law as the_variable_laws}
-use Rattle.sect_points.specs.contracts.flow.VariableHash.TheImpl.{ghosts as the_variable_hash}
-use Rattle.sect_points.specs.contracts.flow.VariableHash.TheImpl.Laws.{respects_eq-law as the_variable_alike}
-use Rattle.sect_points.specs.contracts.flow.VariableOrd.TheImpl.{ghosts as the_variable_order}
-use Rattle.sect_points.specs.contracts.flow.VariableOrd.TheImpl.Laws.{total-law as the_variable_total, matches_eq-law as the_variable_ties}
-use Rattle.sect_points.specs.Places.{Place, base_of, fields_of}
+use Rattle.sect_points.specs.contracts.holders.VariablePartialEq.TheImpl.{ghosts as the_variable_eq}
+use Rattle.sect_points.specs.contracts.holders.VariableEq.TheImpl.Laws.{laws-law as the_variable_laws}
+use Rattle.sect_points.specs.contracts.holders.VariableHash.TheImpl.{ghosts as the_variable_hash}
+use Rattle.sect_points.specs.contracts.holders.VariableHash.TheImpl.Laws.{respects_eq-law as the_variable_alike}
+use Rattle.sect_points.specs.contracts.holders.VariableOrd.TheImpl.{ghosts as the_variable_order}
+use Rattle.sect_points.specs.contracts.holders.VariableOrd.TheImpl.Laws.{total-law as the_variable_total, matches_eq-law as the_variable_ties}
+use Rattle.sect_points.specs.Paths.{PathView, base_of, fields_of}
 
-abbrev pub path_eq : Place → Place → Bool
+abbrev pub path_eq : PathView → PathView → Bool
 path_eq = eq_of_both (on base_of the_variable_eq.eq) (on fields_of (pointwise the_field_eq.eq))
 
-abbrev pub path_fed : Place → HashWrites
+abbrev pub path_fed : PathView → HashWrites
 path_fed p = the_variable_hash.hash_input (base_of p) ++ slice the_field_hash.hash_input (fields_of p)
 
-abbrev pub path_cmp : Place → Place → Ordering
+abbrev pub path_cmp : PathView → PathView → Ordering
 path_cmp = then_cmp (on base_of the_variable_order.cmp) (on fields_of (slice_cmp the_field_order.cmp))
 
 pub path_equivalence : IsEquivalence path_eq
@@ -35,7 +35,7 @@ path_equivalence = and_equiv (on_equiv base_of the_variable_laws) (on_equiv fiel
 pub path_alike : Alike path_eq path_fed
 path_alike = and-Alike (on_Alike base_of (record { fed = the_variable_alike })) (on_Alike fields_of (items_Alike (record { fed = the_field_alike })))
 
-pub path_ties : (p q : Place) → path_eq p q ≡ eq_by_cmp path_cmp p q
+pub path_ties : (p q : PathView) → path_eq p q ≡ eq_by_cmp path_cmp p q
 path_ties p q = both_tied _ _ _ _ (the_variable_ties (base_of p) (base_of q)) (lists_ties the_field_order.cmp the_field_ties (fields_of p) (fields_of q))
 
 pub path_total : IsTotalOrder path_cmp

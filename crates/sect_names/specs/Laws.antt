@@ -7,11 +7,11 @@ use Rattle.sect_types.specs.Sound.{IsSoundAction}
 use Rattle.sect_types.specs.declared.action.Label.{Label}
 use Rattle.sect_types.specs.declared.action.Label.TheVariants.{Act, Test, Section}
 use Rattle.sect_graph.specs.declared.flow.Node.{Node}
-use Rattle.sect_points.specs.Places.{Place}
+use Rattle.sect_points.specs.Paths.{PathView}
 use Rattle.sect_points.specs.Sets.{InSets}
-use Rattle.sect_points.specs.declared.flow.Holder.{Holder}
+use Rattle.sect_points.specs.declared.holders.Holder.{Holder}
 use Rattle.sect_points.specs.PathClasses.{Agree}
-use Rattle.sect_points.specs.Statements.{placed, statements_of}
+use Rattle.sect_points.specs.Statements.{thread_action, statements_of}
 use Rattle.sect_names.specs.declared.lock.Lock.{Lock}
 use Rattle.sect_names.specs.Schemes.{SchemeView}
 use Rattle.sect_names.specs.Locks.{Covers}
@@ -19,7 +19,7 @@ use Rattle.sect_names.specs.Carrying.{Before, CarriedBack}
 
 -- a statement of thread t is one of the program's
 abbrev pub IsProgramStep : SchemeView → ℕ → Label → Type 0
-IsProgramStep s t (Act a) = Has (statements_of s.program) (placed t a)
+IsProgramStep s t (Act a) = Has (statements_of s.program) (thread_action t a)
 IsProgramStep s t (Test c) = ⊤
 IsProgramStep s t (Section i) = ⊤
 
@@ -31,7 +31,7 @@ IsSoundStep p t (Section i) = ⊤
 
 -- what may denote before the step what a path denotes after it has no class but the path's
 abbrev pub KeepsItsClass : SchemeView → ℕ → Label → Type 0
-KeepsItsClass s t step = (p q : Place) → Before s.classes t step p q → Agree s.classes q p
+KeepsItsClass s t step = (p q : PathView) → Before s.classes t step p q → Agree s.classes q p
 
 -- what a lock covers after the step, it covers before it: each of both carried back
 abbrev pub RespectsCover : SchemeView → ℕ → Label → Type 0

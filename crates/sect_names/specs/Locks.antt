@@ -6,9 +6,9 @@ use Rattle.sect_types.specs.declared.action.Field.{Field}
 use Rattle.sect_types.specs.declared.types.ValueType.{ValueType}
 use Rattle.sect_types.specs.declared.types.ValueType.TheVariants.{Refers}
 use Rattle.sect_types.specs.Sound.{type_in}
-use Rattle.sect_points.specs.declared.flow.Variable.{Variable}
-use Rattle.sect_points.specs.declared.flow.Variable.TheVariants.{Global, Local}
-use Rattle.sect_points.specs.Places.{Place, var, dot}
+use Rattle.sect_points.specs.declared.holders.Variable.{Variable}
+use Rattle.sect_points.specs.declared.holders.Variable.TheVariants.{Global, Local}
+use Rattle.sect_points.specs.Paths.{PathView, var, dot}
 use Rattle.sect_points.specs.Partitions.{HasClass}
 use Rattle.sect_names.specs.declared.lock.Effect.{Effect}
 use Rattle.sect_names.specs.declared.lock.Effect.TheVariants as effect
@@ -19,7 +19,7 @@ use Rattle.sect_names.specs.declared.lock.Lock.TheVariants as lock
 use Rattle.sect_names.specs.Schemes.{SchemeView}
 
 -- how many fields a path has
-abbrev pub depth : Place → ℕ
+abbrev pub depth : PathView → ℕ
 depth (var v) = 0
 depth (dot p f) = depth p + 1
 
@@ -33,7 +33,7 @@ abbrev pub IsField : ProgramView → Field → Type 0
 IsField p f = (ts : List ValueType) × (slice_get p.records f.of ≡ Some ts) × (f.number < length ts)
 
 -- the variable and the fields of the path are there
-abbrev pub IsPathOf : ProgramView → Place → Type 0
+abbrev pub IsPathOf : ProgramView → PathView → Type 0
 IsPathOf p (var v) = IsVariable p v
 IsPathOf p (dot q f) = IsPathOf p q × IsField p f
 
@@ -48,23 +48,23 @@ FieldTo p q f r = type_in (slice_get p.records q) f ≡ Some (Refers r)
 
 -- the path refers to objects of record r: its variable refers to some, and each field is a reference field of the record
 -- that the path has reached
-abbrev pub PathTo : ProgramView → Place → ℕ → Type 0
+abbrev pub PathTo : ProgramView → PathView → ℕ → Type 0
 PathTo p (var v) r = VariableTo p v r
 PathTo p (dot q f) r = PathTo p q f.of × FieldTo p f.of f.number r
 
 -- the path begins with a global, or with a local of thread t
-abbrev pub IsOwn : ℕ → Place → Type 0
+abbrev pub IsOwn : ℕ → PathView → Type 0
 IsOwn t (var (Global g)) = ⊤
 IsOwn t (var (Local u x)) = u ≡ t
 IsOwn t (dot p f) = IsOwn t p
 
 -- the path has some class: it isn't always null
-abbrev pub IsClassed : SchemeView → Place → Type 0
+abbrev pub IsClassed : SchemeView → PathView → Type 0
 IsClassed s p = (n : ℕ) × HasClass s.classes p n
 
 -- a path that a section of thread t may lock: it begins with a global or a local of the thread, refers to objects, has at
 -- most k fields, and has a class
-pub record IsPathIn (s : SchemeView) (t : ℕ) (p : Place) : Type 0 where
+pub record IsPathIn (s : SchemeView) (t : ℕ) (p : PathView) : Type 0 where
   pub own : IsOwn t p
   pub of : ℕ
   pub refers : PathTo s.program p of

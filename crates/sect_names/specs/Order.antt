@@ -2,9 +2,9 @@
 use Rattle.std.specs.Prelude.{◌≡◌, ◌<◌, ◌↔◌, ⊤, List, [], ◌∷◌, ◌⊎◌}
 use Rattle.sect_types.specs.Lists.{Has}
 use Rattle.sect_types.specs.declared.action.Field.{Field}
-use Rattle.sect_points.specs.declared.flow.Variable.{Variable}
-use Rattle.sect_points.specs.declared.flow.Variable.TheVariants.{Global, Local}
-use Rattle.sect_points.specs.Places.{Place, base_of, fields_of}
+use Rattle.sect_points.specs.declared.holders.Variable.{Variable}
+use Rattle.sect_points.specs.declared.holders.Variable.TheVariants.{Global, Local}
+use Rattle.sect_points.specs.Paths.{PathView, base_of, fields_of}
 use Rattle.sect_names.specs.declared.lock.Effect.{Effect}
 use Rattle.sect_names.specs.declared.lock.Effect.TheVariants as effect
 use Rattle.sect_names.specs.declared.lock.Right.{Right}
@@ -31,7 +31,7 @@ FieldsBefore [] (g ∷ gs) = ⊤
 FieldsBefore (f ∷ fs) (g ∷ gs) = FieldBefore f g ⊎ ((f ≡ g) × FieldsBefore fs gs)
 
 -- by the variable, then by the fields
-abbrev pub PathBefore : Place → Place → Type 0
+abbrev pub PathBefore : PathView → PathView → Type 0
 PathBefore p q = VariableBefore (base_of p) (base_of q) ⊎ ((base_of p ≡ base_of q) × FieldsBefore (fields_of p) (fields_of q))
 
 abbrev pub EffectBefore : Effect → Effect → Type 0

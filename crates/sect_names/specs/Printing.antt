@@ -8,9 +8,9 @@ use Rattle.sect_types.specs.Lists.{Has}
 use Rattle.sect_types.specs.Programs.{ProgramView}
 use Rattle.sect_types.specs.Sight.{names_of_globals, names_of_declared, all_fields}
 use Rattle.sect_types.specs.declared.action.Field.{Field}
-use Rattle.sect_points.specs.declared.flow.Variable.{Variable}
-use Rattle.sect_points.specs.declared.flow.Variable.TheVariants.{Global, Local}
-use Rattle.sect_points.specs.Places.{Place, base_of, fields_of}
+use Rattle.sect_points.specs.declared.holders.Variable.{Variable}
+use Rattle.sect_points.specs.declared.holders.Variable.TheVariants.{Global, Local}
+use Rattle.sect_points.specs.Paths.{PathView, base_of, fields_of}
 use Rattle.sect_names.specs.declared.lock.Effect.{Effect}
 use Rattle.sect_names.specs.declared.lock.Effect.TheVariants as effect
 use Rattle.sect_names.specs.declared.lock.Right.{Right}
@@ -41,7 +41,7 @@ abbrev pub field_name : TreeView → Field → List ℕ
 field_name t f = slice_index_or (slice_index_or (all_fields t.records) f.of []) f.number []
 
 -- the variable, then a point and the name of each field
-abbrev pub path_text : TreeView → Place → List ℕ
+abbrev pub path_text : TreeView → PathView → List ℕ
 path_text t p = variable_name t (base_of p) ++ flat_map (λ f. codes "." ++ field_name t f) (fields_of p)
 
 abbrev pub effect_text : Effect → List ℕ

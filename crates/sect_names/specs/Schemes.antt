@@ -2,10 +2,10 @@
 use Rattle.std.specs.Prelude.{◌≡◌, ◌≤◌, ℕ, List, Option, None, length, slice_index_or}
 use Rattle.sect_types.specs.Lists.{Has}
 use Rattle.sect_types.specs.Programs.{ProgramView, sites_of}
-use Rattle.sect_points.specs.Partitions.{Parted, IsParted}
+use Rattle.sect_points.specs.Partitions.{ClassesView, IsParted}
 use Rattle.sect_points.specs.PathClasses.{ArePathClasses, KeepsClasses}
 use Rattle.sect_points.specs.Sets.{InSets}
-use Rattle.sect_points.specs.declared.flow.Placed.{Placed}
+use Rattle.sect_points.specs.declared.holders.ThreadAction.{ThreadAction}
 use Rattle.sect_points.specs.Flow.{IsLeastFlow}
 use Rattle.sect_points.specs.Statements.{statements_of}
 use Rattle.sect_hints.specs.Hints.{AreGuards, AreUnguarded}
@@ -15,7 +15,7 @@ use Rattle.sect_graph.specs.Graphs.{GraphView, AreGraphs}
 pub record SchemeView : Type 0 where
   pub program : ProgramView
   pub most : ℕ
-  pub classes : Parted
+  pub classes : ClassesView
   pub guards : List (Option ℕ)
   pub graphs : GraphView
 
@@ -30,7 +30,7 @@ pub record IsScheme (s : SchemeView) : Type 0 where
   pub sites : s.classes.sets.sites ≡ length (sites_of s.program.globals s.program.texts)
   pub flow : IsLeastFlow (InSets s.classes.sets) (statements_of s.program)
   pub paths : ArePathClasses s.classes
-  pub kept : (p : Placed) → Has (statements_of s.program) p → KeepsClasses s.classes p.thread p.action
+  pub kept : (p : ThreadAction) → Has (statements_of s.program) p → KeepsClasses s.classes p.thread p.action
   pub guarded : AreGuards s.program s.guards
   pub unguarded : AreUnguarded s.program s.guards
   pub graphed : AreGraphs s.program.texts s.graphs

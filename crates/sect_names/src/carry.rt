@@ -2,8 +2,8 @@
 
 ghost use Rattle.std.specs.Prelude.{◌≡◌, ◌≤◌, ◌<◌, ◌↔◌, [], ◌∷◌, Some, None, IfOk, IsTrue};
 ghost use Rattle.sect_types.specs.Lists.{Has};
-ghost use Rattle.sect_points.specs.declared.flow.Variable.{Variable};
-ghost use Rattle.sect_points.specs.Places.{Place, var};
+ghost use Rattle.sect_points.specs.declared.holders.Variable.{Variable};
+ghost use Rattle.sect_points.specs.Paths.{PathView, var};
 ghost use Rattle.sect_names.specs.declared.lock.Lock.{Lock};
 ghost use Rattle.sect_names.specs.declared.lock.Lock.TheVariants as lock;
 ghost use Rattle.sect_names.specs.Locks.{depth};
@@ -13,7 +13,7 @@ use crate::lock::{Effect, Lock, Right};
 use crate::path::Path;
 use crate::scheme::Scheme;
 use crate::variables::{variable_in, variable_of};
-use sect_points::flow::Variable;
+use sect_points::Variable;
 use sect_types::action::{Action, Field, Label, Value};
 use std::alloc::{AllocError, Global};
 
@@ -40,7 +40,7 @@ fn alone(alloc: Global, path: Path) -> Result<Vec<Path>, AllocError>
 
 /// The path that begins with `start` in place of the variable `x`, where it begins with that.
 fn rebased(x: Variable, start: &Path, path: &Path) -> Result<Path, AllocError>
-    ensures { IfOk result (λ r. (q : Place) → (q ≡ r) ↔ Replaced x (Some start.now) path.now q) }
+    ensures { IfOk result (λ r. (q : PathView) → (q ≡ r) ↔ Replaced x (Some start.now) path.now q) }
 {
     if path.base() == x {
         Ok(start.extended(path.fields())?)
@@ -51,7 +51,7 @@ fn rebased(x: Variable, start: &Path, path: &Path) -> Result<Path, AllocError>
 
 /// The path, unless it begins with the variable `x`.
 fn unless_based(alloc: Global, x: Variable, path: &Path) -> Result<Vec<Path>, AllocError>
-    ensures { IfOk result (λ paths. (q : Place) → Has paths.items q ↔ Replaced x None path.now q) }
+    ensures { IfOk result (λ paths. (q : PathView) → Has paths.items q ↔ Replaced x None path.now q) }
 {
     if path.base() == x {
         Ok(Vec::new(alloc))
@@ -68,7 +68,7 @@ fn with_field(
     field: Field,
     paths: &[Path],
 ) -> Result<Vec<Path>, AllocError>
-    ensures { IfOk result (λ longer. (q : Place) → Has longer.items q ↔ ((r : Place) × Has paths.now r × GoesOn z f field r q)) }
+    ensures { IfOk result (λ longer. (q : PathView) → Has longer.items q ↔ ((r : PathView) × Has paths.now r × GoesOn z f field r q)) }
 {
     let mut longer = Vec::new(alloc);
     for path in paths {
@@ -98,7 +98,7 @@ fn over_field(
     field: Field,
     paths: &[Path],
 ) -> Result<Vec<Path>, AllocError>
-    ensures { IfOk result (λ over. (q : Place) → Has over.items q ↔ OverField scheme.now.classes z f w beginning.now field paths.now q) }
+    ensures { IfOk result (λ over. (q : PathView) → Has over.items q ↔ OverField scheme.now.classes z f w beginning.now field paths.now q) }
 {
     let mut over = with_field(alloc, z, f, field, paths)?;
     if let Some(value) = value_read(scheme, z, f, w, beginning, field) {
@@ -144,7 +144,7 @@ fn before_store(
     w: Option<Variable>,
     path: &Path,
 ) -> Result<Vec<Path>, AllocError>
-    ensures { IfOk result (λ paths. (q : Place) → Has paths.items q ↔ BeforeStore scheme.now.classes z f w path.now q) }
+    ensures { IfOk result (λ paths. (q : PathView) → Has paths.items q ↔ BeforeStore scheme.now.classes z f w path.now q) }
 {
     let mut beginning = Path::new(alloc, path.base());
     let mut paths = alone(alloc, Path::new(alloc, path.base()))?;
@@ -189,7 +189,7 @@ impl Scheme {
         label: Label,
         path: &Path,
     ) -> Result<Vec<Path>, AllocError>
-        ensures { IfOk result (λ paths. (q : Place) → Has paths.items q ↔ Before self.now.classes thread label path.now q) }
+        ensures { IfOk result (λ paths. (q : PathView) → Has paths.items q ↔ Before self.now.classes thread label path.now q) }
     {
         let Label::Act(action) = label else {
             return alone(alloc, path.try_clone()?);
@@ -223,7 +223,7 @@ impl Scheme {
         effect: Effect,
         paths: &[Path],
     ) -> Result<Vec<Lock>, AllocError>
-        ensures { IfOk result (λ locks. (l : Lock) → Has locks.items l ↔ ((q : Place) × Has paths.now q × LockOn self.now effect q l)) }
+        ensures { IfOk result (λ locks. (l : Lock) → Has locks.items l ↔ ((q : PathView) × Has paths.now q × LockOn self.now effect q l)) }
     {
         let mut locks = Vec::new(alloc);
         for path in paths {
@@ -264,7 +264,7 @@ fn before_assignment(
     value: Value,
     path: &Path,
 ) -> Result<Vec<Path>, AllocError>
-    ensures { IfOk result (λ paths. (q : Place) → Has paths.items q ↔ BeforeAssignment thread target value path.now q) }
+    ensures { IfOk result (λ paths. (q : PathView) → Has paths.items q ↔ BeforeAssignment thread target value path.now q) }
 {
     let x = Variable::Local(thread, target);
     match value {

@@ -9,7 +9,7 @@ use crate::lock::{Effect, Lock, Right};
 use crate::path::Path;
 use crate::scheme::Scheme;
 use crate::variables::{locked_for, variable_of};
-use sect_points::flow::Variable;
+use sect_points::Variable;
 use sect_types::action::{Action, Label};
 use std::alloc::Global;
 

@@ -7,7 +7,7 @@ ghost use Rattle.std.specs.Cmp.Rules.{comparing};
 ghost use Rattle.std.proofs.Common.{rules};
 ghost use Rattle.sect_names.specs.Comparing.{path_eq, path_fed, path_cmp, path_equivalence, path_alike, path_ties, path_total, path_order};
 
-use sect_points::flow::Variable;
+use sect_points::Variable;
 use sect_types::action::Field;
 use smallvec::SmallVec;
 use std::alloc::{AllocError, Global};
@@ -24,17 +24,17 @@ pub struct Path {
 }
 
 impl Model for Path {
-    ghost use Rattle.sect_points.specs.Places.{Place, place_code, place_of};
+    ghost use Rattle.sect_points.specs.Paths.{PathView, path_code, path_of};
 
-    ghost Value = { Place };
+    ghost Value = { PathView };
 
-    ghost coded = { place_code };
+    ghost coded = { path_code };
 
-    ghost view = { λ p. place_of p.base p.fields.items };
+    ghost view = { λ p. path_of p.base p.fields.items };
 }
 
 impl Path {
-    ghost use Rattle.sect_points.specs.Places.{var, dot, dots, base_of, fields_of};
+    ghost use Rattle.sect_points.specs.Paths.{var, dot, dots, base_of, fields_of};
     ghost use Rattle.sect_names.specs.Locks.{depth};
 
     /// The path of a variable alone.

@@ -3,7 +3,7 @@
 ghost use Rattle.std.specs.Prelude.{◌≡◌, ◌≤◌, ◌↔◌, ◌<◌, ℕ, Some, IsOkUnless, OnOk, IfErr};
 ghost use Rattle.sect_hints.specs.Hints.{ObeysHints};
 ghost use Rattle.sect_names.specs.declared.fault.SchemeFault.TheVariants.{Memory, BadK};
-ghost use Rattle.sect_points.specs.Places.{var};
+ghost use Rattle.sect_points.specs.Paths.{var};
 ghost use Rattle.sect_points.specs.Partitions.{HasClass};
 ghost use Rattle.sect_names.specs.Schemes.{IsScheme};
 ghost use Rattle.sect_names.specs.Verdicts.{Judges};
@@ -13,9 +13,9 @@ use crate::path::Path;
 use sect_graph::graph::{Graph, graph_of};
 use sect_hints::guards;
 use sect_hints::table::Guards;
-use sect_points::classes::{Classes, class_of_path, laws_of_classes};
-use sect_points::flow::Variable;
-use sect_points::partition::classes;
+use sect_points::{Classes, class_of_path, laws_of_classes};
+use sect_points::Variable;
+use sect_points::site_classes;
 use sect_points::points_to;
 use sect_types::Program;
 use std::alloc::Global;
@@ -69,7 +69,7 @@ pub fn scheme_of(alloc: Global, program: Program, k: u16) -> Result<Scheme, Sche
 {
     check_k(k)?;
     let guards = guards(alloc, &program)?;
-    let classes = classes(alloc, points_to(alloc, &program)?)?;
+    let classes = site_classes(alloc, points_to(alloc, &program)?)?;
     laws_of_classes();
     let graph = graph_of(alloc, &program)?;
     Ok(Scheme {

@@ -8,7 +8,7 @@ ghost use Rattle.sect_names.specs.Printing.{IsNamed, AreNamed, effect_text, righ
 use crate::lock::{Effect, Lock, Right};
 use crate::path::Path;
 use sect_front::name::Name;
-use sect_points::flow::Variable;
+use sect_points::Variable;
 use sect_types::Program;
 use sect_types::action::Field;
 use std::alloc::AllocError;

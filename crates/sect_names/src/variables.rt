@@ -4,7 +4,7 @@ ghost use Rattle.std.specs.Prelude.{◌≡◌};
 ghost use Rattle.sect_points.specs.PathClasses.{variable_of, variable_in};
 ghost use Rattle.sect_names.specs.Carrying.{locked_for};
 
-use sect_points::flow::Variable;
+use sect_points::Variable;
 use sect_types::action::{Base, Value};
 
 /// The variable of a base in this thread.

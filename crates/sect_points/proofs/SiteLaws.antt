@@ -1,10 +1,10 @@
 -- Laws of sets of sites.
 use Rattle.std.proofs.Common.{◌≡◌, ℕ, ◌+◌, ◌-◌, ◌*◌, ◌/◌, ◌%◌, ◌^◌, ◌<◌, ◌≤◌, ◌⊎◌, ◌↔◌, Bool, true, false, true≢false, List, length, max, min, get_or, refl, sym, ap, ◌∙◌, inl, inr, arith, slice_set, w64}
 use Rattle.std.specs.Prelude.{bit_or, bit_and}
-use Rattle.std.specs.Int.{bit_at, trailing_zeros}
+use Rattle.std.specs.Int.{bit_at, bit_not, trailing_zeros}
 use Rattle.std.proofs.lemmas.List.{get_or-set_same, get_or-set_other, length-set, get_or_past}
 use Rattle.std.proofs.lemmas.Bool.{cases_eq, cases_lt}
-use Rattle.std.proofs.lemmas.Nat.Bits.{bit_at_set_same, bit_at_set_other, bit_at_or, bit_at_and, bit_at_above, bit_at-lt, bit_at-zero, bit_at-trailing_zeros}
+use Rattle.std.proofs.lemmas.Nat.Bits.{bit_at_set_same, bit_at_set_other, bit_at_or, bit_at_and, bit_at_not, bit_at_above, bit_at-lt, bit_at-zero, bit_at-trailing_zeros}
 use Rattle.std.proofs.lemmas.Nat.{le_or_l, shr-shr}
 use Rattle.std.proofs.lemmas.List.Sums.{sum_by-set}
 use Rattle.sect_points.specs.Sites.{HasSite, InBoth, IsNext, room}
@@ -158,3 +158,63 @@ next_found words others from i skipped x t is at fits small some lt few le befor
             omega (arith, none, first, second)
       ],
     )
+
+-- the first n words are made anew
+pub record IsMapped (f : ℕ → ℕ) (n : ℕ) (old new : List ℕ) : Type 0 where
+  pub done : (k : ℕ) → k < n → get_or new k 0 ≡ f k
+  pub left : (k : ℕ) → n ≤ k → get_or new k 0 ≡ get_or old k 0
+  pub long : length new ≡ length old
+
+abbrev pub both : List ℕ → List ℕ → ℕ → ℕ
+both words others k = bit_and (get_or words k 0) (get_or others k 0)
+
+abbrev pub without : List ℕ → List ℕ → ℕ → ℕ
+without words others k = bit_and (get_or words k 0) (bit_not w64 (get_or others k 0))
+
+pub none_mapped : (f : ℕ → ℕ) (old : List ℕ) → IsMapped f 0 old old
+none_mapped f old = record { done = λ k h. absurd (omega arith); left = λ k h. refl; long = refl }
+
+pub mapped_more : (f : ℕ → ℕ) (n w : ℕ) (old new : List ℕ) → IsMapped f n old new → n < length new → w ≡ f n → IsMapped f (n + 1) old (slice_set new n w)
+mapped_more f n w old new h within is = record {
+  done = λ k lt. elim (cases_eq k n) [
+    | inl same ↦ rw same (get_or-set_same new n w 0 within ∙ is)
+    | inr other ↦ get_or-set_other new n k w 0 other ∙ h.done k (omega arith)
+  ];
+  left = λ k le. get_or-set_other new n k w 0 (omega arith) ∙ h.left k (omega arith);
+  long = length-set new n w ∙ h.long;
+}
+
+pub both_sites : (words others new : List ℕ) (n : ℕ) → IsMapped (both words others) n words new → length words ≡ 16 → 16 ≤ n → (site : ℕ) → HasSite new site ↔ (HasSite words site × HasSite others site)
+both_sites words others new n h long all site =
+    let i = site / 64 in
+    let b = site % 64 in
+    let w = bit_at (get_or words i 0) b in
+    let o = bit_at (get_or others i 0) b in
+    elim (cases_lt i 16) [
+      | inl lt ↦
+          let is : bit_at (get_or new i 0) b ≡ min w o = ap (λ x. bit_at x b) (h.done i (omega arith)) ∙ bit_at_and (get_or words i 0) (get_or others i 0) b in
+          (λ k. (omega (arith, is, k, bit_at-lt (get_or words i 0) b, bit_at-lt (get_or others i 0) b), omega (arith, is, k, bit_at-lt (get_or words i 0) b, bit_at-lt (get_or others i 0) b)), λ k. omega (arith, is, k.0, k.1))
+      | inr past ↦
+          let none : bit_at (get_or words i 0) b ≡ 0 = ap (λ x. bit_at x b) (get_or_past words i 0 (omega arith)) ∙ bit_at-zero b in
+          let gone : bit_at (get_or new i 0) b ≡ 0 = ap (λ x. bit_at x b) (get_or_past new i 0 (omega (arith, h.long))) ∙ bit_at-zero b in
+          (λ k. absurd (omega (arith, gone, k)), λ k. absurd (omega (arith, none, k.0)))
+    ]
+
+pub without_sites : (words others new : List ℕ) (n : ℕ) → IsMapped (without words others) n words new → length words ≡ 16 → 16 ≤ n → ((k : ℕ) → k < 16 → get_or others k 0 < 2 ^ 64)
+    → (site : ℕ) → HasSite new site ↔ (HasSite words site × (HasSite others site → ⊥))
+without_sites words others new n h long all small site =
+    let i = site / 64 in
+    let b = site % 64 in
+    let w = bit_at (get_or words i 0) b in
+    let o = bit_at (get_or others i 0) b in
+    elim (cases_lt i 16) [
+      | inl lt ↦
+          let is : bit_at (get_or new i 0) b ≡ min w (1 - o) = ap (λ x. bit_at x b) (h.done i (omega arith)) ∙ bit_at_and (get_or words i 0) (bit_not w64 (get_or others i 0)) b ∙ ap (min w) (bit_at_not w64 (get_or others i 0) b (small i lt) (omega arith)) in (
+            λ k. (omega (arith, is, k, bit_at-lt (get_or words i 0) b, bit_at-lt (get_or others i 0) b), λ one. omega (arith, is, k, one)),
+            λ k. elim (cases_eq o 1) [ inl one ↦ absurd (k.1 one) | inr zero ↦ omega (arith, is, k.0, zero, bit_at-lt (get_or others i 0) b) ],
+          )
+      | inr past ↦
+          let none : bit_at (get_or words i 0) b ≡ 0 = ap (λ x. bit_at x b) (get_or_past words i 0 (omega arith)) ∙ bit_at-zero b in
+          let gone : bit_at (get_or new i 0) b ≡ 0 = ap (λ x. bit_at x b) (get_or_past new i 0 (omega (arith, h.long))) ∙ bit_at-zero b in
+          (λ k. absurd (omega (arith, gone, k)), λ k. absurd (omega (arith, none, k.0)))
+    ]

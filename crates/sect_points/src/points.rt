@@ -4,9 +4,11 @@ ghost use Rattle.std.specs.Prelude.{◌≡◌, length, IfOk};
 ghost use Rattle.sect_types.specs.Programs.{sites_of};
 ghost use Rattle.sect_points.specs.Flow.{IsLeastFlow};
 ghost use Rattle.sect_points.specs.Sets.{InSets, IsEmpty};
-ghost use Rattle.sect_points.specs.Solving.{AreBelow};
+ghost use Rattle.sect_points.specs.Sets.{AreBelow};
 ghost use Rattle.sect_points.specs.Statements.{statements_of, IsRoomFor};
 
+use crate::marks::Marks;
+use crate::readers::Readers;
 use crate::sets::PointsTo;
 use crate::solving::close;
 use crate::statements::placed_statements;
@@ -21,8 +23,13 @@ pub fn points_to(alloc: Global, program: &Program) -> Result<PointsTo, AllocErro
 {
     let statements = placed_statements(alloc, program)?;
     let mut sets = empty_sets(alloc, program)?;
+    let mut moved = empty_sets(alloc, program)?;
+    let mut marks = Marks::new(alloc, sets.locals().len())?;
+    let readers = Readers::new(alloc, statements)?;
+    sets.bounds();
+    moved.bounds();
     program.typing();
-    close(&mut sets, statements.as_slice());
+    close(&mut sets, &mut moved, &readers, &mut marks);
     Ok(sets)
 }
 

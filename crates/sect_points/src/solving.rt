@@ -1,17 +1,26 @@
-//! The least sets, by rounds over the statements, of which those that read nothing that has grown are left out.
+//! The least sets: what grew is moved on by the statements that read it, until nothing grows.
 
-ghost use Rattle.std.specs.Prelude.{◌≡◌, ◌↔◌, ◌≤◌, ℕ};
+ghost use Rattle.std.specs.Prelude.{◌≡◌, ◌↔◌, ◌≤◌, ◌<◌, ℕ, length, true, false};
 ghost use Rattle.sect_points.specs.Sites.{HasSite};
-ghost use Rattle.sect_points.specs.Flow.{ValueHas, BaseHas, Moved, IsLeastFlow};
-ghost use Rattle.sect_points.specs.Sets.{InSets, IsEmpty, Adds, SamePlaces};
-ghost use Rattle.sect_points.specs.Solving.{FitsValue, FitsBase, FitsAction, AllFit, AreBelow};
-ghost use Rattle.sect_points.specs.Marks.{AreIdle, IsMarked, IsRound};
+ghost use Rattle.sect_points.specs.Flow.{ValueHas, BaseHas, Moved, Within, IsLeastFlow};
+ghost use Rattle.sect_points.specs.Sets.{InSets, IsEmpty, HasSet, SameHolders, sets_room, sites_for, spread_to};
+ghost use Rattle.sect_points.specs.steps.Solving.{FitsValue, FitsBase, FitsAction, AllFit};
+ghost use Rattle.sect_points.specs.Sets.{AreBelow};
+ghost use Rattle.sect_points.specs.steps.Marks.{Suits, Grows, AreBases, IsBase, MovedBy, IsOnlyBase, IsThere, IsUntouched, grown, Covers, Handles, IsStretch, IsGoing, IsLeft, IsSpan, HasMark};
+ghost use Rattle.sect_types.specs.Lists.{Has};
+ghost use Rattle.sect_points.specs.declared.holders.ThreadAction.{ThreadAction};
+ghost use Rattle.sect_points.specs.declared.holders.Holder.{Holder};
+ghost use Rattle.sect_points.specs.declared.holders.Holder.TheVariants.{Local, Slot};
 
-use crate::flow::Placed;
-use crate::marks::{START, added_mark, waits};
-use crate::sets::PointsTo;
+use crate::holders::{Growth, Holder, ThreadAction};
+use crate::marks::Marks;
+use crate::readers::Readers;
+use crate::sets::{MOST_FIELDS, PointsTo};
 use crate::sites::{MOST_SITES, SiteSet};
 use sect_types::action::{Action, Base, Value};
+
+/// The most threads of a program.
+const MOST_THREADS: u16 = 64;
 
 /// The sites of a value.
 fn value_sites(sets: &PointsTo, thread: u16, value: Value) -> SiteSet
@@ -38,81 +47,314 @@ pub fn base_sites(sets: &PointsTo, thread: u16, base: Base) -> SiteSet
     }
 }
 
-/// Moves what a statement moves, and tells whether some set grew.
-fn step(sets: &mut PointsTo, placed: Placed) -> bool
+/// Adds sites to a holder's set, and marks it where there were new ones.
+fn add(sets: &mut PointsTo, holder: Holder, sites: &SiteSet, marks: &mut Marks) -> bool
+    requires place { HasSet sets.old holder }
+    requires suits { Suits sets.old marks.old }
+    ensures { Grows sets.old sets.new (sites_for holder sites.now.words) marks.old marks.new result }
+{
+    let grew = sets.join(holder, sites);
+    if grew {
+        marks.mark(holder);
+    }
+    grew
+}
+
+/// Adds sites to a field of all these sites, and marks what grew.
+fn spread(
+    sets: &mut PointsTo,
+    bases: &SiteSet,
+    field: u16,
+    sites: &SiteSet,
+    marks: &mut Marks,
+) -> bool
+    requires field { field < 16 }
+    requires bases { (base : ℕ) → HasSite bases.now.words base → base < sets.old.sites }
+    requires suits { Suits sets.old marks.old }
+    ensures { Grows sets.old sets.new (spread_to bases.now.words field sites.now.words) marks.old marks.new result }
+{
+    sets.bounds();
+    let mut grew = false;
+    let mut from = 0;
+    while let Some(base) = bases.next(from) {
+        grew = add(sets, Holder::Slot(base, field), sites, marks) || grew;
+        from = base + 1;
+    }
+    grew
+}
+
+/// The bases of a load or a store.
+fn all_bases(sets: &PointsTo, placed: ThreadAction) -> SiteSet
+    requires fits { FitsAction sets.now placed.thread placed.action }
+    requires most { sets.now.sites ≤ MOST_SITES }
+    ensures { (site : ℕ) → HasSite result.words site ↔ IsBase (InSets sets.now) placed.thread placed.action site }
+{
+    match placed.action {
+        Action::Load(_, base, _) => base_sites(sets, placed.thread, base),
+        Action::Store(base, _, _) => base_sites(sets, placed.thread, base),
+        Action::Assign(_, _)
+        | Action::New(_, _, _)
+        | Action::Compute(_, _, _, _)
+        | Action::Print(_) => SiteSet::new(),
+    }
+}
+
+/// Moves what a statement moves by these of its bases, marks what grew, and tells whether some set grew.
+fn turn(sets: &mut PointsTo, placed: ThreadAction, bases: &SiteSet, marks: &mut Marks) -> bool
     requires fits { FitsAction sets.old placed.thread placed.action }
     requires below { AreBelow sets.old }
     requires most { sets.old.sites ≤ MOST_SITES }
-    ensures { Adds sets.old sets.new (Moved (InSets sets.old) placed.thread placed.action) result }
+    requires suits { Suits sets.old marks.old }
+    requires bases { AreBases (InSets sets.old) placed bases.now.words }
+    ensures { Grows sets.old sets.new (MovedBy (InSets sets.old) bases.now.words placed.thread placed.action) marks.old marks.new result }
 {
     let thread = placed.thread;
     match placed.action {
         Action::Assign(target, value) => {
             let sites = value_sites(sets, thread, value);
-            sets.join_local(thread, target, &sites)
+            add(sets, Holder::Local(thread, target), &sites, marks)
         }
-        Action::New(target, _, site) => sets.join_local(thread, target, &SiteSet::of(site)),
+        Action::New(target, _, site) => {
+            add(
+                sets,
+                Holder::Local(thread, target),
+                &SiteSet::of(site),
+                marks,
+            )
+        }
         Action::Load(target, base, field) => {
-            let bases = base_sites(sets, thread, base);
-            let sites = sets.gathered(&bases, field.number);
-            sets.join_local(thread, target, &sites)
+            let _ = base;
+            let sites = sets.gathered(bases, field.number);
+            add(sets, Holder::Local(thread, target), &sites, marks)
         }
         Action::Store(base, field, value) => {
-            let bases = base_sites(sets, thread, base);
+            let _ = base;
             let sites = value_sites(sets, thread, value);
-            sets.spread(&bases, field.number, &sites)
+            spread(sets, bases, field.number, &sites, marks)
         }
         Action::Compute(_, _, _, _) | Action::Print(_) => false,
     }
 }
 
-/// Moves what a statement moves, and where some set grew marks it. Tells whether some set grew.
-fn turn(sets: &mut PointsTo, placed: &Placed, recent: &mut SiteSet, marks: &mut SiteSet) -> bool
-    requires fits { FitsAction sets.old placed.now.thread placed.now.action }
+/// Whether a statement reads a local as its base alone.
+fn is_base_alone(placed: ThreadAction, growth: Growth) -> bool
+    ensures { result ≡ true → IsOnlyBase placed growth }
+{
+    let Growth::Local(thread, local) = growth else {
+        return false;
+    };
+    if placed.thread != thread {
+        return false;
+    }
+    match placed.action {
+        Action::Load(_, Base::Local(base), _) => base == local,
+        Action::Store(Base::Local(base), _, Value::Local(value)) => base == local && value != local,
+        Action::Store(Base::Local(base), _, Value::Global(_)) => base == local,
+        _ => false,
+    }
+}
+
+/// The bases by which a statement moves what grew. Where it reads a local's growth as its base alone, those are new.
+fn bases_of(sets: &PointsTo, placed: &ThreadAction, growth: Growth, new: &SiteSet) -> SiteSet
+    requires fits { FitsAction sets.now placed.now.thread placed.now.action }
+    requires most { sets.now.sites ≤ MOST_SITES }
+    requires there { IsThere growth new.now.words sets.now }
+    ensures bases { AreBases (InSets sets.now) placed.now result.words }
+    ensures covers { Covers sets.now (grown growth new.now.words) placed.now result.words }
+{
+    let alone = is_base_alone(*placed, growth);
+    let bases = all_bases(sets, *placed);
+    if alone {
+        return new.both(new);
+    }
+    match growth {
+        Growth::Field(_) => bases.both(new),
+        Growth::Local(_, _) => bases,
+    }
+}
+
+/// Whether a base has one of these sites.
+fn base_meets(sets: &PointsTo, thread: u16, base: Base, sites: &SiteSet) -> bool
+    requires fits { FitsBase sets.now thread base }
+    requires most { sets.now.sites ≤ MOST_SITES }
+    ensures { result ≡ false →
+        (site : ℕ) → BaseHas (InSets sets.now) thread base site → HasSite sites.now.words site → ⊥ }
+{
+    match base {
+        Base::Local(local) => sets.local_meets(thread, local, sites),
+        Base::Global(global) => sites.contains(global),
+    }
+}
+
+/// Whether a field of these sites grew, and a statement loads from others alone.
+fn is_untouched(sets: &PointsTo, placed: &ThreadAction, growth: Growth, new: &SiteSet) -> bool
+    requires fits { FitsAction sets.now placed.now.thread placed.now.action }
+    requires most { sets.now.sites ≤ MOST_SITES }
+    ensures { result ≡ true → IsUntouched sets.now placed.now growth new.now.words }
+{
+    match growth {
+        Growth::Local(_, _) => false,
+        Growth::Field(_) => match placed.action {
+            Action::Load(_, base, _) => !base_meets(sets, placed.thread, base, new),
+            _ => false,
+        },
+    }
+}
+
+/// Moves on what grew.
+fn pass(
+    sets: &mut PointsTo,
+    readers: &Readers,
+    growth: Growth,
+    new: &SiteSet,
+    marks: &mut Marks,
+) -> bool
+    requires fits { AllFit sets.old readers.now }
     requires below { AreBelow sets.old }
     requires most { sets.old.sites ≤ MOST_SITES }
-    ensures adds { Adds sets.old sets.new (Moved (InSets sets.old) placed.now.thread placed.now.action) result }
-    ensures recent { IsMarked placed.now result recent.old.words recent.new.words }
-    ensures marks { IsMarked placed.now result marks.old.words marks.new.words }
+    requires suits { Suits sets.old marks.old }
+    requires there { IsThere growth new.now.words sets.old }
+    ensures stretch { IsStretch readers.now sets.old sets.new marks.old marks.new result }
+    ensures handled { (p : ThreadAction) → Has readers.now p → Handles sets.old sets.new (grown growth new.now.words) p }
 {
-    let grew = step(sets, *placed);
-    if grew {
-        let mark = added_mark(*placed);
-        recent.insert(mark);
-        marks.insert(mark);
+    let mut grew = false;
+    for placed in readers.of_growth(growth) {
+        if is_untouched(sets, placed, growth, new) {
+            continue;
+        }
+        let bases = bases_of(sets, placed, growth, new);
+        grew = turn(sets, *placed, &bases, marks) || grew;
     }
     grew
 }
 
-/// Moves what the statements move that read something marked, and leaves the marks of what grew by that. Tells whether
-/// some set grew.
-fn round(sets: &mut PointsTo, statements: &[Placed], marks: &mut SiteSet) -> bool
-    requires fits { AllFit sets.old statements.now }
-    requires below { AreBelow sets.old }
+/// Moves on what a local has got.
+fn carry_local(
+    sets: &mut PointsTo,
+    moved: &mut PointsTo,
+    readers: &Readers,
+    thread: u16,
+    local: u16,
+    marks: &mut Marks,
+) -> bool
+    requires fits { AllFit sets.old readers.now }
     requires most { sets.old.sites ≤ MOST_SITES }
-    requires idle { AreIdle statements.now sets.old marks.old.words }
-    ensures { IsRound statements.now sets.old sets.new marks.new.words result }
+    requires going { IsGoing readers.now sets.old moved.old marks.old }
+    ensures stretch { IsStretch readers.now sets.old sets.new marks.old marks.new result }
+    ensures going { IsGoing readers.now sets.new moved.new marks.new }
+    ensures more { Within (InSets moved.old) (InSets moved.new) }
+    ensures here { (site : ℕ) → InSets sets.old (Local thread local) site → InSets moved.new (Local thread local) site }
 {
-    let mut recent = *marks;
-    *marks = SiteSet::new();
+    let all = sets.local_or_none(thread, local);
+    let before = moved.local_or_none(thread, local);
+    let new = all.without(&before);
+    if new.first().is_none() {
+        return false;
+    }
+    moved.join_local(thread, local, &new);
+    pass(sets, readers, Growth::Local(thread, local), &new, marks)
+}
+
+/// Moves on what the locals of a thread have got.
+fn carry_locals(
+    sets: &mut PointsTo,
+    moved: &mut PointsTo,
+    readers: &Readers,
+    thread: u16,
+    marks: &mut Marks,
+) -> bool
+    requires fits { AllFit sets.old readers.now }
+    requires most { sets.old.sites ≤ MOST_SITES }
+    requires going { IsGoing readers.now sets.old moved.old marks.old }
+    requires left { IsLeft sets.old moved.old marks.old (λ h. ⊥) }
+    ensures span { IsSpan sets.old sets.new marks.old marks.new result }
+    ensures going { IsGoing readers.now sets.new moved.new marks.new }
+    ensures left { IsLeft sets.new moved.new marks.new (λ h. ⊥) }
+    ensures gone { result ≡ false → (local : ℕ) → HasMark marks.new (Local thread local) → ⊥ }
+{
+    let grown = marks.take_locals(thread);
     let mut grew = false;
-    for placed in statements {
-        if waits(&recent, *placed) {
-            grew = turn(sets, placed, &mut recent, marks) || grew;
+    let mut from = 0;
+    while let Some(local) = grown.next(from) {
+        grew = carry_local(sets, moved, readers, thread, local, marks) || grew;
+        from = local + 1;
+    }
+    grew
+}
+
+/// Moves on what a field of the marked sites has got.
+fn carry_field(
+    sets: &mut PointsTo,
+    moved: &mut PointsTo,
+    readers: &Readers,
+    field: u16,
+    marks: &mut Marks,
+) -> bool
+    requires field { field < 16 }
+    requires fits { AllFit sets.old readers.now }
+    requires most { sets.old.sites ≤ MOST_SITES }
+    requires going { IsGoing readers.now sets.old moved.old marks.old }
+    requires left { IsLeft sets.old moved.old marks.old (λ h. ⊥) }
+    ensures span { IsSpan sets.old sets.new marks.old marks.new result }
+    ensures going { IsGoing readers.now sets.new moved.new marks.new }
+    ensures left { IsLeft sets.new moved.new marks.new (λ h. ⊥) }
+    ensures gone { result ≡ false → (base : ℕ) → HasMark marks.new (Slot base field) → ⊥ }
+{
+    let grown = marks.take_slots(field);
+    if grown.first().is_none() {
+        return false;
+    }
+    sets.bounds();
+    let mut from = 0;
+    while let Some(base) = grown.next(from) {
+        if base < sets.sites() {
+            let all = sets.slot(base, field);
+            moved.join_slot(base, field, &all);
         }
+        from = base + 1;
+    }
+    pass(sets, readers, Growth::Field(field), &grown, marks)
+}
+
+/// Moves on all that grew, and tells whether some set grew by that.
+fn round(sets: &mut PointsTo, moved: &mut PointsTo, readers: &Readers, marks: &mut Marks) -> bool
+    requires fits { AllFit sets.old readers.now }
+    requires most { sets.old.sites ≤ MOST_SITES }
+    requires few { length sets.old.locals ≤ MOST_THREADS }
+    requires going { IsGoing readers.now sets.old moved.old marks.old }
+    requires left { IsLeft sets.old moved.old marks.old (λ h. ⊥) }
+    ensures going { IsGoing readers.now sets.new moved.new marks.new }
+    ensures left { IsLeft sets.new moved.new marks.new (λ h. ⊥) }
+    ensures places { SameHolders sets.old sets.new }
+    ensures less { result ≡ true → sets_room sets.new < sets_room sets.old }
+    ensures still { result ≡ false → Within (InSets sets.new) (InSets moved.new) }
+{
+    let mut grew = false;
+    for thread in 0..MOST_THREADS {
+        grew = carry_locals(sets, moved, readers, thread, marks) || grew;
+    }
+    for field in 0..MOST_FIELDS {
+        grew = carry_field(sets, moved, readers, field, marks) || grew;
     }
     grew
 }
 
 /// Moves what the statements move until nothing grows: from empty sets, the least that are closed.
-pub fn close(sets: &mut PointsTo, statements: &[Placed])
-    requires fits { AllFit sets.old statements.now }
+pub fn close(sets: &mut PointsTo, moved: &mut PointsTo, readers: &Readers, marks: &mut Marks)
+    requires fits { AllFit sets.old readers.now }
     requires empty { IsEmpty sets.old }
+    requires unmoved { IsEmpty moved.old }
+    requires same { SameHolders sets.old moved.old }
     requires most { sets.old.sites ≤ MOST_SITES }
-    ensures least { IsLeastFlow (InSets sets.new) statements.now }
+    requires few { length sets.old.locals ≤ MOST_THREADS }
+    requires suits { Suits sets.old marks.old }
+    ensures least { IsLeastFlow (InSets sets.new) readers.now }
     ensures below { AreBelow sets.new }
-    ensures places { SamePlaces sets.old sets.new }
+    ensures places { SameHolders sets.old sets.new }
 {
-    let mut marks = SiteSet::of(START);
-    while round(sets, statements, &mut marks) {}
+    for placed in readers.all() {
+        let bases = all_bases(sets, *placed);
+        turn(sets, *placed, &bases, marks);
+    }
+    while round(sets, moved, readers, marks) {}
 }

@@ -194,6 +194,19 @@ seen nodes keys threads q c now a is =
       numbers = λ key. sym (number_of-entries_from key (queue_at nodes q.lists) 0 keys) ∙ ap (λ (s : Contents). number_of key s.entries) is;
     }
 
+-- the lists of a known key are there, and their numbers are far from the greatest
+pub record KeyLists (q : Shape) (at : ℕ) : Type 0 where
+  pub holders : at + at + 1 < length q.lists
+  pub waiters : at + at + 2 < length q.lists
+  pub few : at + at + 2 < 2 ^ 60
+
+pub key_lists : (nodes : List Grant) (keys : List Key) (threads : ℕ) (q c : Shape) (now : Contents) (at : ℕ) → IsArena nodes keys threads q c → shown nodes keys threads q c ≡ now → at < length now.entries → KeyLists q at
+key_lists nodes keys threads q c now at a is known =
+    let s = seen nodes keys threads q c now a is in
+    let n = s.queues in
+    let few = s.few in
+    record { holders = omega arith; waiters = omega arith; few = omega arith }
+
 -- the claims on a known key
 pub queues-seen : (nodes : List Grant) (keys : List Key) (threads : ℕ) (q c : Shape) (now : Contents) (key : Key) (at : ℕ) → IsArena nodes keys threads q c → shown nodes keys threads q c ≡ now → at ≡ number_of key now.entries → at < length now.entries → entry_of key now.entries ≡ entry_at (queue_at nodes q.lists) key at
 queues-seen nodes keys threads q c now key at a is number known =

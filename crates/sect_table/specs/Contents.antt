@@ -1,5 +1,7 @@
--- What a table holds, and what its calls make of it.
-use Rattle.std.specs.Prelude.{◌≡◌, ℕ, suc, List, [], ◌∷◌, ◌++◌, length, map, filter, drop, Option, Some, None, is_some, find, Bool, false, not, ◌==◌, ◌||◌, ◌&&◌, slice_index_or, slice_set, replicate, if◌then◌else◌}
+-- What a table holds, and what its calls make of it. Cited by each call of `Table`.
+use Rattle.std.specs.Prelude.{◌≡◌, ℕ, suc, List, [], ◌∷◌, ◌++◌, length, map, filter, drop, Option, Some, None, is_some}
+use Rattle.std.specs.Prelude.{find, Bool, false, not, ◌==◌, ◌||◌, ◌&&◌, slice_index_or, slice_set, replicate}
+use Rattle.std.specs.Prelude.{if◌then◌else◌}
 use Rattle.std.specs.List.{list_all, list_any}
 use Rattle.std.specs.Option.{option_map}
 use Rattle.sect_modes.specs.declared.mode.Mode.{Mode}
@@ -104,7 +106,8 @@ let_through hs (w ∷ ws) = if may_join hs w.thread w.mode then w ∷ let_throug
 
 -- the first waiters come to hold the key, as far as the holders let them
 abbrev pub let_in : Entry → Entry
-let_in e = let g = let_through e.holders e.waiters in record { key = e.key; holders = e.holders ++ g; waiters = drop (length g) e.waiters }
+let_in e = let g = let_through e.holders e.waiters in
+    record { key = e.key; holders = e.holders ++ g; waiters = drop (length g) e.waiters }
 
 -- no thread has two of these claims
 abbrev pub AreApart : List Claim → Type 0
@@ -130,11 +133,12 @@ pub record Released : Type 0 where
 
 -- thread `t` gives one key back, and who waits for it is let in
 abbrev pub release_key : ℕ → Key → Released → Released
-release_key t k r = let e = without_holder t (entry_of k r.entries) in let g = let_through e.holders e.waiters in record {
-  held = give_all k g r.held;
-  entries = put (let_in e) r.entries;
-  grants = r.grants ++ map (grant_of k) g;
-}
+release_key t k r = let e = without_holder t (entry_of k r.entries) in let g = let_through e.holders e.waiters in
+    record {
+      held = give_all k g r.held;
+      entries = put (let_in e) r.entries;
+      grants = r.grants ++ map (grant_of k) g;
+    }
 
 abbrev pub release_each : ℕ → List Hold → Released → Released
 release_each t [] r = r

@@ -1,11 +1,12 @@
--- What every table keeps.
+-- What every table keeps. Cited by each call of `Table`, as `kept`.
 use Rattle.std.specs.Prelude.{◌≡◌, ℕ, ◌+◌, ◌<◌, ◌≤◌, List, [], ◌∷◌, ◌++◌, length, None, Bool, true, false, ◌==◌}
 use Rattle.sect_modes.specs.declared.mode.Mode.{Mode}
 use Rattle.sect_modes.specs.declared.key.Key.{Key}
 use Rattle.sect_modes.specs.Mode.{are_compatible}
 use Rattle.sect_table.specs.declared.claims.Claim.{Claim}
 use Rattle.sect_table.specs.declared.claims.Hold.{Hold}
-use Rattle.sect_table.specs.Contents.{Entry, Contents, may_join, mode_in, mode_for, held_by, number_of, entry_of, AreApart}
+use Rattle.sect_table.specs.Contents.{Entry, Contents, may_join, mode_in, mode_for, held_by, number_of, entry_of}
+use Rattle.sect_table.specs.Contents.{AreApart}
 
 -- this mode is compatible with each of these
 abbrev pub SharesWith : Mode → List Claim → Type 0

@@ -1,8 +1,11 @@
 //! The nodes of a table, and the lists in which they stand.
 
-ghost use Rattle.std.specs.Prelude.{◌≡◌, ◌<◌, ◌≤◌, ◌+◌, ◌-◌, ◌++◌, ◌∷◌, [], ◌==◌, ◌||◌, ◌^◌, drop, length, slice_set, OnOk, OnErr, IfOk, IsOk, Some, vec_len, vec_capacity};
+ghost use Rattle.std.specs.Prelude.{◌≡◌, ◌<◌, ◌≤◌, ◌+◌, ◌-◌, ◌++◌, ◌∷◌, [], ◌==◌, ◌||◌, ◌^◌, drop, length, slice_set};
+ghost use Rattle.std.specs.Prelude.{OnOk, OnErr, IfOk, IsOk, Some, vec_len, vec_capacity};
 ghost use Rattle.sect_modes.specs.Mode.{are_compatible};
-ghost use Rattle.sect_table.specs.Contents.{number_of, entry_of, no_entry, put, is_waiting, may_join, mode_for, held_by, first_of, first_hold, claim_of, give, with_holder, with_waiter, with_grant, without_holder, AreApart, IsEmptyFor};
+ghost use Rattle.sect_table.specs.Contents.{number_of, entry_of, no_entry, put, is_waiting, may_join, mode_for};
+ghost use Rattle.sect_table.specs.Contents.{held_by, first_of, first_hold, claim_of, give, with_holder, with_waiter};
+ghost use Rattle.sect_table.specs.Contents.{with_grant, without_holder, AreApart, IsEmptyFor};
 ghost use Rattle.std.specs.Option.{option_map};
 ghost use Rattle.sect_table.specs.steps.Arena.{queue_at, no_node, SameLists, NumberAdded};
 ghost use Rattle.sect_table.specs.steps.Keys.{place_in};
@@ -221,7 +224,8 @@ impl Arena {
         requires known { at < length self.old.entries }
         requires spare { 0 < self.old.spare }
         ensures held { self.new.held ≡ give thread key mode self.old.held }
-        ensures entries { self.new.entries ≡ put (with_holder (claim_of thread mode) (entry_of key self.old.entries)) self.old.entries }
+        ensures entries { self.new.entries ≡
+            put (with_holder (claim_of thread mode) (entry_of key self.old.entries)) self.old.entries }
         ensures spare { self.new.spare + 1 ≡ self.old.spare }
     {
         let node = self.queues.first(0).unwrap();
@@ -238,7 +242,8 @@ impl Arena {
         requires known { at < length self.old.entries }
         requires spare { 0 < self.old.spare }
         ensures held { self.new.held ≡ self.old.held }
-        ensures entries { self.new.entries ≡ put (with_waiter (claim_of thread mode) (entry_of key self.old.entries)) self.old.entries }
+        ensures entries { self.new.entries ≡
+            put (with_waiter (claim_of thread mode) (entry_of key self.old.entries)) self.old.entries }
         ensures spare { self.new.spare + 1 ≡ self.old.spare }
     {
         let node = self.queues.first(0).unwrap();
@@ -257,7 +262,8 @@ impl Arena {
         ensures thread { result.thread < length self.old.held }
         ensures first { first_of (entry_of key self.old.entries).waiters ≡ Some (claim_of result.thread result.mode) }
         ensures held { self.new.held ≡ give result.thread key result.mode self.old.held }
-        ensures entries { self.new.entries ≡ put (with_grant (claim_of result.thread result.mode) (entry_of key self.old.entries)) self.old.entries }
+        ensures entries { self.new.entries ≡
+            put (with_grant (claim_of result.thread result.mode) (entry_of key self.old.entries)) self.old.entries }
         ensures spare { self.new.spare ≡ self.old.spare }
     {
         let node = self.queues.first(at + at + 2).unwrap();
@@ -275,7 +281,8 @@ impl Arena {
         requires first { option_map (λ h. h.key) (first_hold (held_by self.old thread)) ≡ Some key }
         requires apart { AreApart (entry_of key self.old.entries).holders }
         ensures held { self.new.held ≡ slice_set self.old.held thread (drop 1 (held_by self.old thread)) }
-        ensures entries { self.new.entries ≡ put (without_holder thread (entry_of key self.old.entries)) self.old.entries }
+        ensures entries { self.new.entries ≡
+            put (without_holder thread (entry_of key self.old.entries)) self.old.entries }
         ensures spare { self.new.spare ≡ self.old.spare + 1 }
     {
         let node = self

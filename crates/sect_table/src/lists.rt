@@ -1,6 +1,7 @@
 //! Lists over the numbers below a bound, each number in one list, linked through one arena.
 
-ghost use Rattle.std.specs.Prelude.{◌≡◌, ◌<◌, ◌+◌, ◌++◌, ◌∷◌, [], ◌^◌, length, slice_set, OnOk, OnErr, IfSome, ℕ, List, map, None};
+ghost use Rattle.std.specs.Prelude.{◌≡◌, ◌<◌, ◌+◌, ◌++◌, ◌∷◌, [], ◌^◌, length, slice_set, OnOk, OnErr, IfSome, ℕ, List};
+ghost use Rattle.std.specs.Prelude.{map, None};
 ghost use Rattle.sect_table.specs.steps.Links.{moved, list_at, head_or, Among, ArePlaced, without};
 
 use crate::links::{Ends, Link, append, detach};
@@ -20,7 +21,13 @@ impl Model for Lists {
 
     ghost Value = { Shape };
 
-    ghost view = { λ s. record { size = s.links.len; room = s.links.cap - s.links.len; list_room = s.ends.cap - s.ends.len; labels = labels_of s.links.items; lists = lists_of s.links.items s.ends.items } };
+    ghost view = { λ s. record {
+      size = s.links.len;
+      room = s.links.cap - s.links.len;
+      list_room = s.ends.cap - s.ends.len;
+      labels = labels_of s.links.items;
+      lists = lists_of s.links.items s.ends.items;
+    } };
 
     ghost invariant = { λ s. AreLists s.links.items s.ends.items (lists_of s.links.items s.ends.items) None };
 }
@@ -52,7 +59,8 @@ impl Lists {
     pub fn after(&self, node: usize) -> Option<usize>
         requires { node < self.now.size }
         ensures within { IfSome result (λ next. next < self.now.size) }
-        ensures next { (l : ℕ) (before later : List ℕ) → l < length self.now.lists → list_at self.now.lists l ≡ before ++ node ∷ later → result ≡ head_or later None }
+        ensures next { (l : ℕ) (before later : List ℕ) → l < length self.now.lists →
+            list_at self.now.lists l ≡ before ++ node ∷ later → result ≡ head_or later None }
     {
         self.links[node].next
     }
@@ -74,7 +82,9 @@ impl Lists {
         ensures labels { self.new.labels ≡ slice_set self.old.labels node list }
         ensures lists { self.new.lists ≡ moved node list self.old.lists }
         ensures placed { ArePlaced self.new }
-        ensures places { (from : ℕ) → from < length self.old.lists → Among node (list_at self.old.lists from) → map (without node) self.old.lists ≡ slice_set self.old.lists from (without node (list_at self.old.lists from)) }
+        ensures places { (from : ℕ) → from < length self.old.lists → Among node (list_at self.old.lists from) →
+            map (without node) self.old.lists ≡
+            slice_set self.old.lists from (without node (list_at self.old.lists from)) }
     {
         let from = self.links[node].list;
         detach(&mut self.links, &mut self.ends[from], node);
@@ -99,7 +109,8 @@ impl Lists {
         requires room { 0 < self.old.room }
         ensures size { self.new.size ≡ self.old.size + 1 }
         ensures labels { self.new.labels ≡ self.old.labels ++ list ∷ [] }
-        ensures lists { self.new.lists ≡ slice_set self.old.lists list (list_at self.old.lists list ++ self.old.size ∷ []) }
+        ensures lists { self.new.lists ≡
+            slice_set self.old.lists list (list_at self.old.lists list ++ self.old.size ∷ []) }
         ensures placed { ArePlaced self.new }
     {
         let node = self.links.len();

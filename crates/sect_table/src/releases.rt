@@ -1,7 +1,8 @@
 //! Giving keys back.
 
 ghost use Rattle.std.specs.Prelude.{◌≡◌, ◌+◌, ◌<◌, ◌≤◌, ◌++◌, [], length, map, false, vec_len, vec_capacity};
-ghost use Rattle.sect_table.specs.Contents.{number_of, entry_of, put, held_by, is_waiting, let_in as let_in_entry, let_through, give_all, grant_of, released};
+ghost use Rattle.sect_table.specs.Contents.{number_of, entry_of, put, held_by, is_waiting, let_in as let_in_entry};
+ghost use Rattle.sect_table.specs.Contents.{let_through, give_all, grant_of, released};
 ghost use Rattle.sect_table.specs.Sound.{IsSound, IsKept, IsFirstBlocked, waiting_count};
 
 use crate::arena::Arena;
@@ -16,11 +17,16 @@ fn let_in(arena: &mut Arena, grants: &mut Vec<Grant>, key: Key, at: usize)
     requires room { vec_len grants.old + waiting_count arena.old.entries ≤ vec_capacity grants.old }
     ensures sound { IsSound arena.new }
     ensures blocked { IsFirstBlocked (entry_of key arena.new.entries).holders (entry_of key arena.new.entries).waiters }
-    ensures held { arena.new.held ≡ give_all key (let_through (entry_of key arena.old.entries).holders (entry_of key arena.old.entries).waiters) arena.old.held }
+    ensures held { arena.new.held ≡
+        give_all key (let_through (entry_of key arena.old.entries).holders
+        (entry_of key arena.old.entries).waiters) arena.old.held }
     ensures entries { arena.new.entries ≡ put (let_in_entry (entry_of key arena.old.entries)) arena.old.entries }
     ensures spare { arena.new.spare ≡ arena.old.spare }
-    ensures grants { grants.new.items ≡ grants.old.items ++ map (grant_of key) (let_through (entry_of key arena.old.entries).holders (entry_of key arena.old.entries).waiters) }
-    ensures few { vec_len grants.new + waiting_count arena.new.entries ≤ vec_len grants.old + waiting_count arena.old.entries }
+    ensures grants { grants.new.items ≡
+        grants.old.items ++ map (grant_of key) (let_through (entry_of key arena.old.entries).holders
+        (entry_of key arena.old.entries).waiters) }
+    ensures few { vec_len grants.new + waiting_count arena.new.entries ≤
+        vec_len grants.old + waiting_count arena.old.entries }
     ensures capacity { vec_capacity grants.new ≡ vec_capacity grants.old }
 {
     while let Some(waiter) = arena.first_waiter(key, at) {

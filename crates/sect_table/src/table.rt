@@ -1,10 +1,12 @@
 //! The lock table.
 
-ghost use Rattle.std.specs.Prelude.{◌≡◌, ◌≢◌, ◌+◌, ◌-◌, ◌<◌, ◌≤◌, [], ℕ, length, true, false, Err, OnOk, OnErr, IfOk, IfErr};
+ghost use Rattle.std.specs.Prelude.{◌≡◌, ◌≢◌, ◌+◌, ◌-◌, ◌<◌, ◌≤◌, [], ℕ, length, true, false, Err, OnOk, OnErr, IfOk};
+ghost use Rattle.std.specs.Prelude.{IfErr};
 ghost use Rattle.sect_modes.specs.declared.mode.Mode.TheVariants.{Exclusive};
 ghost use Rattle.sect_table.specs.declared.claims.Answer.TheVariants.{Granted};
 ghost use Rattle.sect_table.specs.declared.claims.TableFault.TheVariants.{Memory};
-ghost use Rattle.sect_table.specs.Contents.{entry_of, mode_in, held_by, holds, first_of, is_waiting, released, IsEmptyFor};
+ghost use Rattle.sect_table.specs.Contents.{entry_of, mode_in, held_by, holds, first_of, is_waiting, released};
+ghost use Rattle.sect_table.specs.Contents.{IsEmptyFor};
 ghost use Rattle.sect_table.specs.Answers.{IsAnswered, IsAdmitted, IsRefused};
 ghost use Rattle.sect_table.specs.Sound.{IsKept};
 
@@ -18,8 +20,8 @@ use std::marker::Model;
 
 /// Who holds which key in which mode, and who waits.
 ///
-/// Threads are numbered from 0. No key has two entries. The holders of a key are pairwise compatible, a thread waits for one key at most, and no
-/// first waiter is compatible with all holders of its key.
+/// Threads are numbered from 0. No key has two entries. The holders of a key are pairwise compatible, a thread waits
+/// for one key at most, and no first waiter is compatible with all holders of its key.
 #[derive(Drop)]
 pub struct Table {
     arena: Arena,
@@ -89,8 +91,8 @@ impl Table {
         self.arena.spare()
     }
 
-    /// Asks for a key. The thread gets it unless another thread's mode is in its way or another thread waits for it; then
-    /// it waits, behind all others. It is refused where it waits already, and else where it holds the key.
+    /// Asks for a key. The thread gets it unless another thread's mode is in its way or another thread waits for it;
+    /// then it waits, behind all others. It is refused where it waits already, and else where it holds the key.
     ///
     /// A request takes all memory that its grant and its release will need.
     pub fn request(&mut self, thread: u16, key: Key, mode: Mode) -> Result<Answer, TableFault>
@@ -122,8 +124,8 @@ impl Table {
         requests::give_fresh(&mut self.arena, thread, key)
     }
 
-    /// Gives all keys of a thread back, in the order in which it came to hold them. On each key waiters come to hold it,
-    /// from the front, while they are compatible with its holders; `grants` lists them in that order.
+    /// Gives all keys of a thread back, in the order in which it came to hold them. On each key waiters come to hold
+    /// it, from the front, while they are compatible with its holders; `grants` lists them in that order.
     pub fn release_all(&mut self, thread: u16, grants: &mut Grants)
         requires thread { thread < length self.old.held }
         requires idle { is_waiting thread self.old ≡ false }

@@ -6,7 +6,7 @@ use Effect::{Read, Write};
 use Variable::{Global, Local};
 use Wanted::{All, At};
 use sect_names::{Effect, Lock, Right, Scheme};
-use sect_points::flow::Variable;
+use sect_points::Variable;
 use sect_types::action::Label;
 use std::process::Abort;
 use std::test::Fail;

@@ -2,9 +2,9 @@
 
 use crate::programs::{ACCOUNTS, APART, CHAIN, NEXT, NULL, SHARED, program_of};
 use Variable::{Global, Local};
-use sect_points::classes::{Classes, class_of_path};
-use sect_points::flow::Variable;
-use sect_points::partition::classes;
+use sect_points::{Classes, class_of_path};
+use sect_points::Variable;
+use sect_points::site_classes;
 use sect_points::points_to;
 use std::process::Abort;
 use std::test::Fail;

@@ -6,7 +6,7 @@ use Effect::{Read, Write};
 use Variable::{Global, Local};
 use Wanted::{All, At};
 use sect_names::{Effect, Lock, Path, Right, Scheme};
-use sect_points::flow::Variable;
+use sect_points::Variable;
 use std::cmp::Ordering;
 use std::process::Abort;
 use std::test::Fail;

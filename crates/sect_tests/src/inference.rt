@@ -7,7 +7,7 @@ use Variable::{Global, Local};
 use Wanted::{All, At};
 use sect_infer::{Locks, infer};
 use sect_names::{Effect, Right, Scheme};
-use sect_points::flow::Variable;
+use sect_points::Variable;
 use std::process::Abort;
 use std::test::Fail;
 

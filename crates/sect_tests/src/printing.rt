@@ -4,7 +4,7 @@ use crate::programs::program_of;
 use crate::wanted::{Wanted, lock};
 use sect_names::text::{put_lock, put_locks};
 use sect_names::{Effect, Lock, Right};
-use sect_points::flow::Variable;
+use sect_points::Variable;
 use std::test::Fail;
 
 /// A program with one global and one reference.

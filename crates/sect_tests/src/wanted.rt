@@ -3,7 +3,7 @@
 use crate::programs::NEXT;
 use indexmap::IndexSet;
 use sect_names::{Effect, Lock, Path, Right};
-use sect_points::flow::Variable;
+use sect_points::Variable;
 use std::process::Abort;
 use std::test::Fail;
 

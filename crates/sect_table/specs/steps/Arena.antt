@@ -1,5 +1,6 @@
 -- How an arena of nodes shows a table.
-use Rattle.std.specs.Prelude.{◌≡◌, ◌⊎◌, ℕ, zero, suc, ◌+◌, ◌<◌, ◌^◌, List, [], ◌∷◌, ◌++◌, map, length, slice_index_or, slice_set}
+use Rattle.std.specs.Prelude.{◌≡◌, ◌⊎◌, ℕ, zero, suc, ◌+◌, ◌<◌, ◌^◌, List, [], ◌∷◌, ◌++◌, map, length, slice_index_or}
+use Rattle.std.specs.Prelude.{slice_set}
 use Rattle.sect_modes.specs.declared.mode.Mode.TheVariants.{Exclusive}
 use Rattle.sect_modes.specs.declared.key.Key.{Key}
 use Rattle.sect_modes.specs.declared.key.Key.TheVariants.{Class}
@@ -55,7 +56,8 @@ shown nodes keys threads q c = record {
 pub record IsUsed (nodes : List Grant) (keys : List Key) (threads l m i : ℕ) : Type 0 where
   pub known : place_in (node_at nodes i).key keys < length keys
   pub thread : (node_at nodes i).thread < threads
-  pub place : let k = place_in (node_at nodes i).key keys in let t = (node_at nodes i).thread in ((l ≡ k + k + 1) × (m ≡ t + t + 1)) ⊎ ((l ≡ k + k + 2) × (m ≡ t + t + 2))
+  pub place : let k = place_in (node_at nodes i).key keys in let t = (node_at nodes i).thread in ((l ≡ k + k + 1) ×
+      (m ≡ t + t + 1)) ⊎ ((l ≡ k + k + 2) × (m ≡ t + t + 2))
 
 -- a node in these two lists: list 0 of each has the free nodes
 abbrev pub HasRole : List Grant → List Key → ℕ → ℕ → ℕ → ℕ → Type 0

@@ -1,5 +1,6 @@
 -- Chains through an arena of links.
-use Rattle.std.specs.Prelude.{◌≡◌, ◌≢◌, ◌⊎◌, ℕ, zero, suc, ◌+◌, ◌<◌, List, [], ◌∷◌, ◌++◌, length, map, Option, Some, None, ◌==◌, slice_index_or, slice_set, if◌then◌else◌}
+use Rattle.std.specs.Prelude.{◌≡◌, ◌≢◌, ◌⊎◌, ℕ, zero, suc, ◌+◌, ◌<◌, List, [], ◌∷◌, ◌++◌, length, map, Option, Some}
+use Rattle.std.specs.Prelude.{None, ◌==◌, slice_index_or, slice_set, if◌then◌else◌}
 use Rattle.sect_table.specs.declared.links.Link.{Link}
 use Rattle.sect_table.specs.declared.links.Ends.{Ends}
 
@@ -32,7 +33,8 @@ walk links (suc n) (Some i) = i ∷ walk links n ((link_at links i).next)
 -- these numbers stand one after another in a list, after `p` and before `n`
 abbrev pub Run : List Link → ℕ → Option ℕ → List ℕ → Option ℕ → Type 0
 Run links l p [] n = Unit {0}
-Run links l p (x ∷ xs) n = (x < length links) × (link_at links x ≡ record { list = l; previous = p; next = head_or xs n }) × Run links l (Some x) xs n
+Run links l p (x ∷ xs) n = (x < length links) ×
+    (link_at links x ≡ record { list = l; previous = p; next = head_or xs n }) × Run links l (Some x) xs n
 
 abbrev pub Each : (ℕ → Type 0) → List ℕ → Type 0
 Each P [] = Unit {0}
@@ -67,9 +69,12 @@ IsNeighbor o j = o ≡ Some j
 -- what `detach` wrote, place by place
 pub record IsDetached (old new : List Link) (e e' : Ends) (x : ℕ) : Type 0 where
   pub size : length new ≡ length old
-  pub others : (j : ℕ) → (link_at old x).previous ≢ Some j → (link_at old x).next ≢ Some j → link_at new j ≡ link_at old j
-  pub before : (a : ℕ) → (link_at old x).previous ≡ Some a → (link_at old x).next ≢ Some a → a < length old → link_at new a ≡ record (link_at old a) { next = (link_at old x).next }
-  pub after : (b : ℕ) → (link_at old x).next ≡ Some b → (link_at old x).previous ≢ Some b → b < length old → link_at new b ≡ record (link_at old b) { previous = (link_at old x).previous }
+  pub others : (j : ℕ) → (link_at old x).previous ≢ Some j → (link_at old x).next ≢ Some j →
+      link_at new j ≡ link_at old j
+  pub before : (a : ℕ) → (link_at old x).previous ≡ Some a → (link_at old x).next ≢ Some a → a < length old →
+      link_at new a ≡ record (link_at old a) { next = (link_at old x).next }
+  pub after : (b : ℕ) → (link_at old x).next ≡ Some b → (link_at old x).previous ≢ Some b → b < length old →
+      link_at new b ≡ record (link_at old b) { previous = (link_at old x).previous }
   pub labels : (j : ℕ) → (link_at new j).list ≡ (link_at old j).list
   pub first : (link_at old x).previous ≡ None → e'.first ≡ (link_at old x).next
   pub first_kept : (a : ℕ) → (link_at old x).previous ≡ Some a → e'.first ≡ e.first
@@ -80,7 +85,8 @@ pub record IsDetached (old new : List Link) (e e' : Ends) (x : ℕ) : Type 0 whe
 pub record IsAppended (old new : List Link) (e e' : Ends) (l x : ℕ) : Type 0 where
   pub size : length new ≡ length old
   pub others : (j : ℕ) → e.last ≢ Some j → j ≢ x → link_at new j ≡ link_at old j
-  pub before : (a : ℕ) → e.last ≡ Some a → a ≢ x → a < length old → link_at new a ≡ record (link_at old a) { next = Some x }
+  pub before : (a : ℕ) → e.last ≡ Some a → a ≢ x → a < length old →
+      link_at new a ≡ record (link_at old a) { next = Some x }
   pub labels : (j : ℕ) → j ≢ x → (link_at new j).list ≡ (link_at old j).list
   pub here : link_at new x ≡ record { list = l; previous = e.last; next = None }
   pub first : e.last ≡ None → e'.first ≡ Some x
@@ -99,7 +105,8 @@ lists_of links ends = map (λ e. walk links e.len e.first) ends
 pub record AreLists (links : List Link) (ends : List Ends) (lists : List (List ℕ)) (out : Option ℕ) : Type 0 where
   pub counted : length lists ≡ length ends
   pub each : (l : ℕ) → l < length ends → IsList links l (ends_at ends l) (list_at lists l)
-  pub placed : (i : ℕ) → i < length links → out ≢ Some i → ((link_at links i).list < length ends) × Among i (list_at lists (link_at links i).list)
+  pub placed : (i : ℕ) → i < length links → out ≢ Some i →
+      ((link_at links i).list < length ends) × Among i (list_at lists (link_at links i).list)
   pub outside : (i : ℕ) → out ≡ Some i → (l : ℕ) → l < length ends → IsAbsent i (list_at lists l)
 
 -- what a client sees: how many numbers there are, how many more numbers and lists there is room for, and the lists

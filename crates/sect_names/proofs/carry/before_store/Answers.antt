@@ -3,7 +3,7 @@ use Rattle.std.proofs.lemmas.List.{at_drop_all, get_or_default}
 use Rattle.sect_types.specs.declared.action.Field.{Field}
 use Rattle.sect_types.specs.Lists.{Has}
 use Rattle.sect_types.proofs.Lists.{drop_next}
-use Rattle.sect_points.specs.Places.{dots, place_of-fields}
+use Rattle.sect_points.specs.Paths.{dots, path_of-fields}
 use Rattle.sect_names.specs.Carrying.{OverField}
 use Rattle.sect_names.proofs.Making.{one_has}
 use Rattle.sect_names.proofs.Storing.{over_before}
@@ -12,7 +12,7 @@ use Rattle.sect_names.proofs.carry.before_store.Goals as goal
 pub loop-field-init : goal.loop-field-init
 loop-field-init c = record {
   before = λ q. rw (c.in_ok-paths.ensures, c.new.ensures, c.new-beginning.ensures, c.base.ensures, c.base-2.ensures) (one_has _ q);
-  rest = rw (c.new-beginning.ensures, c.base.ensures, c.fields-field-items.ensures.fields) (place_of-fields c.args.path.now);
+  rest = rw (c.new-beginning.ensures, c.base.ensures, c.fields-field-items.ensures.fields) (path_of-fields c.args.path.now);
 }
 
 pub loop-field-preserved : goal.loop-field-preserved

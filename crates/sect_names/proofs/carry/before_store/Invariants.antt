@@ -1,11 +1,11 @@
 use Rattle.std.proofs.Common.{◌≡◌, ◌↔◌, drop}
 use Rattle.sect_types.specs.Lists.{Has}
-use Rattle.sect_points.specs.Places.{Place, dots}
+use Rattle.sect_points.specs.Paths.{PathView, dots}
 use Rattle.sect_names.specs.Carrying.{BeforeStore}
 use Rattle.sect_names.proofs.carry.before_store.Given as goal
 
 abbrev pub invariant-loop-field : goal.invariant-loop-field
 invariant-loop-field l = record {
-  before : (q : Place) → Has l.paths.items q ↔ BeforeStore l.scheme.classes l.z l.f l.w l.beginning q;
+  before : (q : PathView) → Has l.paths.items q ↔ BeforeStore l.scheme.classes l.z l.f l.w l.beginning q;
   rest : dots l.beginning (drop l.field-index l.field-items) ≡ l.path;
 }

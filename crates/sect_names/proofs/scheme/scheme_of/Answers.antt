@@ -1,5 +1,5 @@
 use Rattle.std.proofs.Common.{ap, ◌∙◌, sym, subst}
-use Rattle.sect_points.specs.Sets.{Sets, InSets}
+use Rattle.sect_points.specs.Sets.{PointsToView, InSets}
 use Rattle.sect_points.specs.Flow.{IsLeastFlow}
 use Rattle.sect_points.specs.Statements.{statements_of}
 use Rattle.sect_names.proofs.scheme.scheme_of.Goals as goal
@@ -9,11 +9,11 @@ invariant_of-result c =
     let list = statements_of c.args.program in
     let same = c.in_ok-classes.ensures.sets in
     let parted = c.in_ok-classes.ensures.parted in
-    let flow = subst (λ (s : Sets). IsLeastFlow (InSets s) list) (sym same) c.in_ok-points_to.ensures.least in
+    let flow = subst (λ (s : PointsToView). IsLeastFlow (InSets s) list) (sym same) c.in_ok-points_to.ensures.least in
     record {
       most = c.in_ok-check_k.ensures.ok;
       parted = parted;
-      sites = ap (λ (s : Sets). s.sites) same ∙ c.in_ok-points_to.ensures.sites;
+      sites = ap (λ (s : PointsToView). s.sites) same ∙ c.in_ok-points_to.ensures.sites;
       flow = flow;
       paths = c.laws_of_classes.ensures.paths c.in_ok-classes.classes parted;
       kept = c.laws_of_classes.ensures.statements c.in_ok-classes.classes list parted flow.closed;

@@ -1,17 +1,27 @@
-use Rattle.std.proofs.Common.{◌≡◌, ◌∙◌, sym, subst}
+use Rattle.std.proofs.Common.{◌≡◌, ◌∙◌, sym, ap, length, subst}
 use Rattle.sect_points.specs.Flow.{IsLeastFlow}
 use Rattle.sect_points.specs.Sets.{InSets}
-use Rattle.sect_points.specs.Solving.{AllFit}
+use Rattle.sect_points.specs.steps.Solving.{AllFit}
 use Rattle.sect_points.specs.Statements.{statements_of}
-use Rattle.sect_points.proofs.StatementLaws.{all_fit}
+use Rattle.sect_points.proofs.StatementLaws.{all_fit, same_places, few_rows, all_markable}
 use Rattle.sect_points.proofs.points.points_to.Goals as goal
 
 pub close-requires-clause-fits : goal.close-requires-clause-fits
 close-requires-clause-fits c =
     let sets = c.in_ok-sets.sets in
-    let same : c.as_slice.result.now ≡ statements_of c.args.program.now = c.as_slice.ensures.value ∙ c.in_ok-statements.ensures in
-    subst (AllFit sets) (sym same) (all_fit c.args.program.now sets c.in_ok-sets.ensures.room c.typing.ensures.sound c.typing.ensures.sites c.typing.ensures.limits)
+    subst (AllFit sets) (sym (c.in_ok-readers.ensures ∙ c.in_ok-statements.ensures)) (all_fit c.args.program.now sets c.in_ok-sets.ensures.room c.typing.ensures.sound c.typing.ensures.sites c.typing.ensures.limits)
+
+pub close-requires-clause-same : goal.close-requires-clause-same
+close-requires-clause-same c = same_places c.args.program.now c.in_ok-sets.sets c.in_ok-moved.moved c.in_ok-sets.ensures.room c.in_ok-moved.ensures.room c.bounds.ensures.rows c.bounds-2.ensures.rows
+
+pub close-requires-clause-few : goal.close-requires-clause-few
+close-requires-clause-few c = few_rows c.args.program.now c.in_ok-sets.sets c.in_ok-sets.ensures.room c.typing.ensures.limits
+
+pub close-requires-clause-suits : goal.close-requires-clause-suits
+close-requires-clause-suits c =
+    all_markable c.args.program.now c.in_ok-sets.sets c.in_ok-marks.marks c.in_ok-sets.ensures.room c.typing.ensures.limits c.bounds.ensures.few c.bounds.ensures.rows
+    (c.in_ok-marks.ensures.threads ∙ ap length c.locals.ensures) c.in_ok-marks.ensures.fields
 
 pub returns-clause-least : goal.returns-clause-least
 returns-clause-least c =
-    subst (IsLeastFlow (InSets c.close.new.sets)) (c.as_slice.ensures.value ∙ c.in_ok-statements.ensures) c.close.ensures.least
+    subst (IsLeastFlow (InSets c.close.new.sets)) (c.in_ok-readers.ensures ∙ c.in_ok-statements.ensures) c.close.ensures.least

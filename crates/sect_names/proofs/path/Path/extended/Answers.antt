@@ -1,5 +1,5 @@
 use Rattle.std.proofs.Common.{ap, ◌∙◌}
-use Rattle.sect_points.specs.Places.{var, dots}
+use Rattle.sect_points.specs.Paths.{var, dots}
 use Rattle.sect_names.proofs.Paths.{dots-append}
 use Rattle.sect_names.proofs.path.Path.extended.Goals as goal
 

@@ -1,5 +1,5 @@
 use Rattle.std.proofs.Common.{◌≡◌, ◌∙◌, ap, sym, length}
-use Rattle.sect_points.specs.Places.{fields_of}
+use Rattle.sect_points.specs.Paths.{fields_of}
 use Rattle.sect_names.proofs.Paths.{fields_of-place, depth-fields}
 use Rattle.sect_names.proofs.path.Path.fields.Goals as goal
 

@@ -1,4 +1,4 @@
-use Rattle.sect_points.specs.Places.{var}
+use Rattle.sect_points.specs.Paths.{var}
 use Rattle.sect_names.proofs.Classed.{class_tells}
 use Rattle.sect_names.proofs.scheme.Scheme.class_of_variable.Goals as goal
 

@@ -3,7 +3,7 @@ use Rattle.sect_table.specs.declared.claims.Grant.{Grant}
 use Rattle.sect_table.specs.Contents.{put, entry_of, with_waiter, claim_of}
 use Rattle.sect_table.specs.steps.Links.{head_or, list_at}
 use Rattle.sect_table.specs.steps.Arena.{no_node}
-use Rattle.sect_table.proofs.Shown.{seen, uncons}
+use Rattle.sect_table.proofs.Shown.{seen, uncons, key_lists}
 use Rattle.sect_table.proofs.Roles.{labelled_first}
 use Rattle.sect_table.proofs.Moving.{Shows, goes, filled, waiter_added}
 use Rattle.sect_table.proofs.arena.Arena.add_waiter.Goals as goal
@@ -31,21 +31,15 @@ outcome c =
 
 pub overflow_add-at : goal.overflow_add-at
 overflow_add-at c =
-    let s = seen _ _ _ _ _ _ c.self.invariant c.self.view_is in
-    let n = s.queues in let few = s.few in let lt = c.requires.known in
-    omega arith
+    let lists = key_lists _ _ _ _ _ _ c.args.at c.self.invariant c.self.view_is c.requires.known in omega (arith, lists.few)
 
 pub overflow_add-at-2 : goal.overflow_add-at-2
 overflow_add-at-2 c =
-    let s = seen _ _ _ _ _ _ c.self.invariant c.self.view_is in
-    let n = s.queues in let few = s.few in let lt = c.requires.known in
-    omega arith
+    let lists = key_lists _ _ _ _ _ _ c.args.at c.self.invariant c.self.view_is c.requires.known in omega (arith, lists.few)
 
 pub move_to-requires-clause-list : goal.move_to-requires-clause-list
 move_to-requires-clause-list c =
-    let s = seen _ _ _ _ _ _ c.self.invariant c.self.view_is in
-    let n = s.queues in let lt = c.requires.known in
-    omega arith
+    let lists = key_lists _ _ _ _ _ _ c.args.at c.self.invariant c.self.view_is c.requires.known in omega (arith, lists.holders, lists.waiters)
 
 pub move_to-requires-2-clause-list : goal.move_to-requires-2-clause-list
 move_to-requires-2-clause-list c =

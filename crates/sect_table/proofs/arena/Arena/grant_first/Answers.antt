@@ -4,7 +4,7 @@ use Rattle.std.proofs.lemmas.List.{get_or_read}
 use Rattle.sect_table.specs.Contents.{Entry, put, entry_of, with_grant, claim_of, give}
 use Rattle.sect_table.specs.steps.Links.{head_or, list_at}
 use Rattle.sect_table.specs.steps.Arena.{no_node, claims}
-use Rattle.sect_table.proofs.Shown.{seen, uncons, queues-seen, claimed_first}
+use Rattle.sect_table.proofs.Shown.{seen, uncons, queues-seen, claimed_first, key_lists}
 use Rattle.sect_table.proofs.Roles.{labelled_first}
 use Rattle.sect_table.proofs.Moving.{Shows, goes, first_granted, Waiter, first_waiting}
 use Rattle.sect_table.proofs.arena.Arena.grant_first.Goals as goal
@@ -33,21 +33,15 @@ outcome c =
 
 pub overflow_add-at : goal.overflow_add-at
 overflow_add-at c =
-    let s = seen _ _ _ _ _ _ c.self.invariant c.self.view_is in
-    let n = s.queues in let few = s.few in let lt = c.requires.known in
-    omega arith
+    let lists = key_lists _ _ _ _ _ _ c.args.at c.self.invariant c.self.view_is c.requires.known in omega (arith, lists.few)
 
 pub overflow_add-at-2 : goal.overflow_add-at-2
 overflow_add-at-2 c =
-    let s = seen _ _ _ _ _ _ c.self.invariant c.self.view_is in
-    let n = s.queues in let few = s.few in let lt = c.requires.known in
-    omega arith
+    let lists = key_lists _ _ _ _ _ _ c.args.at c.self.invariant c.self.view_is c.requires.known in omega (arith, lists.few)
 
 pub first-requires : goal.first-requires
 first-requires c =
-    let s = seen _ _ _ _ _ _ c.self.invariant c.self.view_is in
-    let n = s.queues in let lt = c.requires.known in
-    omega arith
+    let lists = key_lists _ _ _ _ _ _ c.args.at c.self.invariant c.self.view_is c.requires.known in omega (arith, lists.holders, lists.waiters)
 
 pub unwrap-node-requires : goal.unwrap-node-requires
 unwrap-node-requires c =

@@ -1,0 +1,64 @@
+-- TextView in rows, by what they read.
+use Rattle.std.specs.Prelude.{◌≡◌, ◌⊎◌, ℕ, ◌+◌, ◌*◌, ◌%◌, List, [], ◌∷◌, ◌++◌, length, slice_index_or}
+use Rattle.sect_types.specs.Lists.{Has}
+use Rattle.sect_types.specs.declared.action.Value.{Value}
+use Rattle.sect_types.specs.declared.action.Value.TheVariants as value
+use Rattle.sect_types.specs.declared.action.Base.{Base}
+use Rattle.sect_types.specs.declared.action.Base.TheVariants as base
+use Rattle.sect_types.specs.declared.action.Action.{Action}
+use Rattle.sect_types.specs.declared.action.Action.TheVariants as action
+use Rattle.sect_points.specs.declared.holders.Growth.{Growth}
+use Rattle.sect_points.specs.declared.holders.Growth.TheVariants as growth
+use Rattle.sect_points.specs.declared.holders.ThreadAction.{ThreadAction}
+
+-- 4,096 rows for the locals, and 16 for the fields behind them
+abbrev pub local_row_of : ℕ → ℕ → ℕ
+local_row_of t x = (t * 64 + x) % 4096
+
+abbrev pub field_row_of : ℕ → ℕ
+field_row_of f = 4096 + f % 16
+
+-- the row of what grew
+abbrev pub row_of : Growth → ℕ
+row_of (growth.Local t x) = local_row_of t x
+row_of (growth.Field f) = field_row_of f
+
+abbrev pub value_rows : ℕ → Value → List ℕ
+value_rows t (value.Local x) = local_row_of t x ∷ []
+value_rows t (value.Global g) = []
+value_rows t value.Null = []
+value_rows t (value.Number n) = []
+
+abbrev pub base_rows : ℕ → Base → List ℕ
+base_rows t (base.Local x) = local_row_of t x ∷ []
+base_rows t (base.Global g) = []
+
+-- the rows of what a statement reads
+abbrev pub rows_read : ℕ → Action → List ℕ
+rows_read t (action.Assign x v) = value_rows t v
+rows_read t (action.Compute x v o w) = []
+rows_read t (action.New x r i) = []
+rows_read t (action.Load x b f) = base_rows t b ++ field_row_of f.number ∷ []
+rows_read t (action.Store b f v) = base_rows t b ++ value_rows t v
+rows_read t (action.Print v) = []
+
+abbrev pub row_at : List (List ThreadAction) → ℕ → List ThreadAction
+row_at rows r = slice_index_or rows r []
+
+-- each statement stands in the rows of what it reads, and nothing else stands in a row
+pub record AreFiled (all : List ThreadAction) (rows : List (List ThreadAction)) : Type 0 where
+  pub long : length rows ≡ 4112
+  pub each : (p : ThreadAction) → Has all p → (r : ℕ) → Has (rows_read p.thread p.action) r → Has (row_at rows r) p
+  pub only : (r : ℕ) (p : ThreadAction) → Has (row_at rows r) p → Has all p
+
+-- a statement has come into these rows
+pub record IsPut (old new : List (List ThreadAction)) (into : List ℕ) (p : ThreadAction) : Type 0 where
+  pub long : length new ≡ length old
+  pub there : (r : ℕ) → Has into r → Has (row_at new r) p
+  pub keeps : (r : ℕ) (q : ThreadAction) → Has (row_at old r) q → Has (row_at new r) q
+  pub only : (r : ℕ) (q : ThreadAction) → Has (row_at new r) q → Has (row_at old r) q ⊎ (p ≡ q)
+
+-- rows in which nothing stands
+pub record AreNoRows (count : ℕ) (rows : List (List ThreadAction)) : Type 0 where
+  pub long : length rows ≡ count
+  pub none : (r : ℕ) (p : ThreadAction) → Has (row_at rows r) p → ⊥

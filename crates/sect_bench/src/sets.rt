@@ -2,8 +2,7 @@
 
 use crate::failure::Failure;
 use sect_front::parse;
-use sect_points::site_classes;
-use sect_points::points_to;
+use sect_points::{points_to, site_classes};
 use sect_types::{Program, check_types};
 use std::alloc::{AllocError, Global};
 

@@ -10,7 +10,7 @@ ghost use Rattle.sect_hints.specs.Verdicts.{FindsNamed, Finds};
 
 use crate::fault::{HintFault, Rule};
 use crate::globals::names_of;
-use crate::table::Guards;
+use crate::guarding::Guards;
 use indexmap::IndexSet;
 use sect_front::name::Name;
 use sect_types::Program;

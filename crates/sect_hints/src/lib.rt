@@ -1,10 +1,10 @@
 //! Hints: which global guards each record, or the first record that a rule on hints is broken at.
 #![tactic(auto)]
 
-pub mod fault;
+mod fault;
 mod globals;
-pub mod hints;
-pub mod table;
+pub mod guarding;
+mod hints;
 
-pub use crate::fault::HintFault;
-pub use crate::hints::guards;
+pub use fault::HintFault;
+pub use hints::guards;

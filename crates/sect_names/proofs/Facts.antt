@@ -80,7 +80,7 @@ module _ (sets : PointsToView) where
   unfolding facts
   facts_tell low slots h s = (
     λ i. Has-flat_map held_by holders h (fact h s) (holder_there slots h s i)
-    (Has-flat_map (λ x. where_so (in_or_not h x) (fact h x)) (below sets.sites) s (fact h s) (Has-below sets.sites s (low h s i)) (so_there (in_or_not h s) (fact h s) i)),
+        (Has-flat_map (λ x. where_so (in_or_not h x) (fact h x)) (below sets.sites) s (fact h s) (Has-below sets.sites s (low h s i)) (so_there (in_or_not h s) (fact h s) i)),
     λ k.
         let a = from_flat held_by holders (fact h s) k in
         let b = from_flat (λ x. where_so (in_or_not a.0 x) (fact a.0 x)) (below sets.sites) (fact h s) a.2 in

@@ -51,7 +51,7 @@ finest_together a b is_a is_b long to x y within_x within_y =
     is_a.finest.finest b.numbers (λ h k m n at_h at_k linked. is_b.finest.respects h k m n (to h m at_h) (to k n at_k) linked) x y within_x within_y
 
 module _ (a b : ClassesView) (is_a : IsParted a) (is_b : IsParted b) (long : length a.numbers ≡ length b.numbers)
-         (to : Within (InSets a.sets) (InSets b.sets)) (from : Within (InSets b.sets) (InSets a.sets)) where
+    (to : Within (InSets a.sets) (InSets b.sets)) (from : Within (InSets b.sets) (InSets a.sets)) where
   -- an earlier number of one is an earlier number of the other
   not_below : (i : ℕ) → i < length a.numbers → ((j : ℕ) → j < i → slice_index a.numbers j ≡ slice_index b.numbers j) → slice_index a.numbers i < slice_index b.numbers i → ⊥
   not_below i within same less =

@@ -12,7 +12,7 @@ mod path;
 mod refusal;
 mod scheme;
 mod source;
-pub mod text;
+pub mod printing;
 mod variables;
 
 pub use covers::covering_is_an_order;

@@ -2,10 +2,7 @@
 
 use crate::programs::{ACCOUNTS, APART, CHAIN, NEXT, NULL, SHARED, program_of};
 use Variable::{Global, Local};
-use sect_points::{Classes, class_of_path};
-use sect_points::Variable;
-use sect_points::site_classes;
-use sect_points::points_to;
+use sect_points::{Classes, Variable, class_of_path, points_to, site_classes};
 use std::process::Abort;
 use std::test::Fail;
 

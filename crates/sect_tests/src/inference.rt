@@ -221,8 +221,20 @@ thread p { int t; atomic all { t = a.bal; } } thread q { atomic { a.bal = 2; } }
 fn a_section_locks_everything(rt: HostRuntime) -> Result<(), Fail> {
     let all = [Wanted::Everything];
     holds(&rt, (EVERYTHING, 2, 0), 1, &all, &[(0, &all), (1, &all)])?;
-    holds(&rt, (EVERYTHING, 2, 1), 1, &[At(HEAD, 0, Write)], &[(1, &[])])?;
-    holds(&rt, (b"thread e { atomic all { } }", 2, 0), 0, &all, &[(0, &all)])
+    holds(
+        &rt,
+        (EVERYTHING, 2, 1),
+        1,
+        &[At(HEAD, 0, Write)],
+        &[(1, &[])],
+    )?;
+    holds(
+        &rt,
+        (b"thread e { atomic all { } }", 2, 0),
+        0,
+        &all,
+        &[(0, &all)],
+    )
 }
 
 #[test]

@@ -1,8 +1,7 @@
 //! Source texts that are read, printed or refused.
 
 use crate::programs::{ACCOUNTS, APART, CHAIN, GUARDED, LIST, NULL, SHARED};
-use sect_front::MOST_BYTES;
-use sect_front::{FrontFault, is_name, parse, print, tokens_of};
+use sect_front::{FrontFault, MOST_BYTES, is_name, parse, print, tokens_of};
 use std::alloc::{AllocError, Global};
 use std::test::Fail;
 

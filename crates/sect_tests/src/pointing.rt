@@ -2,8 +2,7 @@
 
 use crate::programs::program_of;
 use Holder::{Local, Slot};
-use sect_points::Holder;
-use sect_points::points_to;
+use sect_points::{Holder, points_to};
 use std::process::Abort;
 use std::test::Fail;
 

@@ -2,7 +2,7 @@
 
 use crate::programs::program_of;
 use crate::wanted::{Wanted, lock};
-use sect_names::text::{put_lock, put_locks};
+use sect_names::printing::{put_lock, put_locks};
 use sect_names::{Effect, Lock, Right};
 use sect_points::Variable;
 use std::test::Fail;

@@ -78,10 +78,14 @@ fn at<T>(items: &[T], place: usize) -> Result<&T, Fail> {
 
 #[test]
 fn a_certificate_is_read_as_what_it_says(rt: HostRuntime) -> Result<(), Fail> {
-    let cert = match read_cert(rt.alloc(), ADDS_ONE) {
-        Ok(cert) => cert,
-        Err(_) => return Err(Fail::from("refused")),
-    };
+    match read_cert(rt.alloc(), ADDS_ONE) {
+        Ok(cert) => says_it_adds_one(&rt, &cert),
+        Err(_) => Err(Fail::from("refused")),
+    }
+}
+
+/// The certificate says what `ADDS_ONE` does.
+fn says_it_adds_one(rt: &impl Abort, cert: &Cert) -> Result<(), Fail> {
     assert_eq!(rt; cert.k, 2);
     assert_eq!(rt; cert.sections.len(), 1);
     let section = at(cert.sections.as_slice(), 0)?;
@@ -89,16 +93,12 @@ fn a_certificate_is_read_as_what_it_says(rt: HostRuntime) -> Result<(), Fail> {
     assert_eq!(rt; at(section.nodes.as_slice(), 2)?.len(), 1);
     assert_eq!(rt; at(section.nodes.as_slice(), 3)?.len(), 0);
     assert_eq!(rt; section.entry.len(), 1);
-    Ok(())
+    assert_eq!(rt; section.chains.len(), 1);
+    leads_to_the_store(rt, at(section.chains.as_slice(), 0)?)
 }
 
-#[test]
-fn a_chain_is_read_as_what_it_says(rt: HostRuntime) -> Result<(), Fail> {
-    let cert = match read_cert(rt.alloc(), ADDS_ONE) {
-        Ok(cert) => cert,
-        Err(_) => return Err(Fail::from("refused")),
-    };
-    let chain = at(at(cert.sections.as_slice(), 0)?.chains.as_slice(), 0)?;
+/// The chain is that of `ADDS_ONE`.
+fn leads_to_the_store(rt: &impl Abort, chain: &Chain) -> Result<(), Fail> {
     assert_eq!(rt; chain.lock, 0);
     assert_eq!(rt; chain.steps.len(), 3);
     let step = at(chain.steps.as_slice(), 2)?;
@@ -122,31 +122,41 @@ fn name(bytes: &[u8]) -> Result<Name, Fail> {
     }
 }
 
-#[test]
-fn a_certificate_that_is_made_is_written(rt: HostRuntime) -> Result<(), Fail> {
-    let mut fields = Items::new(rt.alloc());
-    fields.push(name(b"next")?)?;
+/// The list of one item.
+fn of_one<T: Drop>(alloc: Global, item: T) -> Result<Items<T>, AllocError> {
+    let mut items = Items::new(alloc);
+    items.push(item)?;
+    Ok(items)
+}
+
+/// The lists of two nodes: a path and a class, and nothing.
+fn made_nodes(alloc: Global) -> Result<Items<Items<Lock>>, Fail> {
+    let fields = of_one(alloc, name(b"next")?)?;
     let base = name(b"head")?;
-    let mut list = Items::new(rt.alloc());
-    list.push(Lock::ReadPath(Path { base, fields }))?;
+    let mut list = of_one(alloc, Lock::ReadPath(Path { base, fields }))?;
     list.push(Lock::MakeClass(3))?;
-    let mut nodes = Items::new(rt.alloc());
-    nodes.push(list)?;
-    nodes.push(Items::new(rt.alloc()))?;
-    let mut entry = Items::new(rt.alloc());
-    entry.push(Lock::WriteClass(10))?;
-    let mut steps = Items::new(rt.alloc());
-    steps.push(Step {
+    let mut nodes = of_one(alloc, list)?;
+    nodes.push(Items::new(alloc))?;
+    Ok(nodes)
+}
+
+/// A chain of one step.
+fn made_chains(alloc: Global) -> Result<Items<Chain>, AllocError> {
+    let step = Step {
         node: 0,
         lock: Lock::ReadClass(7),
-    })?;
-    let mut chains = Items::new(rt.alloc());
-    chains.push(Chain { lock: 2, steps })?;
+    };
+    let steps = of_one(alloc, step)?;
+    of_one(alloc, Chain { lock: 2, steps })
+}
+
+#[test]
+fn a_certificate_that_is_made_is_written(rt: HostRuntime) -> Result<(), Fail> {
     let mut sections = Items::new(rt.alloc());
     sections.push(Section {
-        nodes,
-        entry,
-        chains,
+        nodes: made_nodes(rt.alloc())?,
+        entry: of_one(rt.alloc(), Lock::WriteClass(10))?,
+        chains: made_chains(rt.alloc())?,
     })?;
     let text = write_cert(rt.alloc(), &Cert { k: 1, sections })?;
     let wanted =

@@ -5,6 +5,8 @@ use crate::wanted::{Wanted, lock};
 use sect_names::text::{put_lock, put_locks};
 use sect_names::{Effect, Lock, Right};
 use sect_points::flow::Variable;
+use sect_types::Program;
+use std::process::Abort;
 use std::test::Fail;
 
 /// A program with one global and one reference.
@@ -36,13 +38,22 @@ fn locks_on_classes(rt: HostRuntime) -> Result<(), Fail> {
 
 #[test]
 fn a_lock_on_a_path(rt: HostRuntime) -> Result<(), Fail> {
-    let program = program_of(rt.alloc(), LIST)?;
     let lock = lock(&rt, Wanted::At(Variable::Global(0), 1, Effect::Write))?;
+    prints(&rt, &program_of(rt.alloc(), LIST)?, &lock, "W head.next")
+}
+
+/// The lock on the path of the first global and the second field of the first record is printed so.
+fn prints(
+    rt: &(impl Abort + AllocGlobal),
+    program: &Program,
+    lock: &Lock,
+    wanted: &str,
+) -> Result<(), Fail> {
     assert!(rt; !program.globals().is_empty());
     assert!(rt; !program.records().is_empty());
     assert!(rt; program.records()[0].as_slice().len() > 1);
     let mut text = String::new(rt.alloc());
-    put_lock(&mut text, &program, &lock)?;
-    assert_eq!(rt; text.as_str(), "W head.next");
+    put_lock(&mut text, program, lock)?;
+    assert_eq!(rt; text.as_str(), wanted);
     Ok(())
 }

@@ -1,9 +1,8 @@
 //! Locks as they are printed.
 
-use crate::programs::program_of;
-use crate::wanted::{Wanted, lock};
+use crate::programs::{NEXT, program_of};
 use sect_names::text::{put_lock, put_locks};
-use sect_names::{Effect, Lock, Right};
+use sect_names::{Effect, Lock, Path, Right};
 use sect_points::flow::Variable;
 use sect_types::Program;
 use std::process::Abort;
@@ -38,22 +37,24 @@ fn locks_on_classes(rt: HostRuntime) -> Result<(), Fail> {
 
 #[test]
 fn a_lock_on_a_path(rt: HostRuntime) -> Result<(), Fail> {
-    let lock = lock(&rt, Wanted::At(Variable::Global(0), 1, Effect::Write))?;
-    prints(&rt, &program_of(rt.alloc(), LIST)?, &lock, "W head.next")
+    let program = program_of(rt.alloc(), LIST)?;
+    prints(&rt, &program, Effect::Read, "R head.next")?;
+    prints(&rt, &program, Effect::Write, "W head.next")
 }
 
-/// The lock on the path of the first global and the second field of the first record is printed so.
+/// The lock on the second field of the first global is printed so.
 fn prints(
     rt: &(impl Abort + AllocGlobal),
     program: &Program,
-    lock: &Lock,
+    effect: Effect,
     wanted: &str,
 ) -> Result<(), Fail> {
+    let path = Path::new(rt.alloc(), Variable::Global(0)).extended(&[NEXT])?;
     assert!(rt; !program.globals().is_empty());
     assert!(rt; !program.records().is_empty());
     assert!(rt; program.records()[0].as_slice().len() > 1);
     let mut text = String::new(rt.alloc());
-    put_lock(&mut text, program, lock)?;
+    put_lock(&mut text, program, &Lock::Path(path, effect))?;
     assert_eq!(rt; text.as_str(), wanted);
     Ok(())
 }

@@ -45,7 +45,7 @@ const ACCEPTED: [&str; 20] = [
 ];
 
 /// Texts with a fault, and the fault.
-const REFUSED: [(&str, &str); 76] = [
+const REFUSED: &[(&str, &str)] = &[
     // An unknown name.
     ("record A { B f; }", "10 Unknown item 1"),
     ("record A { int f; A g; B h; }", "10 Unknown item 3"),
@@ -298,7 +298,7 @@ fn accepts_typed_texts(rt: HostRuntime) -> Result<(), Fail> {
 #[test]
 fn names_the_first_item_at_fault(rt: HostRuntime) -> Result<(), Fail> {
     for (text, want) in REFUSED {
-        assert_eq!(rt; answer(rt.alloc(), text)?.as_str(), want, "at {text}");
+        assert_eq!(rt; answer(rt.alloc(), text)?.as_str(), *want, "at {text}");
     }
     Ok(())
 }

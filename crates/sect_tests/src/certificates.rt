@@ -190,7 +190,7 @@ fn nothing_follows_the_end(rt: HostRuntime) -> Result<(), Fail> {
 }
 
 /// Texts that are refused at one of their first lines, or behind it.
-const FIRST_LINES: [(&[u8], &str); 18] = [
+const FIRST_LINES: &[(&[u8], &str)] = &[
     (b"", "31 CertEnd line 1"),
     (b"sect-cert 1", "31 CertEnd line 1"),
     (b"sect-cert 1\r\n", "30 BadCertLine line 1"),
@@ -220,7 +220,7 @@ fn first_lines_are_refused(rt: HostRuntime) -> Result<(), Fail> {
 }
 
 /// What may stand after the line `k 2`, and is refused.
-const SECTION_LINES: [(&[u8], &str); 17] = [
+const SECTION_LINES: &[(&[u8], &str)] = &[
     (b"sections 4294967295\n", "31 CertEnd line 4"),
     (b"sections 4294967296\n", "30 BadCertLine line 3"),
     (b"sections 00\n", "32 NotCanonical line 3"),
@@ -270,7 +270,7 @@ fn section_lines_are_refused(rt: HostRuntime) -> Result<(), Fail> {
 const BEFORE_NODES: &[u8] = b"sect-cert 1\nk 2\nsections 1\nsection 0 nodes 2\n";
 
 /// What may stand where two nodes are due, and is refused.
-const NODE_LINES: [(&[u8], &str); 14] = [
+const NODE_LINES: &[(&[u8], &str)] = &[
     (b"node 1: none\n", "32 NotCanonical line 5"),
     (b"node 00: none\n", "32 NotCanonical line 5"),
     (b"node 0 none\n", "30 BadCertLine line 5"),
@@ -305,7 +305,7 @@ fn node_lines_are_refused(rt: HostRuntime) -> Result<(), Fail> {
 }
 
 /// Lines of a node whose list is none.
-const NO_LISTS: [&[u8]; 24] = [
+const NO_LISTS: &[&[u8]] = &[
     b"node 0: none, R a\n",
     b"node 0: R a, none\n",
     b"node 0: R a,W b\n",
@@ -358,7 +358,7 @@ const BEFORE_CHAINS: &[u8] =
     b"sect-cert 1\nk 2\nsections 1\nsection 0 nodes 1\nnode 0: none\nentry: W a\n";
 
 /// What may stand where a chain is due, and is refused.
-const CHAIN_LINES: [(&[u8], &str); 18] = [
+const CHAIN_LINES: &[(&[u8], &str)] = &[
     (b"chain 0:\n", "30 BadCertLine line 7"),
     (b"chain 0: 0 W a >\n", "30 BadCertLine line 7"),
     (b"chain 0: 0 W a > 1 W\n", "30 BadCertLine line 7"),

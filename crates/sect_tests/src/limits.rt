@@ -50,7 +50,7 @@ fn answers(
 }
 
 /// What stands before, what is repeated, how often it may be, what stands after, and the answer to one more.
-const LIMITS: [(&str, &str, u16, &str, &str); 15] = [
+const LIMITS: &[(&str, &str, u16, &str, &str)] = &[
     ("", "record r# { }", 64, "", "15 TooMany item 64"),
     (
         "record a { int f; } record r { ",
@@ -149,14 +149,14 @@ const LIMITS: [(&str, &str, u16, &str, &str); 15] = [
 #[test]
 fn limits_are_exact(rt: HostRuntime) -> Result<(), Fail> {
     for (before, text, most, after, wanted) in LIMITS {
-        answers(&rt, (before, text, most as usize, after), "")?;
-        answers(&rt, (before, text, most as usize + 1, after), wanted)?;
+        answers(&rt, (before, text, *most as usize, after), "")?;
+        answers(&rt, (before, text, *most as usize + 1, after), wanted)?;
     }
     Ok(())
 }
 
 /// Where several rules are broken at the item that passes a limit, the least is named.
-const PAST_LIMITS: [(&str, &str, usize, &str, &str); 5] = [
+const PAST_LIMITS: &[(&str, &str, usize, &str, &str)] = &[
     ("", "record r# { }", 64, "record r0 { }", "11 Twice item 64"),
     (
         "record r { ",
@@ -191,7 +191,7 @@ const PAST_LIMITS: [(&str, &str, usize, &str, &str); 5] = [
 #[test]
 fn the_least_rule_at_a_limit(rt: HostRuntime) -> Result<(), Fail> {
     for (before, text, count, after, wanted) in PAST_LIMITS {
-        answers(&rt, (before, text, count, after), wanted)?;
+        answers(&rt, (before, text, *count, after), wanted)?;
     }
     Ok(())
 }

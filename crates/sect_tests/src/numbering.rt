@@ -46,7 +46,7 @@ fn are_declared(rt: &impl Abort, program: &Program) {
 }
 
 /// How many threads, sections, sites and statements these texts have.
-const COUNTS: [(&[u8], [u16; 4]); 2] = [(LIST, [2, 4, 4, 14]), (b"", [0, 0, 0, 0])];
+const COUNTS: &[(&[u8], [u16; 4])] = &[(LIST, [2, 4, 4, 14]), (b"", [0, 0, 0, 0])];
 
 #[test]
 fn counts_of_a_program(rt: HostRuntime) -> Result<(), Fail> {
@@ -58,7 +58,7 @@ fn counts_of_a_program(rt: HostRuntime) -> Result<(), Fail> {
             program.site_count(),
             program.statement_count(),
         ];
-        assert!(rt; found == wanted);
+        assert!(rt; found == *wanted);
     }
     Ok(())
 }

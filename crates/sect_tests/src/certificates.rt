@@ -77,10 +77,14 @@ fn at<T>(items: &[T], place: usize) -> Result<&T, Fail> {
 
 #[test]
 fn a_certificate_is_read_as_what_it_says(rt: HostRuntime) -> Result<(), Fail> {
-    let cert = match read_cert(rt.alloc(), ADDS_ONE) {
-        Ok(cert) => cert,
-        Err(_) => return Err(Fail::from("refused")),
-    };
+    match read_cert(rt.alloc(), ADDS_ONE) {
+        Ok(cert) => says_it_adds_one(&rt, &cert),
+        Err(_) => Err(Fail::from("refused")),
+    }
+}
+
+/// The certificate says what `ADDS_ONE` does.
+fn says_it_adds_one(rt: &impl Abort, cert: &Cert) -> Result<(), Fail> {
     assert_eq!(rt; cert.k, 2);
     assert_eq!(rt; cert.sections.len(), 1);
     let section = at(cert.sections.as_slice(), 0)?;
@@ -88,16 +92,12 @@ fn a_certificate_is_read_as_what_it_says(rt: HostRuntime) -> Result<(), Fail> {
     assert_eq!(rt; at(section.nodes.as_slice(), 2)?.len(), 1);
     assert_eq!(rt; at(section.nodes.as_slice(), 3)?.len(), 0);
     assert_eq!(rt; section.entry.len(), 1);
-    Ok(())
+    assert_eq!(rt; section.chains.len(), 1);
+    leads_to_the_store(rt, at(section.chains.as_slice(), 0)?)
 }
 
-#[test]
-fn a_chain_is_read_as_what_it_says(rt: HostRuntime) -> Result<(), Fail> {
-    let cert = match read_cert(rt.alloc(), ADDS_ONE) {
-        Ok(cert) => cert,
-        Err(_) => return Err(Fail::from("refused")),
-    };
-    let chain = at(at(cert.sections.as_slice(), 0)?.chains.as_slice(), 0)?;
+/// The chain is that of `ADDS_ONE`.
+fn leads_to_the_store(rt: &impl Abort, chain: &Chain) -> Result<(), Fail> {
     assert_eq!(rt; chain.lock, 0);
     assert_eq!(rt; chain.steps.len(), 3);
     let step = at(chain.steps.as_slice(), 2)?;
@@ -126,31 +126,41 @@ fn name(bytes: &[u8]) -> Result<Name, Fail> {
     }
 }
 
-#[test]
-fn a_certificate_that_is_made_is_written(rt: HostRuntime) -> Result<(), Fail> {
-    let mut fields = Items::new(rt.alloc());
-    fields.push(name(b"next")?)?;
+/// The list of one item.
+fn of_one<T: Drop>(alloc: Global, item: T) -> Result<Items<T>, AllocError> {
+    let mut items = Items::new(alloc);
+    items.push(item)?;
+    Ok(items)
+}
+
+/// The lists of two nodes: a path and a class, and nothing.
+fn made_nodes(alloc: Global) -> Result<Items<Items<CertLock>>, Fail> {
+    let fields = of_one(alloc, name(b"next")?)?;
     let base = CertBase::Name(name(b"head")?);
-    let mut list = Items::new(rt.alloc());
-    list.push(CertLock::ReadPath(CertPath { base, fields }))?;
+    let mut list = of_one(alloc, CertLock::ReadPath(CertPath { base, fields }))?;
     list.push(CertLock::MakeClass(3))?;
-    let mut nodes = Items::new(rt.alloc());
-    nodes.push(list)?;
-    nodes.push(Items::new(rt.alloc()))?;
-    let mut entry = Items::new(rt.alloc());
-    entry.push(CertLock::WriteClass(10))?;
-    let mut steps = Items::new(rt.alloc());
-    steps.push(CertStep {
+    let mut nodes = of_one(alloc, list)?;
+    nodes.push(Items::new(alloc))?;
+    Ok(nodes)
+}
+
+/// A chain of one step.
+fn made_chains(alloc: Global) -> Result<Items<Chain>, AllocError> {
+    let step = CertStep {
         node: 0,
         lock: CertLock::ReadClass(7),
-    })?;
-    let mut chains = Items::new(rt.alloc());
-    chains.push(Chain { lock: 2, steps })?;
+    };
+    let steps = of_one(alloc, step)?;
+    of_one(alloc, Chain { lock: 2, steps })
+}
+
+#[test]
+fn a_certificate_that_is_made_is_written(rt: HostRuntime) -> Result<(), Fail> {
     let mut sections = Items::new(rt.alloc());
     sections.push(CertSection {
-        nodes,
-        entry,
-        chains,
+        nodes: made_nodes(rt.alloc())?,
+        entry: of_one(rt.alloc(), CertLock::WriteClass(10))?,
+        chains: made_chains(rt.alloc())?,
     })?;
     let text = write_cert(rt.alloc(), &Cert { k: 1, sections })?;
     let wanted =
@@ -184,7 +194,7 @@ fn nothing_follows_the_end(rt: HostRuntime) -> Result<(), Fail> {
 }
 
 /// Texts that are refused at one of their first lines, or behind it.
-const FIRST_LINES: [(&[u8], &str); 18] = [
+const FIRST_LINES: &[(&[u8], &str)] = &[
     (b"", "31 CertEnd line 1"),
     (b"sect-cert 2", "31 CertEnd line 1"),
     (b"sect-cert 2\r\n", "30 BadCertLine line 1"),
@@ -214,7 +224,7 @@ fn first_lines_are_refused(rt: HostRuntime) -> Result<(), Fail> {
 }
 
 /// What may stand after the line `k 2`, and is refused.
-const SECTION_LINES: [(&[u8], &str); 17] = [
+const SECTION_LINES: &[(&[u8], &str)] = &[
     (b"sections 4294967295\n", "31 CertEnd line 4"),
     (b"sections 4294967296\n", "30 BadCertLine line 3"),
     (b"sections 00\n", "32 NotCanonical line 3"),
@@ -264,7 +274,7 @@ fn section_lines_are_refused(rt: HostRuntime) -> Result<(), Fail> {
 const BEFORE_NODES: &[u8] = b"sect-cert 2\nk 2\nsections 1\nsection 0 nodes 2\n";
 
 /// What may stand where two nodes are due, and is refused.
-const NODE_LINES: [(&[u8], &str); 14] = [
+const NODE_LINES: &[(&[u8], &str)] = &[
     (b"node 1: none\n", "32 NotCanonical line 5"),
     (b"node 00: none\n", "32 NotCanonical line 5"),
     (b"node 0 none\n", "30 BadCertLine line 5"),
@@ -299,7 +309,7 @@ fn node_lines_are_refused(rt: HostRuntime) -> Result<(), Fail> {
 }
 
 /// Lines of a node whose list is none.
-const NO_LISTS: [&[u8]; 24] = [
+const NO_LISTS: &[&[u8]] = &[
     b"node 0: none, R a\n",
     b"node 0: R a, none\n",
     b"node 0: R a,W b\n",
@@ -352,7 +362,7 @@ const BEFORE_CHAINS: &[u8] =
     b"sect-cert 2\nk 2\nsections 1\nsection 0 nodes 1\nnode 0: none\nentry: W a\n";
 
 /// What may stand where a chain is due, and is refused.
-const CHAIN_LINES: [(&[u8], &str); 18] = [
+const CHAIN_LINES: &[(&[u8], &str)] = &[
     (b"chain 0:\n", "30 BadCertLine line 7"),
     (b"chain 0: 0 W a >\n", "30 BadCertLine line 7"),
     (b"chain 0: 0 W a > 1 W\n", "30 BadCertLine line 7"),

@@ -16,7 +16,7 @@ type Leads = (Variable, usize, Option<u16>);
 fn classes_of(rt: &impl AllocGlobal, text: &[u8]) -> Result<Classes, Fail> {
     let program = program_of(rt.alloc(), text)?;
     let sets = points_to(rt.alloc(), &program)?;
-    Ok(classes(rt.alloc(), sets)?)
+    Ok(site_classes(rt.alloc(), sets)?)
 }
 
 /// The sites are in these classes.

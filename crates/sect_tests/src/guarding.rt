@@ -3,8 +3,8 @@
 use crate::programs::{
     GUARDED, GUARDED_BY_A_CELL, GUARDED_BY_NOTHING, GUARDED_TWICE, program_of, scheme,
 };
-use sect_hints::guards;
 use sect_hints::guarding::Guards;
+use sect_hints::guards;
 use sect_names::{MOST_PATH_FIELDS, SchemeFault, check_k, scheme_of};
 use std::alloc::Global;
 use std::process::Abort;
@@ -22,7 +22,7 @@ fn are_guards(rt: &impl Abort, found: &Guards, wanted: &[Option<u16>]) {
 }
 
 /// The guard of each record of these texts.
-const RIGHT: [(&[u8], &[Option<u16>]); 4] = [
+const RIGHT: &[(&[u8], &[Option<u16>])] = &[
     (b"", &[]),
     (GUARDED, &[None, Some(0)]),
     // Its cells are made.
@@ -58,7 +58,7 @@ fn answer(alloc: Global, text: &[u8]) -> Result<String, Fail> {
 }
 
 /// Texts whose hints are refused, and the line that says why.
-const WRONG: [(&[u8], &str); 8] = [
+const WRONG: &[(&[u8], &str)] = &[
     (GUARDED_BY_A_CELL, "21 GuardIsGuarded record 1"),
     (GUARDED_BY_NOTHING, "20 NoSuchGlobal record 1"),
     (GUARDED_TWICE, "22 HintTwice record 1"),
@@ -92,7 +92,7 @@ const WRONG: [(&[u8], &str); 8] = [
 #[test]
 fn wrong_hints(rt: HostRuntime) -> Result<(), Fail> {
     for (text, wanted) in WRONG {
-        assert_eq!(rt; answer(rt.alloc(), text)?.as_str(), wanted);
+        assert_eq!(rt; answer(rt.alloc(), text)?.as_str(), *wanted);
     }
     Ok(())
 }
@@ -106,7 +106,7 @@ fn scheme_answer(alloc: Global, text: &[u8], k: u16) -> Result<String, Fail> {
 }
 
 /// How many fields a path may have is judged before the hints.
-const SCHEMES: [(&[u8], u16, &str); 6] = [
+const SCHEMES: &[(&[u8], u16, &str)] = &[
     (GUARDED, 0, ""),
     (GUARDED, MOST_PATH_FIELDS, ""),
     (GUARDED_BY_NOTHING, 2, "20 NoSuchGlobal record 1"),
@@ -118,7 +118,7 @@ const SCHEMES: [(&[u8], u16, &str); 6] = [
 #[test]
 fn schemes_of_texts(rt: HostRuntime) -> Result<(), Fail> {
     for (text, k, wanted) in SCHEMES {
-        assert_eq!(rt; scheme_answer(rt.alloc(), text, k)?.as_str(), wanted);
+        assert_eq!(rt; scheme_answer(rt.alloc(), text, *k)?.as_str(), *wanted);
     }
     assert!(rt; check_k(3).is_ok());
     assert!(rt; matches!(check_k(4), Err(SchemeFault::BadK)));

@@ -69,9 +69,21 @@ fn holds(
 ) -> Result<(), Fail> {
     let scheme = scheme(rt.alloc(), text, k)?;
     let found = sets(rt, &scheme, section)?;
+    are_found(rt, &scheme, &found, count, entry, nodes)
+}
+
+/// These are the locks: of so many nodes, at the entry, and at some of the nodes.
+fn are_found(
+    rt: &(impl Abort + AllocGlobal),
+    scheme: &Scheme,
+    found: &Locks,
+    count: usize,
+    entry: &[Wanted],
+    nodes: &[(u16, &[Wanted])],
+) -> Result<(), Fail> {
     assert_eq!(rt; found.node_count(), count + 1);
-    takes(rt, &found, entry)?;
-    needs_all(rt, &scheme, &found, nodes)
+    takes(rt, found, entry)?;
+    needs_all(rt, scheme, found, nodes)
 }
 
 /// The first global of each program.

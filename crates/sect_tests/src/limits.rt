@@ -3,6 +3,7 @@
 use crate::typing::answer;
 use std::alloc::Global;
 use std::fmt::Write;
+use std::process::Abort;
 use std::test::Fail;
 
 /// Adds numbered copies of a text, in which `#` stands for the number.
@@ -36,8 +37,20 @@ fn repeated(
     Ok(all)
 }
 
+/// The text of these parts, of which the second stands there so often, has this answer.
+fn answers(
+    rt: &(impl Abort + AllocGlobal),
+    (before, text, count, after): (&str, &str, usize, &str),
+    wanted: &str,
+) -> Result<(), Fail> {
+    let source = repeated(rt.alloc(), before, text, count, after)?;
+    let found = answer(rt.alloc(), &source)?;
+    assert!(rt; found.as_str() == wanted, "{count} of {text}: {found}");
+    Ok(())
+}
+
 /// What stands before, what is repeated, how often it may be, what stands after, and the answer to one more.
-const LIMITS: [(&str, &str, u16, &str, &str); 15] = [
+const LIMITS: &[(&str, &str, u16, &str, &str)] = &[
     ("", "record r# { }", 64, "", "15 TooMany item 64"),
     (
         "record a { int f; } record r { ",
@@ -135,21 +148,15 @@ const LIMITS: [(&str, &str, u16, &str, &str); 15] = [
 
 #[test]
 fn limits_are_exact(rt: HostRuntime) -> Result<(), Fail> {
-    for (before, text, most, after, want) in LIMITS {
-        let full = repeated(rt.alloc(), before, text, most as usize, after)?;
-        assert_eq!(rt;
-            answer(rt.alloc(), &full)?.as_str(),
-            "",
-            "at {most} of {text}"
-        );
-        let more = repeated(rt.alloc(), before, text, most as usize + 1, after)?;
-        assert_eq!(rt; answer(rt.alloc(), &more)?.as_str(), want, "at {text}");
+    for (before, text, most, after, wanted) in LIMITS {
+        answers(&rt, (before, text, *most as usize, after), "")?;
+        answers(&rt, (before, text, *most as usize + 1, after), wanted)?;
     }
     Ok(())
 }
 
 /// Where several rules are broken at the item that passes a limit, the least is named.
-const PAST_LIMITS: [(&str, &str, usize, &str, &str); 5] = [
+const PAST_LIMITS: &[(&str, &str, usize, &str, &str)] = &[
     ("", "record r# { }", 64, "record r0 { }", "11 Twice item 64"),
     (
         "record r { ",
@@ -183,9 +190,8 @@ const PAST_LIMITS: [(&str, &str, usize, &str, &str); 5] = [
 
 #[test]
 fn the_least_rule_at_a_limit(rt: HostRuntime) -> Result<(), Fail> {
-    for (before, text, count, after, want) in PAST_LIMITS {
-        let source = repeated(rt.alloc(), before, text, count, after)?;
-        assert_eq!(rt; answer(rt.alloc(), &source)?.as_str(), want, "at {after}");
+    for (before, text, count, after, wanted) in PAST_LIMITS {
+        answers(&rt, (before, text, *count, after), wanted)?;
     }
     Ok(())
 }

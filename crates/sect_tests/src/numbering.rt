@@ -1,9 +1,11 @@
 //! What the numbers of a program stand for.
 
 use crate::programs::program_of;
+use sect_types::Program;
 use sect_types::action::{Action, Base, Value};
 use sect_types::text::{Step, Text};
 use sect_types::types::ValueType;
+use std::process::Abort;
 use std::test::Fail;
 
 /// A list with two threads: one adds an element, the other sums up.
@@ -16,7 +18,12 @@ thread sum { int s; Node p; int v;
 
 #[test]
 fn declarations_by_number(rt: HostRuntime) -> Result<(), Fail> {
-    let program = program_of(rt.alloc(), LIST)?;
+    are_declared(&rt, &program_of(rt.alloc(), LIST)?);
+    Ok(())
+}
+
+/// The records, globals and locals of the list by number.
+fn are_declared(rt: &impl Abort, program: &Program) {
     let records = program.records();
     assert!(rt; records.len() == 2);
     assert_eq!(rt; records[0].as_slice().len(), 0);
@@ -36,21 +43,23 @@ fn declarations_by_number(rt: HostRuntime) -> Result<(), Fail> {
         [ValueType::Int, ValueType::Refers(1), ValueType::Int].as_slice()
     );
     assert_eq!(rt; program.tree().threads().len(), 2);
-    Ok(())
 }
+
+/// How many threads, sections, sites and statements these texts have.
+const COUNTS: &[(&[u8], [u32; 4])] = &[(LIST, [2, 4, 4, 14]), (b"", [0, 0, 0, 0])];
 
 #[test]
 fn counts_of_a_program(rt: HostRuntime) -> Result<(), Fail> {
-    let program = program_of(rt.alloc(), LIST)?;
-    assert_eq!(rt; program.thread_count(), 2);
-    assert_eq!(rt; program.section_count(), 4);
-    assert_eq!(rt; program.site_count(), 4);
-    assert_eq!(rt; program.statement_count(), 14);
-    let empty = program_of(rt.alloc(), b"")?;
-    assert_eq!(rt; empty.thread_count(), 0);
-    assert_eq!(rt; empty.section_count(), 0);
-    assert_eq!(rt; empty.site_count(), 0);
-    assert_eq!(rt; empty.statement_count(), 0);
+    for (text, wanted) in COUNTS {
+        let program = program_of(rt.alloc(), text)?;
+        let found = [
+            u32::from(program.thread_count()),
+            u32::from(program.section_count()),
+            u32::from(program.site_count()),
+            program.statement_count(),
+        ];
+        assert!(rt; found == *wanted);
+    }
     Ok(())
 }
 

@@ -6,7 +6,7 @@ use std::alloc::{AllocError, Global};
 use std::test::Fail;
 
 /// Programs of all forms, named by what they show.
-const PROGRAMS: [(&str, &[u8]); 12] = [
+const PROGRAMS: &[(&str, &[u8])] = &[
     ("an empty section", b"thread e { atomic { } }"),
     (
         "one object",
@@ -74,7 +74,7 @@ fn every_beginning_of_a_program(rt: HostRuntime) -> Result<(), Fail> {
 }
 
 /// Texts that are refused, and the line that says why.
-const REFUSALS: [(&[u8], &[u8]); 29] = [
+const REFUSALS: &[(&[u8], &[u8])] = &[
     (b"thread t } $", b"1 BadByte line 1"),
     (b"thread\n\n #", b"1 BadByte line 3"),
     (b"thread t {\n x = 1 ! = 2; }", b"1 BadByte line 2"),
@@ -125,7 +125,7 @@ fn refuses_with_number_and_line(rt: HostRuntime) -> Result<(), Fail> {
             Ok(_) => format!(in rt.alloc(); "accepted")?,
             Err(fault) => format!(in rt.alloc(); "{fault}")?,
         };
-        assert!(rt; answer.as_bytes() == wanted, "{answer}");
+        assert!(rt; answer.as_bytes() == *wanted, "{answer}");
     }
     Ok(())
 }

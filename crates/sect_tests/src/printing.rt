@@ -1,10 +1,11 @@
 //! Locks as they are printed.
 
-use crate::programs::program_of;
-use crate::wanted::{Wanted, lock};
+use crate::programs::{NEXT, program_of};
 use sect_names::printing::{put_lock, put_locks};
-use sect_names::{Effect, Lock, Right};
+use sect_names::{Effect, Lock, Path, Right};
 use sect_points::Variable;
+use sect_types::Program;
+use std::process::Abort;
 use std::test::Fail;
 
 /// A program with one global and one reference.
@@ -37,12 +38,23 @@ fn locks_on_classes(rt: HostRuntime) -> Result<(), Fail> {
 #[test]
 fn a_lock_on_a_path(rt: HostRuntime) -> Result<(), Fail> {
     let program = program_of(rt.alloc(), LIST)?;
-    let lock = lock(&rt, Wanted::At(Variable::Global(0), 1, Effect::Write))?;
+    prints(&rt, &program, Effect::Read, "R head.next")?;
+    prints(&rt, &program, Effect::Write, "W head.next")
+}
+
+/// The lock on the second field of the first global is printed so.
+fn prints(
+    rt: &(impl Abort + AllocGlobal),
+    program: &Program,
+    effect: Effect,
+    wanted: &str,
+) -> Result<(), Fail> {
+    let path = Path::new(rt.alloc(), Variable::Global(0)).extended(&[NEXT])?;
     assert!(rt; !program.globals().is_empty());
     assert!(rt; !program.records().is_empty());
     assert!(rt; program.records()[0].as_slice().len() > 1);
     let mut text = String::new(rt.alloc());
-    put_lock(&mut text, &program, &lock)?;
-    assert_eq!(rt; text.as_str(), "W head.next");
+    put_lock(&mut text, program, &Lock::Path(path, effect))?;
+    assert_eq!(rt; text.as_str(), wanted);
     Ok(())
 }

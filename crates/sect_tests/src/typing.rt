@@ -6,7 +6,7 @@ use std::alloc::Global;
 use std::test::Fail;
 
 /// Texts without a fault.
-const ACCEPTED: [&str; 20] = [
+const ACCEPTED: &[&str] = &[
     "",
     "thread e { atomic { } }",
     // A record is known in every record, also before its own text.
@@ -45,7 +45,7 @@ const ACCEPTED: [&str; 20] = [
 ];
 
 /// Texts with a fault, and the fault.
-const REFUSED: [(&str, &str); 77] = [
+const REFUSED: &[(&str, &str)] = &[
     // An unknown name.
     ("record A { B f; }", "10 Unknown item 1"),
     ("record A { int f; A g; B h; }", "10 Unknown item 3"),
@@ -299,7 +299,7 @@ fn accepts_typed_texts(rt: HostRuntime) -> Result<(), Fail> {
 #[test]
 fn names_the_first_item_at_fault(rt: HostRuntime) -> Result<(), Fail> {
     for (text, want) in REFUSED {
-        assert_eq!(rt; answer(rt.alloc(), text)?.as_str(), want, "at {text}");
+        assert_eq!(rt; answer(rt.alloc(), text)?.as_str(), *want, "at {text}");
     }
     Ok(())
 }

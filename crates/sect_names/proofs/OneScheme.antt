@@ -1,20 +1,16 @@
 -- A program has one scheme.
-use Rattle.std.proofs.Common.{◌≡◌, ◌↔◌, ◌⊎◌, inl, inr, ℕ, zero, suc, ◌+◌, ◌<◌, ◌≤◌, List, [], ◌∷◌, length, Option, Some, None, refl, sym, ap, ◌∙◌, subst, arith}
-use Rattle.std.specs.Prelude.{slice_get, slice_index, slice_index_or}
-use Rattle.std.proofs.lemmas.Bool.{cases_lt, cases_eq}
-use Rattle.std.proofs.lemmas.Option.{slice_get_within, slice_get-get_or}
-use Rattle.sect_types.specs.Lists.{Has}
+use Rattle.std.proofs.Common.{◌≡◌, inl, inr, ℕ, zero, suc, ◌<◌, ◌≤◌, List, [], ◌∷◌, length, Option, Some, None, refl, sym, ap, ◌∙◌, subst, arith}
+use Rattle.std.specs.Prelude.{slice_index, slice_index_or}
+use Rattle.std.proofs.lemmas.Bool.{cases_lt}
+use Rattle.std.proofs.lemmas.Option.{slice_get-get_or}
 use Rattle.sect_types.specs.Statements.{TextView, Stop}
 use Rattle.sect_types.specs.Programs.{ProgramView, sites_of}
-use Rattle.sect_types.specs.Sections.{SectionView, sections_of}
-use Rattle.sect_graph.specs.declared.flow.Node.{Node}
-use Rattle.sect_graph.specs.Layout.{flow_nodes}
+use Rattle.sect_types.specs.Sections.{sections_of}
 use Rattle.sect_graph.specs.Graphs.{GraphView, AreGraphs}
 use Rattle.sect_points.specs.declared.holders.ThreadAction.{ThreadAction}
-use Rattle.sect_points.specs.declared.holders.Holder.{Holder}
-use Rattle.sect_points.specs.Flow.{Family, Moved, Within, IsClosed, family_of, IsLeastFlow}
+use Rattle.sect_points.specs.Flow.{Family, Within, IsClosed, family_of, IsLeastFlow}
 use Rattle.sect_points.specs.Sets.{PointsToView, InSets, AreBelow}
-use Rattle.sect_points.specs.Partitions.{ClassesView, Together, Respects, IsParted, AreSlotsOfSites}
+use Rattle.sect_points.specs.Partitions.{ClassesView, Together, IsParted, AreSlotsOfSites}
 use Rattle.sect_points.specs.Statements.{statements_of}
 use Rattle.sect_points.proofs.SolvingLaws.{moved_more}
 use Rattle.sect_hints.specs.Hints.{AreGuards}

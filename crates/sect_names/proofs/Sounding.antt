@@ -1,11 +1,10 @@
 -- What a sound step of a thread needs, and what it carries back, are locks that the thread's sections may take.
-use Rattle.std.proofs.Common.{◌≡◌, ℕ, ◌+◌, ◌<◌, List, [], length, length-append, Option, Some, None, refl, sym, ap, ◌∙◌, subst, inl, inr, arith}
+use Rattle.std.proofs.Common.{◌≡◌, ℕ, ◌<◌, List, [], length, length-append, Option, Some, None, refl, sym, ap, subst, inl, inr, arith}
 use Rattle.std.specs.Prelude.{slice_get, slice_index_or}
 use Rattle.std.proofs.lemmas.Bool.{cases_lt}
 use Rattle.std.proofs.lemmas.List.{get_or_past}
 use Rattle.std.proofs.lemmas.Option.{slice_get_within, slice_get-get_or}
-use Rattle.sect_types.specs.Lists.{Has}
-use Rattle.sect_types.specs.Programs.{ProgramView, environment_at, sites_of, all_made}
+use Rattle.sect_types.specs.Programs.{ProgramView, environment_at, all_made}
 use Rattle.sect_types.specs.Sound.{IsSoundAction, type_in}
 use Rattle.sect_types.proofs.Membership.{Has-slice_get}
 use Rattle.sect_types.specs.declared.types.ValueType.{ValueType}
@@ -24,8 +23,8 @@ use Rattle.sect_names.specs.declared.lock.Effect.TheVariants as effect
 use Rattle.sect_names.specs.declared.lock.Lock.{Lock}
 use Rattle.sect_names.specs.declared.lock.Lock.TheVariants as lock
 use Rattle.sect_names.specs.Schemes.{SchemeView, IsScheme, guard_of}
-use Rattle.sect_names.specs.Locks.{depth, IsVariable, IsField, IsPathOf, VariableTo, FieldTo, PathTo, IsOwn, IsClassed, IsPathIn, IsLockOf}
-use Rattle.sect_names.specs.Carrying.{locked_for, Accesses, Makes, GeneratedBy, Generated, Before, LockOn, CarriedBack}
+use Rattle.sect_names.specs.Locks.{IsVariable, IsPathOf, VariableTo, FieldTo, PathTo, IsOwn, IsClassed, IsPathIn, IsLockOf}
+use Rattle.sect_names.specs.Carrying.{locked_for, Accesses, Makes, GeneratedBy, Generated, LockOn, CarriedBack}
 use Rattle.sect_names.specs.Laws.{IsSoundStep}
 use Rattle.sect_names.proofs.Typing.{base_to, path_to}
 use Rattle.sect_names.proofs.Owning.{own_base, own_before}

@@ -1,5 +1,5 @@
 -- Least sets in canonical order are one.
-use Rattle.std.proofs.Common.{◌≡◌, ◌↔◌, ◌⊎◌, ℕ, ◌<◌, List, [], ◌∷◌, inl, inr, refl, sym, ap, ◌∙◌, subst, arith}
+use Rattle.std.proofs.Common.{◌≡◌, ◌⊎◌, ℕ, ◌<◌, List, [], ◌∷◌, inl, inr, refl, sym, ap, ◌∙◌, subst, arith}
 use Rattle.sect_types.specs.Lists.{Has}
 use Rattle.sect_types.specs.Statements.{TextView}
 use Rattle.sect_types.specs.declared.action.Field.{Field}

@@ -1,4 +1,4 @@
-use Rattle.std.proofs.Common.{◌≡◌, ◌+◌, map, sym, ap, subst, arith, length}
+use Rattle.std.proofs.Common.{◌+◌, map, sym, subst, arith, length}
 use Rattle.sect_infer.specs.steps.Needs.{AreByNode}
 use Rattle.sect_infer.specs.steps.Found.{AreFound}
 use Rattle.sect_infer.proofs.Working.{derived_lock}

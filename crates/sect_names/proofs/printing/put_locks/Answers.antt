@@ -1,5 +1,5 @@
 use Rattle.sect_names.proofs.Named.{other_there}
-use Rattle.sect_names.proofs.text.put_locks.Goals as goal
+use Rattle.sect_names.proofs.printing.put_locks.Goals as goal
 
 pub put_lock-requires-in-loop-lock : goal.put_lock-requires-in-loop-lock
 put_lock-requires-in-loop-lock c =

@@ -3,7 +3,7 @@ use Rattle.std.specs.Prelude.{codes}
 use Rattle.std.specs.List.{flat_map}
 use Rattle.std.specs.String.{string_bytes}
 use Rattle.sect_names.specs.Printing.{lock_text}
-use Rattle.sect_names.proofs.text.put_locks.Given as goal
+use Rattle.sect_names.proofs.printing.put_locks.Given as goal
 
 abbrev pub invariant-loop-lock : goal.invariant-loop-lock
 invariant-loop-lock l =

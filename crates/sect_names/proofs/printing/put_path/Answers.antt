@@ -1,5 +1,5 @@
 use Rattle.sect_names.proofs.Named.{base_there, item_there}
-use Rattle.sect_names.proofs.text.put_path.Goals as goal
+use Rattle.sect_names.proofs.printing.put_path.Goals as goal
 
 pub variable_name-requires : goal.variable_name-requires
 variable_name-requires c = rw c.base.ensures (base_there c.args.program.now c.args.path.now c.requires)

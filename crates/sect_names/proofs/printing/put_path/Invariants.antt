@@ -3,7 +3,7 @@ use Rattle.std.specs.Prelude.{codes}
 use Rattle.std.specs.List.{flat_map}
 use Rattle.std.specs.String.{string_bytes}
 use Rattle.sect_names.specs.Printing.{field_name}
-use Rattle.sect_names.proofs.text.put_path.Given as goal
+use Rattle.sect_names.proofs.printing.put_path.Given as goal
 
 abbrev pub invariant-loop-field : goal.invariant-loop-field
 invariant-loop-field l =

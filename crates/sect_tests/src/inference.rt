@@ -59,7 +59,8 @@ fn needs_all(
     Ok(())
 }
 
-/// A section of a text has so many nodes beside its exit, takes these locks at its entry, and needs those from some of its nodes on.
+/// A section of a text has so many nodes beside its exit, takes these locks at its entry, and needs those from some of
+/// its nodes on.
 fn holds(
     rt: &(impl Abort + AllocGlobal),
     (text, k, section): (&[u8], u16, u16),
@@ -72,7 +73,7 @@ fn holds(
     are_found(rt, &scheme, &found, count, entry, nodes)
 }
 
-/// These are the locks: of so many nodes, at the entry, and at some of the nodes.
+/// These are the locks: of so many nodes beside the exit, at the entry, and at some of the nodes.
 fn are_found(
     rt: &(impl Abort + AllocGlobal),
     scheme: &Scheme,

@@ -169,25 +169,35 @@ fn texts_above_the_size(rt: HostRuntime) -> Result<(), Fail> {
     Ok(())
 }
 
+/// The text that is printed of a text's tree.
+fn printed(alloc: Global, text: &[u8]) -> Result<Vec<u8>, Fail> {
+    let tree = parse(alloc, text)?;
+    Ok(print(alloc, &tree)?)
+}
+
+/// How many tokens a text's tree has.
+fn token_count(alloc: Global, text: &[u8]) -> Result<usize, Fail> {
+    let tree = parse(alloc, text)?;
+    Ok(tokens_of(alloc, &tree)?.len())
+}
+
 #[test]
 fn prints_what_reads_back(rt: HostRuntime) -> Result<(), Fail> {
     for (name, text) in PROGRAMS {
-        let tree = parse(rt.alloc(), text)?;
-        let printed = print(rt.alloc(), &tree)?;
-        let again = parse(rt.alloc(), printed.as_slice())?;
-        assert!(rt;
-            print(rt.alloc(), &again)?.as_slice() == printed.as_slice(),
-            "{name}"
-        );
+        let once = printed(rt.alloc(), text)?;
+        let twice = printed(rt.alloc(), once.as_slice())?;
+        assert!(rt; twice.as_slice() == once.as_slice(), "{name}");
     }
-    let tree = parse(rt.alloc(), b"thread f { int x; x = 1; x = 2; }")?;
-    assert!(rt; tokens_of(rt.alloc(), &tree)?.len() == 15);
-    assert!(rt;
-        print(rt.alloc(), &tree)?.as_slice()
-            == b"thread f {\nint x ;\nx = 1 ;\nx = 2 ;\n}\n".as_slice()
-    );
-    let nothing = parse(rt.alloc(), b"// nothing")?;
-    assert!(rt; print(rt.alloc(), &nothing)?.is_empty());
+    Ok(())
+}
+
+#[test]
+fn prints_line_by_line(rt: HostRuntime) -> Result<(), Fail> {
+    let text = b"thread f { int x; x = 1; x = 2; }";
+    assert!(rt; token_count(rt.alloc(), text)? == 15);
+    let found = printed(rt.alloc(), text)?;
+    assert!(rt; found.as_slice() == b"thread f {\nint x ;\nx = 1 ;\nx = 2 ;\n}\n".as_slice());
+    assert!(rt; printed(rt.alloc(), b"// nothing")?.is_empty());
     Ok(())
 }
 

@@ -8,10 +8,13 @@ use sect_table::{Answer, Claim, Grant, Grants, Table, TableFault};
 use std::process::Abort;
 use std::test::Fail;
 
+/// The key that most runs speak of.
 const A: Key = Key::Class(0);
 
+/// Another key.
 const B: Key = Key::Global(0);
 
+/// The thread asks for a key, and is answered so.
 fn asks(
     rt: &impl Abort,
     table: &mut Table,
@@ -24,6 +27,7 @@ fn asks(
     assert_eq!(rt; table.request(thread, key, mode), wanted);
 }
 
+/// The thread gives back what it holds.
 fn releases(rt: &impl Abort, table: &mut Table, thread: u16, grants: &mut Grants) {
     assert!(rt; (thread as usize) < table.threads());
     assert!(rt; !table.is_waiting(thread));
@@ -31,11 +35,13 @@ fn releases(rt: &impl Abort, table: &mut Table, thread: u16, grants: &mut Grants
     table.release_all(thread, grants);
 }
 
+/// The thread holds the key in this mode, or doesn't hold it.
 fn holds(rt: &impl Abort, table: &Table, thread: u16, key: Key, wanted: Option<Mode>) {
     assert!(rt; (thread as usize) < table.threads());
     assert_eq!(rt; table.held(thread, key), wanted);
 }
 
+/// This thread waits first for key A, in this mode, or nobody waits.
 fn waits_first(rt: &impl Abort, table: &Table, wanted: Option<(u16, Mode)>) {
     let waiter = table
         .first_waiter(A)
@@ -43,6 +49,7 @@ fn waits_first(rt: &impl Abort, table: &Table, wanted: Option<(u16, Mode)>) {
     assert_eq!(rt; waiter, wanted);
 }
 
+/// So many nodes are free.
 fn spares(rt: &impl Abort, table: &Table, wanted: usize) {
     assert_eq!(rt; table.spare(), wanted);
 }
@@ -62,101 +69,148 @@ fn granted(rt: &impl Abort, grants: &Grants, wanted: &[(u16, Mode)]) {
     }
 }
 
-#[test]
-fn a_waiter_behind_a_waiter(rt: HostRuntime) -> Result<(), Fail> {
-    let mut table = Table::with_threads(rt.alloc(), 3)?;
-    let mut grants = Grants::with_threads(rt.alloc(), 3)?;
-    asks(&rt, &mut table, 0, A, Shared, Ok(Granted));
-    asks(&rt, &mut table, 1, A, Exclusive, Ok(Queued));
-    asks(&rt, &mut table, 2, A, IntentionShared, Ok(Queued));
-    waits_first(&rt, &table, Some((1, Exclusive)));
-    releases(&rt, &mut table, 0, &mut grants);
-    granted(&rt, &grants, &[(1, Exclusive)]);
-    waits_first(&rt, &table, Some((2, IntentionShared)));
-    releases(&rt, &mut table, 1, &mut grants);
-    granted(&rt, &grants, &[(2, IntentionShared)]);
-    waits_first(&rt, &table, None);
+/// A call of the table, and what is to come of it.
+#[derive(Clone, Copy)]
+enum Call<'a> {
+    /// The thread asks for key A in this mode, and is answered so.
+    Asks(u16, Mode, Result<Answer, TableFault>),
+    /// It asks for key B.
+    AsksOther(u16, Mode, Result<Answer, TableFault>),
+    /// The thread gives back what it holds, by which these get key A in these modes.
+    Releases(u16, &'a [(u16, Mode)]),
+    /// The thread holds key A in this mode, or doesn't hold it.
+    Holds(u16, Option<Mode>),
+    /// This thread waits first for key A, in this mode, or nobody waits.
+    WaitsFirst(Option<(u16, Mode)>),
+    /// So many nodes are free.
+    Spares(usize),
+}
+
+/// Does a call, and looks at what comes of it.
+fn done(rt: &impl Abort, table: &mut Table, grants: &mut Grants, call: Call<'_>) {
+    match call {
+        Call::Asks(thread, mode, wanted) => asks(rt, table, thread, A, mode, wanted),
+        Call::AsksOther(thread, mode, wanted) => asks(rt, table, thread, B, mode, wanted),
+        Call::Releases(thread, wanted) => {
+            releases(rt, table, thread, grants);
+            granted(rt, grants, wanted);
+        }
+        Call::Holds(thread, wanted) => holds(rt, table, thread, A, wanted),
+        Call::WaitsFirst(wanted) => waits_first(rt, table, wanted),
+        Call::Spares(wanted) => spares(rt, table, wanted),
+    }
+}
+
+/// Does these calls in turn.
+fn all_done(rt: &impl Abort, table: &mut Table, grants: &mut Grants, calls: &[Call<'_>]) {
+    for call in calls {
+        done(rt, table, grants, *call);
+    }
+}
+
+/// Does these calls in turn, on an empty table for so many threads.
+fn runs(rt: &(impl Abort + AllocGlobal), threads: usize, calls: &[Call<'_>]) -> Result<(), Fail> {
+    let mut table = Table::with_threads(rt.alloc(), threads)?;
+    let mut grants = Grants::with_threads(rt.alloc(), threads)?;
+    all_done(rt, &mut table, &mut grants, calls);
     Ok(())
 }
 
-#[test]
-fn two_waiters_at_once(rt: HostRuntime) -> Result<(), Fail> {
-    let mut table = Table::with_threads(rt.alloc(), 3)?;
-    let mut grants = Grants::with_threads(rt.alloc(), 3)?;
-    asks(&rt, &mut table, 0, A, Exclusive, Ok(Granted));
-    asks(&rt, &mut table, 1, A, IntentionShared, Ok(Queued));
-    asks(&rt, &mut table, 2, A, IntentionExclusive, Ok(Queued));
-    releases(&rt, &mut table, 0, &mut grants);
-    granted(
-        &rt,
-        &grants,
-        &[(1, IntentionShared), (2, IntentionExclusive)],
-    );
-    holds(&rt, &table, 0, A, None);
-    holds(&rt, &table, 1, A, Some(IntentionShared));
-    holds(&rt, &table, 2, A, Some(IntentionExclusive));
-    Ok(())
-}
+/// A waiter that could be let in waits behind one that could not.
+const BEHIND_A_WAITER: &[Call<'static>] = &[
+    Call::Asks(0, Shared, Ok(Granted)),
+    Call::Asks(1, Exclusive, Ok(Queued)),
+    Call::Asks(2, IntentionShared, Ok(Queued)),
+    Call::WaitsFirst(Some((1, Exclusive))),
+    Call::Releases(0, &[(1, Exclusive)]),
+    Call::WaitsFirst(Some((2, IntentionShared))),
+    Call::Releases(1, &[(2, IntentionShared)]),
+    Call::WaitsFirst(None),
+];
+
+/// One release lets in two waiters.
+const TWO_WAITERS: &[Call<'static>] = &[
+    Call::Asks(0, Exclusive, Ok(Granted)),
+    Call::Asks(1, IntentionShared, Ok(Queued)),
+    Call::Asks(2, IntentionExclusive, Ok(Queued)),
+    Call::Releases(0, &[(1, IntentionShared), (2, IntentionExclusive)]),
+    Call::Holds(0, None),
+    Call::Holds(1, Some(IntentionShared)),
+    Call::Holds(2, Some(IntentionExclusive)),
+];
+
+/// A release lets nobody in while another holder stands in the way.
+const SECOND_HOLDER: &[Call<'static>] = &[
+    Call::Asks(0, Shared, Ok(Granted)),
+    Call::Asks(1, Shared, Ok(Granted)),
+    Call::Asks(2, Exclusive, Ok(Queued)),
+    Call::Asks(3, IntentionShared, Ok(Queued)),
+    Call::Releases(0, &[]),
+    Call::Releases(1, &[(2, Exclusive)]),
+];
+
+/// A refused request changes nothing, also when it comes again.
+const REFUSALS: &[Call<'static>] = &[
+    Call::Asks(0, Shared, Ok(Granted)),
+    Call::Asks(1, Exclusive, Ok(Queued)),
+    Call::Asks(1, Shared, Err(AlreadyWaiting)),
+    Call::Asks(0, Shared, Err(AlreadyHeld)),
+    Call::Holds(0, Some(Shared)),
+    Call::Holds(1, None),
+    Call::WaitsFirst(Some((1, Exclusive))),
+    Call::Spares(0),
+    Call::Asks(1, Shared, Err(AlreadyWaiting)),
+    Call::Asks(0, Shared, Err(AlreadyHeld)),
+    Call::Holds(0, Some(Shared)),
+    Call::Holds(1, None),
+    Call::WaitsFirst(Some((1, Exclusive))),
+    Call::Spares(0),
+];
+
+/// The nodes that a release frees are used again.
+const FREE_NODES: &[Call<'static>] = &[
+    Call::Asks(0, Shared, Ok(Granted)),
+    Call::AsksOther(0, Exclusive, Ok(Granted)),
+    Call::Asks(1, IntentionShared, Ok(Granted)),
+    Call::Spares(0),
+    Call::Releases(0, &[]),
+    Call::Spares(2),
+    Call::Asks(2, Shared, Ok(Granted)),
+    Call::Spares(1),
+    Call::Releases(1, &[]),
+    Call::Releases(2, &[]),
+    Call::Spares(3),
+];
 
 #[test]
-fn a_second_holder_stays(rt: HostRuntime) -> Result<(), Fail> {
-    let mut table = Table::with_threads(rt.alloc(), 4)?;
-    let mut grants = Grants::with_threads(rt.alloc(), 4)?;
-    asks(&rt, &mut table, 0, A, Shared, Ok(Granted));
-    asks(&rt, &mut table, 1, A, Shared, Ok(Granted));
-    asks(&rt, &mut table, 2, A, Exclusive, Ok(Queued));
-    asks(&rt, &mut table, 3, A, IntentionShared, Ok(Queued));
-    releases(&rt, &mut table, 0, &mut grants);
-    granted(&rt, &grants, &[]);
-    releases(&rt, &mut table, 1, &mut grants);
-    granted(&rt, &grants, &[(2, Exclusive)]);
-    Ok(())
-}
-
-#[test]
-fn refusals_change_nothing(rt: HostRuntime) -> Result<(), Fail> {
-    let mut table = Table::with_threads(rt.alloc(), 2)?;
-    asks(&rt, &mut table, 0, A, Shared, Ok(Granted));
-    asks(&rt, &mut table, 1, A, Exclusive, Ok(Queued));
-    for _ in 0..2 {
-        asks(&rt, &mut table, 1, A, Shared, Err(AlreadyWaiting));
-        asks(&rt, &mut table, 0, A, Shared, Err(AlreadyHeld));
-        holds(&rt, &table, 0, A, Some(Shared));
-        holds(&rt, &table, 1, A, None);
-        waits_first(&rt, &table, Some((1, Exclusive)));
-        spares(&rt, &table, 0);
+fn whole_runs(rt: HostRuntime) -> Result<(), Fail> {
+    for (threads, calls) in [
+        (3, BEHIND_A_WAITER),
+        (3, TWO_WAITERS),
+        (4, SECOND_HOLDER),
+        (2, REFUSALS),
+        (3, FREE_NODES),
+    ] {
+        runs(&rt, threads, calls)?;
     }
     Ok(())
 }
 
-#[test]
-fn free_nodes_are_used_again(rt: HostRuntime) -> Result<(), Fail> {
-    let mut table = Table::with_threads(rt.alloc(), 3)?;
-    let mut grants = Grants::with_threads(rt.alloc(), 3)?;
-    asks(&rt, &mut table, 0, A, Shared, Ok(Granted));
-    asks(&rt, &mut table, 0, B, Exclusive, Ok(Granted));
-    asks(&rt, &mut table, 1, A, IntentionShared, Ok(Granted));
-    spares(&rt, &table, 0);
-    releases(&rt, &mut table, 0, &mut grants);
-    spares(&rt, &table, 2);
-    asks(&rt, &mut table, 2, A, Shared, Ok(Granted));
-    spares(&rt, &table, 1);
-    releases(&rt, &mut table, 1, &mut grants);
-    releases(&rt, &mut table, 2, &mut grants);
-    spares(&rt, &table, 3);
-    Ok(())
-}
+/// What a thread may do with a key that it was given fresh.
+const FRESH: &[Call<'static>] = &[
+    Call::Holds(0, Some(Exclusive)),
+    Call::Asks(0, Shared, Err(AlreadyHeld)),
+    Call::Releases(0, &[]),
+    Call::Holds(0, None),
+    Call::Spares(1),
+];
 
 #[test]
 fn a_fresh_key(rt: HostRuntime) -> Result<(), Fail> {
     let mut table = Table::with_threads(rt.alloc(), 1)?;
     let mut grants = Grants::with_threads(rt.alloc(), 1)?;
     table.give_fresh(0, A)?;
-    holds(&rt, &table, 0, A, Some(Exclusive));
-    asks(&rt, &mut table, 0, A, Shared, Err(AlreadyHeld));
-    releases(&rt, &mut table, 0, &mut grants);
-    holds(&rt, &table, 0, A, None);
-    spares(&rt, &table, 1);
+    all_done(&rt, &mut table, &mut grants, FRESH);
     Ok(())
 }
 

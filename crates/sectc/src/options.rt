@@ -31,7 +31,7 @@ pub enum UsageFault {
     #[error("{0}\nThe source text is read on standard input, as in: sectc locks < FILE\n")]
     Words(clap::Error),
     /// A value that isn't decimal digits alone or lies outside `least` to `most`, and its option.
-    #[error("error: invalid value '{value}' for '--{option}': a number from {least} to {most} is wanted, in digits alone\n")]
+    #[error("error: invalid value '{value}' for '--{option}': a number from {least} to {most} is wanted\n")]
     Number {
         value: String,
         option: &'static str,
@@ -39,7 +39,7 @@ pub enum UsageFault {
         most: u32,
     },
     /// A word in the place of a thread's number that isn't decimal digits alone or is too great.
-    #[error("error: invalid thread '{0}': a number from 0 to 65535 is wanted, in digits alone\n")]
+    #[error("error: invalid thread '{0}': a number from 0 to 65535 is wanted\n")]
     Thread(String),
     /// A growth was refused.
     #[error("out of memory\n")]

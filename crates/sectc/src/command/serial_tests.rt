@@ -50,19 +50,22 @@ fn runs_whole_sections(rt: HostRuntime) -> Result<(), Fail> {
                 "serial 0 1",
                 LIST,
                 0,
-                "thread 0 done\nthread 1 done\norder 0 1\nout 0\nobject head val=0 next=1#0\nobject 1#0 val=5 next=null\n",
+                "thread 0 done\nthread 1 done\n\
+                    order 0 1\nout 0\nobject head val=0 next=1#0\nobject 1#0 val=5 next=null\n",
             ),
             (
                 "serial 1 0",
                 LIST,
                 0,
-                "thread 0 done\nthread 1 done\norder 1 0\nout 5\nobject head val=0 next=1#0\nobject 1#0 val=5 next=null\n",
+                "thread 0 done\nthread 1 done\n\
+                    order 1 0\nout 5\nobject head val=0 next=1#0\nobject 1#0 val=5 next=null\n",
             ),
             (
                 "serial 0 1",
                 NULL_LOADED,
                 0,
-                "thread 0 null\nthread 1 done\norder 0 1\nout 4\nobject head val=0 next=null\nobject b val=4 next=null\n",
+                "thread 0 null\nthread 1 done\n\
+                    order 0 1\nout 4\nobject head val=0 next=null\nobject b val=4 next=null\n",
             ),
             ("serial", OVER, 0, "thread 0 overflow\norder none\n"),
         ],

@@ -68,7 +68,7 @@ const REFUSALS: [(&str, &str); 18] = [
     ),
     ("thread t { x = y.f.g; }", "refused 4 Unexpected line 1\n"),
     (
-        "thread e { atomic all { } }\n",
+        "thread e { atomic any { } }\n",
         "refused 4 Unexpected line 1\n",
     ),
     ("thread t { atomic {", "refused 5 UnexpectedEnd line 1\n"),

@@ -7,6 +7,7 @@ use Rattle.std.proofs.lemmas.Bool.Decides.{nat_tests}
 use Rattle.sect_types.specs.declared.action.Condition.{Condition}
 use Rattle.sect_types.specs.Statements.{TextView, Stop, Do, Choose, Loop, Section, joined}
 use Rattle.sect_types.specs.Traces.{node_count}
+use Rattle.sect_types.proofs.Joining.{joined_stop}
 use Rattle.sect_graph.specs.declared.flow.Node.{Node}
 use Rattle.sect_graph.specs.Layout.{entry_of, nodes_of}
 use Rattle.sect_graph.specs.Rests.{rest_before, rest_at, Begins, RunsRests}
@@ -146,13 +147,6 @@ begins g rest (Loop t p r) n next k has says on (suc j) lt x at =
       | inr past ↦ rw (not_less j (node_count p) past)
           (begins g rest r end next k has_r (says_past rest t p r n k says) on (j - node_count p) (omega arith) x (subst (λ i. slice_get g i ≡ Some x) (omega arith) at))
     ]
-
-joined_stop : (c : TextView) → joined c Stop ≡ c
-joined_stop Stop = refl
-joined_stop (Do a r) = ap (Do a) (joined_stop r)
-joined_stop (Choose t p q r) = ap (Choose t p q) (joined_stop r)
-joined_stop (Loop t p r) = ap (Loop t p) (joined_stop r)
-joined_stop (Section i p r) = ap (Section i p) (joined_stop r)
 
 at_start : (c : TextView) → rest_at c 0 ≡ joined c Stop
 at_start Stop = refl

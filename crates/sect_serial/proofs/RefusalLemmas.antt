@@ -1,10 +1,11 @@
 -- A refusal that is due is the one that is given.
-use Rattle.std.proofs.Common.{◌≡◌, ℕ, List, [], ◌∷◌, ◌++◌, Option, Some, None, Result, Ok, Err, refl, sym, ap, ◌∙◌, subst, arith, inl, inr, IsOkUnless}
+use Rattle.std.proofs.Common.{◌≡◌, ℕ, List, [], ◌∷◌, ◌++◌, Option, Some, None, Result, Ok, Err, sym, ap, ◌∙◌, subst, arith, inl, inr}
 use Rattle.std.proofs.lemmas.Bool.{cases_lt}
 use Rattle.sect_types.specs.Programs.{ProgramView}
 use Rattle.sect_types.specs.Whole.{RunView, SerialEndView, run_section, option_then, in_order, begun, RunsWhole}
+use Rattle.sect_types.proofs.Endings.{whole_comes_to_one}
 use Rattle.sect_types.proofs.Basics.{some_injective, none_or_some}
-use Rattle.sect_serial.specs.Judging.{StopsAt, IsLeastLeft, LeavesSections, IsDue, Judges, Refuses}
+use Rattle.sect_serial.specs.Judging.{StopsAt, IsLeastLeft, LeavesSections, IsDue, Judges, Gives, Refuses}
 use Rattle.sect_serial.specs.steps.Frames.{Finishes}
 use Rattle.sect_serial.specs.declared.whole.SerialFault.{SerialFault}
 use Rattle.sect_serial.specs.declared.whole.SerialFault.TheVariants.{Memory, NoSection, SectionsLeft}
@@ -31,6 +32,7 @@ same_stop p (x ∷ before) (y ∷ other) t u after more s r q e a b c d =
       by None go g h = absurd (none_or_some r g)
       by (Some n) go g h = go n g h
 
+-- the first number that stops an order is one
 one_stop : (p : ProgramView) (fuel : ℕ) (order : List ℕ) (t u : ℕ) → StopsAt p fuel order t → StopsAt p fuel order u → t ≡ u
 one_stop p fuel order t u a b = same_stop p a.0 b.0 t u a.1 b.1 (begun p fuel) a.2 b.2 (sym a.3 ∙ b.3) a.4 a.5 b.4 b.5
 
@@ -46,6 +48,7 @@ one_least p s t u a b = elim (cases_lt t u) [
   | inr past ↦ elim (cases_lt u t) [ inl before ↦ absurd (a.1 u before b.0) | inr other ↦ omega (arith, past, other) ]
 ]
 
+-- the least thread with a section left is one
 one_left : (p : ProgramView) (fuel : ℕ) (order : List ℕ) (t u : ℕ) → LeavesSections p fuel order t → LeavesSections p fuel order u → t ≡ u
 one_left p fuel order t u a b =
     let same : b.0 ≡ a.0 = some_injective b.0 a.0 (sym b.1 ∙ a.1) in
@@ -65,13 +68,13 @@ judged_refuses p fuel order (Err (SectionsLeft t)) j (NoSection u) h = absurd (s
 judged_refuses p fuel order (Err (SectionsLeft t)) j (SectionsLeft u) h = ap SectionsLeft (one_left p fuel order u t h j)
 judged_refuses p fuel order (Err (SectionsLeft t)) j Memory h = absurd h
 
--- an order that comes to an end is judged so, unless memory ran out
+-- an end that the order comes to is given where it is judged right
 pub judged_only : (p : ProgramView) (fuel : ℕ) (order : List ℕ) (result : Result SerialEndView SerialFault) → Judges p fuel order result
-    → (e : SerialEndView) → RunsWhole p fuel order e → IsOkUnless result Memory
-judged_only p fuel order (Ok a) j e w = tt
-judged_only p fuel order (Err (NoSection t)) j e w = absurd (no_end_at p fuel order t e j w)
-judged_only p fuel order (Err (SectionsLeft t)) j e w = absurd (no_end_left p fuel order t j.0 e j.1 j.2 w)
-judged_only p fuel order (Err Memory) j e w = refl
+    → (e : SerialEndView) → RunsWhole p fuel order e → Gives e result
+judged_only p fuel order (Ok a) j e w = whole_comes_to_one p fuel order a e j w
+judged_only p fuel order (Err (NoSection t)) j e w = no_end_at p fuel order t e j w
+judged_only p fuel order (Err (SectionsLeft t)) j e w = no_end_left p fuel order t j.0 e j.1 j.2 w
+judged_only p fuel order (Err Memory) j e w = tt
 
 -- an order that runs is judged by what the run comes to
 pub finished : (p : ProgramView) (fuel : ℕ) (order : List ℕ) (s : RunView) (result : Result SerialEndView SerialFault)

@@ -12,10 +12,12 @@ use Rattle.sect_types.proofs.Changed.{set_put, get_there}
 use Rattle.sect_serial.proofs.SoundLemmas.{ready_settled}
 use Rattle.sect_types.proofs.Starts.{settled_text}
 
+-- runs of equal parts are one
 serial_alike : (s r : StoreView) (o q : List ℤ) (fs gs : List FrameView) → s ≡ r → o ≡ q → fs ≡ gs
     → Some (let a : RunView = record { store = s; output = o; frames = fs } in a) ≡ Some (let b : RunView = record { store = r; output = q; frames = gs } in b)
 serial_alike s r o q fs gs x y z = λ i. Some (record { store = x i; output = y i; frames = z i })
 
+-- statements that begin with a section, and run it so, are a section of the thread that runs
 section_ran : (p : ProgramView) (t : ℕ) (k : TextView) (w : WorkView) (s : RunView) (g : FrameView) (r : StoreView) (more : List ℤ)
     → SectionLeaves p t k w s.store g r more
     → section_by p t k w s ≡ Some (record { store = r; output = s.output ++ more; frames = slice_set s.frames t g })
@@ -26,6 +28,7 @@ section_ran p t (Do a k) w s g r more h = absurd h
 section_ran p t (Choose c y n k) w s g r more h = absurd h
 section_ran p t (Loop c b k) w s g r more h = absurd h
 
+-- a frame without a section next runs none
 no_section : (p : ProgramView) (t : ℕ) (f : FrameView) (s : RunView) → HasNone f → section_in p t f s ≡ None
 no_section p t f s h = by (has_ended f.ended) refl where
   text : (k : TextView) → (begins_section k ≡ true → ⊥) → section_by p t k f.work s ≡ None
@@ -59,6 +62,7 @@ no_thread p t s le = ap (λ o. section_of_thread p t o s) (past t s.frames le) w
   past zero (f ∷ fs) le = absurd (omega (arith, le))
   past (suc n) (f ∷ fs) le = past n fs (omega (arith, le))
 
+-- one of the ready frames is ready for its own thread, where the first is that of thread k
 ready_get_from : (p : ProgramView) (k n : ℕ) (f : FrameView) (fs : List FrameView) → n < length fs → f ≡ slice_index_or fs n f → AreReady p k fs
     → IsReady (environment_at p (k + n)) f
 ready_get_from p k n f [] le is h = absurd (omega (arith, le))
@@ -67,10 +71,12 @@ ready_get_from p k zero f (x ∷ fs) le is h =
 ready_get_from p k (suc n) f (x ∷ fs) le is h =
     subst (λ m. IsReady (environment_at p m) f) (let e : k + 1 + n ≡ k + suc n = omega arith in e) (ready_get_from p (k + 1) n f fs (omega (arith, le)) is h.1)
 
+-- the same from thread 0 on
 pub ready_get : (p : ProgramView) (n : ℕ) (f : FrameView) (fs : List FrameView) → n < length fs → f ≡ slice_index_or fs n f → AreReady p 0 fs
     → IsReady (environment_at p n) f
 ready_get p n f fs le is h = subst (λ m. IsReady (environment_at p m) f) (let e : 0 + n ≡ n = omega arith in e) (ready_get_from p 0 n f fs le is h)
 
+-- the frames stay ready where one is replaced by a ready one
 ready_set_from : (p : ProgramView) (k n : ℕ) (g : FrameView) (fs : List FrameView) → IsReady (environment_at p (k + n)) g → AreReady p k fs
     → AreReady p k (slice_set fs n g)
 ready_set_from p k n g [] r h = tt
@@ -78,6 +84,7 @@ ready_set_from p k zero g (x ∷ fs) r h = (subst (λ m. IsReady (environment_at
 ready_set_from p k (suc n) g (x ∷ fs) r h =
     (h.0, ready_set_from p (k + 1) n g fs (subst (λ m. IsReady (environment_at p m) g) (let e : k + suc n ≡ k + 1 + n = omega arith in e) r) h.1)
 
+-- the same from thread 0 on
 pub ready_set : (p : ProgramView) (n : ℕ) (g : FrameView) (fs : List FrameView) → IsReady (environment_at p n) g → AreReady p 0 fs
     → AreReady p 0 (slice_set fs n g)
 ready_set p n g fs r h = ready_set_from p 0 n g fs (subst (λ m. IsReady (environment_at p m) g) (let e : n ≡ 0 + n = omega arith in e) r) h
@@ -92,10 +99,12 @@ in_order_more p (u ∷ ts) t s r q e h = by (run_section p u s) (λ x. in_order_
   by None again e = absurd (cc)
   by (Some x) again e = again x e h
 
+-- nothing is left of no list
 drop_none : {A : Type 0} → (n : ℕ) → drop n (let xs : List A = [] in xs) ≡ []
 drop_none zero = refl
 drop_none (suc n) = refl
 
+-- the frames at the start from thread n on: its own, and the others
 frames_drop : (fuel n : ℕ) (texts : List TextView) (locals : List (List ValueType)) (text : TextView) → slice_get texts n ≡ Some text
     → first_frames fuel (drop n texts) (drop n locals)
     ≡ settled text (first_work fuel (slice_index_or locals n [])) ∷ first_frames fuel (drop (suc n) texts) (drop (suc n) locals)
@@ -106,6 +115,7 @@ frames_drop fuel (suc n) (x ∷ texts) [] text e =
     ap (first_frames fuel (drop n texts)) (sym (drop_none n)) ∙ frames_drop fuel n texts [] text e
 frames_drop fuel (suc n) (x ∷ texts) (y ∷ locals) text e = frames_drop fuel n texts locals text e
 
+-- one ready frame more
 ready_push : (p : ProgramView) (k : ℕ) (fs : List FrameView) (f : FrameView) → AreReady p k fs → IsReady (environment_at p (k + length fs)) f → AreReady p k (fs ++ f ∷ [])
 ready_push p k [] f h r = (subst (λ m. IsReady (environment_at p m) f) (let e : k + 0 ≡ k = omega arith in e) r, tt)
 ready_push p k (x ∷ fs) f h r =
@@ -119,6 +129,7 @@ pub frame_more : (p : ProgramView) (fuel n : ℕ) (fs : List FrameView) (text : 
 frame_more p fuel n fs text types f long so_far is of made =
     rw (add-one, append_assoc, made, of) (sym (ap (λ gs. fs ++ gs) (frames_drop fuel n p.texts p.locals text is)) ∙ so_far)
 
+-- the frame of the next thread at the start is ready
 pub ready_more : (p : ProgramView) (fuel n : ℕ) (fs : List FrameView) (text : TextView) (types : List ValueType) (f : FrameView)
     → length fs ≡ n → AreReady p 0 fs → IsSound (environment_at p n) false text → f ≡ settled text (first_work fuel types)
     → AreReady p 0 (fs ++ f ∷ [])
@@ -128,5 +139,6 @@ ready_more p fuel n fs text types f long all sound made =
     let here : IsReady (environment_at p n) (settled text w) = (subst (IsSound (environment_at p n) false) (sym (settled_text text w)) sound, ready_settled text w) in
     ready_push p 0 fs f all (subst (λ m. IsReady (environment_at p m) f) e (subst (IsReady (environment_at p n)) (sym made) here))
 
+-- there is one frame more
 pub long_more : (n : ℕ) (fs : List FrameView) (f : FrameView) → length fs ≡ n → length (fs ++ f ∷ []) ≡ n + 1
 long_more n fs f e = rw length-append (omega (arith, e))

@@ -52,6 +52,7 @@ sound_stepped e b p t (Section i part k) found w s h = h.2
 abbrev pub Spends : ℕ → Stepped → Type 0
 Spends n r = r.fault ≡ None → r.work.fuel < n
 
+-- a step that comes to no fault leaves less fuel
 pub spends_stepped : (p : ProgramView) (t : ℕ) (k : TextView) (found : Option ObjectView) (w : WorkView) (s : StoreView) → begins_step k ≡ true
     → Spends w.fuel (stepped_by t k s (next p t k found w))
 spends_stepped p t Stop found w s b = absurd (true≢false (sym b))
@@ -78,9 +79,11 @@ abbrev pub left_now : ProgramView → ℕ → TextView → WorkView → StoreVie
 left_now p t k w s None = body_of p t k w s
 left_now p t k w s (Some why) = Broken why w s
 
+-- what is left after a step
 abbrev left_from : ProgramView → ℕ → Stepped → Left
 left_from p t r = left_now p t r.text r.work r.store r.fault
 
+-- the same, seen from the definitions
 left_alike : (p : ProgramView) (t : ℕ) (k : TextView) (s : StoreView) (n : Next) → left_after p t s n ≡ left_from p t (stepped_by t k s n)
 left_alike p t k s (On rest w c) = refl
 left_alike p t k s (Off why w) = refl
@@ -99,6 +102,7 @@ steps_inside e (Choose c p q k) h n = refl
 steps_inside e (Loop c p k) h n = refl
 steps_inside e (Section i p k) h n = absurd (true≢false h.0)
 
+-- where a first statement was found, some are left
 pub begins_some : (o : Option Step) (k : TextView) → is_some o ≡ true → Begins o k → is_stop k ≡ false
 begins_some None k e h = absurd (true≢false (sym e))
 begins_some (Some s) k e h = ap is_stop h ∙ by s where
@@ -108,6 +112,7 @@ begins_some (Some s) k e h = ap is_stop h ∙ by s where
   by (step.While t p) = refl
   by (step.Section i p) = refl
 
+-- where none was found, none is left
 pub begins_none : (o : Option Step) (k : TextView) → is_some o ≡ false → Begins o k → k ≡ Stop
 begins_none None k e h = h
 begins_none (Some s) k e h = absurd (true≢false e)
@@ -161,9 +166,11 @@ abbrev pub frame_now : TextView → WorkView → Option Fault → FrameView
 frame_now k w None = settled k w
 frame_now k w (Some why) = failed why k w
 
+-- the frame after what a step leaves
 abbrev frame_from : Stepped → FrameView
 frame_from r = frame_now r.text r.work r.fault
 
+-- the same, seen from the definitions
 frame_alike : (t : ℕ) (k : TextView) (s : StoreView) (n : Next) → frame_after k n ≡ frame_from (stepped_by t k s n)
 frame_alike t k s (On rest w c) = refl
 frame_alike t k s (Off why w) = refl
@@ -178,6 +185,7 @@ ahead_stepped e p t f s l v r why sound none steps is =
     ∙ sym (frame_alike t f.text s (next p t f.text None f.work)))
     ∙ ahead_after_local p t f none steps
 
+-- a frame that does not stand has not ended, and has a step next
 pub steps_outside : (f : FrameView) → is_standing f ≡ false → (has_ended f.ended ≡ false → is_stop f.text ≡ false) → (f.ended ≡ None) × (begins_step f.text ≡ true)
 steps_outside f stands full = by f.text f.ended stands full where
   text : (k : TextView) → begins_section k ≡ false → is_stop k ≡ false → begins_step k ≡ true
@@ -200,6 +208,7 @@ ready_settled (Choose c y z r) w e = refl
 ready_settled (Loop c l r) w e = refl
 ready_settled (Section i l r) w e = refl
 
+-- what is not there is none
 pub not_some : {A : Type 0} → (o : Option A) → is_some o ≡ false → o ≡ None
 not_some None e = refl
 not_some (Some x) e = absurd (true≢false e)
@@ -208,6 +217,7 @@ not_some (Some x) e = absurd (true≢false e)
 abbrev pub room : FrameView → ℕ
 room f = if has_ended f.ended then 0 else suc f.work.fuel
 
+-- settling leaves no more room
 room_settled : (k : TextView) (w : WorkView) → room (settled k w) ≤ suc w.fuel
 room_settled Stop w = omega arith
 room_settled (Do a r) w = omega arith
@@ -221,6 +231,7 @@ pub record Kept (e : Environment) (p : ProgramView) (t : ℕ) (f g : FrameView) 
   pub same : ahead p t g ≡ ahead p t f
   pub less : room g < room f
 
+-- what a step outside sections keeps
 pub kept : (e : Environment) (p : ProgramView) (t : ℕ) (f : FrameView) (s : StoreView) (l : TextView) (v : WorkView) (r : StoreView) (why : Option Fault)
     → is_standing f ≡ false → IsReady e f
     → stepped l v r why ≡ stepped_by t f.text s (next p t f.text (found_at s (looks f.text f.work)) f.work)
@@ -253,3 +264,26 @@ kept e p t f s l v r why stands ready is = record {
   less : (o : Option Fault) → why ≡ o → room (frame_now l v o) < room f
   less None none = omega (arith, room_settled l v, spends none, open_room)
   less (Some x) some = omega (arith, open_room)
+
+-- what is known once a step of a thread that doesn't stand has been made, where g is the frame before it
+pub record AfterStep (e : Environment) (p : ProgramView) (t : ℕ) (g : FrameView) (s : StoreView) (l : TextView) (v : WorkView) (r : StoreView) (why : Option Fault) : Type 0 where
+  pub kept : Kept e p t g (frame_now l v why)
+  pub none : g.ended ≡ None
+  pub store : r ≡ s
+
+-- and so it is, where f is the frame as the code has it
+pub after_step : (e : Environment) (p : ProgramView) (t : ℕ) (f g : FrameView) (s : StoreView) (l : TextView) (v : WorkView) (r : StoreView) (o why : Option Fault) (b : Bool)
+    → f ≡ g → b ≡ is_standing g → b ≡ false → IsReady e g → o ≡ why
+    → stepped l v r o ≡ stepped_by t f.text s (next p t f.text (found_at s (looks f.text f.work)) f.work) → AfterStep e p t g s l v r why
+after_step e p t f g s l v r o why b seen tells goes ready same is = record {
+  kept = kept e p t g s l v r why stands ready now;
+  none = (steps_outside g stands ready.1).0;
+  store = ap (λ (x : Stepped). x.store) now ∙ store_local e p t g.text (found_at s (looks g.text g.work)) g.work s ready.0;
+} where
+  stands : is_standing g ≡ false
+  stands = sym tells ∙ goes
+
+  now : stepped l v r why ≡ stepped_by t g.text s (next p t g.text (found_at s (looks g.text g.work)) g.work)
+  now =
+      subst (λ (x : FrameView). stepped l v r why ≡ stepped_by t x.text s (next p t x.text (found_at s (looks x.text x.work)) x.work)) seen
+      (ap (stepped l v r) (sym same) ∙ is)

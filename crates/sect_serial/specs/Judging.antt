@@ -43,6 +43,13 @@ Judges p fuel order (Err (NoSection t)) = StopsAt p fuel order t
 Judges p fuel order (Err (SectionsLeft t)) = LeavesSections p fuel order t
 Judges p fuel order (Err Memory) = ⊤
 
+-- this end is given, unless memory ran out
+abbrev pub Gives : SerialEndView → Result SerialEndView SerialFault → Type 0
+Gives e (Ok given) = given ≡ e
+Gives e (Err Memory) = ⊤
+Gives e (Err (NoSection t)) = ⊥
+Gives e (Err (SectionsLeft t)) = ⊥
+
 -- this refusal is given, unless memory ran out
 abbrev pub Refuses : SerialFault → Result SerialEndView SerialFault → Type 0
 Refuses why (Ok e) = ⊥

@@ -1,8 +1,8 @@
 //! A program run by whole sections: what it comes to, or why the order of threads doesn't fit.
 
-ghost use Rattle.std.specs.Prelude.{◌≡◌, IfOk, IsOkUnless};
+ghost use Rattle.std.specs.Prelude.{◌≡◌, IfOk};
 ghost use Rattle.sect_types.specs.Whole.{SerialEndView, RunsWhole};
-ghost use Rattle.sect_serial.specs.Judging.{Judges, IsDue, Refuses, outcome_of};
+ghost use Rattle.sect_serial.specs.Judging.{Judges, Gives, IsDue, Refuses, outcome_of};
 ghost use Rattle.sect_serial.specs.declared.whole.SerialFault.{SerialFault as Refusal};
 ghost use Rattle.sect_serial.specs.declared.whole.SerialFault.TheVariants.{Memory};
 
@@ -126,8 +126,8 @@ pub fn serial(
 ) -> Result<SerialEnd, SerialFault>
     // The end is what whole sections in that order come to, and a refusal is due.
     ensures judges { Judges program.now fuel order.now result }
-    // An order that comes to an end has that end, unless memory runs out.
-    ensures only { (e : SerialEndView) → RunsWhole program.now fuel order.now e → IsOkUnless result Memory }
+    // An end that the order comes to is given, unless memory runs out.
+    ensures only { (e : SerialEndView) → RunsWhole program.now fuel order.now e → Gives e result }
     // A refusal that is due is given, unless memory runs out.
     ensures refuses { (why : Refusal) → IsDue program.now fuel order.now why → Refuses why result }
 {

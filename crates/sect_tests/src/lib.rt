@@ -25,6 +25,8 @@ mod modes;
 #[cfg(test)]
 mod numbering;
 #[cfg(test)]
+mod orders;
+#[cfg(test)]
 mod parsing;
 #[cfg(test)]
 mod pointing;

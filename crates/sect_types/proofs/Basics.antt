@@ -30,6 +30,7 @@ abbrev pub IsThere : {A : Type 0} → Option A → Type 0
 IsThere None = ⊥
 IsThere (Some x) = ⊤
 
+-- what is there, or the default
 abbrev value_or_else : {A : Type 0} → A → Option A → A
 value_or_else d None = d
 value_or_else d (Some x) = x

@@ -27,6 +27,7 @@ ending globals made output ends = record { store = record { globals = globals; m
 fuel_three : RunsWhole two_bumps 3 (0 ∷ 1 ∷ []) (ending (object 0 (int 2 ∷ []) ∷ []) ([] ∷ [] ∷ []) [] (Done ∷ Done ∷ []))
 fuel_three = (_, refl, record { store = refl; output = refl; ends = refl })
 
+-- with two units neither is through
 fuel_two : RunsWhole two_bumps 2 (0 ∷ 1 ∷ []) (ending (object 0 (int 0 ∷ []) ∷ []) ([] ∷ [] ∷ []) [] (Failed fault.Fuel ∷ Failed fault.Fuel ∷ []))
 fuel_two = (_, refl, record { store = refl; output = refl; ends = refl })
 
@@ -34,9 +35,11 @@ fuel_two = (_, refl, record { store = refl; output = refl; ends = refl })
 local_two : RunsWhole two_assignments 2 [] (ending [] ([] ∷ []) [] (Done ∷ []))
 local_two = (_, refl, record { store = refl; output = refl; ends = refl })
 
+-- with one unit it fails
 local_one : RunsWhole two_assignments 1 [] (ending [] ([] ∷ []) [] (Failed fault.Fuel ∷ []))
 local_one = (_, refl, record { store = refl; output = refl; ends = refl })
 
+-- a sum that is too much
 overflow : RunsWhole too_much 10000 [] (ending [] ([] ∷ []) [] (Failed fault.Overflow ∷ []))
 overflow = (_, refl, record { store = refl; output = refl; ends = refl })
 
@@ -44,9 +47,11 @@ overflow = (_, refl, record { store = refl; output = refl; ends = refl })
 overflow_unpaid : RunsWhole too_much 0 [] (ending [] ([] ∷ []) [] (Failed fault.Fuel ∷ []))
 overflow_unpaid = (_, refl, record { store = refl; output = refl; ends = refl })
 
+-- the list with one node pushed to it
 pushed : List ObjectView
 pushed = object 0 (int 0 ∷ Refers (Made 1 0) ∷ []) ∷ []
 
+-- the node, which the second thread made
 fresh_row : List (List ObjectView)
 fresh_row = [] ∷ (object 1 (int 5 ∷ Null ∷ []) ∷ []) ∷ []
 
@@ -55,6 +60,7 @@ sum_first : RunsWhole sum_and_push 10000 (0 ∷ 1 ∷ []) (ending pushed fresh_r
 unfolding pushed fresh_row
 sum_first = (_, refl, record { store = refl; output = refl; ends = refl })
 
+-- the other way round
 push_first : RunsWhole sum_and_push 10000 (1 ∷ 0 ∷ []) (ending pushed fresh_row (5 ∷ []) (Done ∷ Done ∷ []))
 unfolding pushed fresh_row
 push_first = (_, refl, record { store = refl; output = refl; ends = refl })
@@ -63,10 +69,12 @@ push_first = (_, refl, record { store = refl; output = refl; ends = refl })
 no_section : in_order sum_and_push (0 ∷ 0 ∷ []) (begun sum_and_push 10000) ≡ None
 no_section = refl
 
+-- how the threads end after a run
 ends_after : Option RunView → List (Option End)
 ends_after None = []
 ends_after (Some s) = map (λ (f : FrameView). f.ended) (all_ahead sum_and_push 0 s.frames)
 
+-- after one thread of two the other has a section left
 section_left : ends_after (in_order sum_and_push (0 ∷ []) (begun sum_and_push 10000)) ≡ Some Done ∷ None ∷ []
 unfolding ends_after
 section_left = refl

@@ -20,7 +20,7 @@ lines_more t i (first ∷ sets) locks =
 
 -- the least sets of the first sections, and that of the next
 least_more : (s : SchemeView) (sets : List (List Lock)) → AreLeast s sets → (of : SectionView) → slice_get (sections_of s.program.texts) (length sets) ≡ Some of
-    → (locks : List Lock) → IsLeastInOrder s of locks → AreLeast s (sets ++ locks ∷ [])
+    → (locks : List Lock) → IsLeastInOrder s (length sets) of locks → AreLeast s (sets ++ locks ∷ [])
 least_more s sets each of at locks least = λ j other here at_j there. elim (cases_lt j (length sets)) [
   | inl before ↦ each j other here at_j (slice_get-get_or sets j [] before
       ∙ ap (λ l. Some l) (sym (get_or_append_left sets (locks ∷ []) [] j before) ∙ get_or_from_slice_get (sets ++ locks ∷ []) j here [] there))
@@ -29,7 +29,7 @@ least_more s sets each of at locks least = λ j other here at_j there. elim (cas
       let same : locks ≡ here = sym (get_or-append_seam sets locks [] []) ∙ ap (λ n. get_or (sets ++ locks ∷ []) n []) (sym last) ∙ get_or_from_slice_get (sets ++ locks ∷ []) j here [] there in
       let here_at : slice_get (sections_of s.program.texts) (length sets) ≡ Some other = subst (λ n. slice_get (sections_of s.program.texts) n ≡ Some other) last at_j in
       let section : of ≡ other = cc in
-      rw (sym same, sym section) least)
+      rw (last, sym same, sym section) least)
 ]
 
 pub no_line : (s : SchemeView) → IsListing s 0 []
@@ -42,10 +42,10 @@ no_line s = record {
 
 -- a listing of the first sections, and the line of the next
 pub line_more : (s : SchemeView) (i : ℕ) (old new : List ℕ) → IsListing s i old → (of : SectionView) → slice_get (sections_of s.program.texts) i ≡ Some of
-    → (locks : List Lock) → IsLeastInOrder s of locks → new ≡ old ++ section_line s.program.source i locks → IsListing s (i + 1) new
+    → (locks : List Lock) → IsLeastInOrder s i of locks → new ≡ old ++ section_line s.program.source i locks → IsListing s (i + 1) new
 line_more s i old new had of at locks least is = record {
   sets = had.sets ++ locks ∷ [];
-  each = least_more s had.sets had.each of (rw had.counted at) locks least;
+  each = least_more s had.sets had.each of (rw had.counted at) locks (rw had.counted least);
   counted = omega (arith, length-append had.sets (locks ∷ []), had.counted);
   lines =
       is ∙ ap (λ o. o ++ section_line s.program.source i locks) had.lines

@@ -1,11 +1,16 @@
 -- What the layers refuse, the program refuses.
-use Rattle.std.proofs.Common.{◌≡◌, ℕ, List}
+use Rattle.std.proofs.Common.{◌≡◌, ℕ, List, Err, refl}
 use Rattle.sect_names.specs.Sources as sources
 use Rattle.sect_names.specs.Sources.{IsRefused}
 use Rattle.sect_names.specs.declared.refusal.Refusal.{Refusal}
 use Rattle.sect_names.specs.declared.refusal.Refusal.TheVariants as source
+use Rattle.sect_types.specs.Whole.{SerialEndView}
+use Rattle.sect_serial.specs.Judging as serial
+use Rattle.sect_serial.specs.declared.whole.SerialFault.{SerialFault}
+use Rattle.sect_serial.specs.declared.whole.SerialFault.TheVariants as serial_fault
+use Rattle.sectc.specs.declared.refusal.Refusal.TheVariants as program
 use Rattle.sectc.specs.Answers.{IsDue, of_source}
-use Rattle.sectc.specs.Serial.{IsSerialDue}
+use Rattle.sectc.specs.Serial.{IsSerialDue, of_serial}
 
 -- a refusal of the source that is due is due of `locks`
 pub due : (bytes : List ℕ) (k : ℕ) (why : Refusal) → sources.IsDue bytes k why → IsDue bytes k (of_source why)
@@ -20,3 +25,9 @@ serial_due bytes fuel order source.Memory h = tt
 serial_due bytes fuel order (source.Front fault) h = (λ e. cc, h)
 serial_due bytes fuel order (source.Types fault) h = (λ e. cc, h)
 serial_due bytes fuel order (source.Scheme fault) h = absurd h
+
+-- an order that comes to an end is refused for want of memory alone
+pub ended_gives : (e : SerialEndView) (why : SerialFault) → serial.Gives e (Err why) → of_serial why ≡ program.Memory
+ended_gives e serial_fault.Memory g = refl
+ended_gives e (serial_fault.NoSection t) g = absurd g
+ended_gives e (serial_fault.SectionsLeft t) g = absurd g

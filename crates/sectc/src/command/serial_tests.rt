@@ -28,6 +28,11 @@ thread r { int v; atomic { v = b.val; print v; } }
 
 const LOCAL_ONLY: &str = "thread f { int x; x = 1; x = 2; }\n";
 
+const GUARDED_BY_NOTHING: &str = "record Cell protected_by h { int val; }
+global Cell c;
+thread t { int v; atomic { c.val = 1; v = c.val; print v; } }
+";
+
 const OVER: &str = "thread f { int x; x = 9223372036854775807 + 1; }";
 
 /// A command line, a source, the status, and what is printed.
@@ -68,6 +73,12 @@ fn runs_whole_sections(rt: HostRuntime) -> Result<(), Fail> {
                     order 0 1\nout 4\nobject head val=0 next=null\nobject b val=4 next=null\n",
             ),
             ("serial", OVER, 0, "thread 0 overflow\norder none\n"),
+            (
+                "serial 0",
+                GUARDED_BY_NOTHING,
+                0,
+                "thread 0 done\norder 0\nout 1\nobject c val=1\n",
+            ),
         ],
     )
 }

@@ -1,0 +1,124 @@
+//! Programs run by whole sections in an order.
+
+use sect_front::parse;
+use sect_serial::{SerialEnd, serial};
+use sect_store::{Outcome, put_outcome};
+use sect_types::store::{Datum, End, ObjectName};
+use sect_types::{Program, check_types};
+use std::alloc::Global;
+use std::test::Fail;
+
+const LIST: &str = "record Node { int val; Node next; } global Node head;
+ thread sum { Node p; int v; int s;
+   atomic { p = head.next;
+     while (p != null) { v = p.val; s = s + v; p = p.next; }
+     print s; } }
+ thread push { Node n; Node p; int v; v = 5;
+   atomic { n = new Node; n.val = v; p = head.next; n.next = p; head.next = n; } }";
+
+const LOOPS: &str = "record A { int f; } global A a;
+ thread t { int i; int x;
+   while (i < 3) { i = i + 1;
+     if (i != 2) { atomic { x = a.f; x = x + i; a.f = x; print x; } } else { atomic { print 7; } } } }
+ thread u { }";
+
+const LEAST: &str = "thread f { int x; x = 0 - 9223372036854775807; x = x - 1; }";
+
+const BELOW: &str = "thread f { int x; x = 0 - 9223372036854775807; x = x - 1; x = x - 1; }";
+
+const ENDLESS: &str = "thread f { int x; while (0 == 0) { x = 1; } atomic { } }";
+
+const OVER_INSIDE: &str = "record A { int f; } global A a;
+ thread t { int i; atomic { a.f = 3; print 1; i = 9223372036854775807 * 2; a.f = 4; } i = 2; }";
+
+const REST_FAILS: &str = "thread t { int i; atomic { print 0; } i = 9223372036854775807 * 2; }";
+
+/// Programs, with fuel and the order of threads, and what is shown.
+const ORDERS: &[(&str, u32, &[u16], &str)] = &[
+    (
+        LOOPS,
+        100,
+        &[0, 0, 0],
+        "thread 0 done\nthread 1 done\norder 0 0 0\nout 1\nout 7\nout 4\nobject a f=4\n",
+    ),
+    (LOOPS, 100, &[0, 0], "81 SectionsLeft thread 0"),
+    (LOOPS, 100, &[0, 0, 0, 0], "80 NoSection thread 0"),
+    (LOOPS, 100, &[0, 1], "80 NoSection thread 1"),
+    (ENDLESS, 100, &[0], "80 NoSection thread 0"),
+    (ENDLESS, 100, &[], "thread 0 fuel\norder none\n"),
+    (LEAST, 10, &[], "thread 0 done\norder none\n"),
+    (BELOW, 10, &[], "thread 0 overflow\norder none\n"),
+    (
+        OVER_INSIDE,
+        100,
+        &[0],
+        "thread 0 overflow\norder 0\nout 1\nobject a f=3\n",
+    ),
+    (REST_FAILS, 100, &[0], "thread 0 overflow\norder 0\nout 0\n"),
+];
+
+/// The program of a source text.
+fn program_of(alloc: Global, source: &str) -> Result<Program, Fail> {
+    let tree = parse(alloc, source.as_bytes())?;
+    let program = check_types(alloc, tree)?;
+    Ok(program)
+}
+
+/// What the run of a program in an order shows: the outcome, or the fault.
+fn shown(alloc: Global, source: &str, fuel: u32, order: &[u16]) -> Result<String, Fail> {
+    let program = program_of(alloc, source)?;
+    let mut text = String::new(alloc);
+    match serial(alloc, &program, fuel, order) {
+        Ok(end) => {
+            let mut threads = Vec::new(alloc);
+            threads.extend_from_slice(order)?;
+            let outcome = end.into_outcome(alloc, threads)?;
+            put_outcome(alloc, &mut text, &program, &outcome)?;
+        }
+        Err(fault) => text.push_str(format!(in alloc; "{fault}")?.as_str())?,
+    }
+    Ok(text)
+}
+
+#[test]
+fn orders_come_to_outcomes(rt: HostRuntime) -> Result<(), Fail> {
+    for (source, fuel, order, wanted) in ORDERS {
+        let text = shown(rt.alloc(), source, *fuel, order)?;
+        assert_eq!(rt; text.as_str(), *wanted);
+    }
+    Ok(())
+}
+
+#[test]
+fn the_end_shows_its_parts(rt: HostRuntime) -> Result<(), Fail> {
+    let program = program_of(rt.alloc(), LIST)?;
+    let end: SerialEnd = serial(rt.alloc(), &program, 10000, &[1, 0])?;
+    assert_eq!(rt; end.ends(), [End::Done, End::Done].as_slice());
+    assert_eq!(rt; end.output(), [5].as_slice());
+    let made = ObjectName::Made {
+        thread: 1,
+        number: 0,
+    };
+    let node = end.store().object(made).ok_or("node")?;
+    assert_eq!(rt; node.fields(), [Datum::Number(5), Datum::Null].as_slice());
+    assert_eq!(rt; node.site(), 1);
+    assert_eq!(rt; end.store().made_by(1).len(), 1);
+    assert_eq!(rt; end.store().made_by(2).len(), 0);
+    assert_eq!(rt; end.store().globals().len(), 1);
+    Ok(())
+}
+
+#[test]
+fn a_thread_that_runs_is_shown_so(rt: HostRuntime) -> Result<(), Fail> {
+    let program = program_of(rt.alloc(), "thread t { } thread u { }")?;
+    let store = sect_store::Store::first(rt.alloc(), &program)?;
+    let ends = vec![in rt.alloc(); None, Some(End::Done)]?;
+    let outcome = Outcome::new(ends, Vec::new(rt.alloc()), Vec::new(rt.alloc()), store);
+    let mut text = String::new(rt.alloc());
+    put_outcome(rt.alloc(), &mut text, &program, &outcome)?;
+    assert_eq!(rt;
+        text.as_str(),
+        "thread 0 running\nthread 1 done\norder none\n"
+    );
+    Ok(())
+}

@@ -9,10 +9,10 @@ pub mod laws;
 mod lock;
 mod maximal;
 mod path;
+pub mod printing;
 mod refusal;
 mod scheme;
 mod source;
-pub mod printing;
 mod variables;
 
 pub use covers::covering_is_an_order;

@@ -64,7 +64,7 @@ fn needs_all(
 fn holds(
     rt: &(impl Abort + AllocGlobal),
     (text, k, section): (&[u8], u16, u16),
-    count: usize,
+    count: u16,
     entry: &[Wanted],
     nodes: &[(u16, &[Wanted])],
 ) -> Result<(), Fail> {
@@ -78,11 +78,11 @@ fn are_found(
     rt: &(impl Abort + AllocGlobal),
     scheme: &Scheme,
     found: &Locks,
-    count: usize,
+    count: u16,
     entry: &[Wanted],
     nodes: &[(u16, &[Wanted])],
 ) -> Result<(), Fail> {
-    assert_eq!(rt; found.node_count(), count + 1);
+    assert_eq!(rt; found.node_count(), usize::from(count) + 1);
     takes(rt, found, entry)?;
     needs_all(rt, scheme, found, nodes)
 }

@@ -1,6 +1,6 @@
 //! Why a measurement ends early.
 
-use sect_cert::fault::CertFault;
+use sect_cert::CertFault;
 use sect_front::FrontFault;
 use sect_table::TableFault;
 use sect_types::TypeFault;

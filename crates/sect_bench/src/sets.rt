@@ -24,7 +24,7 @@ pub fn sites_found(alloc: Global, program: &Program, times: u32) -> Result<u16, 
 pub fn classes_found(alloc: Global, program: &Program, times: u32) -> Result<u16, AllocError> {
     let mut found = 0;
     for _ in 0..times {
-        found = classes(alloc, points_to(alloc, program)?)?.class_count();
+        found = site_classes(alloc, points_to(alloc, program)?)?.class_count();
     }
     Ok(found)
 }

@@ -3,6 +3,7 @@ pub mod Verdicts
 pub mod Locks
 pub mod Carrying
 pub mod Needed
+pub mod Chains
 pub mod Order
 pub mod Comparing
 pub mod Laws

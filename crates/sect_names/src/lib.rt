@@ -6,6 +6,7 @@ mod covers;
 mod fault;
 mod generate;
 pub mod laws;
+mod link;
 mod lock;
 mod maximal;
 mod path;
@@ -17,6 +18,7 @@ mod variables;
 
 pub use covers::covering_is_an_order;
 pub use fault::SchemeFault;
+pub use link::Link;
 pub use lock::{Effect, Lock, Right, precedes};
 pub use path::Path;
 pub use refusal::Refusal;

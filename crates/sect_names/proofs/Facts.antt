@@ -18,15 +18,15 @@ use Rattle.sect_points.proofs.SetLaws.{row_past}
 use Rattle.sect_names.proofs.Finiteness.{below, Has-below, Has-map, Has-flat_map}
 
 -- an element, where something holds
-abbrev where_so : {A P : Type 0} → P ⊎ (P → ⊥) → A → List A
+abbrev pub where_so : {A P : Type 0} → P ⊎ (P → ⊥) → A → List A
 where_so (inl p) x = x ∷ []
 where_so (inr n) x = []
 
-so_there : {A P : Type 0} (d : P ⊎ (P → ⊥)) (x : A) → P → Has (where_so d x) x
+pub so_there : {A P : Type 0} (d : P ⊎ (P → ⊥)) (x : A) → P → Has (where_so d x) x
 so_there (inl q) x p = inl refl
 so_there (inr n) x p = absurd (n p)
 
-there_so : {A P : Type 0} (d : P ⊎ (P → ⊥)) (x y : A) → Has (where_so d x) y → P × (x ≡ y)
+pub there_so : {A P : Type 0} (d : P ⊎ (P → ⊥)) (x y : A) → Has (where_so d x) y → P × (x ≡ y)
 there_so (inl q) x y h = elim h [ inl e ↦ (q, e) | inr none ↦ absurd none ]
 there_so (inr n) x y h = absurd h
 

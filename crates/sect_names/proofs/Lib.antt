@@ -22,3 +22,11 @@ pub mod Preceding
 pub mod Refusing
 pub mod Facts
 pub mod OneScheme
+pub mod Placing
+pub mod Recording
+pub mod Beginning
+pub mod Splitting
+pub mod Walking
+pub mod AtNodes
+pub mod Needing
+pub mod Ends

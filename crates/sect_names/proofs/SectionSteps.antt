@@ -101,7 +101,7 @@ node_among text g graph j x at =
         subst (λ (y : Node). IsAmong (actions_of text) y.label) same (subst (λ (z : Visit). IsAmong (actions_of text) z.label) q.2 among)
 
 -- the statements of a sound text are sound
-sound_action : (e : Environment) (inside : Bool) (text : TextView) → IsSound e inside text → (a : Action) → Has (actions_of text) a → IsSoundAction e a
+pub sound_action : (e : Environment) (inside : Bool) (text : TextView) → IsSound e inside text → (a : Action) → Has (actions_of text) a → IsSoundAction e a
 sound_action e inside Stop sound a h = absurd h
 sound_action e inside (Do b r) sound a h = elim h [ inl is ↦ subst (IsSoundAction e) is sound.0 | inr k ↦ sound_action e inside r sound.2 a k ]
 sound_action e inside (Choose t p q r) sound a h = elim (Has-cases (actions_of p) (actions_of q ++ actions_of r) a h) [
@@ -141,7 +141,7 @@ body_actions (Section i p r) body h a k = elim h [
 abbrev section_with : ℕ → TextView → SectionView
 section_with t body = record { thread = t; body = body }
 
-section_placed : (t : ℕ) (texts : List TextView) (section : SectionView) → Has (sections_from t texts) section → (a : Action) → Has (actions_of section.body) a
+pub section_placed : (t : ℕ) (texts : List TextView) (section : SectionView) → Has (sections_from t texts) section → (a : Action) → Has (actions_of section.body) a
     → Has (actions_from t texts) (thread_action section.thread a)
 section_placed t [] section h a k = absurd h
 section_placed t (text ∷ texts) section h a k = elim (Has-cases (map (section_with t) (section_bodies text)) (sections_from (t + 1) texts) section h) [

@@ -50,7 +50,7 @@ module _ (p : ProgramView) where
 
 module _ (s : SchemeView) (scheme : IsScheme s) where
   -- a global has a class: it is a site, and refers to its own object
-  global_classed : (g : ℕ) → g < length s.program.globals → IsClassed s (var (Global g))
+  pub global_classed : (g : ℕ) → g < length s.program.globals → IsClassed s (var (Global g))
   global_classed g there =
       let numbers = s.classes.numbers in
       let within : g < length numbers =

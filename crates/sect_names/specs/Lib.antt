@@ -7,5 +7,8 @@ pub mod Chains
 pub mod Order
 pub mod Comparing
 pub mod Laws
+pub mod Records
+pub mod Walks
+pub mod Along
 pub mod Printing
 pub mod Sources

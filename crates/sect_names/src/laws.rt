@@ -1,5 +1,8 @@
 //! Laws of locks: what holds of every scheme. The functions have empty bodies; the clauses say the laws.
 
+pub mod needs;
+pub mod records;
+
 ghost use Rattle.std.specs.Prelude.{◌≡◌, ◌<◌, ℕ, List, length};
 ghost use Rattle.sect_types.specs.Lists.{Has};
 ghost use Rattle.sect_types.specs.Sections.{SectionView};

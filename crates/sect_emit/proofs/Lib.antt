@@ -1,0 +1,11 @@
+pub mod Tests
+pub mod Grips
+pub mod Keys
+pub mod Modes
+pub mod NeedingAccesses
+pub mod PlanModes
+pub mod Plans
+pub mod Pointing
+pub mod Securing
+pub mod Starting
+pub mod Valuing

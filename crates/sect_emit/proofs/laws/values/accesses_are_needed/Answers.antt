@@ -1,0 +1,5 @@
+use Rattle.sect_emit.proofs.NeedingAccesses.{access_needed}
+use Rattle.sect_emit.proofs.laws.values.accesses_are_needed.Goals as goal
+
+pub returns : goal.returns
+returns c = access_needed

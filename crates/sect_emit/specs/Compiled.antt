@@ -1,0 +1,39 @@
+-- What a compiled program is to the machine.
+use Rattle.std.specs.Prelude.{◌≡◌, ℕ, List, Some, length, slice_get}
+use Rattle.sect_types.specs.Lists.{Has}
+use Rattle.sect_types.specs.Sections.{SectionView, sections_of}
+use Rattle.sect_types.specs.Programs.{ProgramView, IsWellNumbered}
+use Rattle.sect_names.specs.declared.lock.Lock.{Lock}
+use Rattle.sect_names.specs.Locks.{IsLockOf}
+use Rattle.sect_names.specs.Schemes.{SchemeView, IsScheme}
+use Rattle.sect_names.specs.Needed.{end_of, Protects}
+use Rattle.sect_emit.specs.declared.plan.Grip.{Grip}
+use Rattle.sect_emit.specs.Plan.{IsFixedPart}
+
+-- what inference knows of the program; the lock set of each section; the fixed part of each section's plan
+pub record CompiledView : Type 0 where
+  pub scheme : SchemeView
+  pub sets : List (List Lock)
+  pub parts : List (List Grip)
+
+abbrev pub program_of : CompiledView → ProgramView
+program_of c = c.scheme.program
+
+-- the program is sound; each set protects its section, with locks that sections of its thread may take; each part is
+-- that of its set
+pub record IsCompiled (c : CompiledView) : Type 0 where
+  pub sections : ℕ
+  pub sites : ℕ
+  pub statements : ℕ
+  pub numbers : IsWellNumbered c.scheme.program sections sites statements
+  pub scheme : IsScheme c.scheme
+  pub set_count : length c.sets ≡ length (sections_of c.scheme.program.texts)
+  pub part_count : length c.parts ≡ length (sections_of c.scheme.program.texts)
+  pub protected : (i : ℕ) (section : SectionView) (locks : List Lock)
+      → slice_get (sections_of c.scheme.program.texts) i ≡ Some section
+      → slice_get c.sets i ≡ Some locks → Protects c.scheme section.thread (end_of c.scheme i) section.body locks
+  pub lawful : (i : ℕ) (section : SectionView) (locks : List Lock) (l : Lock)
+      → slice_get (sections_of c.scheme.program.texts) i ≡ Some section
+      → slice_get c.sets i ≡ Some locks → Has locks l → IsLockOf c.scheme section.thread l
+  pub planned : (i : ℕ) (locks : List Lock) (part : List Grip) → slice_get c.sets i ≡ Some locks
+      → slice_get c.parts i ≡ Some part → IsFixedPart c.scheme locks part

@@ -1,0 +1,74 @@
+//! Laws of the machine. The functions have empty bodies; the clauses say the laws.
+
+ghost use Rattle.std.specs.Prelude.{ℕ, List};
+ghost use Rattle.sect_emit.specs.Compiled.{CompiledView, IsCompiled};
+ghost use Rattle.sect_emit.specs.State.{State};
+ghost use Rattle.sect_world.specs.declared.event.Event.{Event};
+ghost use Rattle.sect_world.specs.Events.{Happens};
+ghost use Rattle.sect_world.specs.Runs.{IsRun};
+ghost use Rattle.sect_world.specs.Held.{HoldsEnough};
+ghost use Rattle.sect_world.specs.Accesses.{ChangesAreAccesses, StepsLookWhereTheyLoad};
+ghost use Rattle.sect_world.specs.Kept.{IsWellKept};
+ghost use Rattle.sect_world.specs.Laws.{StatesAreWellKept, NoStateIsStuck, SomethingHappens, AccessesAreHeld, EveryRunIsSerial};
+ghost use Rattle.sect_world.specs.Excluding.{ReadersAndWritersExclude};
+ghost use Rattle.sect_world.specs.HeldPaths.{HoldersHoldTheClass, BeginningsAreHeld, NeededPathsStay};
+ghost use Rattle.sect_world.specs.Secured.{Good};
+ghost use Rattle.sect_world.specs.SerialFacts.{OnlySectionsDiffer, SectionsAreReplayed};
+
+/// Each state of a run of a compiled program is well kept, and good: each thread holds the classes of the objects that it
+/// holds, and has secured what it still needs.
+pub fn states_are_well_kept()
+    ensures kept { (c : CompiledView) → IsCompiled c → StatesAreWellKept c }
+    ensures good { (c : CompiledView) → IsCompiled c → (fuel : ℕ) (trace : List Event) (s : State) → IsRun c fuel trace s → Good c s }
+    ensures events { (c : CompiledView) → IsCompiled c → (s after : State) (e : Event) → Good c s → Happens c s e after → IsWellKept c after → Good c after }
+{}
+
+/// No state of a run of a compiled program is stuck.
+pub fn no_state_is_stuck()
+    ensures { (c : CompiledView) → IsCompiled c → NoStateIsStuck c }
+{}
+
+/// While some thread hasn't ended, some event is enabled.
+pub fn something_happens()
+    ensures { (c : CompiledView) → IsCompiled c → SomethingHappens c }
+{}
+
+/// In each state of a run each thread in a section holds strongly enough what its next step loads from, stores to or makes;
+/// in a good state it does, too.
+pub fn every_access_is_held()
+    ensures runs { (c : CompiledView) → IsCompiled c → AccessesAreHeld c }
+    ensures good { (c : CompiledView) → IsCompiled c → (s : State) → Good c s → (t : ℕ) → HoldsEnough c s t }
+{}
+
+/// The access that the definitions name for a step is all that it has to do with objects: it changes none but by that, and
+/// depends on none but the one that it loads from.
+pub fn accesses_are_all_there_is()
+    ensures changes { ChangesAreAccesses }
+    ensures loads { StepsLookWhereTheyLoad }
+{}
+
+/// In no state of a run may a thread read what another may write.
+pub fn readers_and_writers_exclude()
+    ensures { (c : CompiledView) → IsCompiled c → ReadersAndWritersExclude c }
+{}
+
+/// In each state of a run each thread holds, with the key of an object, that of its class; in a section it may read what
+/// the beginnings of the paths denote that it still needs; and what these paths denote, other threads leave.
+pub fn needed_paths_are_held()
+    ensures classes { (c : CompiledView) → IsCompiled c → HoldersHoldTheClass c }
+    ensures beginnings { (c : CompiledView) → IsCompiled c → BeginningsAreHeld c }
+    ensures stay { (c : CompiledView) → IsCompiled c → NeededPathsStay c }
+{}
+
+/// In each run the store differs from what the sections that have left come to, run whole in their order, only in objects
+/// that sections in progress may write; and each of these can be replayed from there as far as it has come.
+pub fn the_store_follows_the_sections()
+    ensures differ { (c : CompiledView) → IsCompiled c → OnlySectionsDiffer c }
+    ensures replayed { (c : CompiledView) → IsCompiled c → SectionsAreReplayed c }
+{}
+
+/// Each complete run of a compiled program comes to what whole sections come to, one after another in the order of the
+/// `leave` events.
+pub fn every_run_is_serial()
+    ensures { (c : CompiledView) → IsCompiled c → EveryRunIsSerial c }
+{}

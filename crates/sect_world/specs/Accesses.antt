@@ -21,7 +21,8 @@ Asks (Added x) a = a ≡ Some (Making x.site)
 -- a step changes no object but by the access that `next_access` names
 abbrev pub ChangesAreAccesses : Type 0
 ChangesAreAccesses =
-    (p : ProgramView) (t : ℕ) (k : TextView) (found : Option ObjectView) (w : WorkView) → Asks (change_in (next p t k found w)) (next_access k w)
+    (p : ProgramView) (t : ℕ) (k : TextView) (found : Option ObjectView) (w : WorkView)
+    → Asks (change_in (next p t k found w)) (next_access k w)
 
 -- and depends on none but the one that `next_access` says it loads from
 abbrev pub StepsLookWhereTheyLoad : Type 0

@@ -15,8 +15,8 @@ use Rattle.sect_world.specs.Events.{Happens}
 abbrev pub WantsFirst : ThreadState → Key → Mode → Type 0
 WantsFirst th k m = (rest : List Grip) × (th.wanted ≡ grip k m ∷ rest)
 
--- a thread wants a key first, and it or another thread that wants this key first finds that one other than itself holds it
--- in a mode that isn't compatible
+-- a thread wants a key first, and it or another thread that wants this key first finds that one other than itself holds
+-- it in a mode that isn't compatible
 pub record IsBlocked (s : State) (th : ThreadState) : Type 0 where
   pub key : Key
   pub mode : Mode

@@ -1,5 +1,6 @@
 -- What may happen in a state, and what it leads to.
-use Rattle.std.specs.Prelude.{◌≡◌, ℕ, zero, suc, Bool, true, false, ◌&&◌, List, [], ◌∷◌, ◌++◌, Option, Some, None, slice_index_or}
+use Rattle.std.specs.Prelude.{◌≡◌, ℕ, zero, suc, Bool, true, false, ◌&&◌, List, [], ◌∷◌, ◌++◌, Option, Some, None}
+use Rattle.std.specs.Prelude.{slice_index_or}
 use Rattle.std.specs.List.{list_all}
 use Rattle.sect_types.specs.Statements.{TextView, Stop, Section}
 use Rattle.sect_types.specs.Programs.{sites_of}
@@ -15,11 +16,13 @@ use Rattle.sect_world.specs.declared.event.Deed.{Deed}
 use Rattle.sect_world.specs.declared.event.Deed.TheVariants.{Local, Enter, Take, Begin, Again, Act, Leave}
 use Rattle.sect_world.specs.declared.event.Event.{Event}
 use Rattle.sect_types.specs.Store.{StoreView, put_at}
-use Rattle.sect_types.specs.Meaning.{WorkView, Change, Unchanged, Written, Added, after_change, found_at, Next, On, Off, next, looks, begins_step}
+use Rattle.sect_types.specs.Meaning.{WorkView, Change, Unchanged, Written, Added, after_change, found_at, Next, On, Off}
+use Rattle.sect_types.specs.Meaning.{next, looks, begins_step}
 use Rattle.sect_types.specs.Whole.{FrameView, settled, failed, local_step}
 use Rattle.sect_emit.specs.Plan.{grip, key_of, held_mode, meets}
 use Rattle.sect_emit.specs.Compiled.{CompiledView, program_of}
-use Rattle.sect_emit.specs.State.{Position, Outside, Entered, Running, Faulted, ThreadState, State, IsThread, plan_at, with_thread}
+use Rattle.sect_emit.specs.State.{Position, Outside, Entered, Running, Faulted, ThreadState, State, IsThread, plan_at}
+use Rattle.sect_emit.specs.State.{with_thread}
 
 -- each element but the n-th passes the test
 abbrev pub all_but : {X : Type 0} → ℕ → (X → Bool) → List X → Bool
@@ -37,7 +40,8 @@ lets_in k m other = lets (held_mode k other.held) m
 
 -- the guard of the record of a site, if any
 abbrev pub guard_at : CompiledView → ℕ → Option ℕ
-guard_at c site = guard_of c.scheme.guards (slice_index_or (sites_of (program_of c).globals (program_of c).texts) site 0)
+guard_at c site =
+    guard_of c.scheme.guards (slice_index_or (sites_of (program_of c).globals (program_of c).texts) site 0)
 
 -- the key of a fresh object, where nothing guards its record
 abbrev pub fresh_grip : Option ℕ → ℕ → ℕ → List Grip
@@ -90,14 +94,16 @@ acting c t i (On rest w change) th = record {
   wanted = th.wanted;
   held = th.held ++ grips_of c t th.frame.work.made change;
 }
-acting c t i (Off why w) th = record { position = Faulted i why; frame = with_work w th.frame; wanted = th.wanted; held = th.held }
+acting c t i (Off why w) th =
+    record { position = Faulted i why; frame = with_work w th.frame; wanted = th.wanted; held = th.held }
 
 abbrev pub changed_by : ℕ → Next → StoreView → StoreView
 changed_by t (On rest w change) s = after_change t s change
 changed_by t (Off why w) s = s
 
 abbrev pub after_act : CompiledView → ℕ → ℕ → ThreadState → Next → State → State
-after_act c t i th n s = record { store = changed_by t n s.store; output = s.output; threads = put_at t (acting c t i n th) s.threads }
+after_act c t i th n s =
+    record { store = changed_by t n s.store; output = s.output; threads = put_at t (acting c t i n th) s.threads }
 
 -- its output is delivered
 abbrev pub emptied : WorkView → WorkView
@@ -121,16 +127,19 @@ step_in c t k w s = next (program_of c) t k (found_at s (looks k w)) w
 -- thread t, which is th, may do this, and it leads to that state
 abbrev pub MayDo : CompiledView → State → ℕ → ThreadState → Deed → State → Type 0
 MayDo c s t th Local after =
-    IsFree th × (begins_step th.frame.text ≡ true) × (after ≡ with_thread t (with_frame (local_step (program_of c) t th.frame) th) s)
+    IsFree th × (begins_step th.frame.text ≡ true)
+    × (after ≡ with_thread t (with_frame (local_step (program_of c) t th.frame) th) s)
 MayDo c s t th Enter after =
     (i : ℕ) × (body : TextView) × (rest : TextView) × IsFree th × (th.frame.text ≡ Section i body rest)
     × (after ≡ with_thread t (entering (plan_at c i s.store th.frame.work.locals) th) s)
 MayDo c s t th (Take k m) after =
-    (rest : List Grip) × (th.position ≡ Entered) × (th.wanted ≡ grip k m ∷ rest) × (all_but t (lets_in k m) s.threads ≡ true)
+    (rest : List Grip) × (th.position ≡ Entered) × (th.wanted ≡ grip k m ∷ rest)
+    × (all_but t (lets_in k m) s.threads ≡ true)
     × (after ≡ with_thread t (taking k m rest th) s)
 MayDo c s t th Begin after =
     (i : ℕ) × (body : TextView) × (rest : TextView) × IsReady th i body rest
-    × (meets th.held (plan_at c i s.store th.frame.work.locals) ≡ true) × (after ≡ with_thread t (beginning i body rest th) s)
+    × (meets th.held (plan_at c i s.store th.frame.work.locals) ≡ true)
+    × (after ≡ with_thread t (beginning i body rest th) s)
 MayDo c s t th Again after =
     (i : ℕ) × (body : TextView) × (rest : TextView) × IsReady th i body rest
     × (meets th.held (plan_at c i s.store th.frame.work.locals) ≡ false) × (after ≡ with_thread t (giving_back th) s)

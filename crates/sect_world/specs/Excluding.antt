@@ -23,11 +23,13 @@ Excludes c s =
     (t u : ℕ) (reader writer : ThreadState) → t ≢ u → IsThread s t reader → IsThread s u writer
     → (o : ObjectName) → may_read c s.store reader.held o ≡ true → may_write c s.store writer.held o ≡ true → ⊥
 
--- each thread has a row in the store, knows how many objects it has made, and holds keys of such objects alone as are there
+-- each thread has a row in the store, knows how many objects it has made, and holds keys of such objects alone as are
+-- there
 pub record IsTidy (s : State) : Type 0 where
   pub rows : (t : ℕ) (th : ThreadState) → IsThread s t th → t < length s.store.made
   pub counts : (t : ℕ) (th : ThreadState) → IsThread s t th → th.frame.work.made ≡ count s.store t
-  pub held : (t : ℕ) (th : ThreadState) → IsThread s t th → (o : ObjectName) (m : Mode) → held_mode (key_of o) th.held ≡ Some m
+  pub held : (t : ℕ) (th : ThreadState) → IsThread s t th → (o : ObjectName) (m : Mode)
+      → held_mode (key_of o) th.held ≡ Some m
       → (x : ObjectView) × (object_at s.store o ≡ Some x)
 
 -- in each state of a run none may read what another may write

@@ -52,8 +52,8 @@ locked_object_at c o (Some x) = guard_or (guard_at c x.site) o
 abbrev pub locked_object : CompiledView → StoreView → ObjectName → ObjectName
 locked_object c s o = locked_object_at c o (object_at s o)
 
--- who holds these keys may load from the object: the key of what is locked for it in S or X, or its class in S, SIX or X;
--- `all` in X is enough for every access
+-- who holds these keys may load from the object: the key of what is locked for it in S or X, or its class in S, SIX or
+-- X; `all` in X is enough for every access
 abbrev pub may_read : CompiledView → StoreView → List Grip → ObjectName → Bool
 may_read c s held o = is_held c is_reading_object is_reading s held (locked_object c s o)
 
@@ -61,7 +61,8 @@ may_read c s held o = is_held c is_reading_object is_reading s held (locked_obje
 abbrev pub may_write : CompiledView → StoreView → List Grip → ObjectName → Bool
 may_write c s held o = is_held c is_writing is_writing s held (locked_object c s o)
 
--- and may make an object at the site: its class in IX, SIX or X, and where its record is guarded the guard as for a store
+-- and may make an object at the site: its class in IX, SIX or X, and where its record is guarded the guard as for a
+-- store
 abbrev pub may_make_by : CompiledView → StoreView → List Grip → ℕ → Option ℕ → Bool
 may_make_by c s held site None = holds_all held || passes is_making (mode_of_class c held site)
 may_make_by c s held site (Some g) = is_held c is_writing is_writing s held (object.Global g)

@@ -1,5 +1,6 @@
 -- What holds in each state of a run.
-use Rattle.std.specs.Prelude.{◌≡◌, ◌≢◌, ◌⊎◌, ⊤, ℕ, Bool, true, false, List, [], ◌∷◌, ◌++◌, length, Some, None, slice_get, slice_index_or}
+use Rattle.std.specs.Prelude.{◌≡◌, ◌≢◌, ◌⊎◌, ⊤, ℕ, Bool, true, false, List, [], ◌∷◌, ◌++◌, length, Some, None}
+use Rattle.std.specs.Prelude.{slice_get, slice_index_or}
 use Rattle.sect_types.specs.Lists.{Has}
 use Rattle.sect_types.specs.declared.action.Action.{Action}
 use Rattle.sect_types.specs.Statements.{TextView, Stop, Do, Choose, Loop, Section}
@@ -23,8 +24,8 @@ use Rattle.sect_emit.specs.ModeTests.{is_reading_object}
 use Rattle.sect_world.specs.Held.{holds_all, mode_of_class}
 use Rattle.sect_emit.specs.State.{Position, Outside, Entered, Running, Faulted, ThreadState, State, IsThread}
 
--- a thread outside holds and wants nothing; one that has entered wants what lies above all that it holds, in key order; one
--- in a section wants nothing
+-- a thread outside holds and wants nothing; one that has entered wants what lies above all that it holds, in key order;
+-- one in a section wants nothing
 abbrev pub IsPlaced : Position → ThreadState → Type 0
 IsPlaced Outside th = (th.held ≡ []) × (th.wanted ≡ [])
 IsPlaced Entered th = (th.frame.ended ≡ None) × Ascends (th.held ++ th.wanted)
@@ -48,7 +49,8 @@ Each A S (Section i p rest) = S i p × Each A S p × Each A S rest
 -- statements of thread t of the program, in a section or outside
 pub record IsTextOf (p : ProgramView) (t : ℕ) (inside : Bool) (k : TextView) : Type 0 where
   pub sound : IsSound (environment_at p t) inside k
-  pub listed : Each (λ a. Has (statements_of p) (thread_action t a)) (λ i b. slice_get (sections_of p.texts) i ≡ Some (record { thread = t; body = b })) k
+  pub listed : Each (λ a. Has (statements_of p) (thread_action t a))
+      (λ i b. slice_get (sections_of p.texts) i ≡ Some (record { thread = t; body = b })) k
 
 abbrev pub IsObject : StoreView → ObjectName → Type 0
 IsObject s o = (x : ObjectView) × (object_at s o ≡ Some x)
@@ -58,7 +60,8 @@ pub record IsStoreKept (c : CompiledView) (s : StoreView) : Type 0 where
   pub rows : length s.made ≡ length (program_of c).texts
   pub pointed : IsPointedStore c.scheme s
   pub sited : (o : ObjectName) (x : ObjectView) → object_at s o ≡ Some x
-      → (r : ℕ) × SiteOf (program_of c) x.site r × (length x.fields ≡ length (slice_index_or (program_of c).records r []))
+      → (r : ℕ) × SiteOf (program_of c) x.site r
+      × (length x.fields ≡ length (slice_index_or (program_of c).records r []))
 
 -- so do the locals, and the objects that the thread has made are counted
 pub record IsWorkKept (c : CompiledView) (s : StoreView) (t : ℕ) (w : WorkView) : Type 0 where
@@ -67,7 +70,8 @@ pub record IsWorkKept (c : CompiledView) (s : StoreView) (t : ℕ) (w : WorkView
 
 -- each object key is that of an object that is there, in S or X
 abbrev pub AreGripsKept : StoreView → List Grip → Type 0
-AreGripsKept s gs = (o : ObjectName) (m : Mode) → held_mode (key_of o) gs ≡ Some m → IsObject s o × (is_reading_object m ≡ true)
+AreGripsKept s gs =
+    (o : ObjectName) (m : Mode) → held_mode (key_of o) gs ≡ Some m → IsObject s o × (is_reading_object m ≡ true)
 
 -- no key stands in the list twice
 abbrev pub AreApart : List Grip → Type 0
@@ -79,10 +83,11 @@ abbrev pub HoldsClassOf : CompiledView → List Grip → ℕ → Mode → Type 0
 HoldsClassOf c gs site m =
     (holds_all gs ≡ true) ⊎ ((b : Mode) × (mode_of_class c gs site ≡ Some b) × (is_at_least b (intention_of m) ≡ true))
 
--- with each object key of the list stands `all` in X or its class in at least the intention, and with each class `all` in
--- at least the intention
+-- with each object key of the list stands `all` in X or its class in at least the intention, and with each class `all`
+-- in at least the intention
 pub record HaveTheirClass (c : CompiledView) (s : StoreView) (gs : List Grip) : Type 0 where
-  pub objects : (o : ObjectName) (x : ObjectView) (m : Mode) → held_mode (key_of o) gs ≡ Some m → object_at s o ≡ Some x → HoldsClassOf c gs x.site m
+  pub objects : (o : ObjectName) (x : ObjectView) (m : Mode) → held_mode (key_of o) gs ≡ Some m
+      → object_at s o ≡ Some x → HoldsClassOf c gs x.site m
   pub classes : (n : ℕ) (m : Mode) → held_mode (key.Class n) gs ≡ Some m
       → (b : Mode) × (held_mode key.All gs ≡ Some b) × (is_at_least b (intention_of m) ≡ true)
 

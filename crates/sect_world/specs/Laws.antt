@@ -9,14 +9,16 @@ use Rattle.sect_world.specs.Held.{HoldsEnough}
 use Rattle.sect_world.specs.Kept.{IsWellKept}
 use Rattle.sect_world.specs.Blocked.{IsStuck, CanGoOn}
 
--- in each state of a run each thread holds strongly enough what its next step in a section loads from, stores to or makes
+-- in each state of a run each thread holds strongly enough what its next step in a section loads from, stores to or
+-- makes
 abbrev pub AccessesAreHeld : CompiledView → Type 0
 AccessesAreHeld c = (fuel : ℕ) (trace : List Event) (s : State) → IsRun c fuel trace s → (t : ℕ) → HoldsEnough c s t
 
 -- each complete run comes to what whole sections come to, one after another in the order of the `leave` events
 abbrev pub EveryRunIsSerial : CompiledView → Type 0
 EveryRunIsSerial c =
-    (fuel : ℕ) (trace : List Event) (s : State) (e : SerialEndView) → IsRun c fuel trace s → IsComplete s e → RunsWhole (program_of c) fuel (order_of trace) e
+    (fuel : ℕ) (trace : List Event) (s : State) (e : SerialEndView) → IsRun c fuel trace s → IsComplete s e
+    → RunsWhole (program_of c) fuel (order_of trace) e
 
 -- each state of a run is well kept
 abbrev pub StatesAreWellKept : CompiledView → Type 0

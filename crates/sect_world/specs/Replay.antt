@@ -1,5 +1,5 @@
--- A state of a run against whole sections: what has left is in the serial store, and what is in a section can be replayed
--- from there.
+-- A state of a run against whole sections: what has left is in the serial store, and what is in a section can be
+-- replayed from there.
 use Rattle.std.specs.Prelude.{◌≡◌, ◌≢◌, ℕ, zero, suc, true, false, List, Some, None, length, slice_get}
 use Rattle.sect_types.specs.Statements.{TextView, Section}
 use Rattle.sect_types.specs.Programs.{ProgramView}
@@ -42,9 +42,10 @@ abbrev pub replay : ℕ → ProgramView → ℕ → Stage → Stage
 replay zero p t x = x
 replay (suc n) p t x = one_on p t (replay n p t x).position (replay n p t x).work (replay n p t x).store
 
--- the section of thread t, done from another store as far as it has come, leads to the store `here`: it is as the real one
--- on all that the thread may read, and as the other one on all that it may not write
-pub record Replayed (c : CompiledView) (t : ℕ) (th : ThreadState) (store : StoreView) (i : ℕ) (body : TextView) (work : WorkView) (from : StoreView) : Type 0 where
+-- the section of thread t, done from another store as far as it has come, leads to the store `here`: it is as the real
+-- one on all that the thread may read, and as the other one on all that it may not write
+pub record Replayed (c : CompiledView) (t : ℕ) (th : ThreadState) (store : StoreView) (i : ℕ) (body : TextView)
+    (work : WorkView) (from : StoreView) : Type 0 where
   pub steps : ℕ
   pub here : StoreView
   pub done : replay steps (program_of c) t (record { position = Running i body; work = work; store = from })
@@ -56,24 +57,29 @@ pub record Replayed (c : CompiledView) (t : ℕ) (th : ThreadState) (store : Sto
   pub rows : length here.made ≡ length from.made
 
 -- a thread outside sections, and its serial frame
-pub record IsApart (p : ProgramView) (t : ℕ) (th : ThreadState) (store serial : StoreView) (f : FrameView) : Type 0 where
+pub record IsApart (p : ProgramView) (t : ℕ) (th : ThreadState) (store serial : StoreView) (f : FrameView)
+    : Type 0 where
   pub frame : ahead p t f ≡ ahead p t th.frame
   pub count : count serial t ≡ count store t
 
 -- a thread that has entered a section
-pub record IsBefore (p : ProgramView) (t : ℕ) (th : ThreadState) (store serial : StoreView) (f : FrameView) : Type 0 where
+pub record IsBefore (p : ProgramView) (t : ℕ) (th : ThreadState) (store serial : StoreView) (f : FrameView)
+    : Type 0 where
   pub apart : IsApart p t th store serial f
   pub alive : th.frame.ended ≡ None
 
--- a thread in a section: the serial frame is before the section, which can be replayed from the serial store, and from each
--- store that is as good to the thread
-pub record IsInside (c : CompiledView) (t : ℕ) (th : ThreadState) (store serial : StoreView) (f : FrameView) : Type 0 where
+-- a thread in a section: the serial frame is before the section, which can be replayed from the serial store, and from
+-- each store that is as good to the thread
+pub record IsInside (c : CompiledView) (t : ℕ) (th : ThreadState) (store serial : StoreView) (f : FrameView)
+    : Type 0 where
   pub section : ℕ
   pub body : TextView
   pub work : WorkView
-  pub before : ahead (program_of c) t f ≡ record { text = Section section body th.frame.text; work = work; ended = None }
+  pub before : ahead (program_of c) t f
+      ≡ record { text = Section section body th.frame.text; work = work; ended = None }
   pub alive : th.frame.ended ≡ None
-  pub replayed : (other : StoreView) → Agrees c t th.held store other serial → Replayed c t th store section body work other
+  pub replayed : (other : StoreView) → Agrees c t th.held store other serial
+      → Replayed c t th store section body work other
 
 -- a thread and its serial frame, by where the thread is
 abbrev pub Follows : CompiledView → ℕ → Position → ThreadState → StoreView → StoreView → FrameView → Type 0
@@ -84,11 +90,13 @@ Follows c t (Faulted i why) th store serial f = IsInside c t th store serial f
 
 -- thread t has such a serial frame
 abbrev pub HasFrame : CompiledView → StoreView → RunView → ℕ → ThreadState → Type 0
-HasFrame c store serial t th = (f : FrameView) × (slice_get serial.frames t ≡ Some f) × Follows c t th.position th store serial.store f
+HasFrame c store serial t th =
+    (f : FrameView) × (slice_get serial.frames t ≡ Some f) × Follows c t th.position th store serial.store f
 
 -- no thread in a section may write the object
 abbrev pub NobodyWrites : CompiledView → State → ObjectName → Type 0
-NobodyWrites c s o = (t : ℕ) (th : ThreadState) → IsThread s t th → IsInSection th.position → may_write c s.store th.held o ≡ false
+NobodyWrites c s o =
+    (t : ℕ) (th : ThreadState) → IsThread s t th → IsInSection th.position → may_write c s.store th.held o ≡ false
 
 -- the sections that have left, run whole in their order, have come to this
 pub record Serializes (c : CompiledView) (s : State) (serial : RunView) : Type 0 where

@@ -27,8 +27,10 @@ may_by effect.Write c s held o = may_write c s held o
 -- who holds these keys may do now what the lock allows: a path stands for the object that it denotes now
 abbrev pub Secured : CompiledView → StoreView → List Datum → List Grip → Lock → Type 0
 Secured c s locals held lock.All = holds_all held ≡ true
-Secured c s locals held (lock.Class n r) = (holds_all held || is_met (held_mode (key.Class n) held) (class_mode r)) ≡ true
-Secured c s locals held (lock.Path p e) = (o : ObjectName) → path_datum s locals p ≡ Refers o → may_by e c s held o ≡ true
+Secured c s locals held (lock.Class n r) =
+    (holds_all held || is_met (held_mode (key.Class n) held) (class_mode r)) ≡ true
+Secured c s locals held (lock.Path p e) =
+    (o : ObjectName) → path_datum s locals p ≡ Refers o → may_by e c s held o ≡ true
 
 -- all that is needed along what thread t still has to run of section i
 abbrev pub AllSecured : CompiledView → StoreView → ℕ → ℕ → List Datum → List Grip → TextView → Type 0

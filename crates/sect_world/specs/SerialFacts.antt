@@ -21,20 +21,24 @@ IsSerial c fuel trace serial = in_order (program_of c) (order_of trace) (begun (
 abbrev pub OnlySectionsDiffer : CompiledView → Type 0
 OnlySectionsDiffer c =
     (fuel : ℕ) (trace : List Event) (s : State) → IsRun c fuel trace s
-    → (serial : RunView) × IsSerial c fuel trace serial × ((o : ObjectName) → NobodyWrites c s o → object_at s.store o ≡ object_at serial.store o)
+    → (serial : RunView) × IsSerial c fuel trace serial
+    × ((o : ObjectName) → NobodyWrites c s o → object_at s.store o ≡ object_at serial.store o)
 
--- the section that thread t is in, done from the serial store as far as it has come, has come as far with the same work, and
--- its store is the real one on all that the thread may read
-pub record IsReplayed (c : CompiledView) (store : StoreView) (serial : RunView) (t : ℕ) (th : ThreadState) : Type 0 where
+-- the section that thread t is in, done from the serial store as far as it has come, has come as far with the same
+-- work, and its store is the real one on all that the thread may read
+pub record IsReplayed (c : CompiledView) (store : StoreView) (serial : RunView) (t : ℕ) (th : ThreadState)
+    : Type 0 where
   pub frame : FrameView
   pub is_frame : slice_get serial.frames t ≡ Some frame
   pub section : ℕ
   pub body : TextView
   pub work : WorkView
-  pub before : ahead (program_of c) t frame ≡ record { text = Section section body th.frame.text; work = work; ended = None }
+  pub before : ahead (program_of c) t frame
+      ≡ record { text = Section section body th.frame.text; work = work; ended = None }
   pub steps : ℕ
   pub here : StoreView
-  pub done : replay steps (program_of c) t (record { position = Running section body; work = work; store = serial.store })
+  pub done :
+      replay steps (program_of c) t (record { position = Running section body; work = work; store = serial.store })
       ≡ record { position = th.position; work = th.frame.work; store = here }
   pub agrees : (o : ObjectName) → may_read c store th.held o ≡ true → object_at here o ≡ object_at store o
 

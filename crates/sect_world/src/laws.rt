@@ -9,18 +9,21 @@ ghost use Rattle.sect_world.specs.Runs.{IsRun};
 ghost use Rattle.sect_world.specs.Held.{HoldsEnough};
 ghost use Rattle.sect_world.specs.Accesses.{ChangesAreAccesses, StepsLookWhereTheyLoad};
 ghost use Rattle.sect_world.specs.Kept.{IsWellKept};
-ghost use Rattle.sect_world.specs.Laws.{StatesAreWellKept, NoStateIsStuck, SomethingHappens, AccessesAreHeld, EveryRunIsSerial};
+ghost use Rattle.sect_world.specs.Laws.{StatesAreWellKept, NoStateIsStuck, SomethingHappens, AccessesAreHeld};
+ghost use Rattle.sect_world.specs.Laws.{EveryRunIsSerial};
 ghost use Rattle.sect_world.specs.Excluding.{ReadersAndWritersExclude};
 ghost use Rattle.sect_world.specs.HeldPaths.{HoldersHoldTheClass, BeginningsAreHeld, NeededPathsStay};
 ghost use Rattle.sect_world.specs.Secured.{Good};
 ghost use Rattle.sect_world.specs.SerialFacts.{OnlySectionsDiffer, SectionsAreReplayed};
 
-/// Each state of a run of a compiled program is well kept, and good: each thread holds the classes of the objects that it
-/// holds, and has secured what it still needs.
+/// Each state of a run of a compiled program is well kept, and good: each thread holds the classes of the objects that
+/// it holds, and has secured what it still needs.
 pub fn states_are_well_kept()
     ensures kept { (c : CompiledView) → IsCompiled c → StatesAreWellKept c }
-    ensures good { (c : CompiledView) → IsCompiled c → (fuel : ℕ) (trace : List Event) (s : State) → IsRun c fuel trace s → Good c s }
-    ensures events { (c : CompiledView) → IsCompiled c → (s after : State) (e : Event) → Good c s → Happens c s e after → IsWellKept c after → Good c after }
+    ensures good { (c : CompiledView) → IsCompiled c → (fuel : ℕ) (trace : List Event) (s : State)
+        → IsRun c fuel trace s → Good c s }
+    ensures events { (c : CompiledView) → IsCompiled c → (s after : State) (e : Event) → Good c s → Happens c s e after
+        → IsWellKept c after → Good c after }
 {}
 
 /// No state of a run of a compiled program is stuck.
@@ -33,15 +36,15 @@ pub fn something_happens()
     ensures { (c : CompiledView) → IsCompiled c → SomethingHappens c }
 {}
 
-/// In each state of a run each thread in a section holds strongly enough what its next step loads from, stores to or makes;
-/// in a good state it does, too.
+/// In each state of a run each thread in a section holds strongly enough what its next step loads from, stores to or
+/// makes; in a good state it does, too.
 pub fn every_access_is_held()
     ensures runs { (c : CompiledView) → IsCompiled c → AccessesAreHeld c }
     ensures good { (c : CompiledView) → IsCompiled c → (s : State) → Good c s → (t : ℕ) → HoldsEnough c s t }
 {}
 
-/// The access that the definitions name for a step is all that it has to do with objects: it changes none but by that, and
-/// depends on none but the one that it loads from.
+/// The access that the definitions name for a step is all that it has to do with objects: it changes none but by that,
+/// and depends on none but the one that it loads from.
 pub fn accesses_are_all_there_is()
     ensures changes { ChangesAreAccesses }
     ensures loads { StepsLookWhereTheyLoad }
@@ -52,16 +55,16 @@ pub fn readers_and_writers_exclude()
     ensures { (c : CompiledView) → IsCompiled c → ReadersAndWritersExclude c }
 {}
 
-/// In each state of a run each thread holds, with the key of an object, that of its class; in a section it may read what
-/// the beginnings of the paths denote that it still needs; and what these paths denote, other threads leave.
+/// In each state of a run each thread holds, with the key of an object, that of its class; in a section it may read
+/// what the beginnings of the paths denote that it still needs; and what these paths denote, other threads leave.
 pub fn needed_paths_are_held()
     ensures classes { (c : CompiledView) → IsCompiled c → HoldersHoldTheClass c }
     ensures beginnings { (c : CompiledView) → IsCompiled c → BeginningsAreHeld c }
     ensures stay { (c : CompiledView) → IsCompiled c → NeededPathsStay c }
 {}
 
-/// In each run the store differs from what the sections that have left come to, run whole in their order, only in objects
-/// that sections in progress may write; and each of these can be replayed from there as far as it has come.
+/// In each run the store differs from what the sections that have left come to, run whole in their order, only in
+/// objects that sections in progress may write; and each of these can be replayed from there as far as it has come.
 pub fn the_store_follows_the_sections()
     ensures differ { (c : CompiledView) → IsCompiled c → OnlySectionsDiffer c }
     ensures replayed { (c : CompiledView) → IsCompiled c → SectionsAreReplayed c }

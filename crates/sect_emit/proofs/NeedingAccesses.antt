@@ -3,7 +3,6 @@ use Rattle.std.proofs.Common.{◌≡◌, ◌<◌, ℕ, length, get_or, Option, S
 use Rattle.std.proofs.lemmas.Option.{slice_get_within, slice_get-get_or}
 use Rattle.sect_types.specs.Programs.{sites_of}
 use Rattle.sect_types.specs.declared.action.Base.{Base}
-use Rattle.sect_types.specs.declared.action.Base.TheVariants as base
 use Rattle.sect_types.specs.declared.action.Action.{Action}
 use Rattle.sect_types.specs.declared.action.Action.TheVariants as action
 use Rattle.sect_types.specs.declared.action.Label.TheVariants as label
@@ -22,7 +21,6 @@ use Rattle.sect_types.specs.declared.store.ObjectName.{ObjectName}
 use Rattle.sect_types.specs.declared.store.Datum.TheVariants.{Refers}
 use Rattle.sect_types.specs.Store.{StoreView}
 use Rattle.sect_types.specs.Meaning.{WorkView, base_datum}
-use Rattle.sect_emit.specs.Plan.{variable_datum}
 use Rattle.sect_names.specs.Locks.{VariableTo}
 use Rattle.sect_names.specs.Records.{IsTypedProgram, SiteOf}
 use Rattle.sect_names.specs.Along.{read_for}
@@ -32,17 +30,13 @@ use Rattle.sect_names.proofs.Placing.{statement_sound, statement_sited}
 use Rattle.sect_names.proofs.Typing.{base_to}
 use Rattle.sect_names.proofs.Beginning.{read_variable}
 use Rattle.sect_names.proofs.Owning.{own_base}
-use Rattle.sect_emit.proofs.Pointing.{denoted}
+use Rattle.sect_emit.proofs.Pointing.{base_variable, denoted}
 
 module _ (s : SchemeView) (scheme : IsScheme s) (typed : IsTypedProgram s.program) (t : ℕ) (store : StoreView) (w : WorkView) (pointed : IsPointed s t store w) where
-  base_variable : (b : Base) → variable_datum w.locals (variable_of t b) ≡ base_datum w.locals b
-  base_variable (base.Local x) = refl
-  base_variable (base.Global g) = refl
-
   looked : (b : Base) (r : ℕ) (e : Effect) (o : ObjectName) → VariableTo s.program (variable_of t b) r → base_datum w.locals b ≡ Refers o
       → IsObjectOf s store r o × Accesses s (variable_of t b) r e (lock.Path (read_for (guard_of s.guards r) (var (variable_of t b))) e)
   looked b r e o to at =
-      let k = denoted s scheme typed t store w pointed (var (variable_of t b)) r o to (own_base t b) (base_variable b ∙ at) in
+      let k = denoted s scheme typed t store w pointed (var (variable_of t b)) r o to (own_base t b) (base_variable t w.locals b ∙ at) in
       ((k.0, k.1, k.3), ((k.4.0, k.4.1), ap (λ p. lock.Path p e) (read_variable s scheme (guard_of s.guards r) (variable_of t b))))
 
   making : (x r i : ℕ) → SiteOf s.program i r → MakesLocked s t (action.New x r i) (guard_of s.guards r) i

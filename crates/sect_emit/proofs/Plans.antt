@@ -128,6 +128,22 @@ ascends-append (x ∷ xs) ys a b below = ((λ h i. by h (Has-cases xs ys h i)), 
   by h (inl i) = a.0 h i
   by h (inr i) = below x h (inl refl) i
 
+-- both parts of an ascending list ascend
+pub ascends_left : (xs ys : List Grip) → Ascends (xs ++ ys) → Ascends xs
+ascends_left [] ys a = tt
+ascends_left (x ∷ xs) ys a = ((λ y h. a.0 y (Has-left xs ys y h)), ascends_left xs ys a.1)
+
+-- the second part too
+pub ascends_right : (xs ys : List Grip) → Ascends (xs ++ ys) → Ascends ys
+ascends_right [] ys a = a
+ascends_right (x ∷ xs) ys a = ascends_right xs ys a.1
+
+-- and the first lies below the second
+pub ascending_across : (xs ys : List Grip) → Ascends (xs ++ ys) → (x y : Grip) → Has xs x → Has ys y → is_key_below x.key y.key ≡ true
+ascending_across [] ys up x y hx hy = absurd hx
+ascending_across (z ∷ xs) ys up x y (inl e) hy = subst (λ (g : Grip). is_key_below g.key y.key ≡ true) e (up.0 y (Has-right xs ys y hy))
+ascending_across (z ∷ xs) ys up x y (inr k) hy = ascending_across xs ys up.1 x y k hy
+
 -- a key of the fixed part, that of all or of a class, and the key of an object
 abbrev IsFixedKey : Key → Type 0
 IsFixedKey k = (k ≡ key.All) ⊎ ((n : ℕ) × (k ≡ key.Class n))

@@ -29,7 +29,7 @@ use Rattle.sect_types.specs.declared.store.Datum.TheVariants.{Number, Null, Refe
 use Rattle.sect_types.specs.declared.store.Fault.TheVariants as fault
 use Rattle.sect_types.specs.Store.{ObjectView, StoreView, object_at, row, count, put_at, with_field, write, add, same_name, same_number}
 use Rattle.sect_types.specs.Meaning.{WorkView, local_datum, datum_or_null, base_datum, value_datum, integer_of, result_of, fits, name_in, fresh, Change, Unchanged, Written, after_change, Came, Went, Fell, assigned, loaded, stored, done, paid, looked, found_at}
-use Rattle.sect_emit.specs.Plan.{field_datum, field_of, path_datum}
+use Rattle.sect_emit.specs.Plan.{field_datum, field_of, path_datum, variable_datum}
 use Rattle.sect_names.specs.Locks.{PathTo}
 use Rattle.sect_names.specs.Records.{IsTypedProgram}
 use Rattle.sect_emit.specs.Pointed.{ExistsAt, RefersTo, IsPointedStore, ArePointed, IsPointed, ObjectsStay, StepsTo, IsDenoted}
@@ -41,6 +41,12 @@ use Rattle.sect_types.proofs.Replaced.{mapped, get-changed_at, same_number-true,
 use Rattle.sect_types.proofs.Stores.{object_at-write, same_name-true, same_name-eq, object_at-add, count-add_own, count-write, rows-write}
 use Rattle.sect_types.proofs.Basics.{is_past}
 use Rattle.sect_types.proofs.Data.{fresh_refers}
+use Rattle.sect_points.specs.PathClasses.{variable_of}
+
+-- what the base of a statement denotes is what its variable does
+pub base_variable : (t : ℕ) (locals : List Datum) (b : Base) → variable_datum locals (variable_of t b) ≡ base_datum locals b
+base_variable t locals (base.Local x) = refl
+base_variable t locals (base.Global g) = refl
 
 -- the datum is a reference
 abbrev pub IsReference : Datum → Type 0

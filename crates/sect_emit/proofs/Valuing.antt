@@ -6,7 +6,6 @@ use Rattle.sect_types.specs.Programs.{environment_at}
 use Rattle.sect_types.specs.Sound.{IsSoundAction}
 use Rattle.sect_types.specs.declared.types.ValueType.{ValueType}
 use Rattle.sect_types.specs.declared.action.Base.{Base}
-use Rattle.sect_types.specs.declared.action.Base.TheVariants as base
 use Rattle.sect_types.specs.declared.action.Value.{Value}
 use Rattle.sect_types.specs.declared.action.Value.TheVariants as value
 use Rattle.sect_types.specs.declared.action.Field.{Field}
@@ -28,7 +27,7 @@ use Rattle.sect_types.specs.declared.store.ObjectName.TheVariants as object
 use Rattle.sect_types.specs.declared.store.Datum.{Datum}
 use Rattle.sect_types.specs.declared.store.Datum.TheVariants.{Number, Null, Refers}
 use Rattle.sect_types.specs.Store.{ObjectView, StoreView, object_at, row, count, put_at, with_field, write, add, same_name}
-use Rattle.sect_types.specs.Meaning.{WorkView, local_datum, datum_or_null, base_datum, value_datum, fresh}
+use Rattle.sect_types.specs.Meaning.{WorkView, local_datum, datum_or_null, value_datum, fresh}
 use Rattle.sect_emit.specs.Plan.{field_datum, field_of, variable_datum, path_datum}
 use Rattle.sect_names.specs.Locks.{VariableTo, PathTo}
 use Rattle.sect_names.specs.Records.{IsTypedProgram, SiteOf}
@@ -39,7 +38,8 @@ use Rattle.sect_names.proofs.Typing.{base_to}
 use Rattle.sect_types.proofs.Replaced.{mapped}
 use Rattle.sect_types.proofs.Stores.{object_at-write, object_at-add, same_name-true, same_name-eq}
 use Rattle.sect_types.proofs.Basics.{is_past}
-use Rattle.sect_emit.proofs.Pointing.{is_reference, same_object, put_or_kept, HasDone, action_done, step_pointed, denoted}
+use Rattle.sect_names.proofs.Owning.{own_base}
+use Rattle.sect_emit.proofs.Pointing.{base_variable, is_reference, same_object, put_or_kept, HasDone, action_done, step_pointed, denoted}
 use Rattle.sect_types.proofs.Data.{fresh_refers}
 
 -- over an assignment of d to the local x: where `source` denotes d, and fields of objects are as before
@@ -159,10 +159,6 @@ module _ (s : SchemeView) (scheme : IsScheme s) (typed : IsTypedProgram s.progra
   value_assigned x (value.Local y) p o own e = assigned_value x (Some (var (Local t y))) (local_datum w.locals y) (λ o h. (var (Local t y), refl, h)) p o own e
   value_assigned x (value.Global g) p o own e = assigned_value x (Some (var (Global g))) (Refers (object.Global g)) (λ o h. (var (Global g), refl, h)) p o own e
 
-  base_variable : (b : Base) → variable_datum w.locals (variable_of t b) ≡ base_datum w.locals b
-  base_variable (base.Local x) = refl
-  base_variable (base.Global g) = refl
-
   read_value : (v : Value) (o : ObjectName) → value_datum w.locals v ≡ Refers o → (u : Variable) × (variable_in t v ≡ Some u) × (variable_datum w.locals u ≡ Refers o)
   read_value (value.Number n) o e = absurd (is_reference (Number (pos n)) o e)
   read_value value.Null o e = absurd (is_reference Null o e)
@@ -189,16 +185,12 @@ module _ (s : SchemeView) (scheme : IsScheme s) (typed : IsTypedProgram s.progra
         found t x None (Refers (object.Made t w.made)) store (add store t (fresh i types)) w.locals (λ o. o ≡ object.Made t w.made)
         (λ o k. inr (sym (same_object (object.Made t w.made) o k))) fields_before none_there p o own e
 
-  own_base : (b : Base) → IsOwn t (var (variable_of t b))
-  own_base (base.Local x) = refl
-  own_base (base.Global g) = tt
-
   -- what denotes the object of a store's base after it is of its class, and of its record
   alike_after : (b : Base) (f : Field) (zo : ObjectName) (after : StoreView) (z : WorkView) → IsPointed s t after z → VariableTo s.program (variable_of t b) f.of → path_datum after z.locals (var (variable_of t b)) ≡ Refers zo
       → (e : PathView) (g : Field) → PathTo s.program e g.of → IsOwn t e → path_datum after z.locals e ≡ Refers zo → (g.of ≡ f.of) × AreOfOneClass s.classes e (var (variable_of t b))
   alike_after b f zo after z later to at e g path own value =
       let j = denoted s scheme typed t after z later e g.of zo path own value in
-      let k = denoted s scheme typed t after z later (var (variable_of t b)) f.of zo to (own_base b) at in
+      let k = denoted s scheme typed t after z later (var (variable_of t b)) f.of zo to (own_base t b) at in
       let same : j.0 ≡ k.0 = same_Some j.0 k.0 (sym j.1 ∙ k.1) in
       let records : g.of ≡ f.of = same_Some g.of f.of (sym (subst (λ (x : ObjectView). SiteOf s.program x.site g.of) same j.3) ∙ k.3) in
       let numbers : j.4.0 ≡ k.4.0 = same_Some j.4.0 k.4.0 (sym (subst (λ (x : ObjectView). slice_get s.classes.numbers x.site ≡ Some j.4.0) same j.4.2) ∙ k.4.2) in
@@ -217,10 +209,10 @@ module _ (s : SchemeView) (scheme : IsScheme s) (typed : IsTypedProgram s.progra
       inl (assigned_value x (Some (dot (var (variable_of t b)) f)) (datum_or_null (slice_get y.fields f.number)) (λ o h. (
         dot (var (variable_of t b)) f,
         refl,
-        ap (λ d. field_of store d f.number) (base_variable b ∙ at_base) ∙ ap (λ x. field_datum x f.number) at ∙ h,
+        ap (λ d. field_of store d f.number) (base_variable t w.locals b ∙ at_base) ∙ ap (λ x. field_datum x f.number) at ∙ h,
       )) p o own (sym (λ i. path_datum (is i) (locals i) p) ∙ e))
   action_value (action.Store b f v) sound after z ((zo, at_base, is), locals, made) later p r o to own e =
-      let at = base_variable b ∙ at_base in
+      let at = base_variable t w.locals b ∙ at_base in
       inl (stored_value (variable_of t b) f (variable_in t v) zo (value_datum w.locals v) at (read_value v)
       (λ q g path own k. alike_after b f zo after z later (base_to s.program t b f.of sound.1) (ap (λ l. variable_datum l (variable_of t b)) locals ∙ at) q g path own ((λ i. path_datum (is i) (locals i) q) ∙ k))
       p r o to own (sym (λ i. path_datum (is i) (locals i) p) ∙ e))

@@ -1,7 +1,8 @@
 -- All that the serial meaning stands on holds of compiled programs.
 use Rattle.sect_emit.specs.Compiled.{CompiledView, IsCompiled}
 use Rattle.sect_world.specs.Laws.{EveryRunIsSerial}
-use Rattle.sect_world.specs.Excluding.{ReadersAndWritersExclude, StatesAreTidy}
+use Rattle.sect_world.specs.Excluding.{ReadersAndWritersExclude}
+use Rattle.sect_world.proofs.Tidy.{StatesAreTidy}
 use Rattle.sect_world.specs.SerialFacts.{OnlySectionsDiffer, SectionsAreReplayed}
 use Rattle.sect_world.proofs.KeptStates.{runs_are_well_kept}
 use Rattle.sect_world.proofs.Tidy.{well_kept_is_tidy}

@@ -2,8 +2,6 @@
 use Rattle.std.proofs.Common.{◌≡◌, ◌≢◌, inl, inr, ℕ, List, [], ◌∷◌, ◌++◌, true, Some, None, refl, sym, ap, ◌∙◌, subst, arith}
 use Rattle.std.specs.Prelude.{ℤ, slice_get, slice_index_or}
 use Rattle.std.proofs.lemmas.Option.{slice_get_within, slice_get-get_or}
-use Rattle.sect_types.specs.Lists.{Has}
-use Rattle.sect_types.proofs.Membership.{Has-right}
 use Rattle.sect_types.specs.Statements.{TextView, Section}
 use Rattle.sect_types.specs.Sections.{sections_of}
 use Rattle.sect_points.specs.Paths.{PathView}
@@ -37,7 +35,7 @@ use Rattle.sect_world.specs.Events.{guard_at, fresh_grip, grips_of, entering, ta
 use Rattle.sect_world.specs.Kept.{HoldsClassOf, HaveTheirClass, IsPlaced, IsAt, IsWellKept}
 use Rattle.sect_types.proofs.Basics.{false≢true}
 use Rattle.sect_types.proofs.Replaced.{at-put_at, put_same}
-use Rattle.sect_emit.proofs.Plans.{mode_is_there}
+use Rattle.sect_emit.proofs.Plans.{mode_is_there, ascending_across}
 use Rattle.sect_world.specs.Secured.{AllSecured, Good}
 use Rattle.sect_emit.proofs.Grips.{held_append, held_split}
 use Rattle.sect_world.proofs.KeptPointed.{pointed_thread, stands_inside, its_section, held_kept}
@@ -82,14 +80,6 @@ module _ (c : CompiledView) (s : State) (good : Good c s) (u : ℕ) (th : Thread
       → Good c (state_with s.store output u new s)
   good_quiet output new kept classes secured =
       good_with s.store output new kept classes secured (λ t x other was. good.classes t x was) (λ t x i k other was running. good.secured t x i k was running)
-
--- in key order the first of two parts lies below the second
-ascending_across : (xs ys : List Grip) → Ascends (xs ++ ys) → (x y : Grip) → Has xs x → Has ys y → is_key_below x.key y.key ≡ true
-ascending_across [] ys up x y hx hy = absurd hx
-ascending_across (z ∷ xs) ys up x y hx hy = elim hx [
-  | inl e ↦ subst (λ (g : Grip). is_key_below g.key y.key ≡ true) e (up.0 y (Has-right xs ys y hy))
-  | inr k ↦ ascending_across xs ys up.1 x y k hy
-]
 
 no_class_above : (o : ObjectName) (n : ℕ) → is_key_below (key_of o) (key.Class n) ≡ true → ⊥
 no_class_above (object.Global g) n e = false≢true e

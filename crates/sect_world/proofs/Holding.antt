@@ -155,7 +155,7 @@ module _ (c : CompiledView) (s s' : StoreView) (held held' : List Grip) (more : 
       ])
 
   -- for any tests
-  holding_grows : (for_key for_class : Mode → Bool) (o : ObjectName) → is_held c for_key for_class s held (locked_object c s o) ≡ true → is_held c for_key for_class s' held' (locked_object c s' o) ≡ true
+  pub holding_grows : (for_key for_class : Mode → Bool) (o : ObjectName) → is_held c for_key for_class s held (locked_object c s o) ≡ true → is_held c for_key for_class s' held' (locked_object c s' o) ≡ true
   holding_grows for_key for_class o h =
       let x = may_finds c for_key for_class s held o h in
       subst (λ q. is_held c for_key for_class s' held' q ≡ true) (sym (locked_stays o x.0 x.1)) (held_grows for_key for_class (locked_object c s o) h)

@@ -1,6 +1,5 @@
 -- States of runs are well kept.
 use Rattle.std.proofs.Common.{◌≡◌, ◌≢◌, ℕ, zero, suc, ◌<◌, Bool, true, false, refl, sym, ap, ◌∙◌, subst, ◌⊎◌, inl, inr, ⊎_elim, List, [], ◌∷◌, ◌++◌, length, Option, Some, None, true≢false, arith, append_assoc, append-nil}
-use Rattle.sect_types.proofs.Membership.{Has-left}
 use Rattle.std.specs.Prelude.{slice_get, slice_index_or, map, ⊤, ℤ, if◌then◌else◌}
 use Rattle.std.specs.List.{list_all}
 use Rattle.std.proofs.lemmas.Option.{slice_get_within, slice_get-get_or}
@@ -48,9 +47,9 @@ use Rattle.sect_emit.proofs.Keys.{same_key, key_itself, not_below_itself}
 use Rattle.sect_emit.proofs.Modes.{sharing_turned}
 use Rattle.sect_types.proofs.Replaced.{at-put_at, length-changed_at, slice_get-map}
 use Rattle.sect_emit.proofs.Grips.{held_split}
-use Rattle.sect_emit.proofs.Plans.{mode_is_there, ascending_mode}
+use Rattle.sect_emit.proofs.Plans.{mode_is_there, ascending_mode, ascends_left, ascends_right}
 use Rattle.sect_emit.proofs.PlanModes.{plan_object, plan_object_mode, plan_holds_the_classes, key_of-injective, plan_holds_all}
-use Rattle.sect_world.proofs.Asking.{plan_at_ascends}
+use Rattle.sect_world.proofs.Planning.{plan_at_ascends}
 use Rattle.sect_world.proofs.Listing.{text_of}
 use Rattle.sect_emit.proofs.Pointing.{others_pointed}
 use Rattle.sect_world.proofs.KeptSteps.{Grows, grows_same, fresh_name, added_there, IsNextKept, next_kept}
@@ -81,10 +80,6 @@ no_mode k gs none = by (held_mode k gs) refl where
 ascends_apart : (gs : List Grip) → Ascends gs → AreApart gs
 ascends_apart [] a = tt
 ascends_apart (g ∷ gs) a = (no_mode g.key gs (λ m e. not_below_itself g.key (a.0 (grip g.key m) (mode_is_there g.key m gs e))), ascends_apart gs a.1)
-
-ascends_left : (xs ys : List Grip) → Ascends (xs ++ ys) → Ascends xs
-ascends_left [] ys a = tt
-ascends_left (x ∷ xs) ys a = ((λ h i. a.0 h (Has-left xs ys h i)), ascends_left xs ys a.1)
 
 apart_more : (xs : List Grip) (g : Grip) → AreApart xs → held_mode g.key xs ≡ None → AreApart (xs ++ g ∷ [])
 apart_more [] g a none = (refl, tt)
@@ -193,10 +188,6 @@ all_others zero zero test (y ∷ xs) x e apart at = absurd (apart refl)
 all_others zero (suc u) test (y ∷ xs) x e apart at = all_pass u test xs x e at
 all_others (suc t) zero test (y ∷ xs) x e apart at = ap test (sym (some_injective y x at)) ∙ (both_hold (test y) (all_but t test xs) e).0
 all_others (suc t) (suc u) test (y ∷ xs) x e apart at = all_others t u test xs x (both_hold (test y) (all_but t test xs) e).1 (λ same. apart (ap suc same)) at
-
-ascends_right : (xs ys : List Grip) → Ascends (xs ++ ys) → Ascends ys
-ascends_right [] ys a = a
-ascends_right (x ∷ xs) ys a = ascends_right xs ys a.1
 
 module _ (c : CompiledView) (is : IsCompiled c) where
   -- what a path of a lock denotes is there, at one of the path's sites

@@ -1,8 +1,8 @@
 -- The texts of a program's threads.
-use Rattle.std.proofs.Common.{◌≡◌, ℕ, zero, suc, ◌+◌, Bool, true, false, refl, sym, ap, ◌∙◌, subst, inl, inr, List, [], ◌∷◌, ◌++◌, length, Some, arith}
+use Rattle.std.proofs.Common.{◌≡◌, ℕ, zero, suc, ◌+◌, Bool, true, false, refl, sym, ap, ◌∙◌, subst, inl, inr, List, [], ◌∷◌, ◌++◌, length, Some, arith, None}
 use Rattle.sect_types.proofs.Membership.{Has-left, Has-right}
 use Rattle.std.specs.Prelude.{slice_get, map}
-use Rattle.std.proofs.lemmas.Option.{get_or_from_slice_get}
+use Rattle.std.proofs.lemmas.Option.{get_or_from_slice_get, slice_get-map}
 use Rattle.sect_types.specs.Lists.{Has}
 use Rattle.sect_types.specs.declared.types.ValueType.{ValueType}
 use Rattle.sect_types.specs.declared.action.Action.{Action}
@@ -17,14 +17,10 @@ use Rattle.sect_points.specs.declared.holders.ThreadAction.{ThreadAction}
 use Rattle.sect_world.specs.Kept.{Each, IsTextOf}
 use Rattle.sect_names.proofs.Placing.{slice_get-left}
 use Rattle.sect_types.proofs.Basics.{false≢true, some_injective, none_or_some}
-
--- joined statements are sound
-pub sound_joined : (e : Environment) (inside : Bool) (p k : TextView) → IsSound e inside p → IsSound e inside k → IsSound e inside (joined p k)
-sound_joined e inside Stop k a b = b
-sound_joined e inside (Do x r) k a b = (a.0, a.1, sound_joined e inside r k a.2 b)
-sound_joined e inside (Choose c p q r) k a b = (a.0, a.1, a.2, sound_joined e inside r k a.3 b)
-sound_joined e inside (Loop c p r) k a b = (a.0, a.1, sound_joined e inside r k a.2 b)
-sound_joined e inside (Section i p r) k a b = (a.0, a.1, sound_joined e inside r k a.2 b)
+use Rattle.sect_types.proofs.Joining.{sound_joined}
+use Rattle.std.proofs.lemmas.List.{length-map}
+use Rattle.sect_names.proofs.Finiteness.{Has-map}
+use Rattle.std.specs.Option.{option_map}
 
 -- what holds of the statements of both holds of the joined ones
 pub each_joined : (A : Action → Type 0) (S : ℕ → TextView → Type 0) (p k : TextView) → Each A S p → Each A S k → Each A S (joined p k)
@@ -90,19 +86,13 @@ each_outside A S e n (Section i p r) s numbered all at = (
   each_outside A S e (n + 1) r s.2 numbered.1 (λ b h. all b (Has-right (actions_of p) (actions_of r) b h)) (λ j b is. subst (λ m. S m b) (omega arith) (at (suc j) b is)),
 )
 
-has-map : {X Y : Type 0} (f : X → Y) (xs : List X) (x : X) → Has xs x → Has (map f xs) (f x)
-has-map f [] x h = absurd h
-has-map f (y ∷ xs) x (inl e) = inl (ap f e)
-has-map f (y ∷ xs) x (inr h) = inr (has-map f xs x h)
-
-get-map : {X Y : Type 0} (f : X → Y) (xs : List X) (j : ℕ) (x : X) → slice_get xs j ≡ Some x → slice_get (map f xs) j ≡ Some (f x)
-get-map f [] j x e = absurd (none_or_some x e)
-get-map f (y ∷ xs) zero x e = ap (λ z. Some (f z)) (some_injective y x e)
-get-map f (y ∷ xs) (suc j) x e = get-map f xs j x e
-
-length-map : {X Y : Type 0} (f : X → Y) (xs : List X) → length (map f xs) ≡ length xs
-length-map f [] = refl
-length-map f (x ∷ xs) = ap suc (length-map f xs)
+-- lists of one length end at one index
+pub none_in_both : {A B : Type 0} (xs : List A) (ys : List B) (i : ℕ) → length xs ≡ length ys → slice_get xs i ≡ None → slice_get ys i ≡ None
+none_in_both [] [] i same e = refl
+none_in_both [] (y ∷ ys) i same e = absurd (omega (arith, same))
+none_in_both (x ∷ xs) [] i same e = refl
+none_in_both (x ∷ xs) (y ∷ ys) zero same e = absurd (none_or_some x (sym e))
+none_in_both (x ∷ xs) (y ∷ ys) (suc i) same e = none_in_both xs ys i (omega (arith, same)) e
 
 module _ (p : ProgramView) where
   abbrev IsListed : ℕ → TextView → Type 0
@@ -122,12 +112,12 @@ module _ (p : ProgramView) where
     subst (λ x. IsSound (record { records = p.records; globals = p.globals; locals = ls }) false x) (some_injective text k at) sound.0,
     subst (λ m. IsListed m k) (let e : t ≡ t + zero = omega arith in e) (subst (IsListed t) (some_injective text k at)
         (each_outside (λ a. Has (statements_of p) (thread_action t a)) (λ i b. slice_get (sections_of p.texts) i ≡ Some (record { thread = t; body = b })) (record { records = p.records; globals = p.globals; locals = ls }) n text sound.0 numbered.0
-        (λ a h. statements (thread_action t a) (Has-left (map (thread_action t) (actions_of text)) (actions_from (t + 1) texts) (thread_action t a) (has-map (thread_action t) (actions_of text) a h)))
-        (λ j b is. sections j (record { thread = t; body = b }) (slice_get-left (map (λ (b : TextView). record { thread = t; body = b }) (section_bodies text)) (sections_from (t + 1) texts) j (record { thread = t; body = b }) (get-map (λ (b : TextView). record { thread = t; body = b }) (section_bodies text) j b is))))),
+        (λ a h. statements (thread_action t a) (Has-left (map (thread_action t) (actions_of text)) (actions_from (t + 1) texts) (thread_action t a) (Has-map (thread_action t) (actions_of text) a h)))
+        (λ j b is. sections j (record { thread = t; body = b }) (slice_get-left (map (λ (b : TextView). record { thread = t; body = b }) (section_bodies text)) (sections_from (t + 1) texts) j (record { thread = t; body = b }) (slice_get-map (λ (b : TextView). record { thread = t; body = b }) (section_bodies text) j ∙ ap (option_map (λ (b : TextView). record { thread = t; body = b })) is))))),
   )
   texts_from t n (ls ∷ locals) (text ∷ texts) sound numbered statements sections (suc j) k at =
       let front : List SectionView = map (λ (b : TextView). record { thread = t; body = b }) (section_bodies text) in
-      let long : length front ≡ length (section_bodies text) = length-map (λ (b : TextView). record { thread = t; body = b }) (section_bodies text) in
+      let long : length front ≡ length (section_bodies text) = length-map (section_bodies text) (λ (b : TextView). record { thread = t; body = b }) in
       let r = texts_from (t + 1) (n + length (section_bodies text)) locals texts sound.1 numbered.1
       (λ x h. statements x (Has-right (map (thread_action t) (actions_of text)) (actions_from (t + 1) texts) x h))
       (λ i y is. subst (λ m. slice_get (sections_of p.texts) m ≡ Some y) (omega (arith, long)) (sections (length front + i) y (get-append_right front (sections_from (t + 1) texts) i (length front + i) refl ∙ is)))

@@ -20,10 +20,11 @@ use Rattle.sect_types.proofs.Basics.{or_right}
 use Rattle.sect_emit.proofs.Keys.{same_key}
 use Rattle.sect_emit.proofs.PlanModes.{key_of-injective}
 use Rattle.sect_emit.proofs.Grips.{held_more, held_one}
-use Rattle.sect_world.proofs.AllowedChanges.{IsAllowed}
+use Rattle.sect_world.proofs.AllowedChanges.{IsAllowed, sites_stay}
 use Rattle.sect_types.proofs.Replaced.{mapped}
-use Rattle.sect_types.proofs.Stores.{same_name-true, same_name-eq, next_is_free}
-use Rattle.sect_world.proofs.StepChanges.{is_new, touches, object_at-after, site_stays, global_is_old, new_is_next}
+use Rattle.sect_types.proofs.Stores.{same_name-true, same_name-eq}
+use Rattle.sect_world.proofs.StepChanges.{is_new, touches, object_at-after, site_stays, global_is_old}
+use Rattle.sect_world.proofs.Holding.{holds_same, holds_append, holding_grows}
 
 -- the site of an object, if it is there
 abbrev pub site_in : Option ObjectView → Option ℕ
@@ -148,31 +149,19 @@ other_test c for_key for_class s t ch held o le e =
     (site_after s t ch o le e) (λ g. site_after s t ch (Global g) le (global_is_old t (count s t) ch g))
     (record { all = refl; object = refl; classes = λ n. refl }) (λ g. record { all = refl; object = refl; classes = λ n. refl })
 
--- no test held of what is made now
-pub new_test : (c : CompiledView) (for_key for_class : Mode → Bool) (s : StoreView) (t : ℕ) (ch : Change) (held : List Grip) (o : ObjectName)
-    → is_new t (count s t) ch o ≡ true → is_held c for_key for_class s held (locked_object c s o) ≡ false
-new_test c for_key for_class s t ch held o e =
-    let free : object_at s o ≡ None = ap (object_at s) (sym (new_is_next t (count s t) ch o e)) ∙ next_is_free s t in
-    ap (λ x. is_held c for_key for_class s held (locked_object_at c o x)) free ∙ ap (is_held_at c for_key for_class held o) free
-
--- what held of an object for a thread still does after its own change, and after another's
+-- what held of an object for a thread still does after its own change
 pub own_grows : (c : CompiledView) (for_key for_class : Mode → Bool) (s : StoreView) (t : ℕ) (ch : Change) (held : List Grip) (o : ObjectName)
     → t < length s.made → is_held c for_key for_class s held (locked_object c s o) ≡ true
     → is_held c for_key for_class (after_change t s ch) (held ++ grips_of c t (count s t) ch) (locked_object c (after_change t s ch) o) ≡ true
-own_grows c for_key for_class s t ch held o le h = by (is_new t (count s t) ch o) refl where
-  by : (b : Bool) → is_new t (count s t) ch o ≡ b
-      → is_held c for_key for_class (after_change t s ch) (held ++ grips_of c t (count s t) ch) (locked_object c (after_change t s ch) o) ≡ true
-  by true e = absurd (true≢false (sym h ∙ new_test c for_key for_class s t ch held o e))
-  by false e = own_test c for_key for_class s t ch held o le e ∙ h
+own_grows c for_key for_class s t ch held o le h =
+    let more = grips_of c t (count s t) ch in
+    holding_grows c s (after_change t s ch) held (held ++ more) (holds_append held more) (sites_stay t s le ch) for_key for_class o h
 
 -- the same for the change of another thread
 pub other_grows : (c : CompiledView) (for_key for_class : Mode → Bool) (s : StoreView) (t : ℕ) (ch : Change) (held : List Grip) (o : ObjectName)
     → t < length s.made → is_held c for_key for_class s held (locked_object c s o) ≡ true
     → is_held c for_key for_class (after_change t s ch) held (locked_object c (after_change t s ch) o) ≡ true
-other_grows c for_key for_class s t ch held o le h = by (is_new t (count s t) ch o) refl where
-  by : (b : Bool) → is_new t (count s t) ch o ≡ b → is_held c for_key for_class (after_change t s ch) held (locked_object c (after_change t s ch) o) ≡ true
-  by true e = absurd (true≢false (sym h ∙ new_test c for_key for_class s t ch held o e))
-  by false e = other_test c for_key for_class s t ch held o le e ∙ h
+other_grows c for_key for_class s t ch held o le h = holding_grows c s (after_change t s ch) held held (holds_same held) (sites_stay t s le ch) for_key for_class o h
 
 -- who may write may read
 pub writers_read : (c : CompiledView) (s : StoreView) (held : List Grip) (o : ObjectName) → may_write c s held o ≡ true → may_read c s held o ≡ true

@@ -13,7 +13,8 @@ use Rattle.sect_world.specs.Events.{MayDo, Happens}
 use Rattle.sect_world.specs.Runs.{RunsTo, IsRun, leaver, order_of, ends_of, IsComplete}
 use Rattle.sect_world.specs.Held.{HoldsEnough}
 use Rattle.sect_world.specs.Laws.{AccessesAreHeld, EveryRunIsSerial}
-use Rattle.sect_world.specs.Excluding.{IsInSection, Excludes, IsTidy, ReadersAndWritersExclude, StatesAreTidy}
+use Rattle.sect_world.specs.Excluding.{IsInSection, Excludes, ReadersAndWritersExclude}
+use Rattle.sect_world.proofs.Tidy.{IsTidy, StatesAreTidy}
 use Rattle.sect_world.specs.SerialFacts.{OnlySectionsDiffer, IsReplayed, SectionsAreReplayed}
 use Rattle.sect_world.specs.Replay.{Replayed, IsApart, IsInside, Follows, HasFrame, Serializes}
 use Rattle.sect_types.proofs.Replaced.{mapped}
@@ -22,6 +23,7 @@ use Rattle.sect_types.proofs.Stores.{same_store}
 use Rattle.sect_types.proofs.RunningAhead.{ahead_standing, get-all_ahead}
 use Rattle.sect_world.proofs.LongerRuns.{leads_more}
 use Rattle.sect_world.proofs.Following.{inside_of, local, enter, take, begin, again, act, leave}
+use Rattle.sect_world.proofs.Listing.{none_in_both}
 
 -- the serial state after these threads' sections follows the state
 abbrev pub Reaches : CompiledView → List ℕ → RunView → State → Type 0
@@ -136,14 +138,6 @@ get-map : {A B : Type 0} → (g : A → B) (xs : List A) (i : ℕ) → slice_get
 get-map g [] i = refl
 get-map g (x ∷ xs) zero = refl
 get-map g (x ∷ xs) (suc i) = get-map g xs i
-
--- lists of one length end at one index
-none_in_both : {A B : Type 0} → (xs : List A) (ys : List B) (i : ℕ) → length xs ≡ length ys → slice_get xs i ≡ None → slice_get ys i ≡ None
-none_in_both [] [] i same e = refl
-none_in_both [] (y ∷ ys) i same e = absurd (omega (arith, same))
-none_in_both (x ∷ xs) [] i same e = refl
-none_in_both (x ∷ xs) (y ∷ ys) zero same e = absurd (subst IsThere e tt)
-none_in_both (x ∷ xs) (y ∷ ys) (suc i) same e = none_in_both xs ys i (omega (arith, same)) e
 
 -- how a frame has ended
 abbrev end_of : FrameView → Option End

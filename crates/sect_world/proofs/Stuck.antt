@@ -1,8 +1,6 @@
 -- Where threads ask for keys in order, no state is stuck.
 use Rattle.std.proofs.Common.{◌≡◌, ℕ, zero, suc, Bool, true, false, refl, sym, ap, ◌∙◌, subst, ◌⊎◌, inl, inr, ⊎_elim, true≢false, List, [], ◌∷◌, ◌++◌, Some}
-use Rattle.sect_types.proofs.Membership.{Has-right}
 use Rattle.std.specs.Prelude.{slice_get}
-use Rattle.sect_types.specs.Lists.{Has}
 use Rattle.sect_modes.specs.declared.mode.Mode.{Mode}
 use Rattle.sect_modes.specs.declared.key.Key.{Key}
 use Rattle.sect_modes.specs.Key.{is_key_below}
@@ -13,11 +11,11 @@ use Rattle.sect_emit.specs.Compiled.{CompiledView, IsCompiled}
 use Rattle.sect_emit.specs.State.{Position, Outside, Entered, Running, Faulted, ThreadState, State, IsThread}
 use Rattle.sect_world.specs.Blocked.{WantsFirst, IsBlocked, IsStuck}
 use Rattle.sect_world.specs.Laws.{NoStateIsStuck}
-use Rattle.sect_world.specs.Kept.{IsPlaced, AsksInOrder, AllAskInOrder}
+use Rattle.sect_world.specs.Kept.{IsPlaced, AsksInOrder}
 use Rattle.sect_types.proofs.Basics.{some_injective, none_or_some}
 use Rattle.sect_emit.proofs.Keys.{not_below_itself, below_along}
-use Rattle.sect_emit.proofs.Plans.{mode_is_there}
-use Rattle.sect_world.proofs.Asking.{runs_ask_in_order}
+use Rattle.sect_emit.proofs.Plans.{mode_is_there, ascending_across}
+use Rattle.sect_world.proofs.KeptStates.{runs_are_well_kept}
 
 nothing_first : (g : Grip) (gs : List Grip) → g ∷ gs ≡ [] → ⊥
 nothing_first g gs e = subst IsNone (sym e) tt where
@@ -34,17 +32,12 @@ holder_lives th k m a h = by th.position a where
   by (Running i r) q = ap has_ended q.0
   by (Faulted i why) q = ap has_ended q.0
 
-ascends_first : (xs ys : List Grip) (x y : Grip) → Ascends (xs ++ y ∷ ys) → Has xs x → is_key_below x.key y.key ≡ true
-ascends_first (z ∷ xs) ys x y a (inl e) = subst (λ w. is_key_below w.key y.key ≡ true) e (a.0 y (Has-right xs (y ∷ ys) y (inl refl)))
-ascends_first (z ∷ xs) ys x y a (inr h) = ascends_first xs ys x y a.1 h
-ascends_first [] ys x y a h = absurd h
-
 -- and what it holds is below what it wants first
 held_below : (th : ThreadState) (k h : Key) (m n : Mode) → AsksInOrder th → WantsFirst th k m → held_mode h th.held ≡ Some n → is_key_below h k ≡ true
 held_below th k h m n a w e = by th.position a where
   by : (p : Position) → IsPlaced p th → is_key_below h k ≡ true
   by Outside q = absurd (nothing_first (grip k m) w.0 (sym w.1 ∙ q.1))
-  by Entered q = ascends_first th.held w.0 (grip h n) (grip k m) (subst (λ gs. Ascends (th.held ++ gs)) w.1 q.1) (mode_is_there h n th.held e)
+  by Entered q = ascending_across th.held (grip k m ∷ w.0) (subst (λ gs. Ascends (th.held ++ gs)) w.1 q.1) (grip h n) (grip k m) (mode_is_there h n th.held e) (inl refl)
   by (Running i r) q = absurd (nothing_first (grip k m) w.0 (sym w.1 ∙ q.1))
   by (Faulted i why) q = absurd (nothing_first (grip k m) w.0 (sym w.1 ∙ q.1))
 
@@ -109,6 +102,10 @@ greatest_key (th ∷ ts) = by (greatest_key ts) (has_ended th.frame.ended) refl 
   by rest false e [] w = skip_greatest th ts (λ k m f v. nothing_first (grip k m) v.0 (sym v.1 ∙ w)) rest
   by rest false e (g ∷ gs) w = inl (join_greatest th ts g.key g.mode e (gs, w) rest)
 
+-- all threads ask in key order
+abbrev AllAskInOrder : State → Type 0
+AllAskInOrder s = (t : ℕ) (th : ThreadState) → IsThread s t th → AsksInOrder th
+
 -- where all ask in order, some thread can go on
 pub none_stuck : (s : State) → AllAskInOrder s → IsStuck s → ⊥
 none_stuck s ordered k = ⊎_elim greatest nobody (greatest_key s.threads) where
@@ -128,4 +125,4 @@ none_stuck s ordered k = ⊎_elim greatest nobody (greatest_key s.threads) where
 
 -- no state of a run is stuck
 pub no_state_is_stuck : (c : CompiledView) → IsCompiled c → NoStateIsStuck c
-no_state_is_stuck c is fuel trace s r = none_stuck s (runs_ask_in_order c is fuel trace s r)
+no_state_is_stuck c is fuel trace s r = none_stuck s (λ t th at. ((runs_are_well_kept c is fuel trace s r).threads t th at).asks)

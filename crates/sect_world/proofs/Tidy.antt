@@ -1,10 +1,29 @@
 -- Well kept states are tidy: rows, counts and held keys are as they are in the store.
-use Rattle.std.proofs.Common.{◌<◌, sym, ◌∙◌, subst}
+use Rattle.std.proofs.Common.{◌<◌, sym, ◌∙◌, subst, ◌≡◌, List, Some}
 use Rattle.std.proofs.lemmas.Option.{slice_get_within}
 use Rattle.sect_emit.specs.Compiled.{CompiledView}
-use Rattle.sect_emit.specs.State.{State}
+use Rattle.sect_emit.specs.State.{State, ThreadState, IsThread}
 use Rattle.sect_world.specs.Kept.{IsWellKept}
-use Rattle.sect_world.specs.Excluding.{IsTidy}
+use Rattle.std.specs.Prelude.{ℕ, length}
+use Rattle.sect_types.specs.declared.store.ObjectName.{ObjectName}
+use Rattle.sect_modes.specs.declared.mode.Mode.{Mode}
+use Rattle.sect_emit.specs.Plan.{key_of, held_mode}
+use Rattle.sect_types.specs.Store.{ObjectView, object_at, count}
+use Rattle.sect_world.specs.declared.event.Event.{Event}
+use Rattle.sect_world.specs.Runs.{IsRun}
+
+-- each thread has a row in the store, knows how many objects it has made, and holds keys of such objects alone as are
+-- there
+pub record IsTidy (s : State) : Type 0 where
+  pub rows : (t : ℕ) (th : ThreadState) → IsThread s t th → t < length s.store.made
+  pub counts : (t : ℕ) (th : ThreadState) → IsThread s t th → th.frame.work.made ≡ count s.store t
+  pub held : (t : ℕ) (th : ThreadState) → IsThread s t th → (o : ObjectName) (m : Mode)
+      → held_mode (key_of o) th.held ≡ Some m
+      → (x : ObjectView) × (object_at s.store o ≡ Some x)
+
+-- each state of a run is tidy
+abbrev pub StatesAreTidy : CompiledView → Type 0
+StatesAreTidy c = (fuel : ℕ) (trace : List Event) (s : State) → IsRun c fuel trace s → IsTidy s
 
 -- rows, counts and held keys as they are kept
 pub well_kept_is_tidy : (c : CompiledView) (s : State) → IsWellKept c s → IsTidy s

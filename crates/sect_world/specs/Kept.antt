@@ -35,9 +35,6 @@ IsPlaced (Faulted i why) th = (th.frame.ended ≡ None) × (th.wanted ≡ [])
 abbrev pub AsksInOrder : ThreadState → Type 0
 AsksInOrder th = IsPlaced th.position th
 
-abbrev pub AllAskInOrder : State → Type 0
-AllAskInOrder s = (t : ℕ) (th : ThreadState) → IsThread s t th → AsksInOrder th
-
 -- the first holds of each statement without a block, the second of each section's number and body
 abbrev pub Each : (Action → Type 0) → (ℕ → TextView → Type 0) → TextView → Type 0
 Each A S Stop = ⊤

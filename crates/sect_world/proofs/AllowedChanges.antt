@@ -14,10 +14,6 @@ use Rattle.sect_types.proofs.Stores.{object_at-write, object_at-add, same_name-t
 use Rattle.sect_emit.proofs.Pointing.{none_made}
 use Rattle.sect_emit.specs.Pointed.{ObjectsStay}
 
--- the name of an object is that of a global or of an object that was made
-pub made_is_no_global : (t n g : ℕ) → object.Made t n ≡ object.Global g → ⊥
-made_is_no_global t n g e = absurd cc
-
 -- the change by thread t writes no object of this name and adds none
 abbrev pub LeavesAlone : ℕ → StoreView → Change → ObjectName → Type 0
 LeavesAlone t s Unchanged o = ⊤
@@ -70,16 +66,6 @@ module _ (t : ℕ) (s : StoreView) (room : t < length s.made) where
       by true e = (with_field f d x, e ∙ ap (mapped (with_field f d)) at, refl)
       by false e = (x, e ∙ at, refl)
   sites_stay (Added new) o x at = (x, left_alone (Added new) o (next_is_none o x at) ∙ at, refl)
-
-  -- an object that isn't there is none after a write either
-  pub none_stays : (change : Change) (o : ObjectName) → object_at s o ≡ None → object.Made t (count s t) ≢ o → object_at (after_change t s change) o ≡ object_at s o
-  none_stays Unchanged o none other = refl
-  none_stays (Written z f d) o none other = object_at-write s z o f d ∙ by (same_name z o)
-    where
-      by : (b : Bool) → (if b then mapped (with_field f d) (object_at s o) else object_at s o) ≡ object_at s o
-      by true = ap (mapped (with_field f d)) none ∙ sym none
-      by false = refl
-  none_stays (Added new) o none other = left_alone (Added new) o other
 
 -- the keys that are held allow the change
 abbrev pub IsAllowed : CompiledView → StoreView → List Grip → Change → Type 0

@@ -12,7 +12,7 @@ use Rattle.sect_names.specs.Walks.{StandsInThread}
 use Rattle.sect_emit.specs.Pointed.{IsPointedStore, IsPointed}
 use Rattle.sect_emit.specs.Compiled.{CompiledView, program_of}
 use Rattle.sect_emit.specs.State.{Running, ThreadState, State, IsThread}
-use Rattle.sect_world.specs.Kept.{Each, AreGripsKept, IsAt, IsThreadKept, IsWellKept}
+use Rattle.sect_world.specs.Kept.{Each, AreGripsKept, IsAt, IsWellKept}
 
 -- what holds of each statement holds of those that are listed
 each_action : (A : Action → Type 0) (S : ℕ → TextView → Type 0) (k : TextView) → Each A S k → (a : Action) → Has (actions_of k) a → A a
@@ -30,9 +30,6 @@ pub pointed_store : (c : CompiledView) (s : State) → IsWellKept c s → IsPoin
 pointed_store c s kept = kept.store.pointed
 
 module _ (c : CompiledView) (s : State) (kept : IsWellKept c s) (t : ℕ) (th : ThreadState) (at : IsThread s t th) where
-  thread_kept : IsThreadKept c s.store t th
-  thread_kept = kept.threads t th at
-
   -- and so do those of each thread
   pub pointed_thread : IsPointed c.scheme t s.store th.frame.work
   pointed_thread = record {

@@ -9,12 +9,11 @@ use Rattle.sect_types.specs.declared.store.ObjectName.TheVariants.{Global, Made}
 use Rattle.sect_types.specs.declared.store.Datum.TheVariants.{Number}
 use Rattle.sect_types.specs.declared.store.Fault.TheVariants as fault
 use Rattle.sect_types.specs.Store.{ObjectView, StoreView, same_name, count, object_at, with_field}
-use Rattle.sect_types.specs.Meaning.{WorkView, Went, Fell, assigned, loaded, Change, Unchanged, Written, Added, after_change, name_in, base_datum, value_datum, integer_of, result_of, fits, computed, stored, done, paid, looks, found_at, Next, On, Off, going, taken, next}
-use Rattle.sect_world.specs.Events.{changed_by}
+use Rattle.sect_types.specs.Meaning.{WorkView, Went, Fell, assigned, loaded, Change, Unchanged, Written, Added, after_change, name_in, base_datum, value_datum, integer_of, result_of, fits, computed, stored, done, paid, looks, found_at, going, taken, next}
 use Rattle.sect_world.specs.Accesses.{change_in, Asks}
 use Rattle.sect_world.specs.Held.{Loading, next_access, if_paid, access_of, load_of, store_of}
 use Rattle.sect_types.proofs.Replaced.{mapped}
-use Rattle.sect_types.proofs.Stores.{same_name-true, object_at-write, object_at-add, count-write, count-add_own, count-add_other, rows-write, rows-add}
+use Rattle.sect_types.proofs.Stores.{object_at-write, object_at-add, count-write, count-add_own, count-add_other, rows-write, rows-add}
 
 -- the change by thread t, which has made n objects so far, makes this object
 abbrev pub is_new : ℕ → ℕ → Change → ObjectName → Bool
@@ -84,12 +83,6 @@ untouched_is_old t n Unchanged o e = refl
 untouched_is_old t n (Written z f d) o e = refl
 untouched_is_old t n (Added x) o e = e
 
--- what is made is the next object of the thread
-pub new_is_next : (t n : ℕ) (ch : Change) (o : ObjectName) → is_new t n ch o ≡ true → Made t n ≡ o
-new_is_next t n Unchanged o e = absurd (true≢false (sym e))
-new_is_next t n (Written z f d) o e = absurd (true≢false (sym e))
-new_is_next t n (Added x) o e = same_name-true (Made t n) o e
-
 -- the object of a global is not made by a change
 pub global_is_old : (t n : ℕ) (ch : Change) (g : ℕ) → is_new t n ch (Global g) ≡ false
 global_is_old t n Unchanged g = refl
@@ -107,11 +100,6 @@ site_stays t n (Written z f d) o old e = by (same_name z o) old where
   by true (Some x) = refl
   by false old = refl
 site_stays t n (Added x) o old e = ap (λ b. mapped (λ (x : ObjectView). x.site) (if b then Some x else old)) e
-
--- a step changes the store by its change
-pub changed_by-change : (t : ℕ) (n : Next) (s : StoreView) → changed_by t n s ≡ after_change t s (change_in n)
-changed_by-change t (On k w ch) s = refl
-changed_by-change t (Off why w) s = refl
 
 -- a change to the store is the access that the step asks for
 pub change_is_asked : (p : ProgramView) (t : ℕ) (k : TextView) (found : Option ObjectView) (w : WorkView)

@@ -20,7 +20,8 @@ use Rattle.sect_emit.specs.ModeTests.{is_writing, is_reading_object}
 use Rattle.sect_world.specs.Held.{may_read, may_write, Access, next_access, may, HoldsEnough}
 use Rattle.sect_world.specs.Excluding.{IsInSection, Excludes}
 use Rattle.sect_world.proofs.Tidy.{IsTidy}
-use Rattle.sect_world.specs.Replay.{Agrees, Replayed, IsApart, IsBefore, IsInside, Follows, HasFrame, NobodyWrites, Serializes}
+use Rattle.sect_world.specs.Replay.{NobodyWrites}
+use Rattle.sect_world.proofs.SerialFrames.{Agrees, Replayed, IsApart, IsBefore, IsInside, Follows, HasFrame, Serializes}
 use Rattle.sect_types.proofs.Stores.{next_is_free}
 use Rattle.sect_types.proofs.RunningAhead.{ahead_standing, ahead_after_local}
 use Rattle.sect_world.specs.Accesses.{change_in, Asks}

@@ -12,7 +12,8 @@ use Rattle.sect_emit.specs.State.{Position, Outside, Entered, Running, Faulted, 
 use Rattle.sect_world.specs.Events.{grips_of, acting, changed_by, step_in}
 use Rattle.sect_emit.specs.ModeTests.{is_writing, is_reading_object}
 use Rattle.sect_world.specs.Held.{may_read, may_write, Access, Loading, next_access, may}
-use Rattle.sect_world.specs.Replay.{Agrees, Stage, stage_after, one_on, replay, Replayed}
+use Rattle.sect_world.specs.Replay.{Stage, stage_after, one_on, replay}
+use Rattle.sect_world.proofs.SerialFrames.{Agrees, Replayed}
 use Rattle.sect_modes.specs.declared.key.Key.TheVariants as key
 use Rattle.sect_modes.specs.Mode.{is_reading}
 use Rattle.sect_emit.specs.Plan.{held_mode}

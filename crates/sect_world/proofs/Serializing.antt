@@ -16,7 +16,7 @@ use Rattle.sect_world.specs.Laws.{AccessesAreHeld, EveryRunIsSerial}
 use Rattle.sect_world.specs.Excluding.{IsInSection, Excludes, ReadersAndWritersExclude}
 use Rattle.sect_world.proofs.Tidy.{IsTidy, StatesAreTidy}
 use Rattle.sect_world.specs.SerialFacts.{OnlySectionsDiffer, IsReplayed, SectionsAreReplayed}
-use Rattle.sect_world.specs.Replay.{Replayed, IsApart, IsInside, Follows, HasFrame, Serializes}
+use Rattle.sect_world.proofs.SerialFrames.{Replayed, IsApart, IsInside, Follows, HasFrame, Serializes}
 use Rattle.sect_types.proofs.Replaced.{mapped}
 use Rattle.sect_types.proofs.Basics.{same_elements, IsThere, some_injective}
 use Rattle.sect_types.proofs.Stores.{same_store}

@@ -30,6 +30,7 @@ all_but n test [] = true
 all_but zero test (x ∷ xs) = list_all test xs
 all_but (suc n) test (x ∷ xs) = test x && all_but n test xs
 
+-- the mode is compatible with this one, if there is one
 abbrev pub lets : Option Mode → Mode → Bool
 lets None m = true
 lets (Some n) m = are_compatible n m
@@ -48,6 +49,7 @@ abbrev pub fresh_grip : Option ℕ → ℕ → ℕ → List Grip
 fresh_grip None t n = grip (key_of (object.Made t n)) Exclusive ∷ []
 fresh_grip (Some g) t n = []
 
+-- the keys that thread t comes to hold by a change, where it has made n objects before
 abbrev pub grips_of : CompiledView → ℕ → ℕ → Change → List Grip
 grips_of c t n Unchanged = []
 grips_of c t n (Written o f d) = []
@@ -68,6 +70,7 @@ abbrev pub IsOver : Position → Option Fault → Type 0
 IsOver p None = (i : ℕ) × (p ≡ Running i Stop)
 IsOver p (Some why) = (i : ℕ) × (p ≡ Faulted i why)
 
+-- the thread as it enters a section with this plan, takes its first key, begins the section, and gives all back
 abbrev pub entering : List Grip → ThreadState → ThreadState
 entering plan th = record th { position = Entered; wanted = plan }
 
@@ -80,6 +83,7 @@ beginning i body rest th = record th { position = Running i body; frame = record
 abbrev pub giving_back : ThreadState → ThreadState
 giving_back th = record th { position = Outside; held = [] }
 
+-- the thread with another frame, and a frame with other work
 abbrev pub with_frame : FrameView → ThreadState → ThreadState
 with_frame f th = record th { frame = f }
 
@@ -97,6 +101,7 @@ acting c t i (On rest w change) th = record {
 acting c t i (Off why w) th =
     record { position = Faulted i why; frame = with_work w th.frame; wanted = th.wanted; held = th.held }
 
+-- the store after that step, and the state
 abbrev pub changed_by : ℕ → Next → StoreView → StoreView
 changed_by t (On rest w change) s = after_change t s change
 changed_by t (Off why w) s = s
@@ -109,6 +114,7 @@ after_act c t i th n s =
 abbrev pub emptied : WorkView → WorkView
 emptied w = record w { printed = [] }
 
+-- the frame of a thread that leaves its section, and the state then
 abbrev pub frame_out : Option Fault → FrameView → FrameView
 frame_out None f = settled f.text (emptied f.work)
 frame_out (Some why) f = failed why f.text (emptied f.work)

@@ -1,4 +1,4 @@
--- Readers and writers exclude each other; states that are tidy.
+-- Readers and writers exclude each other.
 use Rattle.std.specs.Prelude.{◌≡◌, ◌≢◌, ⊤, ℕ, true, List}
 use Rattle.sect_types.specs.declared.store.ObjectName.{ObjectName}
 use Rattle.sect_world.specs.declared.event.Event.{Event}

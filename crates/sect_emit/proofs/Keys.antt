@@ -56,7 +56,7 @@ below_made t n u m (inl h) = or_left (nat_lt t u) ((t == u) && nat_lt n m) (lt-l
 below_made t n u m (inr h) = or_right (nat_lt t u) ((t == u) && nat_lt n m) (and_both (t == u) (nat_lt n m) (eq-eqb t u h.0) (lt-ltb n m h.1))
 
 -- no key is below that of all objects
-nothing_below_all : (a : Key) → is_key_below a All ≡ true → ⊥
+pub nothing_below_all : (a : Key) → is_key_below a All ≡ true → ⊥
 nothing_below_all All e = false≢true e
 nothing_below_all (Class a) e = false≢true e
 nothing_below_all (Global a) e = false≢true e

@@ -1,5 +1,5 @@
 -- The modes of a plan.
-use Rattle.std.proofs.Common.{◌≡◌, ℕ, Bool, true, false, refl, sym, ap, ◌∙◌, subst, inl, inr, true≢false, List, [], ◌∷◌, Option, Some, None}
+use Rattle.std.proofs.Common.{◌≡◌, ℕ, Bool, true, false, refl, sym, ap, ◌∙◌, subst, inl, inr, true≢false, List, [], ◌∷◌, Option, Some, None, ◌++◌}
 use Rattle.sect_types.proofs.Membership.{Has-cases, Has-left, Has-right}
 use Rattle.sect_types.specs.Lists.{Has}
 use Rattle.sect_points.specs.Paths.{PathView}
@@ -18,13 +18,15 @@ use Rattle.sect_types.specs.declared.store.Datum.{Datum}
 use Rattle.sect_types.specs.declared.store.Datum.TheVariants.{Refers}
 use Rattle.sect_emit.specs.declared.plan.Grip.{Grip}
 use Rattle.sect_types.specs.Store.{StoreView}
-use Rattle.sect_emit.specs.PlanLaws.{IsWish, Gives, IsKeptByJoins, HoldsTheWhole}
-use Rattle.sect_emit.specs.Plan.{grip, key_of, gathered, intended, object_mode, AreWishesFor, IsFixedPart, path_datum, object_wish, object_wishes, plan_of, held_mode, is_met, meets, Ascends}
+use Rattle.sect_emit.specs.PlanLaws.{IsWish, Gives, IsKeptByJoins, HoldsTheWhole, BeginsWithAll}
+use Rattle.sect_emit.specs.Plan.{grip, key_of, gathered, intended, object_mode, AreWishesFor, IsFixedPart, path_datum, object_wish, object_wishes, plan_of, held_mode, is_met, meets, Ascends, class_mode}
 use Rattle.sect_emit.specs.ModeTests.{is_reading_object}
 use Rattle.sect_types.proofs.Basics.{false≢true, some_injective}
 use Rattle.sect_emit.proofs.Tests.{both_hold}
 use Rattle.sect_emit.proofs.Modes.{intention_join, intended_is, join_reading_object, object_mode_reads}
 use Rattle.sect_emit.proofs.Plans.{gathered-all, gathered_key, gathered_meets, ascending_mode, fixed_wish_from, fixed_wish_there, fixed_wish_all, fixed_part_keys, object_part_keys, object_wish_from, plan_ascends}
+use Rattle.sect_emit.proofs.Keys.{nothing_below_all}
+use Rattle.sect_modes.specs.declared.mode.Mode.TheVariants.{Exclusive}
 
 -- a plan that is met is held, key by key
 pub met : (held plan : List Grip) → meets held plan ≡ true → (g : Grip) → Has plan g → (m : Mode) × (held_mode g.key held ≡ Some m) × (is_at_least m g.mode ≡ true)
@@ -203,6 +205,25 @@ module _ (sch : SchemeView) (part : List Grip) (locks : List Lock) (s : StoreVie
       each : (b : Mode) → Has plan (grip key.All b) → (x : Grip) → Has is_part.0 x → x.key ≡ key.Class n → is_at_least b (intention_of x.mode) ≡ true
       each b at x j e = let c = with_all x n j e in subst (λ a. is_at_least a (intention_of x.mode) ≡ true) (one_mode key.All c.0 b c.1 at) c.2
 
+  -- each lock asks for `all`
+  asks_all : (l : Lock) (mine : List Grip) → AreWishesFor sch l mine → (m : Mode) × Has mine (grip key.All m)
+  asks_all lock.All mine w = (Exclusive, subst (λ xs. Has xs (grip key.All Exclusive)) (sym w) (inl refl))
+  asks_all (lock.Class d r) mine w = let m = intention_of (class_mode r) in (m, subst (λ xs. Has xs (grip key.All m)) (sym w) (inl refl))
+  asks_all (lock.Path p e) mine w = (intended e, subst (λ xs. Has xs (grip key.All (intended e))) (sym w.2) (inl refl))
+
+  -- the plan of a set that has a lock begins with `all`
+  pub plan_begins : (l : Lock) → Has locks l → BeginsWithAll plan
+  plan_begins l h =
+      let w = plan_gives_fixed l h in
+      let m = asks_all l w.0 w.1 in
+      let a = w.2 (grip key.All m.0) m.1 in
+      first plan up a.0 a.1
+    where
+      first : (gs : List Grip) → Ascends gs → (m : Mode) → Has gs (grip key.All m) → BeginsWithAll gs
+      first [] a m i = absurd i
+      first (g ∷ gs) a m (inl e) = (m, gs, ap (λ x. x ∷ gs) e)
+      first (g ∷ gs) a m (inr i) = absurd (nothing_below_all g.key (a.0 (grip key.All m) i))
+
   -- the wishes of a lock are one list, since a path has one class
   one_list : IsScheme sch → (l : Lock) (xs ys : List Grip) → AreWishesFor sch l xs → AreWishesFor sch l ys → xs ≡ ys
   one_list scheme lock.All xs ys a b = a ∙ sym b
@@ -233,3 +254,7 @@ module _ (sch : SchemeView) (part : List Grip) (locks : List Lock) (s : StoreVie
     classes = λ o n m one h. plan_holds_the_classes o n one m h;
     all = plan_holds_all;
   }
+
+-- the plan of an empty set is empty
+pub no_plan : (sch : SchemeView) (part : List Grip) (s : StoreView) (locals : List Datum) → IsFixedPart sch [] part → plan_of part [] s locals ≡ []
+no_plan sch part s locals (wishes, none, is) = ap (λ xs. xs ++ []) (is ∙ ap gathered none)

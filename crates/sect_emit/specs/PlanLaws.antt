@@ -1,5 +1,5 @@
 -- What holds of plans.
-use Rattle.std.specs.Prelude.{◌≡◌, ◌⊎◌, ℕ, Bool, true, List}
+use Rattle.std.specs.Prelude.{◌≡◌, ◌⊎◌, ℕ, Bool, true, List, ◌∷◌}
 use Rattle.sect_types.specs.Lists.{Has}
 use Rattle.sect_types.specs.declared.store.ObjectName.{ObjectName}
 use Rattle.sect_types.specs.declared.store.Datum.{Datum}
@@ -28,6 +28,10 @@ IsWish s locks store locals g =
 -- the list has the key in at least this mode
 abbrev pub Gives : List Grip → Key → Mode → Type 0
 Gives plan k m = (n : Mode) × Has plan (grip k n) × (is_at_least n m ≡ true)
+
+-- the first key of the list is that of all objects
+abbrev pub BeginsWithAll : List Grip → Type 0
+BeginsWithAll plan = (m : Mode) × (rest : List Grip) × (plan ≡ grip key.All m ∷ rest)
 
 -- joining keeps what passes the test
 abbrev pub IsKeptByJoins : (Key → Mode → Bool) → Type 0

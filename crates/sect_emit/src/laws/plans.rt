@@ -1,6 +1,6 @@
 //! Laws of plans: of the keys that a lock set asks for in a state, each in the join of its modes.
 
-ghost use Rattle.std.specs.Prelude.{◌≡◌, Bool, true, List};
+ghost use Rattle.std.specs.Prelude.{◌≡◌, Bool, true, List, []};
 ghost use Rattle.sect_types.specs.Lists.{Has};
 ghost use Rattle.sect_types.specs.Store.{StoreView};
 ghost use Rattle.sect_types.specs.declared.store.Datum.{Datum};
@@ -10,12 +10,21 @@ ghost use Rattle.sect_names.specs.declared.lock.Lock.{Lock};
 ghost use Rattle.sect_names.specs.Schemes.{SchemeView, IsScheme};
 ghost use Rattle.sect_emit.specs.declared.plan.Grip.{Grip};
 ghost use Rattle.sect_emit.specs.Plan.{IsFixedPart, plan_of, Ascends};
-ghost use Rattle.sect_emit.specs.PlanLaws.{IsWish, Gives, IsKeptByJoins, HoldsTheWhole};
+ghost use Rattle.sect_emit.specs.PlanLaws.{IsWish, Gives, BeginsWithAll, IsKeptByJoins, HoldsTheWhole};
 
 /// A plan has its keys in key order, each once.
 pub fn plans_ascend()
     ensures { (s : SchemeView) (locks : List Lock) (part : List Grip) → IsFixedPart s locks part
         → (store : StoreView) (locals : List Datum) → Ascends (plan_of part locks store locals) }
+{}
+
+/// The plan of a set that has a lock begins with `all`; that of an empty set is empty.
+pub fn plans_begin_with_all()
+    ensures first { (s : SchemeView) (locks : List Lock) (part : List Grip) → IsFixedPart s locks part
+        → (store : StoreView) (locals : List Datum) (l : Lock) → Has locks l
+        → BeginsWithAll (plan_of part locks store locals) }
+    ensures none { (s : SchemeView) (part : List Grip) → IsFixedPart s [] part
+        → (store : StoreView) (locals : List Datum) → plan_of part [] store locals ≡ [] }
 {}
 
 /// A plan has each key that a lock of the set asks for, at least as strongly.

@@ -5,7 +5,7 @@ use sect_cert::{
     Cert, CertBase, CertFault, CertLock, CertPath, CertSection, CertStep, Chain, Items, read_cert,
     write_cert,
 };
-use sect_front::name::Name;
+use sect_front::Name;
 use std::alloc::{AllocError, Global};
 
 /// How many nodes a section has, and how many steps a chain.

@@ -1,7 +1,7 @@
 //! Locks of a certificate, by the names that stand in a program's text.
 
 use crate::items::Items;
-use sect_front::name::Name;
+use sect_front::Name;
 
 /// What a path begins at.
 #[derive(Clone, Copy)]

@@ -11,8 +11,7 @@ use crate::items::Items;
 use crate::lock::{CertBase, CertLock, CertPath};
 use crate::numbers::number;
 use crate::parts::Parts;
-use sect_front::is_name;
-use sect_front::name::Name;
+use sect_front::{Name, is_name};
 use std::alloc::Global;
 
 /// What a lock allows.

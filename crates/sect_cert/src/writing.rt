@@ -15,7 +15,7 @@ use crate::certificate::{Cert, CertSection, CertStep, Chain};
 use crate::fault::CertFault;
 use crate::items::Items;
 use crate::lock::{CertBase, CertLock, CertPath};
-use sect_front::name::Name;
+use sect_front::Name;
 use std::alloc::{AllocError, Global};
 
 /// Writes a word behind a blank.

@@ -45,11 +45,13 @@ mutual
   same_statement (If v a) (If w b) e =
       λ i. If (test_row.coded.inj v w (ap (λ g. head (tail g)) e) i) (same_block a b (ap (λ g. tail (tail g)) e) i)
   same_statement (IfElse v a c) (IfElse w b d) e =
-      λ i. IfElse (test_row.coded.inj v w (ap (λ g. head (tail g)) e) i) (same_block a b (ap (λ g. head (tail (tail g))) e) i) (same_block c d (ap (λ g. tail (tail (tail g))) e) i)
+      λ i. IfElse (test_row.coded.inj v w (ap (λ g. head (tail g)) e) i)
+      (same_block a b (ap (λ g. head (tail (tail g))) e) i) (same_block c d (ap (λ g. tail (tail (tail g))) e) i)
   same_statement (While v a) (While w b) e =
       λ i. While (test_row.coded.inj v w (ap (λ g. head (tail g)) e) i) (same_block a b (ap (λ g. tail (tail g)) e) i)
   same_statement (Atomic l a) (Atomic m b) e =
-      λ i. Atomic (locking_row.coded.inj l m (ap (λ g. head (tail g)) e) i) (same_block a b (ap (λ g. tail (tail g)) e) i)
+      λ i. Atomic (locking_row.coded.inj l m (ap (λ g. head (tail g)) e) i)
+      (same_block a b (ap (λ g. tail (tail g)) e) i)
   same_statement _ _ e = absurd (omega (arith, ap (λ g. number (head g)) e))
 
   same_block : (a b : BlockView) → code_block a ≡ code_block b → a ≡ b

@@ -1,5 +1,6 @@
 -- What a source text is, and where it stops to be one.
-use Rattle.std.specs.Prelude.{◌≡◌, ℕ, ◌+◌, ◌-◌, ◌<◌, ◌≤◌, ◌==◌, Bool, true, false, List, Result, Ok, Err, ⊤, length, take, drop, count_by, slice_get, Some}
+use Rattle.std.specs.Prelude.{◌≡◌, ℕ, ◌+◌, ◌-◌, ◌<◌, ◌≤◌, ◌==◌, Bool, true, false, List, Result, Ok, Err, ⊤, length}
+use Rattle.std.specs.Prelude.{take, drop, count_by, slice_get, Some}
 use Rattle.sect_front.specs.declared.limits.TheConstants.{MOST_BYTES}
 use Rattle.sect_front.specs.Words.{is_letter, is_digit, begins}
 use Rattle.sect_front.specs.Gaps.{line_feed}

@@ -43,7 +43,8 @@ comparison_token comparison.Less = token.Less
 comparison_token comparison.LessOrEqual = token.LessEqual
 
 -- a statement without a block:
--- name "=" operand ";" | name "=" operand op operand ";" | name "=" "new" name ";" | name "=" name "." name ";" | name "." name "=" operand ";" | "print" operand ";"
+-- name "=" operand ";" | name "=" operand op operand ";" | name "=" "new" name ";" | name "=" name "." name ";" | name
+-- "." name "=" operand ";" | "print" operand ";"
 abbrev pub primitive_list : leaf.Primitive → List Token
 primitive_list (primitive.Assign x v) = token.Name x ∷ token.Equal ∷ operand_token v ∷ token.Semicolon ∷ []
 primitive_list (primitive.Compute x v o w) =
@@ -58,7 +59,8 @@ primitive_list (primitive.Print v) = token.Print ∷ operand_token v ∷ token.S
 -- "(" operand cmp operand ")"
 abbrev pub test_list : Test → List Token
 test_list t =
-    token.OpenParen ∷ operand_token t.left ∷ comparison_token t.comparison ∷ operand_token t.right ∷ token.CloseParen ∷ []
+    token.OpenParen ∷ operand_token t.left ∷ comparison_token t.comparison ∷ operand_token t.right ∷ token.CloseParen
+    ∷ []
 
 -- "{" .. "}"
 abbrev pub in_braces : List Token → List Token
@@ -70,7 +72,8 @@ locking_list locking.Inferred = []
 locking_list locking.All = token.All ∷ []
 
 abbrev mutual
-  -- stmt: one without a block | "if" test block | "if" test block "else" block | "while" test block | "atomic" ["all"] block
+  -- stmt: one without a block | "if" test block | "if" test block "else" block | "while" test block | "atomic" ["all"]
+  -- block
   pub statement_list : StatementView → List Token
   statement_list (Primitive p) = primitive_list p
   statement_list (If t a) = token.If ∷ test_list t ++ in_braces (statements_list a)

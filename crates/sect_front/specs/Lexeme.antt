@@ -25,4 +25,6 @@ begins_name bytes = begins is_name_byte bytes
 abbrev pub lexeme_of : List ℕ → Option (Token × ℕ)
 lexeme_of [] = None
 lexeme_of (b ∷ bs) =
-    if is_name_byte b then with_length (length (take_while is_name_byte (b ∷ bs))) (spelled (take_while is_name_byte (b ∷ bs))) else sign_at b bs
+    if is_name_byte b
+    then with_length (length (take_while is_name_byte (b ∷ bs))) (spelled (take_while is_name_byte (b ∷ bs)))
+    else sign_at b bs

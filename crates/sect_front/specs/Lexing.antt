@@ -7,8 +7,8 @@ use Rattle.sect_front.specs.declared.token.Token.{Token}
 use Rattle.sect_front.specs.declared.token.Token.TheVariants as token
 use Rattle.sect_front.specs.declared.token.TokenAt.{TokenAt}
 
--- whether a token may stand directly before these bytes: `=` and `<` not before `=`, and a name, a keyword or an integer
--- not before a byte of names
+-- whether a token may stand directly before these bytes: `=` and `<` not before `=`, and a name, a keyword or an
+-- integer not before a byte of names
 abbrev pub stands : Token → List ℕ → Bool
 stands token.OpenBrace rest = true
 stands token.CloseBrace rest = true
@@ -37,12 +37,13 @@ pub record IsFirst (t : Token) (n : ℕ) (bytes : List ℕ) : Type 0 where
 abbrev pub IsBad : List ℕ → Type 0
 IsBad bytes = (t : Token) (n : ℕ) → IsFirst t n bytes → ⊥
 
--- these tokens stand at the front, each after a gap of blanks and comments, and the rest follows; the bytes are the last
--- ones of a text of so many, and each token's place is the offset of its first byte in that text
+-- these tokens stand at the front, each after a gap of blanks and comments, and the rest follows; the bytes are the
+-- last ones of a text of so many, and each token's place is the offset of its first byte in that text
 abbrev pub Reaches : ℕ → List ℕ → List TokenAt → List ℕ → Type 0
 Reaches total bytes [] rest = bytes ≡ rest
 Reaches total bytes (p ∷ ps) rest =
-    (n : ℕ) × (p.at + length (after_gap bytes) ≡ total) × IsFirst p.token n (after_gap bytes) × Reaches total (drop n (after_gap bytes)) ps rest
+    (n : ℕ) × (p.at + length (after_gap bytes) ≡ total) × IsFirst p.token n (after_gap bytes)
+    × Reaches total (drop n (after_gap bytes)) ps rest
 
 -- the text spells these tokens, at these places, with gaps before, between and after them
 abbrev pub Spells : List ℕ → List TokenAt → Type 0

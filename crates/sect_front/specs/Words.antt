@@ -23,7 +23,8 @@ begins test (b ∷ bs) = test b
 
 abbrev pub keywords : List (List ℕ)
 keywords =
-    codes "record" ∷ codes "protected_by" ∷ codes "global" ∷ codes "thread" ∷ codes "int" ∷ codes "null" ∷ codes "new" ∷ codes "print" ∷
+    codes "record" ∷ codes "protected_by" ∷ codes "global" ∷ codes "thread" ∷ codes "int" ∷ codes "null" ∷ codes "new"
+    ∷ codes "print" ∷
     codes "if" ∷ codes "else" ∷ codes "while" ∷ codes "atomic" ∷ codes "all" ∷ codes "class" ∷ []
 
 abbrev pub is_keyword : List ℕ → Bool
@@ -32,4 +33,5 @@ is_keyword bytes = list_any (bytes_eq bytes) keywords
 -- one name: a letter or `_`, then letters, `_` and digits, at most 32 bytes, and no keyword
 abbrev pub is_name : List ℕ → Bool
 is_name bytes =
-    begins is_letter bytes && list_all is_name_byte bytes && nat_le (length bytes) MOST_NAME_BYTES && not (is_keyword bytes)
+    begins is_letter bytes && list_all is_name_byte bytes && nat_le (length bytes) MOST_NAME_BYTES
+    && not (is_keyword bytes)

@@ -4,7 +4,8 @@ ghost use Rattle.std.specs.Prelude.{◌≡◌, ◌<◌, ◌≤◌, ◌^◌, leng
 ghost use Rattle.std.specs.List.{list_all};
 ghost use Rattle.sect_front.specs.Words.{is_name_byte as name_byte, begins, is_letter as letter_of};
 ghost use Rattle.sect_front.specs.Gaps.{is_blank as blank_of, begins_with as begins_so, after_gap as gap_of};
-ghost use Rattle.sect_front.specs.steps.Recognition.{word_token as word_of, number_of, decimal_from, spelled, single_sign, double_sign};
+ghost use Rattle.sect_front.specs.steps.Recognition.{word_token as word_of, number_of, decimal_from, spelled};
+ghost use Rattle.sect_front.specs.steps.Recognition.{single_sign, double_sign};
 ghost use Rattle.sect_front.specs.Lexeme.{sign_at, with_length, lexeme_of, begins_name};
 
 use crate::limits::MOST_NAME_BYTES;
@@ -160,7 +161,8 @@ fn sign(first: u8, others: &[u8]) -> Option<(Token, usize)>
 #[tactic(auto, using(crate::proofs::Lexemes::names_pass))]
 fn word(bytes: &[u8]) -> Option<(Token, usize)>
     requires { begins_name bytes.now ≡ true }
-    ensures { result ≡ with_length (length (take_while name_byte bytes.now)) (spelled (take_while name_byte bytes.now)) }
+    ensures { result ≡ with_length (length (take_while name_byte bytes.now))
+        (spelled (take_while name_byte bytes.now)) }
 {
     let length = word_length(bytes);
     let token = word_spelled(&bytes[..length])?;

@@ -1,8 +1,12 @@
 //! The tokens of a tree.
 
 ghost use Rattle.std.specs.Prelude.{◌≡◌, ◌∷◌, OnOk, IfOk};
-ghost use Rattle.sect_front.specs.Grammar.{tokens_of as grammar_tokens, operand_token, operator_token, comparison_token, kind_token};
-ghost use Rattle.sect_front.specs.steps.Tokens.{primitive_tokens, test_tokens, locking_tokens, statement_tokens, block_tokens, declarations_tokens, hints_tokens, record_tokens, global_tokens, thread_tokens, records_tokens, globals_tokens, threads_tokens};
+ghost use Rattle.sect_front.specs.Grammar.{tokens_of as grammar_tokens, operand_token, operator_token};
+ghost use Rattle.sect_front.specs.Grammar.{comparison_token, kind_token};
+ghost use Rattle.sect_front.specs.steps.Tokens.{primitive_tokens, test_tokens, locking_tokens, statement_tokens};
+ghost use Rattle.sect_front.specs.steps.Tokens.{block_tokens, declarations_tokens, hints_tokens, record_tokens};
+ghost use Rattle.sect_front.specs.steps.Tokens.{global_tokens, thread_tokens, records_tokens, globals_tokens};
+ghost use Rattle.sect_front.specs.steps.Tokens.{threads_tokens};
 ghost use Rattle.sect_front.specs.Trees.{statement_of};
 ghost use Rattle.sect_front.specs.steps.Writes.{Writes};
 
@@ -161,7 +165,8 @@ fn put_statement(out: &mut Vec<Token>, s: &Statement) -> Result<(), AllocError>
 
 #[cycle(put)]
 fn put_braced(out: &mut Vec<Token>, b: &Block) -> Result<(), AllocError>
-    ensures { OnOk result (Writes out.old.items out.new.items (λ w. Token.OpenBrace ∷ block_tokens b.now (Token.CloseBrace ∷ w))) }
+    ensures { OnOk result (Writes out.old.items out.new.items
+        (λ w. Token.OpenBrace ∷ block_tokens b.now (Token.CloseBrace ∷ w))) }
 {
     put(out, Token::OpenBrace)?;
     put_block(out, b)?;

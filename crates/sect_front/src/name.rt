@@ -33,7 +33,10 @@ impl Model for Name {
 
     ghost inverse = { λ b. record { bytes = b ++ zeros_from (length b); len = length b } };
 
-    ghost inverse_ok = { λ a h i. record { bytes = bytes_back a.bytes a.len h i; len = length_back a.bytes a.len h i } };
+    ghost inverse_ok = { λ a h i. record {
+      bytes = bytes_back a.bytes a.len h i;
+      len = length_back a.bytes a.len h i;
+    } };
 }
 
 impl Name {

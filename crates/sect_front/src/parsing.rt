@@ -1,8 +1,8 @@
 //! A source text as a tree.
 //!
-//! The tokens are found first, and then read by a machine that takes one at a time and keeps the open blocks in a `Vec`:
-//! it calls nothing by recursion on the text, so no text makes it use more stack. What walks over a tree, as its `Drop`
-//! and `print` do, goes as deep as its blocks stand in one another, at most 32.
+//! The tokens are found first, and then read by a machine that takes one at a time and keeps the open blocks in a
+//! `Vec`: it calls nothing by recursion on the text, so no text makes it use more stack. What walks over a tree, as its
+//! `Drop` and `print` do, goes as deep as its blocks stand in one another, at most 32.
 
 ghost use Rattle.std.specs.Prelude.{◌≡◌, ◌≢◌, ◌≤◌, length};
 ghost use Rattle.sect_front.specs.Front.{IsSpelled, IsFault, Judges, Gives, Refuses, line_of as line};
@@ -71,21 +71,23 @@ fn bad(bytes: &[u8], at: usize) -> FrontFault
     }
 }
 
-/// The tree that a text spells, or why it spells none: `TooLarge` first, then the first bad lexeme of the whole text, then
-/// the first token with which the text is no beginning of any or opens a block of depth 33, then its early end. `Memory`
-/// is answered only where a growth was refused.
+/// The tree that a text spells, or why it spells none: `TooLarge` first, then the first bad lexeme of the whole text,
+/// then the first token with which the text is no beginning of any or opens a block of depth 33, then its early end.
+/// `Memory` is answered only where a growth was refused.
 pub fn parse(alloc: Global, bytes: &[u8]) -> Result<Tree, FrontFault>
     // A tree that is given is spelled so, and a fault is the first one, on its line.
     ensures judges { Judges bytes.now result }
     // A tree that is spelled so is given, unless memory runs out.
     ensures only { (tree : TreeView) → IsSpelled bytes.now tree → Gives tree result }
     // A text that has a fault is refused with it, unless memory runs out.
-    ensures refuses { (fault : FrontFault) → fault ≢ FrontFault.Memory → IsFault bytes.now fault → Refuses fault result }
+    ensures refuses { (fault : FrontFault) → fault ≢ FrontFault.Memory → IsFault bytes.now fault
+        → Refuses fault result }
 {
     judge(alloc, bytes)
 }
 
-/// The tree that a text spells, or its first fault. That a tree is the only one and a fault the only fault is `parse`'s.
+/// The tree that a text spells, or its first fault. That a tree is the only one and a fault the only fault is
+/// `parse`'s.
 fn judge(alloc: Global, bytes: &[u8]) -> Result<Tree, FrontFault>
     ensures { Judges bytes.now result }
 {

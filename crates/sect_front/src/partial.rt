@@ -1,7 +1,8 @@
 //! The part of a statement that has been read, up to its `;` or `{`.
 
 ghost use Rattle.std.specs.Prelude.{◌≡◌};
-ghost use Rattle.sect_front.specs.steps.Advance.{advance_of, assign_step, store_step, branch_step, operand_of, operator_of, comparison_of, first_step, ends_with};
+ghost use Rattle.sect_front.specs.steps.Advance.{advance_of, assign_step, store_step, branch_step, operand_of};
+ghost use Rattle.sect_front.specs.steps.Advance.{operator_of, comparison_of, first_step, ends_with};
 
 use crate::name::Name;
 use crate::token::Token;

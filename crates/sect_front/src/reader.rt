@@ -78,12 +78,16 @@ impl Model for Reader {
 
     ghost coded = { Prim.hlevel (codes, block_code) };
 
-    ghost view = { λ r. record { source = record { records = r.records.items; globals = r.globals.items; threads = r.threads.items }; stage = r.stage } };
+    ghost view = { λ r. record {
+      source = record { records = r.records.items; globals = r.globals.items; threads = r.threads.items };
+      stage = r.stage;
+    } };
 }
 
 impl Reader {
     ghost use Rattle.sect_front.specs.steps.ReaderView.{reading, empty};
-    ghost use Rattle.sect_front.specs.steps.Read.{Reads, read_one, begin_step, record_step, end_record_step, global_step, thread_step, after_kind_step, goes_on, finish_of};
+    ghost use Rattle.sect_front.specs.steps.Read.{Reads, read_one, begin_step, record_step, end_record_step};
+    ghost use Rattle.sect_front.specs.steps.Read.{global_step, thread_step, after_kind_step, goes_on, finish_of};
     ghost use Rattle.sect_front.specs.steps.Step.{step_of};
     ghost use Rattle.sect_front.specs.Depth.{depth};
 

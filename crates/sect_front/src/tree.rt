@@ -285,7 +285,11 @@ impl Model for Tree {
     ghost use Rattle.sect_front.specs.Depth.{depth};
     ghost use Rattle.sect_front.specs.declared.limits.TheConstants.{MOST_DEPTH};
 
-    ghost invariant = { λ t. depth (record { records = t.records.items; globals = t.globals.items; threads = t.threads.items }) ≤ MOST_DEPTH };
+    ghost invariant = { λ t. depth (record {
+      records = t.records.items;
+      globals = t.globals.items;
+      threads = t.threads.items;
+    }) ≤ MOST_DEPTH };
 }
 
 impl Tree {
@@ -294,7 +298,8 @@ impl Tree {
 
     /// The tree of these declarations, of which no block is deeper than `MOST_DEPTH`, a thread's braces being depth 1.
     pub fn new(records: Vec<Record>, globals: Vec<GlobalObject>, threads: Vec<Thread>) -> Tree
-        requires { depth (record { records = records.items; globals = globals.items; threads = threads.items }) ≤ MOST_DEPTH }
+        requires { depth (record { records = records.items; globals = globals.items; threads = threads.items })
+            ≤ MOST_DEPTH }
         ensures { result ≡ record { records = records.items; globals = globals.items; threads = threads.items } }
     {
         Tree {

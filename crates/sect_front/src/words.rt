@@ -2,7 +2,8 @@
 
 ghost use Rattle.std.specs.Prelude.{◌≡◌, ◌&&◌, length, take_while};
 ghost use Rattle.std.specs.List.{list_all};
-ghost use Rattle.sect_front.specs.Words.{is_letter as letter_of, is_digit as digit_of, is_name_byte as name_byte, is_name as name_of, begins};
+ghost use Rattle.sect_front.specs.Words.{is_letter as letter_of, is_digit as digit_of, is_name_byte as name_byte};
+ghost use Rattle.sect_front.specs.Words.{is_name as name_of, begins};
 ghost use Rattle.sect_front.specs.steps.Recognition.{keyword_of};
 
 use crate::limits::MOST_NAME_BYTES;

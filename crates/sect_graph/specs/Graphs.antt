@@ -8,8 +8,8 @@ use Rattle.sect_graph.specs.Paths.{LeadsTo, PathsAreTraces, PathsAreRests, IsCon
 use Rattle.sect_graph.specs.Rests.{RunsRests}
 use Rattle.sect_graph.specs.Layout.{flow_nodes}
 
--- the nodes are the graph of the text: they lie in text order, its paths are the traces, each node runs the first step of
--- what is left there, and control goes on to a node or to the exit
+-- the nodes are the graph of the text: they lie in text order, its paths are the traces, each node runs the first step
+-- of what is left there, and control goes on to a node or to the exit
 pub record IsGraphOf (text : TextView) (g : List Node) : Type 0 where
   pub nodes : g ≡ flow_nodes text
   pub paths : PathsAreTraces text g
@@ -28,5 +28,7 @@ pub record GraphView : Type 0 where
 pub record AreGraphs (texts : List TextView) (g : GraphView) : Type 0 where
   pub thread_count : length g.threads ≡ length texts
   pub section_count : length g.sections ≡ length (sections_of texts)
-  pub threads : (t : ℕ) (text : TextView) (flow : List Node) → slice_get texts t ≡ Some text → slice_get g.threads t ≡ Some flow → IsGraphOf text flow
-  pub sections : (i : ℕ) (s : SectionView) (flow : List Node) → slice_get (sections_of texts) i ≡ Some s → slice_get g.sections i ≡ Some flow → IsGraphOf s.body flow
+  pub threads : (t : ℕ) (text : TextView) (flow : List Node) → slice_get texts t ≡ Some text
+      → slice_get g.threads t ≡ Some flow → IsGraphOf text flow
+  pub sections : (i : ℕ) (s : SectionView) (flow : List Node) → slice_get (sections_of texts) i ≡ Some s
+      → slice_get g.sections i ≡ Some flow → IsGraphOf s.body flow

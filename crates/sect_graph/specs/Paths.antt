@@ -39,7 +39,8 @@ IsRestAt text g i rest = (before : List Visit) × IsTrace text 0 (before ++ rest
 
 -- along the paths from node i to the exit stand exactly the rests of traces that begin there
 abbrev pub PathsAreRests : TextView → List Node → Type 0
-PathsAreRests text g = (i : ℕ) → i ≤ length g → (rest : List Visit) → IsPath g i rest (length g) ↔ IsRestAt text g i rest
+PathsAreRests text g = (i : ℕ) → i ≤ length g → (rest : List Visit)
+    → IsPath g i rest (length g) ↔ IsRestAt text g i rest
 
 -- each node is on a path from the entry to the exit
 pub record IsConnected (g : List Node) : Type 0 where

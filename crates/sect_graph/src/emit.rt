@@ -8,8 +8,7 @@ ghost use Rattle.sect_graph.specs.Layout.{entry_of, nodes_of};
 ghost use Rattle.sect_graph.specs.Paths.{node};
 
 use crate::flow::{Node, Successors};
-use sect_types::action::Label;
-use sect_types::text::{Step, Text};
+use sect_types::{Label, Step, Text};
 use std::alloc::AllocError;
 
 /// How many nodes a text has.
@@ -72,7 +71,8 @@ pub fn emit_text(nodes: &mut Vec<Node>, text: &Text, next: u16) -> Result<(), Al
 #[cycle(emit)]
 fn emit_step(nodes: &mut Vec<Node>, step: &Step, next: u16) -> Result<(), AllocError>
     requires { length nodes.old.items + node_count (step_then step.now Stop) ≤ 4096 }
-    ensures { OnOk result (nodes.new.items ≡ nodes.old.items ++ nodes_of (step_then step.now Stop) (length nodes.old.items) next) }
+    ensures { OnOk result (nodes.new.items
+        ≡ nodes.old.items ++ nodes_of (step_then step.now Stop) (length nodes.old.items) next) }
 {
     let start = nodes.len() as u16;
     match step {

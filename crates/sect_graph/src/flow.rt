@@ -6,8 +6,7 @@ ghost use Rattle.sect_graph.specs.Graphs.{IsGraphOf};
 ghost use Rattle.sect_graph.specs.Layout.{flow_nodes};
 
 use crate::emit::{emit_text, text_count};
-use sect_types::action::Label;
-use sect_types::text::Text;
+use sect_types::{Label, Text};
 use std::alloc::{AllocError, Global};
 use std::marker::Model;
 

@@ -7,8 +7,7 @@ ghost use Rattle.sect_graph.specs.Layout.{flow_nodes};
 ghost use Rattle.sect_graph.specs.Graphs.{AreGraphs};
 
 use crate::flow::{Flow, flow_of};
-use sect_types::Program;
-use sect_types::text::{Step, Text};
+use sect_types::{Program, Step, Text};
 use std::alloc::{AllocError, Global};
 use std::marker::Model;
 
@@ -90,7 +89,8 @@ fn put_text(alloc: Global, sections: &mut Vec<Flow>, text: &Text) -> Result<(), 
 #[cycle(put)]
 fn put_step(alloc: Global, sections: &mut Vec<Flow>, step: &Step) -> Result<(), AllocError>
     requires { statement_count (step_then step.now Stop) ≤ 4096 }
-    ensures { OnOk result (sections.new.items ≡ sections.old.items ++ map flow_nodes (section_bodies (step_then step.now Stop))) }
+    ensures { OnOk result (sections.new.items
+        ≡ sections.old.items ++ map flow_nodes (section_bodies (step_then step.now Stop))) }
 {
     match step {
         Step::Do(_) => Ok(()),

@@ -2,8 +2,8 @@
 #![tactic(auto)]
 
 mod emit;
-pub mod flow;
-pub mod graph;
+mod flow;
+mod graph;
 
 pub use flow::{Flow, Node, Successors};
 pub use graph::{Graph, graph_of};

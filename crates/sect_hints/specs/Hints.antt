@@ -1,5 +1,6 @@
 -- The rules on hints, and the guards of a program that breaks none.
-use Rattle.std.specs.Prelude.{◌≡◌, ◌<◌, ◌≤◌, ◌↔◌, ℕ, List, [], ◌∷◌, Option, Some, None, map, length, slice_get, slice_index_or}
+use Rattle.std.specs.Prelude.{◌≡◌, ◌<◌, ◌≤◌, ◌↔◌, ℕ, List, [], ◌∷◌, Option, Some, None, map, length, slice_get}
+use Rattle.std.specs.Prelude.{slice_index_or}
 use Rattle.sect_front.specs.declared.tree.Record.{Record}
 use Rattle.sect_types.specs.Sight.{place, names_of_globals}
 use Rattle.sect_types.specs.Lists.{Has}
@@ -27,7 +28,8 @@ NamesObjectOf p name own = (g : ℕ) × (global_of p name ≡ Some g) × (slice_
 abbrev pub IsBrokenBy : ProgramView → List (List ℕ) → Rule → Type 0
 IsBrokenBy p hints HintTwice = 1 < length hints
 IsBrokenBy p hints NoSuchGlobal = (name : List ℕ) × Has hints name × (global_of p name ≡ None)
-IsBrokenBy p hints GuardIsGuarded = (name : List ℕ) × (own : ℕ) × Has hints name × NamesObjectOf p name own × IsHinted p own
+IsBrokenBy p hints GuardIsGuarded = (name : List ℕ) × (own : ℕ) × Has hints name × NamesObjectOf p name own
+    × IsHinted p own
 
 -- the rule is broken at the record of that number
 abbrev pub IsBroken : ProgramView → ℕ → Rule → Type 0

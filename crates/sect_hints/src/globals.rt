@@ -5,8 +5,7 @@ ghost use Rattle.sect_types.specs.Sight.{names_of_globals};
 ghost use Rattle.sect_hints.specs.Names.{AreDifferent};
 
 use indexmap::IndexSet;
-use sect_front::name::Name;
-use sect_front::tree::GlobalObject;
+use sect_front::{GlobalObject, Name};
 use std::alloc::{AllocError, Global};
 
 /// The names of the globals, each at its number.

@@ -12,7 +12,7 @@ use crate::fault::{HintFault, Rule};
 use crate::globals::names_of;
 use crate::guarding::Guards;
 use indexmap::IndexSet;
-use sect_front::name::Name;
+use sect_front::Name;
 use sect_types::Program;
 use std::alloc::Global;
 

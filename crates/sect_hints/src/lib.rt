@@ -3,8 +3,9 @@
 
 mod fault;
 mod globals;
-pub mod guarding;
+mod guarding;
 mod hints;
 
 pub use fault::HintFault;
+pub use guarding::Guards;
 pub use hints::guards;

@@ -9,8 +9,8 @@ use sect_names::{Lock, Scheme};
 use std::alloc::{AllocError, Global};
 use std::marker::Model;
 
-/// The locks of a section: for each node of its graph, the exit too, the maximal ones of those that are needed from there
-/// on, in canonical order. Those of the first node are taken at the section's entry.
+/// The locks of a section: for each node of its graph, the exit too, the maximal ones of those that are needed from
+/// there on, in canonical order. Those of the first node are taken at the section's entry.
 #[derive(Drop)]
 pub struct Locks {
     lists: Vec<Vec<Lock>>,
@@ -26,7 +26,10 @@ impl Model for Locks {
 
     ghost coded = { Prim.hlevel (codes, path_code) };
 
-    ghost view = { λ l. record { at = map (λ v. v.items) l.lists.items; entry = slice_index_or (map (λ v. v.items) l.lists.items) 0 [] } };
+    ghost view = { λ l. record {
+      at = map (λ v. v.items) l.lists.items;
+      entry = slice_index_or (map (λ v. v.items) l.lists.items) 0 [];
+    } };
 
     ghost invariant = { λ l. 0 < length l.lists.items };
 }

@@ -14,20 +14,21 @@ ghost use Rattle.sect_infer.specs.Sets.{AreLocksOf};
 use crate::lists::{Locks, lists_on_all, maximal_lists};
 use crate::sets::by_node;
 use crate::work::needs;
-use sect_front::tree::Locking;
-use sect_graph::flow::Flow;
-use sect_names::Scheme;
-use sect_names::laws::{locks_stay_the_programs, steps_of_sections};
+use sect_front::Locking;
+use sect_graph::Flow;
+use sect_names::{Scheme, locks_stay_the_programs, steps_of_sections};
 use std::alloc::{AllocError, Global};
 
-/// The locks of a section: at each node of its graph, the exit too, the maximal ones of those that are needed from there
-/// on, over all control paths; at its entry the least set that protects all that the section does. A section that locks
-/// everything needs the lock on all at each node, which covers every other. `AllocError` is answered only where a growth
-/// was refused.
+/// The locks of a section: at each node of its graph, the exit too, the maximal ones of those that are needed from
+/// there on, over all control paths; at its entry the least set that protects all that the section does. A section that
+/// locks everything needs the lock on all at each node, which covers every other. `AllocError` is answered only where a
+/// growth was refused.
 pub fn infer(alloc: Global, scheme: &Scheme, section: u16) -> Result<Locks, AllocError>
     requires { section < length (sections_of scheme.now.program.texts) }
-    ensures locks { (of : SectionView) (g : List Node) → slice_get (sections_of scheme.now.program.texts) section ≡ Some of
-        → slice_get scheme.now.graphs.sections section ≡ Some g → IfOk result (AreLocksOf scheme.now (end_of scheme.now section) of g) }
+    ensures locks { (of : SectionView) (g : List Node)
+        → slice_get (sections_of scheme.now.program.texts) section ≡ Some of
+        → slice_get scheme.now.graphs.sections section ≡ Some g
+        → IfOk result (AreLocksOf scheme.now (end_of scheme.now section) of g) }
     ensures lawful { (of : SectionView) → slice_get (sections_of scheme.now.program.texts) section ≡ Some of
         → IfOk result (λ sets. (j : ℕ) (locks : List Lock) → slice_get sets.at j ≡ Some locks
         → (lock : Lock) → Has locks lock → IsLockOf scheme.now of.thread lock) }

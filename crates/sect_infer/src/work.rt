@@ -11,7 +11,7 @@ ghost use Rattle.sect_infer.specs.steps.Needs.{IsSeed, CarriesTo, IsDerived, Gro
 use crate::need::{Need, keep, keep_all};
 use crate::predecessors::{Predecessors, predecessors_of};
 use indexmap::IndexSet;
-use sect_graph::flow::Flow;
+use sect_graph::Flow;
 use sect_names::{Lock, Scheme};
 use std::alloc::{AllocError, Global};
 
@@ -64,7 +64,8 @@ fn carry_to(
 ) -> Result<(), AllocError>
     requires { node < length flow.now }
     ensures { OnOk result ((y : Node) → slice_get flow.now node ≡ Some y
-        → Grows kept.old.keys kept.new.keys (λ x. (x.node ≡ node) × CarriedBack scheme.now thread y.label lock.now x.lock)) }
+        → Grows kept.old.keys kept.new.keys
+        (λ x. (x.node ≡ node) × CarriedBack scheme.now thread y.label lock.now x.lock)) }
 {
     let locks = scheme.rewrite(alloc, thread, flow.action(node), lock)?;
     keep_all(kept, node, locks.as_slice())?;

@@ -3,8 +3,8 @@
 ghost use Rattle.std.specs.Prelude.{◌≡◌, ◌↔◌, IsTrue};
 ghost use Rattle.sect_modes.specs.Key.{is_same_key, is_key_below};
 
-/// What a thread may hold. Keys are ordered: all, then classes by number, then the globals' objects in order, then made objects
-/// by thread and by number.
+/// What a thread may hold. Keys are ordered: all, then classes by number, then the globals' objects in order, then made
+/// objects by thread and by number.
 #[derive(Clone, Copy, Debug, PartialEq, Eq, PartialOrd, Ord, Hash)]
 pub enum Key {
     /// All objects; written `all`.

@@ -15,6 +15,8 @@ use Rattle.sect_types.specs.Lists.{Has}
 use Rattle.sect_names.specs.declared.lock.Lock.{Lock}
 use Rattle.sect_names.specs.declared.lock.Lock.TheVariants as lock
 use Rattle.sect_names.specs.contracts.lock.LockPartialEq.TheImpl.{ghosts as the_lock_eq}
+use Rattle.sect_names.specs.declared.link.Link.{Link}
+use Rattle.sect_names.specs.contracts.link.LinkPartialEq.TheImpl.{ghosts as the_link_eq}
 use Rattle.sect_names.specs.Comparing.{path_eq}
 use Rattle.sect_names.proofs.Paths.{same_parts}
 
@@ -54,6 +56,9 @@ lock_tells (lock.Class c r) (lock.Class d q) = search rules
 lock_tells (lock.Class c r) (lock.Path q f) = search rules
 lock_tells (lock.Path p e) (lock.Class d q) = search rules
 lock_tells (lock.Path p e) (lock.Path q f) = search (rules, path_tells)
+
+pub link_tells : (a b : Link) → Decides (the_link_eq.eq a b) (a ≡ b)
+link_tells a b = search (rules, lock_tells)
 
 -- a look-up by a comparison that tells which are one finds what the list has
 pub any_tells : {X : Type 0} (eq : X → X → Bool) → ((x y : X) → Decides (eq x y) (x ≡ y)) → (xs : List X) (x : X) → (list_any (eq x) xs ≡ true) ↔ Has xs x

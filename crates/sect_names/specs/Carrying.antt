@@ -72,7 +72,8 @@ BeforeStore c z f w (dot p g) q =
     ⊎ ((g ≡ f) × AreOfOneClass c p (var z) × ((v : Variable) × (w ≡ Some v) × (q ≡ var v)))
 
 -- the same for `p.g`, where these paths may denote what p denotes
-abbrev pub OverField : ClassesView → Variable → Field → Option Variable → PathView → Field → List PathView → PathView → Type 0
+abbrev pub OverField : ClassesView → Variable → Field → Option Variable → PathView → Field → List PathView → PathView
+    → Type 0
 OverField c z f w p g paths q =
     ((r : PathView) × Has paths r × GoesOn z f g r q)
     ⊎ ((g ≡ f) × AreOfOneClass c p (var z) × ((v : Variable) × (w ≡ Some v) × (q ≡ var v)))

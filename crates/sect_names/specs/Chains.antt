@@ -17,8 +17,8 @@ IsGeneratedAt s t last g a =
     ((x : Node) × (slice_get g a.node ≡ Some x) × Generated s t x.label a.lock)
     ⊎ ((a.node ≡ length g) × Has last a.lock)
 
--- control may go on from the node of the one step to that of the other, whose lock is carried back over the first node to
--- the first lock
+-- control may go on from the node of the one step to that of the other, whose lock is carried back over the first node
+-- to the first lock
 abbrev pub LinksTo : SchemeView → ℕ → List Node → Link → Link → Type 0
 LinksTo s t g a b =
     (x : Node) × (slice_get g a.node ≡ Some x) × LeadsTo x b.node × CarriedBack s t x.label b.lock a.lock

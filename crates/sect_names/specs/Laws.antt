@@ -36,7 +36,8 @@ KeepsItsClass s t step = (p q : PathView) → Before s.classes t step p q → Ag
 -- what a lock covers after the step, it covers before it: each of both carried back
 abbrev pub RespectsCover : SchemeView → ℕ → Label → Type 0
 RespectsCover s t step =
-    (l big r : Lock) → Covers s big l → CarriedBack s t step l r → (over : Lock) × CarriedBack s t step big over × Covers s over r
+    (l big r : Lock) → Covers s big l → CarriedBack s t step l r
+    → (over : Lock) × CarriedBack s t step big over × Covers s over r
 
 -- the node stands in the graph of this section of the program
 abbrev pub StandsIn : SchemeView → SectionView → Node → Type 0
@@ -44,8 +45,8 @@ StandsIn s section x =
     (i : ℕ) × (g : List Node) × (j : ℕ) × (slice_get (sections_of s.program.texts) i ≡ Some section)
     × (slice_get s.graphs.sections i ≡ Some g) × (slice_get g j ≡ Some x)
 
--- two schemes know the same: one number for each site's class, the same sites for each holder, the same guards, the same
--- graphs
+-- two schemes know the same: one number for each site's class, the same sites for each holder, the same guards, the
+-- same graphs
 pub record AreOneScheme (s r : SchemeView) : Type 0 where
   pub numbers : s.classes.numbers ≡ r.classes.numbers
   pub sets : (h : Holder) (site : ℕ) → InSets s.classes.sets h site ↔ InSets r.classes.sets h site

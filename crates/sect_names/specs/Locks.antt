@@ -46,8 +46,8 @@ VariableTo p (Local t x) r = slice_get (slice_index_or p.locals t []) x ≡ Some
 abbrev pub FieldTo : ProgramView → ℕ → ℕ → ℕ → Type 0
 FieldTo p q f r = type_in (slice_get p.records q) f ≡ Some (Refers r)
 
--- the path refers to objects of record r: its variable refers to some, and each field is a reference field of the record
--- that the path has reached
+-- the path refers to objects of record r: its variable refers to some, and each field is a reference field of the
+-- record that the path has reached
 abbrev pub PathTo : ProgramView → PathView → ℕ → Type 0
 PathTo p (var v) r = VariableTo p v r
 PathTo p (dot q f) r = PathTo p q f.of × FieldTo p f.of f.number r
@@ -62,8 +62,8 @@ IsOwn t (dot p f) = IsOwn t p
 abbrev pub IsClassed : SchemeView → PathView → Type 0
 IsClassed s p = (n : ℕ) × HasClass s.classes p n
 
--- a path that a section of thread t may lock: it begins with a global or a local of the thread, refers to objects, has at
--- most k fields, and has a class
+-- a path that a section of thread t may lock: it begins with a global or a local of the thread, refers to objects, has
+-- at most k fields, and has a class
 pub record IsPathIn (s : SchemeView) (t : ℕ) (p : PathView) : Type 0 where
   pub own : IsOwn t p
   pub of : ℕ

@@ -23,11 +23,12 @@ abbrev pub GeneratedFirst : SchemeView → ℕ → List Lock → List Visit → 
 GeneratedFirst s t last [] l = Has last l
 GeneratedFirst s t last (visit ∷ steps) l = Generated s t visit.label l
 
--- along these steps, at whose end those locks are generated, a lock is generated that the steps before carry back to the
--- lock l
+-- along these steps, at whose end those locks are generated, a lock is generated that the steps before carry back to
+-- the lock l
 abbrev pub IsNeededOn : SchemeView → ℕ → List Lock → List Visit → Lock → Type 0
 IsNeededOn s t last steps l =
-    (before : List Visit) × (rest : List Visit) × (x : Lock) × (steps ≡ before ++ rest) × GeneratedFirst s t last rest x × CarriedOver s t before x l
+    (before : List Visit) × (rest : List Visit) × (x : Lock) × (steps ≡ before ++ rest) × GeneratedFirst s t last rest x
+    × CarriedOver s t before x l
 
 -- the lock is needed at the entry of a section of thread t with this body, whose end generates those locks: along some
 -- trace

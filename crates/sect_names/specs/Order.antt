@@ -32,7 +32,8 @@ FieldsBefore (f ∷ fs) (g ∷ gs) = FieldBefore f g ⊎ ((f ≡ g) × FieldsBef
 
 -- by the variable, then by the fields
 abbrev pub PathBefore : PathView → PathView → Type 0
-PathBefore p q = VariableBefore (base_of p) (base_of q) ⊎ ((base_of p ≡ base_of q) × FieldsBefore (fields_of p) (fields_of q))
+PathBefore p q = VariableBefore (base_of p) (base_of q)
+    ⊎ ((base_of p ≡ base_of q) × FieldsBefore (fields_of p) (fields_of q))
 
 abbrev pub EffectBefore : Effect → Effect → Type 0
 EffectBefore effect.Read effect.Write = ⊤

@@ -38,7 +38,8 @@ FieldsFit s =
 -- each site of a path that refers to objects is of their record
 abbrev pub PathsFit : SchemeView → Type 0
 PathsFit s =
-    (p : PathView) (r site : ℕ) → PathTo s.program p r → PathHas (InSets s.classes.sets) p site → SiteOf s.program site r
+    (p : PathView) (r site : ℕ) → PathTo s.program p r → PathHas (InSets s.classes.sets) p site
+    → SiteOf s.program site r
 
 -- the sites of a class have one record
 abbrev pub ClassesHaveOneRecord : SchemeView → Type 0

@@ -47,7 +47,8 @@ of_scheme fault = refusal.Scheme fault
 abbrev pub IsRefused : List ℕ → Refusal → Type 0
 IsRefused bytes refusal.Memory = ⊤
 IsRefused bytes (refusal.Front fault) = (fault ≢ front.Memory) × IsFault bytes fault
-IsRefused bytes (refusal.Types fault) = (fault ≢ type_fault.Memory) × ((t : TreeView) × IsSpelled bytes t × types.Judges {A = ℕ} t (Err fault))
+IsRefused bytes (refusal.Types fault) = (fault ≢ type_fault.Memory)
+    × ((t : TreeView) × IsSpelled bytes t × types.Judges {A = ℕ} t (Err fault))
 IsRefused bytes (refusal.Scheme fault) = ⊥
 
 -- this program is given, unless memory ran out
@@ -58,5 +59,6 @@ GivesProgram p (Err r) = r ≡ refusal.Memory
 -- the refusal is due: k is judged first, then the text, and then its hints
 abbrev pub IsDue : List ℕ → ℕ → Refusal → Type 0
 IsDue bytes k (refusal.Scheme fault) =
-    (fault ≢ scheme_fault.Memory) × (((fault ≡ scheme_fault.BadK) × (3 < k)) ⊎ ((p : ProgramView) × IsTypedText bytes p × schemes.Judges p k (Err fault)))
+    (fault ≢ scheme_fault.Memory) × (((fault ≡ scheme_fault.BadK) × (3 < k))
+    ⊎ ((p : ProgramView) × IsTypedText bytes p × schemes.Judges p k (Err fault)))
 IsDue bytes k r = (k ≤ 3) × IsRefused bytes r

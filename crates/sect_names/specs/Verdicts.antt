@@ -6,7 +6,8 @@ use Rattle.sect_hints.specs.declared.fault.HintFault.{HintFault}
 use Rattle.sect_hints.specs.declared.fault.HintFault.TheVariants as hint
 use Rattle.sect_hints.specs.Hints.{ObeysHints, IsFirstFault}
 use Rattle.sect_names.specs.declared.fault.SchemeFault.{SchemeFault}
-use Rattle.sect_names.specs.declared.fault.SchemeFault.TheVariants.{Memory, BadK, NoSuchGlobal, GuardIsGuarded, HintTwice}
+use Rattle.sect_names.specs.declared.fault.SchemeFault.TheVariants.{Memory, BadK, NoSuchGlobal, GuardIsGuarded}
+use Rattle.sect_names.specs.declared.fault.SchemeFault.TheVariants.{HintTwice}
 use Rattle.sect_names.specs.Schemes.{SchemeView}
 
 -- a fault of the hints is a fault of the scheme

@@ -7,14 +7,15 @@ ghost use Rattle.sect_points.specs.Paths.{PathView, var};
 ghost use Rattle.sect_names.specs.declared.lock.Lock.{Lock};
 ghost use Rattle.sect_names.specs.declared.lock.Lock.TheVariants as lock;
 ghost use Rattle.sect_names.specs.Locks.{depth};
-ghost use Rattle.sect_names.specs.Carrying.{Replaced, AreOfOneClass, BeforeStore, BeforeAssignment, Before, GoesOn, OverField, LockOn, CarriedBack, right_for};
+ghost use Rattle.sect_names.specs.Carrying.{Replaced, AreOfOneClass, BeforeStore, BeforeAssignment, Before, GoesOn};
+ghost use Rattle.sect_names.specs.Carrying.{OverField, LockOn, CarriedBack, right_for};
 
 use crate::lock::{Effect, Lock, Right};
 use crate::path::Path;
 use crate::scheme::Scheme;
 use crate::variables::{variable_in, variable_of};
 use sect_points::Variable;
-use sect_types::action::{Action, Field, Label, Value};
+use sect_types::{Action, Field, Label, Value};
 use std::alloc::{AllocError, Global};
 
 impl Effect {
@@ -68,7 +69,8 @@ fn with_field(
     field: Field,
     paths: &[Path],
 ) -> Result<Vec<Path>, AllocError>
-    ensures { IfOk result (λ longer. (q : PathView) → Has longer.items q ↔ ((r : PathView) × Has paths.now r × GoesOn z f field r q)) }
+    ensures { IfOk result (λ longer. (q : PathView)
+        → Has longer.items q ↔ ((r : PathView) × Has paths.now r × GoesOn z f field r q)) }
 {
     let mut longer = Vec::new(alloc);
     for path in paths {
@@ -98,7 +100,8 @@ fn over_field(
     field: Field,
     paths: &[Path],
 ) -> Result<Vec<Path>, AllocError>
-    ensures { IfOk result (λ over. (q : PathView) → Has over.items q ↔ OverField scheme.now.classes z f w beginning.now field paths.now q) }
+    ensures { IfOk result (λ over. (q : PathView)
+        → Has over.items q ↔ OverField scheme.now.classes z f w beginning.now field paths.now q) }
 {
     let mut over = with_field(alloc, z, f, field, paths)?;
     if let Some(value) = value_read(scheme, z, f, w, beginning, field) {
@@ -116,7 +119,8 @@ fn value_read(
     path: &Path,
     field: Field,
 ) -> Option<Variable>
-    ensures { (v : Variable) → (result ≡ Some v) ↔ ((field ≡ f) × AreOfOneClass scheme.now.classes path.now (var z) × (w ≡ Some v)) }
+    ensures { (v : Variable) → (result ≡ Some v)
+        ↔ ((field ≡ f) × AreOfOneClass scheme.now.classes path.now (var z) × (w ≡ Some v)) }
 {
     if field == f && are_of_one_class(scheme, path, z) {
         w
@@ -144,7 +148,8 @@ fn before_store(
     w: Option<Variable>,
     path: &Path,
 ) -> Result<Vec<Path>, AllocError>
-    ensures { IfOk result (λ paths. (q : PathView) → Has paths.items q ↔ BeforeStore scheme.now.classes z f w path.now q) }
+    ensures { IfOk result (λ paths. (q : PathView)
+        → Has paths.items q ↔ BeforeStore scheme.now.classes z f w path.now q) }
 {
     let mut beginning = Path::new(alloc, path.base());
     let mut paths = alone(alloc, Path::new(alloc, path.base()))?;
@@ -157,8 +162,9 @@ fn before_store(
 
 impl Scheme {
     /// The locks that are needed before a node of the graph of a thread's section, where this lock is needed after it.
-    /// The lock on all and class locks stay. A path lock becomes those of the paths that may denote before the node what its path denotes
-    /// after it, each the lock of its class where it has more than k fields; a path that has no class needs none.
+    /// The lock on all and class locks stay. A path lock becomes those of the paths that may denote before the node
+    /// what its path denotes after it, each the lock of its class where it has more than k fields; a path that has no
+    /// class needs none.
     pub fn rewrite(
         &self,
         alloc: Global,
@@ -189,7 +195,8 @@ impl Scheme {
         label: Label,
         path: &Path,
     ) -> Result<Vec<Path>, AllocError>
-        ensures { IfOk result (λ paths. (q : PathView) → Has paths.items q ↔ Before self.now.classes thread label path.now q) }
+        ensures { IfOk result (λ paths. (q : PathView)
+            → Has paths.items q ↔ Before self.now.classes thread label path.now q) }
     {
         let Label::Act(action) = label else {
             return alone(alloc, path.try_clone()?);
@@ -223,7 +230,8 @@ impl Scheme {
         effect: Effect,
         paths: &[Path],
     ) -> Result<Vec<Lock>, AllocError>
-        ensures { IfOk result (λ locks. (l : Lock) → Has locks.items l ↔ ((q : PathView) × Has paths.now q × LockOn self.now effect q l)) }
+        ensures { IfOk result (λ locks. (l : Lock)
+            → Has locks.items l ↔ ((q : PathView) × Has paths.now q × LockOn self.now effect q l)) }
     {
         let mut locks = Vec::new(alloc);
         for path in paths {
@@ -264,7 +272,8 @@ fn before_assignment(
     value: Value,
     path: &Path,
 ) -> Result<Vec<Path>, AllocError>
-    ensures { IfOk result (λ paths. (q : PathView) → Has paths.items q ↔ BeforeAssignment thread target value path.now q) }
+    ensures { IfOk result (λ paths. (q : PathView)
+        → Has paths.items q ↔ BeforeAssignment thread target value path.now q) }
 {
     let x = Variable::Local(thread, target);
     match value {

@@ -10,7 +10,7 @@ use crate::path::Path;
 use crate::scheme::Scheme;
 use crate::variables::{locked_for, variable_of};
 use sect_points::Variable;
-use sect_types::action::{Action, Label};
+use sect_types::{Action, Label};
 use std::alloc::Global;
 
 impl Scheme {

@@ -16,7 +16,8 @@ ghost use Rattle.sect_names.specs.Carrying.{Generated, CarriedBack};
 ghost use Rattle.sect_types.specs.Statements.{TextView};
 ghost use Rattle.sect_names.specs.Needed.{IsLeast};
 ghost use Rattle.sect_names.specs.Order.{AreInOrder};
-ghost use Rattle.sect_names.specs.Laws.{IsProgramStep, IsSoundStep, KeepsItsClass, RespectsCover, StandsIn, AreOneScheme};
+ghost use Rattle.sect_names.specs.Laws.{IsProgramStep, IsSoundStep, KeepsItsClass, RespectsCover, StandsIn};
+ghost use Rattle.sect_names.specs.Laws.{AreOneScheme};
 
 /// A path that may denote before a step of the program what another denotes after it has no class but that one's.
 pub fn carried_paths_keep_their_class()
@@ -42,19 +43,21 @@ pub fn locks_stay_the_programs()
         → (l r : Lock) → IsLockOf s t l → CarriedBack s t step l r → IsLockOf s t r }
 {}
 
-/// What a node of a section's graph does is a statement of the program or looks at a condition, and where the program is
-/// sound, it agrees with the declarations that the section's thread sees.
+/// What a node of a section's graph does is a statement of the program or looks at a condition, and where the program
+/// is sound, it agrees with the declarations that the section's thread sees.
 pub fn steps_of_sections()
     ensures program { (s : SchemeView) → IsScheme s → (section : SectionView) (x : Node) → StandsIn s section x
         → IsProgramStep s section.thread x.label }
-    ensures sound { (s : SchemeView) → IsScheme s → AreSound s.program.records s.program.globals s.program.locals s.program.texts
+    ensures sound { (s : SchemeView) → IsScheme s
+        → AreSound s.program.records s.program.globals s.program.locals s.program.texts
         → (section : SectionView) (x : Node) → StandsIn s section x
         → IsSoundStep s.program section.thread x.label × (section.thread < length s.program.locals) }
 {}
 
 /// A section has one least lock set in canonical order, whatever its end generates.
 pub fn least_sets_are_one()
-    ensures { (s : SchemeView) (t : ℕ) (last : List Lock) (body : TextView) (locks others : List Lock) → IsLeast s t last body locks
+    ensures { (s : SchemeView) (t : ℕ) (last : List Lock) (body : TextView) (locks others : List Lock)
+        → IsLeast s t last body locks
         → IsLeast s t last body others → AreInOrder locks → AreInOrder others → locks ≡ others }
 {}
 

@@ -5,12 +5,12 @@ mod carry;
 mod covers;
 mod fault;
 mod generate;
-pub mod laws;
+mod laws;
 mod link;
 mod lock;
 mod maximal;
 mod path;
-pub mod printing;
+mod printing;
 mod refusal;
 mod scheme;
 mod source;
@@ -18,9 +18,21 @@ mod variables;
 
 pub use covers::covering_is_an_order;
 pub use fault::SchemeFault;
+pub use laws::needs::{
+    beginnings_are_needed, beginnings_are_typed, needed_locks_are_the_threads, needed_step_by_step,
+    texts_stay_in_their_thread,
+};
+pub use laws::records::{
+    a_class_has_one_record, carried_paths_keep_their_record, sets_have_the_record,
+};
+pub use laws::{
+    carried_paths_keep_their_class, carrying_back_respects_covering, least_sets_are_one,
+    locks_are_finitely_many, locks_stay_the_programs, schemes_are_one, steps_of_sections,
+};
 pub use link::Link;
 pub use lock::{Effect, Lock, Right, precedes};
 pub use path::Path;
+pub use printing::{put_lock, put_locks};
 pub use refusal::Refusal;
 pub use scheme::{MOST_PATH_FIELDS, Scheme, check_k, scheme_of};
 pub use source::{accept, program_of};

@@ -33,14 +33,16 @@ fn has_class(locks: &IndexSet<Lock>, class: u16, effect: Effect) -> bool
 
 /// Whether a set has the lock to write this path, which outdoes that to read it.
 fn has_write(locks: &IndexSet<Lock>, path: &Path, effect: Effect) -> Result<bool, AllocError>
-    ensures { IfOk result (λ it. IsTrue it ↔ ((effect ≡ effects.Read) × Has locks.now.keys (lock.Path path.now effects.Write))) }
+    ensures { IfOk result (λ it. IsTrue it
+        ↔ ((effect ≡ effects.Read) × Has locks.now.keys (lock.Path path.now effects.Write))) }
 {
     Ok(effect == Effect::Read && has(locks, &Lock::Path(path.try_clone()?, Effect::Write)))
 }
 
 impl Scheme {
-    /// The locks of a set that no other of them covers, in canonical order: the lock on all; class locks by class, and then to read, to
-    /// write, to make; then path locks by path, one before those that go on from it, and then to read, to write.
+    /// The locks of a set that no other of them covers, in canonical order: the lock on all; class locks by class, and
+    /// then to read, to write, to make; then path locks by path, one before those that go on from it, and then to read,
+    /// to write.
     pub fn maximal(&self, alloc: Global, locks: &IndexSet<Lock>) -> Result<Vec<Lock>, AllocError>
         ensures { IfOk result (λ kept. AreMaximal self.now (Has locks.now.keys) kept.items) }
     {
@@ -81,7 +83,8 @@ impl Scheme {
 
     /// Whether a set has a lock on the class of this path that allows the effect on each of its objects.
     fn has_class_of(&self, locks: &IndexSet<Lock>, path: &Path, effect: Effect) -> bool
-        ensures { IsTrue result ↔ ((class : ℕ) × HasClass self.now.classes path.now class × ((right : Right) × Grants right effect × Has locks.now.keys (lock.Class class right))) }
+        ensures { IsTrue result ↔ ((class : ℕ) × HasClass self.now.classes path.now class
+            × ((right : Right) × Grants right effect × Has locks.now.keys (lock.Class class right))) }
     {
         match self.class_of(path) {
             Some(class) => has_class(locks, class, effect),

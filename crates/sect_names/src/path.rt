@@ -5,10 +5,11 @@ ghost use Rattle.std.specs.Ordering.{as_partial_cmp};
 ghost use Rattle.std.specs.Cmp.{partial_equiv_from_equiv};
 ghost use Rattle.std.specs.Cmp.Rules.{comparing};
 ghost use Rattle.std.proofs.Common.{rules};
-ghost use Rattle.sect_names.specs.Comparing.{path_eq, path_fed, path_cmp, path_equivalence, path_alike, path_ties, path_total, path_order};
+ghost use Rattle.sect_names.specs.Comparing.{path_eq, path_fed, path_cmp, path_equivalence, path_alike, path_ties};
+ghost use Rattle.sect_names.specs.Comparing.{path_total, path_order};
 
 use sect_points::Variable;
-use sect_types::action::Field;
+use sect_types::Field;
 use smallvec::SmallVec;
 use std::alloc::{AllocError, Global};
 use std::cmp::Ordering;

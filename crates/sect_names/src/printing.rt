@@ -3,14 +3,14 @@
 ghost use Rattle.std.specs.Prelude.{◌≡◌, ◌++◌, OnOk, Some};
 ghost use Rattle.std.specs.String.{string_bytes};
 ghost use Rattle.sect_names.specs.Locks.{IsVariable, IsField, IsPathOf};
-ghost use Rattle.sect_names.specs.Printing.{IsNamed, AreNamed, effect_text, right_text, variable_name, field_name, path_text, lock_text, locks_text};
+ghost use Rattle.sect_names.specs.Printing.{IsNamed, AreNamed, effect_text, right_text, variable_name, field_name};
+ghost use Rattle.sect_names.specs.Printing.{path_text, lock_text, locks_text};
 
 use crate::lock::{Effect, Lock, Right};
 use crate::path::Path;
-use sect_front::name::Name;
+use sect_front::Name;
 use sect_points::Variable;
-use sect_types::Program;
-use sect_types::action::Field;
+use sect_types::{Field, Program};
 use std::alloc::AllocError;
 use std::fmt;
 use std::fmt::Write;

@@ -10,8 +10,8 @@ use sect_types::TypeFault;
 use std::alloc::AllocError;
 use thiserror::Error;
 
-/// Why a source text is refused. `Display` is what the program prints after the word `refused`, so that a refusal can stand
-/// inside another.
+/// Why a source text is refused. `Display` is what the program prints after the word `refused`, so that a refusal can
+/// stand inside another.
 #[derive(Debug, Drop, Error)]
 pub enum Refusal {
     /// Want of memory.

@@ -10,9 +10,8 @@ ghost use Rattle.sect_names.specs.Verdicts.{Judges};
 
 use crate::fault::SchemeFault;
 use crate::path::Path;
-use sect_graph::graph::{Graph, graph_of};
-use sect_hints::guarding::Guards;
-use sect_hints::guards;
+use sect_graph::{Graph, graph_of};
+use sect_hints::{Guards, guards};
 use sect_points::{Classes, Variable, class_of_path, laws_of_classes, points_to, site_classes};
 use sect_types::Program;
 use std::alloc::Global;
@@ -42,9 +41,21 @@ impl Model for Scheme {
 
     ghost coded = { Prim.hlevel (codes, block_code, statements_code) };
 
-    ghost view = { λ s. record { program = s.program; most = s.k; classes = s.classes; guards = s.guards; graphs = s.graph } };
+    ghost view = { λ s. record {
+      program = s.program;
+      most = s.k;
+      classes = s.classes;
+      guards = s.guards;
+      graphs = s.graph;
+    } };
 
-    ghost invariant = { λ s. IsScheme (record { program = s.program; most = s.k; classes = s.classes; guards = s.guards; graphs = s.graph }) };
+    ghost invariant = { λ s. IsScheme (record {
+      program = s.program;
+      most = s.k;
+      classes = s.classes;
+      guards = s.guards;
+      graphs = s.graph;
+    }) };
 }
 
 /// Tests how many fields a path may have: `BadK` where `k` is above 3.

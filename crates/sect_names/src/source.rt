@@ -13,8 +13,8 @@ use sect_types::{Program, check_types};
 use std::alloc::Global;
 
 /// The scheme of a source text for paths of at most `k` fields. How many fields a path may have is judged before the
-/// source; then the first fault of the text, of its types or of its hints is answered. `Memory` is answered only where a
-/// growth was refused.
+/// source; then the first fault of the text, of its types or of its hints is answered. `Memory` is answered only where
+/// a growth was refused.
 pub fn accept(alloc: Global, source: &[u8], k: u16) -> Result<Scheme, Refusal>
     // The text is accepted, with this scheme.
     ensures accepted { IfOk result (IsAccepted source.now k) }
@@ -30,8 +30,8 @@ pub fn accept(alloc: Global, source: &[u8], k: u16) -> Result<Scheme, Refusal>
     Ok(scheme)
 }
 
-/// The program of a source text: the first fault of the text or of its types where it has none. `Memory` is answered only
-/// where a growth was refused.
+/// The program of a source text: the first fault of the text or of its types where it has none. `Memory` is answered
+/// only where a growth was refused.
 pub fn program_of(alloc: Global, source: &[u8]) -> Result<Program, Refusal>
     ensures answers { IfOk result (IsTypedText source.now) }
     ensures only { (p : ProgramView) → IsTypedText source.now p → GivesProgram p result }

@@ -5,7 +5,7 @@ ghost use Rattle.sect_points.specs.PathClasses.{variable_of, variable_in};
 ghost use Rattle.sect_names.specs.Carrying.{locked_for};
 
 use sect_points::Variable;
-use sect_types::action::{Base, Value};
+use sect_types::{Base, Value};
 
 /// The variable of a base in this thread.
 pub fn variable_of(thread: u16, base: Base) -> Variable

@@ -41,7 +41,8 @@ path_of-fields (dot p f) = dots-push (var (base_of p)) (fields_of p) f ∙ ap (�
 
 abbrev pub path_code : Coded PathView
 path_code =
-    code_by (Variable × List Field) (coded× variable.the_row.coded (coded_list field.the_row.coded)) (λ p. (base_of p, fields_of p)) (λ c. path_of c.0 c.1) path_of-fields
+    code_by (Variable × List Field) (coded× variable.the_row.coded (coded_list field.the_row.coded))
+    (λ p. (base_of p, fields_of p)) (λ c. path_of c.0 c.1) path_of-fields
 
 -- the sites of a variable: those of a local's set, and a global itself
 abbrev pub VariableHas : Family → Variable → ℕ → Type 0

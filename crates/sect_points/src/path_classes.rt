@@ -17,7 +17,7 @@ use crate::holders::Variable;
 use crate::rows::Rows;
 use crate::sets::{MOST_FIELDS, PointsTo};
 use crate::sites::SiteSet;
-use sect_types::action::Field;
+use sect_types::Field;
 use std::marker::Model;
 
 /// Points-to sets, and the classes of their sites: the finest partition that keeps together what one variable or one
@@ -39,7 +39,8 @@ impl Model for Classes {
 
     ghost view = { λ c. record { sets = c.points; numbers = c.numbers.items } };
 
-    ghost invariant = { λ c. (c.points.sites ≤ 1024) × ∥ IsParted (record { sets = c.points; numbers = c.numbers.items }) ∥₁ × AreFilled c.points c.filled };
+    ghost invariant = { λ c. (c.points.sites ≤ 1024)
+        × ∥ IsParted (record { sets = c.points; numbers = c.numbers.items }) ∥₁ × AreFilled c.points c.filled };
 }
 
 impl Classes {
@@ -113,7 +114,8 @@ impl Classes {
 /// The sites of a variable.
 fn variable_sites(points: &PointsTo, base: Variable) -> SiteSet
     requires { AreBelow points.now }
-    ensures { (site : ℕ) → HasSite result.words site ↔ (VariableHas (InSets points.now) base site × (site < points.now.sites)) }
+    ensures { (site : ℕ) → HasSite result.words site
+        ↔ (VariableHas (InSets points.now) base site × (site < points.now.sites)) }
 {
     match base {
         Variable::Local(thread, local) => points.local_or_none(thread, local),
@@ -124,7 +126,8 @@ fn variable_sites(points: &PointsTo, base: Variable) -> SiteSet
 
 /// The sites of a field of all these sites. A field that isn't there has none.
 fn field_sites(points: &PointsTo, bases: &SiteSet, field: u16) -> SiteSet
-    ensures { (site : ℕ) → HasSite result.words site ↔ ((base : ℕ) × HasSite bases.now.words base × InSets points.now (Slot base field) site) }
+    ensures { (site : ℕ) → HasSite result.words site
+        ↔ ((base : ℕ) × HasSite bases.now.words base × InSets points.now (Slot base field) site) }
 {
     if field < MOST_FIELDS {
         points.gathered(bases, field)
@@ -137,7 +140,8 @@ fn field_sites(points: &PointsTo, bases: &SiteSet, field: u16) -> SiteSet
 fn path_sites(points: &PointsTo, base: Variable, fields: &[Field]) -> SiteSet
     requires below { AreBelow points.now }
     requires slots { AreSlotsOfSites points.now }
-    ensures { (site : ℕ) → HasSite result.words site ↔ (PathHas (InSets points.now) (path_of base fields.now) site × (site < points.now.sites)) }
+    ensures { (site : ℕ) → HasSite result.words site
+        ↔ (PathHas (InSets points.now) (path_of base fields.now) site × (site < points.now.sites)) }
 {
     let mut sites = variable_sites(points, base);
     for field in fields {

@@ -4,7 +4,7 @@ ghost use Rattle.std.specs.Prelude.{◌≡◌, ◌++◌, ◌∷◌, [], OnOk, tr
 ghost use Rattle.sect_types.specs.Lists.{Has};
 
 use crate::holders::ThreadAction;
-use sect_types::action::{Action, Base, Field, Value};
+use sect_types::{Action, Base, Field, Value};
 use std::alloc::{AllocError, Global};
 use std::marker::Model;
 

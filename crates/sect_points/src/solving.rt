@@ -6,7 +6,9 @@ ghost use Rattle.sect_points.specs.Flow.{ValueHas, BaseHas, Moved, Within, IsLea
 ghost use Rattle.sect_points.specs.Sets.{InSets, IsEmpty, HasSet, SameHolders, sets_room, sites_for, spread_to};
 ghost use Rattle.sect_points.specs.steps.Solving.{FitsValue, FitsBase, FitsAction, AllFit};
 ghost use Rattle.sect_points.specs.Sets.{AreBelow};
-ghost use Rattle.sect_points.specs.steps.Marks.{Suits, Grows, AreBases, IsBase, MovedBy, IsOnlyBase, IsThere, IsUntouched, grown, Covers, Handles, IsStretch, IsGoing, IsLeft, IsSpan, HasMark};
+ghost use Rattle.sect_points.specs.steps.Marks.{Suits, Grows, AreBases, IsBase, MovedBy, IsOnlyBase, IsThere};
+ghost use Rattle.sect_points.specs.steps.Marks.{IsUntouched, grown, Covers, Handles, IsStretch, IsGoing, IsLeft};
+ghost use Rattle.sect_points.specs.steps.Marks.{IsSpan, HasMark};
 ghost use Rattle.sect_types.specs.Lists.{Has};
 ghost use Rattle.sect_points.specs.declared.holders.ThreadAction.{ThreadAction};
 ghost use Rattle.sect_points.specs.declared.holders.Holder.{Holder};
@@ -17,7 +19,7 @@ use crate::marks::Marks;
 use crate::readers::Readers;
 use crate::sets::{MOST_FIELDS, PointsTo};
 use crate::sites::{MOST_SITES, SiteSet};
-use sect_types::action::{Action, Base, Value};
+use sect_types::{Action, Base, Value};
 
 /// The most threads of a program.
 const MOST_THREADS: u16 = 64;
@@ -106,7 +108,8 @@ fn turn(sets: &mut PointsTo, placed: ThreadAction, bases: &SiteSet, marks: &mut 
     requires most { sets.old.sites ≤ MOST_SITES }
     requires suits { Suits sets.old marks.old }
     requires bases { AreBases (InSets sets.old) placed bases.now.words }
-    ensures { Grows sets.old sets.new (MovedBy (InSets sets.old) bases.now.words placed.thread placed.action) marks.old marks.new result }
+    ensures { Grows sets.old sets.new
+        (MovedBy (InSets sets.old) bases.now.words placed.thread placed.action) marks.old marks.new result }
 {
     let thread = placed.thread;
     match placed.action {
@@ -215,7 +218,8 @@ fn pass(
     requires suits { Suits sets.old marks.old }
     requires there { IsThere growth new.now.words sets.old }
     ensures stretch { IsStretch readers.now sets.old sets.new marks.old marks.new result }
-    ensures handled { (p : ThreadAction) → Has readers.now p → Handles sets.old sets.new (grown growth new.now.words) p }
+    ensures handled { (p : ThreadAction) → Has readers.now p
+        → Handles sets.old sets.new (grown growth new.now.words) p }
 {
     let mut grew = false;
     for placed in readers.of_growth(growth) {

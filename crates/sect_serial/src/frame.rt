@@ -10,10 +10,7 @@ ghost use Rattle.sect_serial.specs.steps.Frames.{Ran, IsReady};
 use crate::rest::Rest;
 use crate::step::step;
 use sect_store::{Store, Work};
-use sect_types::Program;
-use sect_types::store::{End, Fault};
-use sect_types::text::{Step, Text};
-use sect_types::types::ValueType;
+use sect_types::{End, Fault, Program, Step, Text, ValueType};
 use std::alloc::{AllocError, Global};
 use std::marker::Model;
 

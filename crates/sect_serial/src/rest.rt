@@ -4,7 +4,7 @@ ghost use Rattle.std.specs.Prelude.{◌≡◌, option_copied, OnOk, IfOk};
 ghost use Rattle.sect_types.specs.Statements.{joined};
 ghost use Rattle.sect_serial.specs.steps.Rests.{Begins, after_first, is_stop};
 
-use sect_types::text::{Step, Text};
+use sect_types::{Step, Text};
 use std::alloc::{AllocError, Global};
 use std::marker::Model;
 

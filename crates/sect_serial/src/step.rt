@@ -6,9 +6,7 @@ ghost use Rattle.sect_serial.specs.steps.Moves.{stepped, stepped_by};
 
 use crate::rest::Rest;
 use sect_store::{Store, Work, act};
-use sect_types::Program;
-use sect_types::store::Fault;
-use sect_types::text::Step;
+use sect_types::{Fault, Program, Step};
 use std::alloc::{AllocError, Global};
 
 /// Runs the statement or test that comes next, which isn't a section; the fault that it comes to, if it does.

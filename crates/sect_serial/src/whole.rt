@@ -8,8 +8,7 @@ ghost use Rattle.sect_serial.specs.declared.whole.SerialFault.TheVariants.{Memor
 
 use crate::run::Run;
 use sect_store::{Outcome, Store};
-use sect_types::Program;
-use sect_types::store::End;
+use sect_types::{End, Program};
 use std::alloc::{AllocError, AllocFailed, Global};
 use std::marker::Model;
 use thiserror::Error;

@@ -6,9 +6,7 @@ ghost use Rattle.sect_types.specs.Store.{changed_at, with_field};
 ghost use Rattle.sect_types.specs.Meaning.{datum_or_null, first_datum, fresh};
 
 use crate::value::first;
-use sect_types::Program;
-use sect_types::store::Datum;
-use sect_types::types::ValueType;
+use sect_types::{Datum, Program, ValueType};
 use std::alloc::{AllocError, Global};
 use std::marker::Model;
 

@@ -3,7 +3,7 @@
 ghost use Rattle.std.specs.Prelude.{◌≡◌};
 
 use crate::store::Store;
-use sect_types::store::End;
+use sect_types::End;
 use std::marker::Model;
 
 /// What a run has come to: how each thread has ended, if it has; the threads whose sections ran, in their order; the

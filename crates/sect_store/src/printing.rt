@@ -12,9 +12,8 @@ use crate::object::Object;
 use crate::outcome::Outcome;
 use crate::site::site_records;
 use crate::store::Store;
-use sect_front::tree::Declaration;
-use sect_types::Program;
-use sect_types::store::{Datum, End, ObjectName};
+use sect_front::Declaration;
+use sect_types::{Datum, End, ObjectName, Program};
 use std::alloc::{AllocError, Global};
 use std::fmt::Write;
 

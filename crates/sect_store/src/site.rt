@@ -5,9 +5,7 @@ ghost use Rattle.sect_types.specs.Statements.{Stop, made_in};
 ghost use Rattle.sect_types.specs.Texts.{step_then};
 ghost use Rattle.sect_types.specs.Programs.{sites_of};
 
-use sect_types::Program;
-use sect_types::action::Action;
-use sect_types::text::{Step, Text};
+use sect_types::{Action, Program, Step, Text};
 use std::alloc::{AllocError, Global};
 
 /// The number of the record of each site: of the globals, then of the `new` statements in text order.

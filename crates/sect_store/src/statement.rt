@@ -9,9 +9,7 @@ use crate::object::Object;
 use crate::store::Store;
 use crate::value::{compute, integer};
 use crate::work::Work;
-use sect_types::Program;
-use sect_types::action::Action;
-use sect_types::store::{Datum, Fault, ObjectName};
+use sect_types::{Action, Datum, Fault, ObjectName, Program};
 use std::alloc::{AllocError, Global};
 
 /// Runs a statement of a thread for a unit of fuel; the fault that it comes to, if it does. It looks into one object

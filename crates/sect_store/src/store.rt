@@ -5,8 +5,7 @@ ghost use Rattle.sect_types.specs.Store.{object_at, write as write_by, add as ad
 ghost use Rattle.sect_types.specs.Whole.{first_store};
 
 use crate::object::{Object, Objects};
-use sect_types::Program;
-use sect_types::store::{Datum, ObjectName};
+use sect_types::{Datum, ObjectName, Program};
 use std::alloc::{AllocError, Global};
 use std::marker::Model;
 

@@ -4,9 +4,8 @@ ghost use Rattle.std.specs.Prelude.{◌≡◌, true, SomeIff};
 ghost use Rattle.sect_types.specs.Store.{same_datum};
 ghost use Rattle.sect_types.specs.Meaning.{integer_of, result_of, fits, compares as compares_by, first_datum};
 
-use sect_front::tree::{Comparison, Operator};
-use sect_types::store::Datum;
-use sect_types::types::ValueType;
+use sect_front::{Comparison, Operator};
+use sect_types::{Datum, ValueType};
 
 /// The number that a datum is; 0 for what is none, which a typed program doesn't ask for.
 pub fn integer(datum: Datum) -> i64

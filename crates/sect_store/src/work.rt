@@ -8,9 +8,7 @@ ghost use Rattle.sect_store.specs.steps.Paying.{Pays, given_back, counted, with_
 
 use crate::object::first_data;
 use crate::value::compares;
-use sect_types::action::{Base, Condition, Value};
-use sect_types::store::{Datum, ObjectName};
-use sect_types::types::ValueType;
+use sect_types::{Base, Condition, Datum, ObjectName, Value, ValueType};
 use std::alloc::{AllocError, Global};
 use std::marker::Model;
 

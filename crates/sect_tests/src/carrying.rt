@@ -7,7 +7,7 @@ use Variable::{Global, Local};
 use Wanted::{All, At};
 use sect_names::{Effect, Lock, Right, Scheme};
 use sect_points::Variable;
-use sect_types::action::Label;
+use sect_types::Label;
 use std::process::Abort;
 use std::test::Fail;
 

@@ -5,14 +5,13 @@ use sect_cert::{
     Cert, CertBase, CertFault, CertLock, CertPath, CertSection, CertStep, Chain, Items, read_cert,
     write_cert,
 };
-use sect_front::is_name;
-use sect_front::name::Name;
+use sect_front::{Name, is_name};
 use std::alloc::{AllocError, Global};
 use std::process::Abort;
 use std::test::Fail;
 
 /// The certificate of a section that adds one to a field of a global.
-const ADDS_ONE: &[u8] =
+pub const ADDS_ONE: &[u8] =
     b"sect-cert 2\nk 2\nsections 1\nsection 0 nodes 4\nnode 0: W a\nnode 1: W a\nnode 2: W a\n\
 node 3: none\nentry: W a\nchain 0: 0 W a > 1 W a > 2 W a\nend\n";
 
@@ -68,7 +67,7 @@ fn certificates_are_written_back(rt: HostRuntime) -> Result<(), Fail> {
 }
 
 /// What stands at a place.
-fn at<T>(items: &[T], place: usize) -> Result<&T, Fail> {
+pub fn at<T>(items: &[T], place: usize) -> Result<&T, Fail> {
     match items.get(place) {
         Some(item) => Ok(item),
         None => Err(Fail::from("too short")),

@@ -2,7 +2,7 @@
 
 use crate::programs::program_of;
 use sect_graph::{Flow, Graph, Successors, graph_of};
-use sect_types::action::Label;
+use sect_types::Label;
 use std::alloc::Global;
 use std::process::Abort;
 use std::test::Fail;

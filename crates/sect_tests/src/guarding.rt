@@ -3,8 +3,7 @@
 use crate::programs::{
     GUARDED, GUARDED_BY_A_CELL, GUARDED_BY_NOTHING, GUARDED_TWICE, program_of, scheme,
 };
-use sect_hints::guarding::Guards;
-use sect_hints::guards;
+use sect_hints::{Guards, guards};
 use sect_names::{MOST_PATH_FIELDS, SchemeFault, check_k, scheme_of};
 use std::alloc::Global;
 use std::process::Abort;

@@ -1,6 +1,6 @@
 //! Small programs with the locks of their sections.
 
-use crate::programs::{CHAIN, LIST, SHARED, scheme};
+use crate::programs::{CHAIN, EVERYTHING, LIST, SHARED, scheme};
 use crate::wanted::{Wanted, locks, set};
 use Effect::{Read, Write};
 use Variable::{Global, Local};
@@ -225,10 +225,6 @@ fn along_either_branch(rt: HostRuntime) -> Result<(), Fail> {
         &[(0, &BOTH), (1, &BOTH[..1]), (2, &BOTH[1..]), (3, &[])],
     )
 }
-
-/// A section that locks everything, and one beside it that doesn't.
-const EVERYTHING: &[u8] = b"record Acct { int bal; } global Acct a; \
-thread p { int t; atomic all { t = a.bal; } } thread q { atomic { a.bal = 2; } }";
 
 #[test]
 fn a_section_locks_everything(rt: HostRuntime) -> Result<(), Fail> {

@@ -7,6 +7,8 @@ mod carrying;
 #[cfg(test)]
 mod certificates;
 #[cfg(test)]
+mod certifying;
+#[cfg(test)]
 mod classes;
 #[cfg(test)]
 mod covering;

@@ -1,10 +1,7 @@
 //! What the numbers of a program stand for.
 
 use crate::programs::program_of;
-use sect_types::Program;
-use sect_types::action::{Action, Base, Value};
-use sect_types::text::{Step, Text};
-use sect_types::types::ValueType;
+use sect_types::{Action, Base, Program, Step, Text, Value, ValueType};
 use std::process::Abort;
 use std::test::Fail;
 

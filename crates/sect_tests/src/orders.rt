@@ -3,8 +3,7 @@
 use sect_front::parse;
 use sect_serial::{SerialEnd, serial};
 use sect_store::{Outcome, put_outcome};
-use sect_types::store::{Datum, End, ObjectName};
-use sect_types::{Program, check_types};
+use sect_types::{Datum, End, ObjectName, Program, check_types};
 use std::alloc::Global;
 use std::test::Fail;
 

@@ -1,8 +1,7 @@
 //! Locks as they are printed.
 
 use crate::programs::{NEXT, program_of};
-use sect_names::printing::{put_lock, put_locks};
-use sect_names::{Effect, Lock, Path, Right};
+use sect_names::{Effect, Lock, Path, Right, put_lock, put_locks};
 use sect_points::Variable;
 use sect_types::Program;
 use std::process::Abort;

@@ -2,8 +2,7 @@
 
 use sect_front::parse;
 use sect_names::{Scheme, scheme_of};
-use sect_types::action::Field;
-use sect_types::{Program, check_types};
+use sect_types::{Field, Program, check_types};
 use std::alloc::Global;
 use std::test::Fail;
 
@@ -19,6 +18,26 @@ pub fn scheme(alloc: Global, text: &[u8], k: u16) -> Result<Scheme, Fail> {
 
 /// The field `next` of all programs here that have references.
 pub const NEXT: Field = Field { of: 0, number: 1 };
+
+/// A section that does nothing.
+pub const EMPTY: &[u8] = b"thread e { atomic { } }";
+
+/// A section that adds one to a field of a global.
+pub const ADDING: &[u8] = b"record Acct { int bal; }\nglobal Acct a;\n\
+thread p { int t; atomic { t = a.bal; t = t + 1; a.bal = t; } }\n";
+
+/// Two sections that do so.
+pub const TWO_ADDING: &[u8] = b"record Acct { int bal; }\nglobal Acct a;\n\
+thread p { int t; atomic { t = a.bal; t = t + 1; a.bal = t; } }\n\
+thread q { int t; atomic { t = a.bal; t = t + 1; a.bal = t; } }\n";
+
+/// Two locals denote one object.
+pub const ALIASED: &[u8] = b"record Cell { int val; } global Cell a; \
+thread t { Cell x; Cell y; int v; x = a; y = a; atomic { v = x.val; y.val = 3; } }";
+
+/// A section that locks everything, and one beside it that doesn't.
+pub const EVERYTHING: &[u8] = b"record Acct { int bal; } global Acct a; \
+thread p { int t; atomic all { t = a.bal; } } thread q { atomic { a.bal = 2; } }";
 
 /// A list that one thread sums and another pushes to. The one global is class 0, and the one `new` class 1.
 pub const LIST: &[u8] = b"record Node { int val; Node next; } global Node head; \

@@ -3,7 +3,8 @@ use Rattle.sect_types.specs.declared.rule.Rule.TheVariants as rule
 use Rattle.sect_types.specs.declared.rule.Fault.{Fault}
 use Rattle.sect_types.specs.declared.rule.Fault.TheVariants as fault
 use Rattle.sect_types.specs.declared.rule.TypeFault.{TypeFault}
-use Rattle.sect_types.specs.declared.rule.TypeFault.TheVariants.{Memory, Unknown, Twice, WrongType, SharedOutside, Nested, TooMany}
+use Rattle.sect_types.specs.declared.rule.TypeFault.TheVariants.{Memory, Unknown, Twice, WrongType, SharedOutside}
+use Rattle.sect_types.specs.declared.rule.TypeFault.TheVariants.{Nested, TooMany}
 
 -- the refusal that a walk's fault becomes
 abbrev pub type_fault : Fault → TypeFault

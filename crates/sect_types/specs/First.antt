@@ -37,7 +37,8 @@ number_of_rule Nested = 14
 number_of_rule TooMany = 15
 
 -- the item is the first at which a rule is broken, and the rule the least that is broken there
-pub record IsFirstFrom (rs : List Record) (gs : List GlobalObject) (c : Counts) (list : List Item) (i : ℕ) (r : Rule) : Type 0 where
+pub record IsFirstFrom (rs : List Record) (gs : List GlobalObject) (c : Counts) (list : List Item) (i : ℕ)
+    (r : Rule) : Type 0 where
   pub broken : BreaksFrom rs gs c list i r
   pub first : (j : ℕ) (q : Rule) → BreaksFrom rs gs c list j q → i ≤ j
   pub least : (q : Rule) → BreaksFrom rs gs c list i q → number_of_rule r ≤ number_of_rule q

@@ -30,7 +30,8 @@ abbrev mutual
   pub statement_items : List Declaration → Bool → StatementView → List Item → List Item
   statement_items ls inside (Primitive p) w = AStatement (PrimitiveHead p) ls inside ∷ w
   statement_items ls inside (If t a) w = AStatement (TestHead t) ls inside ∷ block_items ls inside a w
-  statement_items ls inside (IfElse t a b) w = AStatement (TestHead t) ls inside ∷ block_items ls inside a (block_items ls inside b w)
+  statement_items ls inside (IfElse t a b) w = AStatement (TestHead t) ls inside
+      ∷ block_items ls inside a (block_items ls inside b w)
   statement_items ls inside (While t a) w = AStatement (TestHead t) ls inside ∷ block_items ls inside a w
   statement_items ls inside (Atomic l a) w = AStatement AtomicHead ls inside ∷ block_items ls true a w
 
@@ -44,7 +45,8 @@ field_items before (d ∷ ds) w = AField d.kind d.name before ∷ field_items (b
 
 abbrev pub record_items : List (List ℕ) → List Record → List Item → List Item
 record_items before [] w = w
-record_items before (r ∷ rs) w = ARecord r.name before ∷ field_items [] r.fields (record_items (before ++ r.name ∷ []) rs w)
+record_items before (r ∷ rs) w = ARecord r.name before
+    ∷ field_items [] r.fields (record_items (before ++ r.name ∷ []) rs w)
 
 abbrev pub global_items : List (List ℕ) → List GlobalObject → List Item → List Item
 global_items before [] w = w
@@ -57,7 +59,8 @@ local_items before (d ∷ ds) w = ALocal d.kind d.name before ∷ local_items (b
 abbrev pub thread_items : List (List ℕ) → List Thread → List Item → List Item
 thread_items before [] w = w
 thread_items before (t ∷ ts) w =
-    AThread t.name before ∷ local_items [] t.locals (block_items t.locals false t.body (thread_items (before ++ t.name ∷ []) ts w))
+    AThread t.name before
+    ∷ local_items [] t.locals (block_items t.locals false t.body (thread_items (before ++ t.name ∷ []) ts w))
 
 -- the items of a text
 abbrev pub items : TreeView → List Item

@@ -41,10 +41,13 @@ abbrev mutual
   -- a statement by numbers, and what follows it
   pub numbered_statement : Sight → Counts → StatementView → TextView → TextView
   numbered_statement s c (Primitive p) k = Do (action_in (primitive_of s c.sites p)) k
-  numbered_statement s c (If t a) k = Choose (condition_in (test_of s t)) (numbered_block s (after_head c (TestHead t)) a) Stop k
+  numbered_statement s c (If t a) k =
+      Choose (condition_in (test_of s t)) (numbered_block s (after_head c (TestHead t)) a) Stop k
   numbered_statement s c (IfElse t a b) k =
-      Choose (condition_in (test_of s t)) (numbered_block s (after_head c (TestHead t)) a) (numbered_block s (after_block (after_head c (TestHead t)) a) b) k
-  numbered_statement s c (While t a) k = Loop (condition_in (test_of s t)) (numbered_block s (after_head c (TestHead t)) a) k
+      Choose (condition_in (test_of s t)) (numbered_block s (after_head c (TestHead t)) a)
+      (numbered_block s (after_block (after_head c (TestHead t)) a) b) k
+  numbered_statement s c (While t a) k =
+      Loop (condition_in (test_of s t)) (numbered_block s (after_head c (TestHead t)) a) k
   numbered_statement s c (Atomic l a) k = Section c.sections (numbered_block s (after_head c AtomicHead) a) k
 
   pub numbered_block : Sight → Counts → BlockView → TextView
@@ -66,7 +69,8 @@ after_thread c t = after_block (within_thread c t) t.body
 -- the texts of the threads
 abbrev pub numbered_threads : List Record → List GlobalObject → Counts → List Thread → List TextView
 numbered_threads rs gs c [] = []
-numbered_threads rs gs c (t ∷ ts) = numbered_block (sight rs gs t.locals) (within_thread c t) t.body ∷ numbered_threads rs gs (after_thread c t) ts
+numbered_threads rs gs c (t ∷ ts) = numbered_block (sight rs gs t.locals) (within_thread c t) t.body
+    ∷ numbered_threads rs gs (after_thread c t) ts
 
 abbrev pub after_threads : Counts → List Thread → Counts
 after_threads c [] = c

@@ -1,7 +1,8 @@
 -- Programs.
 use Rattle.std.specs.Prelude.{◌≡◌, ◌≤◌, ◌<◌, ℕ, ◌+◌, List, [], ◌∷◌, ◌++◌, true, length, All, slice_index_or}
 use Rattle.sect_front.specs.TreeView.{TreeView}
-use Rattle.sect_types.specs.declared.limits.TheConstants.{MOST_RECORDS, MOST_FIELDS, MOST_GLOBALS, MOST_THREADS, MOST_LOCALS, MOST_STATEMENTS, MOST_SITES, MOST_SECTIONS}
+use Rattle.sect_types.specs.declared.limits.TheConstants.{MOST_RECORDS, MOST_FIELDS, MOST_GLOBALS, MOST_THREADS}
+use Rattle.sect_types.specs.declared.limits.TheConstants.{MOST_LOCALS, MOST_STATEMENTS, MOST_SITES, MOST_SECTIONS}
 use Rattle.sect_types.specs.declared.types.ValueType.{ValueType}
 use Rattle.sect_types.specs.Sight.{names_of_records}
 use Rattle.sect_types.specs.Rules.{Counts}
@@ -91,9 +92,17 @@ pub record IsWellNumbered (p : ProgramView) (sections sites statements : ℕ) : 
   pub site_count : sites ≡ length (sites_of p.globals p.texts)
   pub statement_count : statements ≡ total_statements p.texts
 
-abbrev pub numbered_by : TreeView → List (List ValueType) → List ℕ → List (List ValueType) → List TextView → List Locking → ProgramView
+abbrev pub numbered_by : TreeView → List (List ValueType) → List ℕ → List (List ValueType) → List TextView
+    → List Locking → ProgramView
 numbered_by source records globals locals texts lockings =
-    record { source = source; records = records; globals = globals; locals = locals; texts = texts; lockings = lockings }
+    record {
+      source = source;
+      records = records;
+      globals = globals;
+      locals = locals;
+      texts = texts;
+      lockings = lockings;
+    }
 
 -- its tree is typed, and the numbers are the tree's
 pub record IsProgram (p : ProgramView) (sections sites statements : ℕ) : Type 0 where

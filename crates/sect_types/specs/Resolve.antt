@@ -98,7 +98,9 @@ assign_of (Some x) None = Err Unknown
 assign_of None v = Err Unknown
 
 abbrev pub compute_to : Denoted → Given → Operator → Given → Result Action Rule
-compute_to (denoted.Local x k) v o w = well_typed (same_kind k kind.Int && accepts kind.Int v && accepts kind.Int w) (action.Compute x (value_by v) o (value_by w))
+compute_to (denoted.Local x k) v o w =
+    well_typed (same_kind k kind.Int && accepts kind.Int v && accepts kind.Int w)
+    (action.Compute x (value_by v) o (value_by w))
 compute_to (denoted.Global g r) v o w = Err WrongType
 
 abbrev pub compute_of : Option Denoted → Option Given → Operator → Option Given → Result Action Rule
@@ -158,7 +160,8 @@ well_typed_test true c = Ok c
 well_typed_test false c = Err WrongType
 
 abbrev pub condition_of : Option Given → Comparison → Option Given → Result Condition Rule
-condition_of (Some v) c (Some w) = well_typed_test (comparable c v w) (record { left = value_by v; comparison = c; right = value_by w })
+condition_of (Some v) c (Some w) =
+    well_typed_test (comparable c v w) (record { left = value_by v; comparison = c; right = value_by w })
 condition_of (Some v) c None = Err Unknown
 condition_of None c w = Err Unknown
 

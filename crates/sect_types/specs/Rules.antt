@@ -1,5 +1,6 @@
 -- The rules, and the first item that breaks one.
-use Rattle.std.specs.Prelude.{◌≤◌, ℕ, ◌+◌, Bool, true, false, not, ◌&&◌, ◌||◌, List, [], ◌∷◌, length, Option, Some, None, is_some, nat_le, if◌then◌else◌}
+use Rattle.std.specs.Prelude.{◌≤◌, ℕ, ◌+◌, Bool, true, false, not, ◌&&◌, ◌||◌, List, [], ◌∷◌, length, Option, Some}
+use Rattle.std.specs.Prelude.{None, is_some, nat_le, if◌then◌else◌}
 use Rattle.sect_front.specs.declared.tree.Primitive as leaf
 use Rattle.sect_front.specs.declared.tree.Primitive.TheVariants as primitive
 use Rattle.sect_front.specs.declared.tree.Test.{Test}
@@ -10,7 +11,9 @@ use Rattle.sect_front.specs.declared.tree.Record.{Record}
 use Rattle.sect_front.specs.declared.tree.GlobalObject.{GlobalObject}
 use Rattle.sect_front.specs.declared.tree.Declaration.{Declaration}
 use Rattle.sect_front.specs.TreeView.{TreeView}
-use Rattle.sect_types.specs.declared.limits.TheConstants.{MOST_RECORDS, MOST_FIELDS, MOST_GLOBALS, MOST_THREADS, MOST_LOCALS, MOST_STATEMENTS, MOST_SITES, MOST_SECTIONS}
+use Rattle.sect_types.specs.declared.limits.TheConstants.{MOST_RECORDS, MOST_FIELDS, MOST_GLOBALS, MOST_THREADS}
+use Rattle.sect_types.specs.declared.limits.TheConstants.{MOST_LOCALS, MOST_STATEMENTS, MOST_SITES, MOST_SECTIONS}
+use Rattle.sect_types.specs.declared.limits.TheConstants.{MOST_DECLARED_ITEMS}
 use Rattle.sect_types.specs.declared.rule.Rule.{Rule}
 use Rattle.sect_types.specs.declared.rule.Rule.TheVariants.{Unknown, Twice, WrongType, SharedOutside, Nested, TooMany}
 use Rattle.sect_types.specs.declared.resolve.Denoted.{Denoted}
@@ -20,7 +23,8 @@ use Rattle.sect_types.specs.declared.resolve.Looked.{Looked}
 use Rattle.sect_types.specs.declared.resolve.Looked.TheVariants as looked
 use Rattle.sect_types.specs.Sight.{Sight, has_name, names_of_records, names_of_globals, base_of, operand_of}
 use Rattle.sect_types.specs.Resolve.{same_kind, accepts, comparable, looked_of}
-use Rattle.sect_types.specs.Items.{Head, PrimitiveHead, TestHead, AtomicHead, Item, ARecord, AField, AGlobal, AThread, ALocal, AStatement}
+use Rattle.sect_types.specs.Items.{Head, PrimitiveHead, TestHead, AtomicHead, Item, ARecord, AField, AGlobal, AThread}
+use Rattle.sect_types.specs.Items.{ALocal, AStatement}
 
 -- what stands before an item: declarations, statements, sites, sections
 pub record Counts : Type 0 where
@@ -52,10 +56,13 @@ has_field (looked.At f) = true
 
 abbrev pub knows_primitive : Sight → leaf.Primitive → Bool
 knows_primitive s (primitive.Assign x v) = is_some (base_of s x) && is_some (operand_of s v)
-knows_primitive s (primitive.Compute x v o w) = is_some (base_of s x) && (is_some (operand_of s v) && is_some (operand_of s w))
+knows_primitive s (primitive.Compute x v o w) = is_some (base_of s x)
+    && (is_some (operand_of s v) && is_some (operand_of s w))
 knows_primitive s (primitive.New x r) = is_some (base_of s x) && has_name r (names_of_records s.records)
-knows_primitive s (primitive.Load x y f) = is_some (base_of s x) && (is_some (base_of s y) && has_field (looked_of s (base_of s y) f))
-knows_primitive s (primitive.Store y f v) = is_some (base_of s y) && (has_field (looked_of s (base_of s y) f) && is_some (operand_of s v))
+knows_primitive s (primitive.Load x y f) = is_some (base_of s x)
+    && (is_some (base_of s y) && has_field (looked_of s (base_of s y) f))
+knows_primitive s (primitive.Store y f v) = is_some (base_of s y)
+    && (has_field (looked_of s (base_of s y) f) && is_some (operand_of s v))
 knows_primitive s (primitive.Print v) = is_some (operand_of s v)
 
 abbrev pub knows_kind : List (List ℕ) → Kind → Bool
@@ -117,7 +124,8 @@ is_int (Some v) = accepts kind.Int v
 
 abbrev pub primitive_agrees : Sight → leaf.Primitive → Bool
 primitive_agrees s (primitive.Assign x v) = local_accepts (base_of s x) (operand_of s v)
-primitive_agrees s (primitive.Compute x v o w) = local_is (base_of s x) kind.Int && is_int (operand_of s v) && is_int (operand_of s w)
+primitive_agrees s (primitive.Compute x v o w) = local_is (base_of s x) kind.Int && is_int (operand_of s v)
+    && is_int (operand_of s w)
 primitive_agrees s (primitive.New x r) = local_is (base_of s x) (kind.Record r)
 primitive_agrees s (primitive.Load x y f) = local_gets (base_of s x) (looked_of s (base_of s y) f)
 primitive_agrees s (primitive.Store y f v) = field_accepts (looked_of s (base_of s y) f) (operand_of s v)
@@ -211,7 +219,7 @@ judge rs gs c (item ∷ more) = fault_or (rule_of rs gs c item) (place_of c) (ju
 
 -- what the counts may reach
 pub record IsWithin (declared statements sites sections : ℕ) : Type 0 where
-  pub few_declared : declared ≤ 6000
+  pub few_declared : declared ≤ MOST_DECLARED_ITEMS
   pub few_statements : statements ≤ MOST_STATEMENTS
   pub few_sites : sites ≤ MOST_SITES
   pub few_sections : sections ≤ MOST_SECTIONS

@@ -1,6 +1,7 @@
 -- The numbers of sections and sites.
 use Rattle.std.specs.Prelude.{◌≡◌, ℕ, ◌+◌, ⊤, List, [], ◌∷◌, ◌++◌, map, length, Option, Some, None}
-use Rattle.sect_types.specs.Statements.{TextView, Stop, Do, Choose, Loop, Section, section_bodies, section_body, made_by, made_in}
+use Rattle.sect_types.specs.Statements.{TextView, Stop, Do, Choose, Loop, Section, section_bodies, section_body}
+use Rattle.sect_types.specs.Statements.{made_by, made_in}
 use Rattle.sect_types.specs.declared.action.Action.{Action}
 use Rattle.sect_types.specs.declared.action.Action.TheVariants as action
 
@@ -12,7 +13,8 @@ pub record SectionView : Type 0 where
 -- the sections of these texts in text order, where the first text is that of thread t
 abbrev pub sections_from : ℕ → List TextView → List SectionView
 sections_from t [] = []
-sections_from t (p ∷ ps) = map (λ (b : TextView). record { thread = t; body = b }) (section_bodies p) ++ sections_from (t + 1) ps
+sections_from t (p ∷ ps) = map (λ (b : TextView). record { thread = t; body = b }) (section_bodies p)
+    ++ sections_from (t + 1) ps
 
 -- the sections of a program with these texts, by number
 abbrev pub sections_of : List TextView → List SectionView
@@ -23,7 +25,8 @@ abbrev pub AreNumbered : ℕ → TextView → Type 0
 AreNumbered n Stop = ⊤
 AreNumbered n (Do a k) = AreNumbered n k
 AreNumbered n (Choose t p q k) =
-    AreNumbered n p × AreNumbered (n + length (section_bodies p)) q × AreNumbered (n + length (section_bodies p) + length (section_bodies q)) k
+    AreNumbered n p × AreNumbered (n + length (section_bodies p)) q
+    × AreNumbered (n + length (section_bodies p) + length (section_bodies q)) k
 AreNumbered n (Loop t p k) = AreNumbered n p × AreNumbered (n + length (section_bodies p)) k
 AreNumbered n (Section i p k) = (i ≡ n) × AreNumbered (n + 1) k
 
@@ -40,7 +43,8 @@ IsSite n (action.Print v) = ⊤
 abbrev pub AreSited : ℕ → TextView → Type 0
 AreSited n Stop = ⊤
 AreSited n (Do a k) = IsSite n a × AreSited (n + length (made_by a)) k
-AreSited n (Choose t p q k) = AreSited n p × AreSited (n + length (made_in p)) q × AreSited (n + length (made_in p) + length (made_in q)) k
+AreSited n (Choose t p q k) = AreSited n p × AreSited (n + length (made_in p)) q
+    × AreSited (n + length (made_in p) + length (made_in q)) k
 AreSited n (Loop t p k) = AreSited n p × AreSited (n + length (made_in p)) k
 AreSited n (Section i p k) = AreSited n p × AreSited (n + length (made_in p)) k
 

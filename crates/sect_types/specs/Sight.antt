@@ -1,5 +1,6 @@
 -- What a statement sees, and what its names denote.
-use Rattle.std.specs.Prelude.{◌≡◌, ℕ, Bool, List, [], ◌∷◌, ◌++◌, map, Option, Some, None, nat_eq, position, slice_get, if◌then◌else◌}
+use Rattle.std.specs.Prelude.{◌≡◌, ℕ, Bool, List, [], ◌∷◌, ◌++◌, map, Option, Some, None, nat_eq, position, slice_get}
+use Rattle.std.specs.Prelude.{if◌then◌else◌}
 use Rattle.std.specs.List.{list_any}
 use Rattle.std.specs.Cmp.Lexicographic.{pointwise}
 use Rattle.sect_front.specs.declared.tree.Record.{Record}
@@ -66,7 +67,8 @@ or_else None other = other
 
 -- what a name denotes: a local of the thread, else a global
 abbrev pub base_of : Sight → List ℕ → Option Denoted
-base_of s x = or_else (local_at s.locals (place x (names_of_declared s.locals))) (global_at s.globals (place x (names_of_globals s.globals)))
+base_of s x = or_else (local_at s.locals (place x (names_of_declared s.locals)))
+    (global_at s.globals (place x (names_of_globals s.globals)))
 
 -- what it holds
 abbrev pub kind_of : Denoted → Kind
@@ -106,7 +108,9 @@ abbrev pub all_fields : List Record → List (List (List ℕ))
 all_fields rs = map (λ (r : Record). names_of_declared r.fields) rs
 
 -- the names are those of the declarations
-pub record IsNamed (records : List Record) (record_names : List (List ℕ)) (field_names : List (List (List ℕ))) (globals : List GlobalObject) (global_names : List (List ℕ)) (locals : List Declaration) (local_names : List (List ℕ)) : Type 0 where
+pub record IsNamed (records : List Record) (record_names : List (List ℕ)) (field_names : List (List (List ℕ)))
+    (globals : List GlobalObject) (global_names : List (List ℕ)) (locals : List Declaration)
+    (local_names : List (List ℕ)) : Type 0 where
   pub of_records : record_names ≡ names_of_records records
   pub of_fields : field_names ≡ all_fields records
   pub of_globals : global_names ≡ names_of_globals globals

@@ -25,7 +25,8 @@ visit n l = record { at = n; label = l }
 abbrev pub Rounds : ℕ → Condition → (List Visit → Type 0) → ℕ → List Visit → Type 0
 Rounds n t IsRound zero steps = steps ≡ visit n (Test t) ∷ []
 Rounds n t IsRound (suc rounds) steps =
-    (round : List Visit) × (tail : List Visit) × (steps ≡ visit n (Test t) ∷ (round ++ tail)) × IsRound round × Rounds n t IsRound rounds tail
+    (round : List Visit) × (tail : List Visit) × (steps ≡ visit n (Test t) ∷ (round ++ tail)) × IsRound round
+    × Rounds n t IsRound rounds tail
 
 -- the steps are a trace of the statements, whose first node is numbered n: a sequence is a concatenation, an `if` is
 -- its test and a trace of either side, a `while` is any number of rounds
@@ -40,4 +41,5 @@ IsTrace (Loop t p rest) n steps =
     (rounds : ℕ) × (front : List Visit) × (tail : List Visit) × (steps ≡ front ++ tail)
     × Rounds n t (IsTrace p (n + 1)) rounds front
     × IsTrace rest (n + 1 + node_count p) tail
-IsTrace (Section i p rest) n steps = (tail : List Visit) × (steps ≡ visit n (WholeSection i) ∷ tail) × IsTrace rest (n + 1) tail
+IsTrace (Section i p rest) n steps = (tail : List Visit) × (steps ≡ visit n (WholeSection i) ∷ tail)
+    × IsTrace rest (n + 1) tail

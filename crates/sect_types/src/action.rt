@@ -2,8 +2,7 @@
 //! numbered in text order, fields in their record, locals in their thread. Sites are the globals, then the `new`
 //! statements in text order.
 
-use sect_front::literal::Literal;
-use sect_front::tree::{Comparison, Operator};
+use sect_front::{Comparison, Literal, Operator};
 
 /// A value that a statement or a condition uses.
 #[derive(Clone, Copy)]

@@ -2,18 +2,21 @@
 
 ghost use Rattle.std.specs.Prelude.{◌≡◌, ◌≤◌, ◌<◌, ◌+◌, ◌++◌, ◌∷◌, [], ◌||◌, not, true, IfOk, OnOk, nat_le, length};
 ghost use Rattle.sect_types.specs.Sight.{has_name, names_of_records, names_of_globals, names_of_declared, all_fields};
-ghost use Rattle.sect_types.specs.Items.{ARecord, AField, AGlobal, AThread, ALocal, record_items, field_items, global_items, local_items};
+ghost use Rattle.sect_types.specs.Items.{ARecord, AField, AGlobal, AThread, ALocal, record_items, field_items};
+ghost use Rattle.sect_types.specs.Items.{global_items, local_items};
 ghost use Rattle.sect_types.specs.Rules.{knows_kind as knows, sight, declared_in};
 ghost use Rattle.sect_types.specs.steps.Walks.{Walks, rule_in, declared_rule};
 ghost use Rattle.sect_types.specs.Numbered.{after_records};
 ghost use Rattle.sect_types.specs.steps.Listing.{Knows, all_known, fields_fine, globals_known};
 
-use crate::limits::{MOST_FIELDS, MOST_GLOBALS, MOST_LOCALS, MOST_RECORDS, MOST_THREADS};
+use crate::limits::{
+    MOST_DECLARED_ITEMS, MOST_FIELDS, MOST_GLOBALS, MOST_LOCALS, MOST_RECORD_ITEMS, MOST_RECORDS,
+    MOST_SITES, MOST_THREADS,
+};
 use crate::names::{NameSet, Names};
 use crate::rule::{Fault, Rule};
 use crate::spot::Spot;
-use sect_front::name::Name;
-use sect_front::tree::{Declaration, GlobalObject, Kind, Record, Thread, Tree};
+use sect_front::{Declaration, GlobalObject, Kind, Name, Record, Thread, Tree};
 use std::alloc::{AllocError, Global};
 
 fn judge_declared(
@@ -58,7 +61,7 @@ fn pass_field(
     field: &Declaration,
 ) -> Result<(), Fault>
     requires known { Knows known.now tree.now.records }
-    requires room { spot.old.declared < 6000 }
+    requires room { spot.old.declared < MOST_DECLARED_ITEMS }
     ensures walks { Walks (declared_in tree.now)
         (λ w. AField field.now.kind field.now.name names.old ∷ w) spot.old spot.new result }
     ensures names { OnOk result (names.new ≡ names.old ++ field.now.name ∷ []) }
@@ -86,7 +89,7 @@ pub fn fields(
     list: &[Declaration],
 ) -> Result<Names, Fault>
     requires known { Knows known.now tree.now.records }
-    requires room { spot.old.declared + 16 < 6000 }
+    requires room { spot.old.declared + 16 < MOST_DECLARED_ITEMS }
     ensures walks { Walks (declared_in tree.now) (field_items [] list.now)
         spot.old spot.new result }
     ensures names { IfOk result (λ names. names ≡ names_of_declared list.now) }
@@ -114,7 +117,7 @@ pub fn known_records(alloc: Global, tree: &Tree) -> Result<NameSet, AllocError>
 }
 
 fn pass_record(tree: &Tree, names: &mut Names, spot: &mut Spot, of: &Record) -> Result<(), Fault>
-    requires room { spot.old.declared < 6000 }
+    requires room { spot.old.declared < MOST_DECLARED_ITEMS }
     ensures walks { Walks (declared_in tree.now) (λ w. ARecord of.now.name names.old ∷ w)
         spot.old spot.new result }
     ensures names { OnOk result (names.new ≡ names.old ++ of.now.name ∷ []) }
@@ -140,7 +143,7 @@ fn whole_record(
     of: &Record,
 ) -> Result<Names, Fault>
     requires known { Knows known.now tree.now.records }
-    requires room { spot.old.declared + 17 < 6000 }
+    requires room { spot.old.declared + 17 < MOST_DECLARED_ITEMS }
     ensures walks { Walks (declared_in tree.now) (λ w. ARecord of.now.name names.old
         ∷ field_items [] of.now.fields w) spot.old spot.new result }
     ensures names { OnOk result (names.new ≡ names.old ++ of.now.name ∷ []) }
@@ -170,7 +173,7 @@ pub fn records(
     ensures names { IfOk result (λ r. r.0 ≡ names_of_records tree.now.records) }
     ensures fields { IfOk result (λ r. r.1.items ≡ all_fields tree.now.records) }
     ensures spot { OnOk result (spot.new ≡ after_records spot.old tree.now.records) }
-    ensures room { OnOk result (spot.new.declared ≤ 1088) }
+    ensures room { OnOk result (spot.new.declared ≤ MOST_RECORD_ITEMS) }
     ensures few { OnOk result (length tree.now.records ≤ 64) }
     ensures fine { OnOk result (fields_fine (names_of_records tree.now.records) tree.now.records
         ≡ true) }
@@ -194,8 +197,8 @@ fn pass_global(
     global: &GlobalObject,
 ) -> Result<(), Fault>
     requires known { Knows known.now tree.now.records }
-    requires room { spot.old.declared < 6000 }
-    requires sites { spot.old.sites < 1024 }
+    requires room { spot.old.declared < MOST_DECLARED_ITEMS }
+    requires sites { spot.old.sites < MOST_SITES }
     ensures walks { Walks (declared_in tree.now)
         (λ w. AGlobal global.now.of global.now.name names.old ∷ w) spot.old spot.new result }
     ensures names { OnOk result (names.new ≡ names.old ++ global.now.name ∷ []) }
@@ -224,7 +227,7 @@ fn pass_global(
 /// The names of the globals.
 pub fn globals(alloc: Global, tree: &Tree, known: &NameSet, spot: &mut Spot) -> Result<Names, Fault>
     requires known { Knows known.now tree.now.records }
-    requires room { spot.old.declared ≤ 1088 }
+    requires room { spot.old.declared ≤ MOST_RECORD_ITEMS }
     requires start { spot.old.sites ≡ 0 }
     ensures walks { Walks (declared_in tree.now) (global_items [] tree.now.globals)
         spot.old spot.new result }
@@ -256,7 +259,7 @@ fn pass_local(
 ) -> Result<(), Fault>
     requires known { Knows known.now tree.now.records }
     requires globals { global_names.now ≡ names_of_globals tree.now.globals }
-    requires room { spot.old.declared < 6000 }
+    requires room { spot.old.declared < MOST_DECLARED_ITEMS }
     ensures walks { Walks (declared_in tree.now)
         (λ w. ALocal local.now.kind local.now.name names.old ∷ w) spot.old spot.new result }
     ensures names { OnOk result (names.new ≡ names.old ++ local.now.name ∷ []) }
@@ -292,7 +295,7 @@ pub fn locals(
 ) -> Result<Names, Fault>
     requires known { Knows known.now tree.now.records }
     requires globals { global_names.now ≡ names_of_globals tree.now.globals }
-    requires room { spot.old.declared + 64 < 6000 }
+    requires room { spot.old.declared + 64 < MOST_DECLARED_ITEMS }
     ensures walks { Walks (declared_in tree.now) (local_items [] list.now)
         spot.old spot.new result }
     ensures names { IfOk result (λ names. names ≡ names_of_declared list.now) }
@@ -314,7 +317,7 @@ pub fn pass_thread(
     spot: &mut Spot,
     thread: &Thread,
 ) -> Result<(), Fault>
-    requires room { spot.old.declared < 6000 }
+    requires room { spot.old.declared < MOST_DECLARED_ITEMS }
     ensures walks { Walks (declared_in tree.now) (λ w. AThread thread.now.name names.old ∷ w)
         spot.old spot.new result }
     ensures names { OnOk result (names.new ≡ names.old ++ thread.now.name ∷ []) }

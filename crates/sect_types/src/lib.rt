@@ -1,7 +1,7 @@
 //! Names and types: a tree becomes a program by numbers, or its first item at fault is named.
 #![tactic(auto)]
 
-pub mod action;
+mod action;
 mod declare;
 mod limits;
 mod locking;
@@ -10,16 +10,21 @@ mod program;
 mod resolve;
 mod rule;
 mod scope;
-pub mod section;
+mod section;
 mod spot;
-pub mod store;
-pub mod text;
-pub mod types;
+mod store;
+mod text;
+mod types;
 mod walk;
 
+pub use action::{Action, Base, Condition, Field, Label, Value};
 pub use limits::{
     MOST_FIELDS, MOST_GLOBALS, MOST_LOCALS, MOST_RECORDS, MOST_SECTIONS, MOST_SITES,
     MOST_STATEMENTS, MOST_THREADS,
 };
 pub use program::{Program, check_types};
 pub use rule::TypeFault;
+pub use section::Section;
+pub use store::{Datum, End, Fault, ObjectName};
+pub use text::{Step, Text};
+pub use types::{Types, ValueType};

@@ -23,3 +23,12 @@ pub const MOST_SITES: u16 = 1024;
 
 /// The most sections of all threads together.
 pub const MOST_SECTIONS: u16 = 256;
+
+/// The most items that the records declare: each itself and its fields.
+pub const MOST_RECORD_ITEMS: u32 = 1088;
+
+/// The most items that the records and globals declare.
+pub const MOST_SHARED_ITEMS: u32 = 1344;
+
+/// More declared items than are passed before a fault is found: the 5,504 of a program, and those of a thread too many.
+pub const MOST_DECLARED_ITEMS: u32 = 5570;

@@ -5,13 +5,14 @@ ghost use Rattle.sect_front.specs.Trees.{statement_of};
 ghost use Rattle.sect_front.specs.declared.tree.Locking.{Locking};
 ghost use Rattle.sect_types.specs.Lockings.{statement_lockings, block_lockings, threads_lockings, lockings_of};
 
-use sect_front::tree::{Block, Locking, Statement, Thread, Tree};
+use sect_front::{Block, Locking, Statement, Thread, Tree};
 use std::alloc::{AllocError, Global};
 
 /// Adds what the sections of a statement take.
 #[cycle(put)]
 fn put_statement(out: &mut Vec<Locking>, statement: &Statement) -> Result<(), AllocError>
-    ensures { OnOk result ((w : List Locking) → out.new.items ++ w ≡ out.old.items ++ statement_lockings (statement_of statement.now) w) }
+    ensures { OnOk result ((w : List Locking)
+        → out.new.items ++ w ≡ out.old.items ++ statement_lockings (statement_of statement.now) w) }
 {
     match statement {
         Statement::Primitive(_) => Ok(()),

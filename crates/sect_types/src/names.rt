@@ -4,7 +4,7 @@ ghost use Rattle.std.specs.Prelude.{◌≡◌, ◌<◌, ◌++◌, ◌∷◌, [],
 ghost use Rattle.sect_types.specs.Sight.{place, added, has_name};
 
 use indexmap::IndexSet;
-use sect_front::name::Name;
+use sect_front::Name;
 use std::alloc::{AllocError, Global};
 use std::marker::Model;
 

@@ -1,8 +1,10 @@
 //! Typed programs.
 
-ghost use Rattle.std.specs.Prelude.{List, IsOkUnless, ◌≡◌, ◌≤◌, ◌<◌, ◌+◌, ◌++◌, ◌∷◌, [], true, false, IfOk, OnOk, Some, length, slice_get};
+ghost use Rattle.std.specs.Prelude.{List, IsOkUnless, ◌≡◌, ◌≤◌, ◌<◌, ◌+◌, ◌++◌, ◌∷◌, [], true, false, IfOk, OnOk, Some};
+ghost use Rattle.std.specs.Prelude.{length, slice_get};
 ghost use Rattle.sect_types.specs.Sight.{names_of_records, names_of_globals, all_fields};
-ghost use Rattle.sect_types.specs.Items.{AThread, items, record_items, global_items, local_items, block_items, thread_items};
+ghost use Rattle.sect_types.specs.Items.{AThread, items, record_items, global_items, local_items, block_items};
+ghost use Rattle.sect_types.specs.Items.{thread_items};
 ghost use Rattle.sect_types.specs.Rules.{sight, declared_in};
 ghost use Rattle.sect_types.specs.steps.Walks.{Walks};
 ghost use Rattle.sect_types.specs.steps.Listing.{Knows, all_known, fields_fine, globals_known, locals_fine};
@@ -12,14 +14,19 @@ ghost use Rattle.sect_types.specs.declared.types.ValueType.{ValueType};
 ghost use Rattle.sect_types.specs.declared.rule.TypeFault.TheVariants.{Memory};
 ghost use Rattle.sect_types.specs.Sections.{sections_of, AllNumbered, AllSited};
 ghost use Rattle.sect_types.specs.steps.Found.{section_shown};
-ghost use Rattle.sect_types.specs.Numbered.{numbered_block, within_thread, after_thread, after_threads, numbered_threads};
+ghost use Rattle.sect_types.specs.Numbered.{numbered_block, within_thread, after_thread, after_threads};
+ghost use Rattle.sect_types.specs.Numbered.{numbered_threads};
 ghost use Rattle.sect_types.specs.First.{Judges, none_yet, IsTyped};
 ghost use Rattle.sect_types.specs.steps.Threads.{AreThreadsSound};
 ghost use Rattle.sect_types.specs.steps.Counted.{IsCounted};
-ghost use Rattle.sect_types.specs.Programs.{IsWellNumbered, IsWithinLimits, AreRecordsThere, IsOfTree, environment_at, numbered_by, sites_of, total_statements};
+ghost use Rattle.sect_types.specs.Programs.{IsWellNumbered, IsWithinLimits, AreRecordsThere, IsOfTree, environment_at};
+ghost use Rattle.sect_types.specs.Programs.{numbered_by, sites_of, total_statements};
 
 use crate::declare::{globals, known_records, locals, pass_thread, records};
-use crate::limits::{MOST_SECTIONS, MOST_SITES, MOST_STATEMENTS, MOST_THREADS};
+use crate::limits::{
+    MOST_DECLARED_ITEMS, MOST_SECTIONS, MOST_SHARED_ITEMS, MOST_SITES, MOST_STATEMENTS,
+    MOST_THREADS,
+};
 use crate::locking::lockings;
 use crate::names::{NameSet, Names};
 use crate::rule::{Fault, TypeFault};
@@ -29,7 +36,7 @@ use crate::spot::Spot;
 use crate::text::Text;
 use crate::types::{Types, field_types, global_records, local_types};
 use crate::walk::walk_block;
-use sect_front::tree::{Locking, Thread, Tree};
+use sect_front::{Locking, Thread, Tree};
 use std::alloc::{AllocError, Global};
 use std::marker::Model;
 
@@ -55,7 +62,7 @@ fn whole_thread(
     requires records { shown.now.record_names.now ≡ names_of_records tree.now.records }
     requires fields { shown.now.field_names.now ≡ all_fields tree.now.records }
     requires globals { shown.now.global_names.now ≡ names_of_globals tree.now.globals }
-    requires room { spot.old.declared + 65 < 6000 }
+    requires room { spot.old.declared + 65 < MOST_DECLARED_ITEMS }
     ensures walks { Walks (declared_in tree.now) (λ w. AThread thread.now.name names.old
         ∷ local_items [] thread.now.locals (block_items thread.now.locals false
         thread.now.body w)) spot.old spot.new result }
@@ -97,7 +104,7 @@ fn threads(
     requires records { shown.now.record_names.now ≡ names_of_records tree.now.records }
     requires fields { shown.now.field_names.now ≡ all_fields tree.now.records }
     requires globals { shown.now.global_names.now ≡ names_of_globals tree.now.globals }
-    requires room { spot.old.declared ≤ 1344 }
+    requires room { spot.old.declared ≤ MOST_SHARED_ITEMS }
     ensures walks { Walks (declared_in tree.now) (thread_items [] tree.now.threads)
         spot.old spot.new result }
     ensures texts { IfOk result (λ texts. texts.items
@@ -219,9 +226,12 @@ impl Model for Program {
 
     ghost coded = { Prim.hlevel (codes, block_code, statements_code) };
 
-    ghost view = { λ p. numbered_by p.tree p.records.items p.globals.items p.locals.items p.texts.items p.lockings.items };
+    ghost view = { λ p.
+        numbered_by p.tree p.records.items p.globals.items p.locals.items p.texts.items p.lockings.items };
 
-    ghost invariant = { λ p. IsProgram (numbered_by p.tree p.records.items p.globals.items p.locals.items p.texts.items p.lockings.items) p.section_count p.site_count p.statement_count };
+    ghost invariant = { λ p. IsProgram
+        (numbered_by p.tree p.records.items p.globals.items p.locals.items p.texts.items p.lockings.items)
+        p.section_count p.site_count p.statement_count };
 }
 
 impl Program {

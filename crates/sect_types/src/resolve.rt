@@ -2,13 +2,14 @@
 
 ghost use Rattle.std.specs.Prelude.{◌≡◌};
 ghost use Rattle.sect_types.specs.Sight.{kind_of as kind_by, same_name};
-ghost use Rattle.sect_types.specs.Resolve.{same_kind as same_kind_by, accepts as accepts_by, of_one_kind as of_one_kind_by, comparable as comparable_by, base_by, value_at as value_at_by, value_by, assign_of, compute_of, new_of, load_of, load_to, store_of, print_of, condition_of};
+ghost use Rattle.sect_types.specs.Resolve.{same_kind as same_kind_by, accepts as accepts_by};
+ghost use Rattle.sect_types.specs.Resolve.{of_one_kind as of_one_kind_by, comparable as comparable_by, base_by};
+ghost use Rattle.sect_types.specs.Resolve.{value_at as value_at_by, value_by, assign_of, compute_of, new_of, load_of};
+ghost use Rattle.sect_types.specs.Resolve.{load_to, store_of, print_of, condition_of};
 
 use crate::action::{Action, Base, Condition, Field, Value};
 use crate::rule::Rule;
-use sect_front::literal::Literal;
-use sect_front::name::Name;
-use sect_front::tree::{Comparison, Kind, Operator};
+use sect_front::{Comparison, Kind, Literal, Name, Operator};
 
 /// What a name denotes: a local with its number and its type, or a global with its number and the name of its record.
 #[derive(Clone, Copy)]

@@ -1,7 +1,8 @@
 //! What the names of a statement denote.
 
 ghost use Rattle.std.specs.Prelude.{◌≡◌};
-ghost use Rattle.sect_types.specs.Sight.{base_of, operand_of, field_of, names_of_records, names_of_globals, names_of_declared, all_fields};
+ghost use Rattle.sect_types.specs.Sight.{base_of, operand_of, field_of, names_of_records, names_of_globals};
+ghost use Rattle.sect_types.specs.Sight.{names_of_declared, all_fields};
 ghost use Rattle.sect_types.specs.Resolve.{looked_of, primitive_of, test_of};
 
 use crate::action::{Action, Condition, Field};
@@ -10,8 +11,7 @@ use crate::resolve::{
     Denoted, FieldAt, Given, Looked, assign, compute, condition, kind_of, load, make, print, store,
 };
 use crate::rule::Rule;
-use sect_front::name::Name;
-use sect_front::tree::{Declaration, GlobalObject, Kind, Operand, Primitive, Record, Test};
+use sect_front::{Declaration, GlobalObject, Kind, Name, Operand, Primitive, Record, Test};
 use std::marker::Model;
 
 /// The declarations that a statement sees, with their names by number.
@@ -33,7 +33,8 @@ impl<'a> Model for Scope<'a> {
 
     ghost view = { λ s. record { records = s.records.now; globals = s.globals.now; locals = s.locals.now } };
 
-    ghost invariant = { λ s. IsNamed s.records.now s.record_names.now s.field_names.now s.globals.now s.global_names.now s.locals.now s.local_names.now };
+    ghost invariant = { λ s. IsNamed s.records.now s.record_names.now s.field_names.now s.globals.now
+        s.global_names.now s.locals.now s.local_names.now };
 }
 
 impl<'a> Scope<'a> {

@@ -4,8 +4,8 @@ ghost use Rattle.std.specs.Prelude.{◌≡◌, ◌+◌, ◌<◌, ◌≤◌, fals
 ghost use Rattle.sect_types.specs.Items.{PrimitiveHead, AtomicHead};
 ghost use Rattle.sect_types.specs.Rules.{passes_limit, after_primitive, after_head, place_of};
 
-use crate::limits::{MOST_SECTIONS, MOST_SITES, MOST_STATEMENTS};
-use sect_front::tree::Primitive;
+use crate::limits::{MOST_DECLARED_ITEMS, MOST_SECTIONS, MOST_SITES, MOST_STATEMENTS};
+use sect_front::Primitive;
 use std::marker::Model;
 
 /// What stands before the next item: how many declarations, statements, sites and sections.
@@ -22,7 +22,12 @@ impl Model for Spot {
 
     ghost Value = { Counts };
 
-    ghost view = { λ s. record { declared = s.declared; statements = s.statements; sites = s.sites; sections = s.sections } };
+    ghost view = { λ s. record {
+      declared = s.declared;
+      statements = s.statements;
+      sites = s.sites;
+      sections = s.sections;
+    } };
 
     ghost invariant = { λ s. IsWithin s.declared s.statements s.sites s.sections };
 }
@@ -97,7 +102,7 @@ impl Spot {
 
     /// Passes a record, a field, a thread or a local.
     pub fn pass_declared(&mut self)
-        requires { self.old.declared < 6000 }
+        requires { self.old.declared < MOST_DECLARED_ITEMS }
         ensures { self.new ≡ record self.old { declared = self.old.declared + 1 } }
     {
         self.declared += 1;
@@ -105,7 +110,7 @@ impl Spot {
 
     /// Passes a global, which is a site too.
     pub fn pass_global(&mut self)
-        requires room { self.old.declared < 6000 }
+        requires room { self.old.declared < MOST_DECLARED_ITEMS }
         requires sites { self.old.sites < MOST_SITES }
         ensures { self.new ≡ record self.old {
           declared = self.old.declared + 1;

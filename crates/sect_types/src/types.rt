@@ -4,11 +4,12 @@ ghost use Rattle.std.specs.Prelude.{◌≡◌, ◌++◌, ◌∷◌, [], true, If
 ghost use Rattle.sect_types.specs.Rules.{knows_kind};
 ghost use Rattle.sect_types.specs.steps.Listing.{all_known, fields_fine, globals_known, locals_fine};
 ghost use Rattle.sect_types.specs.Sight.{has_name};
-ghost use Rattle.sect_types.specs.Environments.{record_number as record_number_by, type_of as type_by, types_of as types_by, field_types as field_types_by, global_records as global_records_by, local_types as local_types_by};
+ghost use Rattle.sect_types.specs.Environments.{record_number as record_number_by, type_of as type_by};
+ghost use Rattle.sect_types.specs.Environments.{types_of as types_by, field_types as field_types_by};
+ghost use Rattle.sect_types.specs.Environments.{global_records as global_records_by, local_types as local_types_by};
 
 use crate::names::Names;
-use sect_front::name::Name;
-use sect_front::tree::{Declaration, GlobalObject, Kind, Record, Thread};
+use sect_front::{Declaration, GlobalObject, Kind, Name, Record, Thread};
 use std::alloc::{AllocError, Global};
 use std::marker::Model;
 

@@ -9,7 +9,8 @@ ghost use Rattle.sect_types.specs.Statements.{TextView, Stop, Do};
 ghost use Rattle.sect_types.specs.Environments.{environment};
 ghost use Rattle.sect_types.specs.Sound.{IsSound, IsSoundCondition};
 ghost use Rattle.sect_types.specs.Texts.{step_then};
-ghost use Rattle.sect_types.specs.Numbered.{action_in, condition_in, after_statement, after_block, numbered_statement, numbered_block};
+ghost use Rattle.sect_types.specs.Numbered.{action_in, condition_in, after_statement, after_block, numbered_statement};
+ghost use Rattle.sect_types.specs.Numbered.{numbered_block};
 ghost use Rattle.sect_types.specs.Resolve.{primitive_of, test_of};
 ghost use Rattle.sect_front.specs.Trees.{statement_of};
 
@@ -18,7 +19,7 @@ use crate::rule::{Fault, Rule};
 use crate::scope::Scope;
 use crate::spot::Spot;
 use crate::text::{Step, Text};
-use sect_front::tree::{Block, Primitive, Statement, Test};
+use sect_front::{Block, Primitive, Statement, Test};
 use std::alloc::Global;
 
 /// Whether a statement touches what threads share.

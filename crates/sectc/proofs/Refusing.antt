@@ -8,9 +8,14 @@ use Rattle.sect_types.specs.Whole.{SerialEndView}
 use Rattle.sect_serial.specs.Judging as serial
 use Rattle.sect_serial.specs.declared.whole.SerialFault.{SerialFault}
 use Rattle.sect_serial.specs.declared.whole.SerialFault.TheVariants as serial_fault
+use Rattle.sect_check.specs.Verdicts as certificates
+use Rattle.sect_check.specs.declared.fault.CheckFault.{CheckFault}
+use Rattle.sect_check.specs.declared.fault.CheckFault.TheVariants as check_fault
 use Rattle.sectc.specs.declared.refusal.Refusal.TheVariants as program
 use Rattle.sectc.specs.Answers.{IsDue, of_source}
 use Rattle.sectc.specs.Serial.{IsSerialDue, of_serial}
+use Rattle.sectc.specs.Splitting.{IsSplit}
+use Rattle.sectc.specs.Checking.{IsCheckDue, of_check}
 
 -- a refusal of the source that is due is due of `locks`
 pub due : (bytes : List ℕ) (k : ℕ) (why : Refusal) → sources.IsDue bytes k why → IsDue bytes k (of_source why)
@@ -31,3 +36,16 @@ pub ended_gives : (e : SerialEndView) (why : SerialFault) → serial.Gives e (Er
 ended_gives e serial_fault.Memory g = refl
 ended_gives e (serial_fault.NoSection t) g = absurd g
 ended_gives e (serial_fault.SectionsLeft t) g = absurd g
+
+-- the first fault of the input's certificate is due of `check`
+pub check_due : (input cert source : List ℕ) (k : ℕ) (why : CheckFault) → IsSplit input cert source → certificates.Judges {A = Unit {0}} source k cert (Err why) → IsCheckDue input k (of_check why)
+check_due input cert source k check_fault.Memory split h = tt
+check_due input cert source k (check_fault.Source r) split h = (λ e. cc, record { cert = cert; source = source; split = split; holds = h })
+check_due input cert source k (check_fault.Text f) split h = (λ e. cc, record { cert = cert; source = source; split = split; holds = h })
+check_due input cert source k check_fault.WrongProgram split h = (λ e. cc, record { cert = cert; source = source; split = split; holds = h })
+check_due input cert source k (check_fault.NotGenerated i j) split h = (λ e. cc, record { cert = cert; source = source; split = split; holds = h })
+check_due input cert source k (check_fault.NotCarried i j m) split h = (λ e. cc, record { cert = cert; source = source; split = split; holds = h })
+check_due input cert source k (check_fault.EntryNotCovered i) split h = (λ e. cc, record { cert = cert; source = source; split = split; holds = h })
+check_due input cert source k (check_fault.NotMaximal i) split h = (λ e. cc, record { cert = cert; source = source; split = split; holds = h })
+check_due input cert source k (check_fault.BrokenChain i n j) split h = (λ e. cc, record { cert = cert; source = source; split = split; holds = h })
+check_due input cert source k (check_fault.NoChain i n) split h = (λ e. cc, record { cert = cert; source = source; split = split; holds = h })

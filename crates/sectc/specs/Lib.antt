@@ -1,3 +1,5 @@
 pub mod Listing
 pub mod Answers
 pub mod Serial
+pub mod Splitting
+pub mod Checking

@@ -24,7 +24,8 @@ IsLeastInOrder s i of locks = IsLeast s of.thread (end_of s i) of.body locks × 
 
 -- each of these is the least set of the section of its number
 abbrev pub AreLeast : SchemeView → List (List Lock) → Type 0
-AreLeast s sets = (i : ℕ) (of : SectionView) (locks : List Lock) → slice_get (sections_of s.program.texts) i ≡ Some of → slice_get sets i ≡ Some locks → IsLeastInOrder s i of locks
+AreLeast s sets = (i : ℕ) (of : SectionView) (locks : List Lock) → slice_get (sections_of s.program.texts) i ≡ Some of
+    → slice_get sets i ≡ Some locks → IsLeastInOrder s i of locks
 
 -- these are the lines of the first sections, with the least set of each
 pub record IsListing (s : SchemeView) (count : ℕ) (text : List ℕ) : Type 0 where

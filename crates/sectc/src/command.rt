@@ -1,5 +1,6 @@
 //! One run of the program, over any reader and writer.
 
+use crate::check::verdict;
 use crate::locks::locks;
 use crate::options::{Request, UsageFault, request_of};
 use crate::refusal::Refusal;
@@ -20,6 +21,9 @@ pub const WRONG_WORDS: u8 = 2;
 
 /// The status of a run that lacked memory, or whose input or output failed.
 pub const FAILED: u8 = 3;
+
+/// What a run writes that lacked memory.
+pub const OUT_OF_MEMORY: &[u8] = b"out of memory\n";
 
 /// What a run writes, and its exit status.
 #[derive(Debug, Drop)]
@@ -68,13 +72,13 @@ where
     let alloc = rt.alloc();
     match answer_to(alloc, words, input) {
         Ok(answer) => told(output, answer.status, answer.text.as_bytes()),
-        Err(Failure::Memory) => told(output, FAILED, b"out of memory\n"),
+        Err(Failure::Memory) => told(output, FAILED, OUT_OF_MEMORY),
         Err(Failure::Streams) => told(output, FAILED, b"input or output failed\n"),
     }
 }
 
 /// Writes a text, and gives the status, or `FAILED` where the writer failed.
-fn told<O: Write + Drop>(mut output: O, status: u8, text: &[u8]) -> u8 {
+pub fn told<O: Write + Drop>(mut output: O, status: u8, text: &[u8]) -> u8 {
     match output.write_all(text) {
         Ok(()) => match output.flush() {
             Ok(()) => status,
@@ -111,6 +115,7 @@ fn worked(alloc: Global, request: Request, source: &[u8]) -> Result<Answer, Fail
     let done = match request {
         Request::Locks { k } => locks(alloc, source, k),
         Request::Serial { fuel, order } => serial_outcome(alloc, source, fuel, order),
+        Request::Check { k } => verdict(alloc, source, k),
     };
     match done {
         Ok(text) => Ok(Answer { status: DONE, text }),
@@ -122,6 +127,8 @@ fn worked(alloc: Global, request: Request, source: &[u8]) -> Result<Answer, Fail
     }
 }
 
+#[cfg(test)]
+mod check_tests;
 #[cfg(test)]
 mod example_tests;
 #[cfg(test)]

@@ -13,8 +13,7 @@ ghost use Rattle.sectc.specs.Answers.{IsAnswer, IsDue};
 
 use crate::refusal::Refusal;
 use sect_infer::infer;
-use sect_names::printing::put_locks;
-use sect_names::{Scheme, accept};
+use sect_names::{Scheme, accept, put_locks};
 use std::alloc::{AllocError, Global};
 use std::fmt::Write;
 

@@ -1,21 +1,25 @@
 //! `sectc COMMAND [OPTIONS]`: reads a source text on standard input and answers on standard output.
 #![tactic(auto)]
 
+mod check;
 mod command;
 mod locks;
 mod options;
 mod refusal;
 mod running;
 mod serial;
+mod splitting;
 
-use command::{FAILED, WRONG_WORDS, command};
+use command::{FAILED, OUT_OF_MEMORY, WRONG_WORDS, command, told};
 use std::process::ExitCode;
 use std::{env, io};
 
 fn main(rt: HostRuntime) -> ExitCode {
     let status = match arguments(&rt) {
         Ok(words) => command(&rt, words.as_slice(), rt.stdin(), rt.stdout()),
-        Err(refused) if refused.kind() == io::ErrorKind::OutOfMemory => FAILED,
+        Err(refused) if refused.kind() == io::ErrorKind::OutOfMemory => {
+            told(rt.stdout(), FAILED, OUT_OF_MEMORY)
+        }
         Err(_) => WRONG_WORDS,
     };
     ExitCode::from(status)

@@ -22,6 +22,8 @@ pub enum Request {
     Locks { k: u16 },
     /// The outcome of a run by whole sections of these threads, each thread with this much fuel.
     Serial { fuel: u32, order: Vec<u16> },
+    /// Whether a certificate is valid for the source behind it, with paths of at most k fields.
+    Check { k: u16 },
 }
 
 /// Why a command line is wrong. `Display` is what the program prints of it.
@@ -79,23 +81,35 @@ pub fn numeral<'a>(alloc: Global, name: &'a str, help: &'a str) -> Arg<'a>
         .action(ArgAction::Set)
 }
 
+/// The option `--k N`.
+fn k_option<'a>(alloc: Global) -> Arg<'a>
+    ensures { result.global ≡ false }
+{
+    numeral(
+        alloc,
+        "k",
+        "the most fields of a path in a lock, 0 to 3 (default 2)",
+    )
+}
+
 /// The commands and what each takes.
 fn grammar<'a>(alloc: Global) -> Result<Command<'a>, AllocError>
     ensures required { IfOk result (λ c. (fields_of c).subcommand_required ≡ true) }
     ensures local { IfOk result (λ c. (fields_of c).has_globals ≡ false) }
 {
-    let k = numeral(
-        alloc,
-        "k",
-        "the most fields of a path in a lock, 0 to 3 (default 2)",
-    );
     let locks = Command::new(alloc, "locks")
         .about("prints the lock set of each section of the source text")
-        .arg(k)?;
+        .arg(k_option(alloc))?;
+    let check = Command::new(alloc, "check")
+        .about(
+            "tests a certificate: the input is the certificate, and the source text behind its line `end`",
+        )
+        .arg(k_option(alloc))?;
     let sectc = Command::new(alloc, "sectc")
         .about("infers the locks of atomic sections; reads a source text on standard input")
         .subcommand(locks)?
-        .subcommand(serial_command(alloc)?)?;
+        .subcommand(serial_command(alloc)?)?
+        .subcommand(check)?;
     Ok(sectc.subcommand_required(true))
 }
 
@@ -138,6 +152,9 @@ pub fn request_of(alloc: Global, words: &[String]) -> Result<Request, UsageFault
         Some(("serial", options)) => Ok(Request::Serial {
             fuel: fuel_of(alloc, options)?,
             order: threads_of(alloc, options)?,
+        }),
+        Some(("check", options)) => Ok(Request::Check {
+            k: number_of(alloc, options, "k", DEFAULT_K)?,
         }),
         Some((_locks, options)) => Ok(Request::Locks {
             k: number_of(alloc, options, "k", DEFAULT_K)?,

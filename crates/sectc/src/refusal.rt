@@ -4,7 +4,9 @@ ghost use Rattle.std.specs.Prelude.{◌≡◌};
 ghost use Rattle.sectc.specs.declared.refusal.Refusal.TheVariants.{Memory};
 ghost use Rattle.sectc.specs.Answers.{of_source};
 ghost use Rattle.sectc.specs.Serial.{of_serial};
+ghost use Rattle.sectc.specs.Checking.{of_check};
 
+use sect_check::CheckFault;
 use sect_names::Refusal as SourceRefusal;
 use sect_serial::SerialFault;
 use std::alloc::AllocError;
@@ -22,6 +24,9 @@ pub enum Refusal {
     /// The order of the threads is refused.
     #[error("refused {0}")]
     Serial(SerialFault),
+    /// The certificate is refused, or the source behind it.
+    #[error("refused {0}")]
+    Check(CheckFault),
 }
 
 impl From<AllocError> for Refusal {
@@ -50,6 +55,17 @@ impl From<SerialFault> for Refusal {
         match fault {
             SerialFault::Memory => Refusal::Memory,
             other => Refusal::Serial(other),
+        }
+    }
+}
+
+impl From<CheckFault> for Refusal {
+    ghost from_gives = { λ fault r. r ≡ of_check fault };
+
+    fn from(fault: CheckFault) -> Refusal {
+        match fault {
+            CheckFault::Memory => Refusal::Memory,
+            other => Refusal::Check(other),
         }
     }
 }

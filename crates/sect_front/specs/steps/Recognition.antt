@@ -1,5 +1,6 @@
 -- The token that bytes spell, as it is looked for.
-use Rattle.std.specs.Prelude.{ℕ, ◌+◌, ◌-◌, ◌*◌, ◌&&◌, ◌==◌, nat_lt, if◌then◌else◌, List, [], ◌∷◌, Option, Some, None, length, codes}
+use Rattle.std.specs.Prelude.{ℕ, ◌+◌, ◌-◌, ◌*◌, ◌&&◌, ◌==◌, nat_lt, if◌then◌else◌, List, [], ◌∷◌, Option, Some, None}
+use Rattle.std.specs.Prelude.{length, codes}
 use Rattle.std.specs.List.{list_all}
 use Rattle.std.specs.Str.{bytes_eq}
 use Rattle.sect_front.specs.Words.{is_letter, is_digit, is_name_byte}
@@ -87,5 +88,6 @@ sign_token b _ = None
 abbrev pub spelled : List ℕ → Option Token
 spelled [] = None
 spelled (b ∷ bs) =
-    if is_letter b then (if list_all is_name_byte bs && nat_lt (length bs) 32 then Some (word_token (b ∷ bs)) else None) else (
+    if is_letter b then (if list_all is_name_byte bs && nat_lt (length bs) 32 then Some (word_token (b ∷ bs)) else None)
+    else (
     if is_digit b then as_number (number_of (b ∷ bs)) else sign_token b bs)

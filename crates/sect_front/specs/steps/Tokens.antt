@@ -28,7 +28,8 @@ primitive_tokens (primitive.Print v) w = token.Print ∷ operand_token v ∷ tok
 
 abbrev pub test_tokens : Test → List Token → List Token
 test_tokens t w =
-    token.OpenParen ∷ operand_token t.left ∷ comparison_token t.comparison ∷ operand_token t.right ∷ token.CloseParen ∷ w
+    token.OpenParen ∷ operand_token t.left ∷ comparison_token t.comparison ∷ operand_token t.right ∷ token.CloseParen
+    ∷ w
 
 abbrev pub locking_tokens : Locking → List Token → List Token
 locking_tokens locking.Inferred w = w
@@ -39,9 +40,11 @@ abbrev mutual
   statement_tokens (Primitive p) w = primitive_tokens p w
   statement_tokens (If t a) w = token.If ∷ test_tokens t (token.OpenBrace ∷ block_tokens a (token.CloseBrace ∷ w))
   statement_tokens (IfElse t a b) w =
-      token.If ∷ test_tokens t (token.OpenBrace ∷ block_tokens a (token.CloseBrace ∷ token.Else ∷ token.OpenBrace ∷ block_tokens b (token.CloseBrace ∷ w)))
+      token.If ∷ test_tokens t (token.OpenBrace
+      ∷ block_tokens a (token.CloseBrace ∷ token.Else ∷ token.OpenBrace ∷ block_tokens b (token.CloseBrace ∷ w)))
   statement_tokens (While t a) w = token.While ∷ test_tokens t (token.OpenBrace ∷ block_tokens a (token.CloseBrace ∷ w))
-  statement_tokens (Atomic l a) w = token.Atomic ∷ locking_tokens l (token.OpenBrace ∷ block_tokens a (token.CloseBrace ∷ w))
+  statement_tokens (Atomic l a) w = token.Atomic
+      ∷ locking_tokens l (token.OpenBrace ∷ block_tokens a (token.CloseBrace ∷ w))
 
   pub block_tokens : BlockView → List Token → List Token
   block_tokens End w = w
@@ -58,14 +61,16 @@ hints_tokens (n ∷ ns) w = token.ProtectedBy ∷ token.Name n ∷ hints_tokens 
 
 abbrev pub record_tokens : Record → List Token → List Token
 record_tokens r w =
-    token.Record ∷ token.Name r.name ∷ hints_tokens r.hints (token.OpenBrace ∷ declarations_tokens r.fields (token.CloseBrace ∷ w))
+    token.Record ∷ token.Name r.name
+    ∷ hints_tokens r.hints (token.OpenBrace ∷ declarations_tokens r.fields (token.CloseBrace ∷ w))
 
 abbrev pub global_tokens : GlobalObject → List Token → List Token
 global_tokens g w = token.Global ∷ token.Name g.of ∷ token.Name g.name ∷ token.Semicolon ∷ w
 
 abbrev pub thread_tokens : Thread → List Token → List Token
 thread_tokens t w =
-    token.Thread ∷ token.Name t.name ∷ token.OpenBrace ∷ declarations_tokens t.locals (block_tokens t.body (token.CloseBrace ∷ w))
+    token.Thread ∷ token.Name t.name ∷ token.OpenBrace
+    ∷ declarations_tokens t.locals (block_tokens t.body (token.CloseBrace ∷ w))
 
 abbrev pub records_tokens : List Record → List Token → List Token
 records_tokens [] w = w

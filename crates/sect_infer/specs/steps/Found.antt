@@ -12,12 +12,14 @@ use Rattle.sect_infer.specs.steps.Needs.{need, IsDerived}
 -- each list has the maximal locks of the list that it comes from
 pub record AreAllMaximal (s : SchemeView) (nodes lists : List (List Lock)) : Type 0 where
   pub count : length lists ≡ length nodes
-  pub each : (j : ℕ) (locks : List Lock) → slice_get lists j ≡ Some locks → AreMaximal s (Has (slice_index_or nodes j [])) locks
+  pub each : (j : ℕ) (locks : List Lock) → slice_get lists j ≡ Some locks
+      → AreMaximal s (Has (slice_index_or nodes j [])) locks
 
 -- at each node, the exit too, the maximal ones of the locks that are derived there
 pub record AreFound (s : SchemeView) (t : ℕ) (g : List Node) (at : List (List Lock)) : Type 0 where
   pub count : length at ≡ length g + 1
-  pub each : (j : ℕ) (locks : List Lock) → slice_get at j ≡ Some locks → AreMaximal s (λ l. IsDerived s t g (need j l)) locks
+  pub each : (j : ℕ) (locks : List Lock) → slice_get at j ≡ Some locks
+      → AreMaximal s (λ l. IsDerived s t g (need j l)) locks
 
 -- so many lists, each with the lock on all alone
 pub record AreAllOnAll (count : ℕ) (at : List (List Lock)) : Type 0 where

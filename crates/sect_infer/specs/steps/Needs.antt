@@ -18,7 +18,8 @@ IsSeed s t g x = (y : Node) × (slice_get g x.node ≡ Some y) × Generated s t 
 
 -- control may go on from the one node to the other, and the lock that is needed there is carried back to this one
 abbrev pub CarriesTo : SchemeView → ℕ → List Node → Need → Need → Type 0
-CarriesTo s t g n x = (y : Node) × (slice_get g x.node ≡ Some y) × LeadsTo y n.node × CarriedBack s t y.label n.lock x.lock
+CarriesTo s t g n x = (y : Node) × (slice_get g x.node ≡ Some y) × LeadsTo y n.node
+    × CarriedBack s t y.label n.lock x.lock
 
 -- it is carried back over so many edges
 abbrev pub Derived : SchemeView → ℕ → List Node → ℕ → Need → Type 0
@@ -46,11 +47,13 @@ pub record AreAllBefore (g : List Node) (lists : List (List ℕ)) : Type 0 where
 -- the locks that the nodes generate and carry back are the program's
 pub record AreLawful (s : SchemeView) (t : ℕ) (g : List Node) : Type 0 where
   pub generated : (j : ℕ) (y : Node) → slice_get g j ≡ Some y → (l : Lock) → Generated s t y.label l → IsLockOf s t l
-  pub carried : (j : ℕ) (y : Node) → slice_get g j ≡ Some y → (l r : Lock) → IsLockOf s t l → CarriedBack s t y.label l r → IsLockOf s t r
+  pub carried : (j : ℕ) (y : Node) → slice_get g j ≡ Some y → (l r : Lock) → IsLockOf s t l
+      → CarriedBack s t y.label l r → IsLockOf s t r
 
 -- lists have one element more, at one place
 abbrev pub IsAdded : {X : Type 0} → List (List X) → List (List X) → ℕ → X → Type 0
-IsAdded {X} old new to x = (m : ℕ) → m < length old → (y : X) → Has (slice_index_or new m []) y ↔ (Has (slice_index_or old m []) y ⊎ ((m ≡ to) × (y ≡ x)))
+IsAdded {X} old new to x = (m : ℕ) → m < length old → (y : X)
+    → Has (slice_index_or new m []) y ↔ (Has (slice_index_or old m []) y ⊎ ((m ≡ to) × (y ≡ x)))
 
 -- the lists have the locks of these needs, each at its node
 pub record AreByNode (count : ℕ) (kept : List Need) (lists : List (List Lock)) : Type 0 where

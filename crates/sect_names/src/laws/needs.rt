@@ -22,8 +22,8 @@ ghost use Rattle.sect_names.specs.Along.{NeededBefore, NeededAlong, NeededIn, Ar
 
 /// What is needed over steps that are split in two is what is needed step by step; what a section needs, some walk
 /// through its body needs; what a text needs, its end generates, or its first step needs it of itself, or it is carried
-/// back over that step from what is needed of the rest; and what is needed at a node of a graph, the statements need that
-/// are still to run there.
+/// back over that step from what is needed of the rest; and what is needed at a node of a graph, the statements need
+/// that are still to run there.
 pub fn needed_step_by_step()
     ensures steps { (s : SchemeView) (t : ℕ) (last : List Lock) (steps : List Visit) (l : Lock)
         → IsNeededOn s t last steps l ↔ NeededAlong s t last (labels_of steps) l }
@@ -59,7 +59,8 @@ pub fn beginnings_are_needed()
         → (i : ℕ) (section : SectionView) → slice_get (sections_of s.program.texts) i ≡ Some section
         → ReadsBeginnings s (IsNeeded s section.thread last section.body) }
     ensures node { (s : SchemeView) → IsScheme s → (last : List Lock) → ReadsBeginnings s (Has last)
-        → (i : ℕ) (section : SectionView) (g : List Node) → slice_get (sections_of s.program.texts) i ≡ Some section → slice_get s.graphs.sections i ≡ Some g
+        → (i : ℕ) (section : SectionView) (g : List Node) → slice_get (sections_of s.program.texts) i ≡ Some section
+        → slice_get s.graphs.sections i ≡ Some g
         → (j : ℕ) → j ≤ length g → ReadsBeginnings s (IsNeededFrom s section.thread last section.body g j) }
 {}
 

@@ -35,7 +35,8 @@ locals_fine records [] = true
 locals_fine records (t ∷ ts) = (all_known records t.locals && nat_le (length t.locals) 64) && locals_fine records ts
 
 -- the fields `rest` of `all` are left, and those before them have these names
-pub record IsListed (rs : List Record) (gs : List GlobalObject) (all rest : List Declaration) (names : List (List ℕ)) (old now : Counts) : Type 0 where
+pub record IsListed (rs : List Record) (gs : List GlobalObject) (all rest : List Declaration) (names : List (List ℕ))
+    (old now : Counts) : Type 0 where
   pub walks : (w : List Item) → judge rs gs old (field_items [] all w) ≡ judge rs gs now (field_items names rest w)
   pub named : names ++ names_of_declared rest ≡ names_of_declared all
   pub counts : now ≡ record old { declared = old.declared + length names }
@@ -43,7 +44,8 @@ pub record IsListed (rs : List Record) (gs : List GlobalObject) (all rest : List
   pub known : all_known (names_of_records rs) all ≡ all_known (names_of_records rs) rest
 
 -- the records `rest` of `all` are left
-pub record AreRecords (gs : List GlobalObject) (all rest : List Record) (names : List (List ℕ)) (fields : List (List (List ℕ))) (old now : Counts) : Type 0 where
+pub record AreRecords (gs : List GlobalObject) (all rest : List Record) (names : List (List ℕ))
+    (fields : List (List (List ℕ))) (old now : Counts) : Type 0 where
   pub walks : (w : List Item) → judge all gs old (record_items [] all w) ≡ judge all gs now (record_items names rest w)
   pub named : names ++ names_of_records rest ≡ names_of_records all
   pub with_fields : fields ++ all_fields rest ≡ all_fields all
@@ -52,14 +54,16 @@ pub record AreRecords (gs : List GlobalObject) (all rest : List Record) (names :
   pub room : now.declared ≤ 17 * length names
   pub fine : fields_fine (names_of_records all) all ≡ fields_fine (names_of_records all) rest
 
-pub record AreGlobals (rs : List Record) (all rest : List GlobalObject) (names : List (List ℕ)) (old now : Counts) : Type 0 where
+pub record AreGlobals (rs : List Record) (all rest : List GlobalObject) (names : List (List ℕ))
+    (old now : Counts) : Type 0 where
   pub walks : (w : List Item) → judge rs all old (global_items [] all w) ≡ judge rs all now (global_items names rest w)
   pub named : names ++ names_of_globals rest ≡ names_of_globals all
   pub counts : now ≡ record old { declared = old.declared + length names; sites = old.sites + length names }
   pub few : length names ≤ 256
   pub known : globals_known (names_of_records rs) all ≡ globals_known (names_of_records rs) rest
 
-pub record AreLocals (rs : List Record) (gs : List GlobalObject) (all rest : List Declaration) (names : List (List ℕ)) (old now : Counts) : Type 0 where
+pub record AreLocals (rs : List Record) (gs : List GlobalObject) (all rest : List Declaration) (names : List (List ℕ))
+    (old now : Counts) : Type 0 where
   pub walks : (w : List Item) → judge rs gs old (local_items [] all w) ≡ judge rs gs now (local_items names rest w)
   pub named : names ++ names_of_declared rest ≡ names_of_declared all
   pub counts : now ≡ record old { declared = old.declared + length names }
@@ -71,7 +75,8 @@ pub record AreTyped (records : List (List ℕ)) (all rest : List Declaration) (t
   pub typed : types ++ types_of records rest ≡ types_of records all
   pub known : all_known records rest ≡ true
 
-pub record AreFieldsTyped (records : List (List ℕ)) (all rest : List Record) (types : List (List ValueType)) : Type 0 where
+pub record AreFieldsTyped (records : List (List ℕ)) (all rest : List Record)
+    (types : List (List ValueType)) : Type 0 where
   pub typed : types ++ field_types records rest ≡ field_types records all
   pub fine : fields_fine records rest ≡ true
 
@@ -79,6 +84,7 @@ pub record AreGlobalsNumbered (records : List (List ℕ)) (all rest : List Globa
   pub numbered : numbers ++ global_records records rest ≡ global_records records all
   pub known : globals_known records rest ≡ true
 
-pub record AreLocalsTyped (records : List (List ℕ)) (all rest : List Thread) (types : List (List ValueType)) : Type 0 where
+pub record AreLocalsTyped (records : List (List ℕ)) (all rest : List Thread)
+    (types : List (List ValueType)) : Type 0 where
   pub typed : types ++ local_types records rest ≡ local_types records all
   pub fine : locals_fine records rest ≡ true

@@ -10,7 +10,8 @@ use Rattle.sect_types.specs.Rules.{Counts, judge, Faulty}
 
 -- these items, given before those of what follows, lead from the old counts to the new ones, or to the fault
 abbrev pub Walks : {A : Type 0} → Sight → (List Item → List Item) → Counts → Counts → Result A Fault → Type 0
-Walks s items old new (Ok a) = (w : List Item) → judge s.records s.globals old (items w) ≡ judge s.records s.globals new w
+Walks s items old new (Ok a) = (w : List Item)
+    → judge s.records s.globals old (items w) ≡ judge s.records s.globals new w
 Walks s items old new (Err fault.Memory) = ⊤
 Walks s items old new (Err (fault.Broken i r)) = (w : List Item) → judge s.records s.globals old (items w) ≡ Faulty i r
 

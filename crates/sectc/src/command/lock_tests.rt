@@ -35,7 +35,8 @@ const LOCKS: [(&str, &str, &str); 7] = [
     ),
     (
         "locks",
-        "record A { int f; } global A a; thread t { atomic { while (1 == 2) { a.f = 1; } } }",
+        "record A { int f; } global A a; global A b; \
+        thread t { atomic { while (1 == 2) { a.f = 1; } } }",
         "section 0: W a\n",
     ),
     // A section that locks everything takes one lock, also where it does nothing.

@@ -18,6 +18,19 @@ fn words_of(alloc: Global, line: &str) -> Result<Vec<String>, AllocError> {
     Ok(words)
 }
 
+/// What a command line prints of an input, and the status.
+pub(super) fn answer_of(
+    rt: &(impl AllocGlobal + Abort),
+    line: &str,
+    input: &[u8],
+) -> Result<(u8, String), Fail> {
+    let words = words_of(rt.alloc(), line)?;
+    let mut out = Vec::new(rt.alloc());
+    let status = command(rt, words.as_slice(), input, &mut out);
+    let shown = String::from_utf8_lossy(rt.alloc(), out.as_slice())?;
+    Ok((status, String::from_str(rt.alloc(), shown.as_str())?))
+}
+
 /// Runs a command line on a source, and compares the status and the text.
 pub(super) fn expect_bytes(
     rt: &(impl AllocGlobal + Abort),
@@ -26,10 +39,7 @@ pub(super) fn expect_bytes(
     status: u8,
     text: &str,
 ) -> Result<(), Fail> {
-    let words = words_of(rt.alloc(), line)?;
-    let mut out = Vec::new(rt.alloc());
-    let got = command(rt, words.as_slice(), source, &mut out);
-    let shown = String::from_utf8_lossy(rt.alloc(), out.as_slice())?;
+    let (got, shown) = answer_of(rt, line, source)?;
     assert_eq!(rt; got, status, "{line}: {shown}");
     assert_eq!(rt; shown.as_str(), text, "{line}");
     Ok(())
@@ -154,6 +164,27 @@ fn the_sixty_fifth_thread_is_refused(rt: HostRuntime) -> Result<(), Fail> {
     )
 }
 
+/// The beginning of a thread with so many blocks of conditions in its own.
+fn opened_blocks(alloc: Global, count: usize) -> Result<String, AllocError> {
+    let mut source = String::from_str(alloc, "thread t { ")?;
+    for _ in 0..count {
+        source.push_str("if (1 == 1) { ")?;
+    }
+    Ok(source)
+}
+
+#[test]
+fn blocks_stand_in_blocks_at_most_32_deep(rt: HostRuntime) -> Result<(), Fail> {
+    for (count, text) in [
+        (31, "refused 5 UnexpectedEnd line 1\n"),
+        (32, "refused 6 TooDeep line 1\n"),
+    ] {
+        let source = opened_blocks(rt.alloc(), count)?;
+        expect_bytes(&rt, "locks", source.as_bytes(), 1, text)?;
+    }
+    Ok(())
+}
+
 #[test]
 fn a_text_has_a_mebibyte_at_most(rt: HostRuntime) -> Result<(), Fail> {
     let mut source: Vec<u8> = Vec::new(rt.alloc());
@@ -184,7 +215,7 @@ fn k_is_judged_before_the_source(rt: HostRuntime) -> Result<(), Fail> {
 }
 
 /// Wrong command lines and calls for help, and what their answer says beside the rest.
-const WRONG_LINES: [(&str, &str); 26] = [
+const WRONG_LINES: [(&str, &str); 32] = [
     ("", "standard input"),
     ("help", "standard input"),
     ("--help", "standard input"),
@@ -204,6 +235,12 @@ const WRONG_LINES: [(&str, &str); 26] = [
     ("locks --fuel 3", "standard input"),
     ("locks --workers 1", "standard input"),
     ("locks --cert", "standard input"),
+    ("locks 0", "sectc locks < FILE"),
+    ("check --help", "standard input"),
+    ("check --k", "standard input"),
+    ("check --k x", "a number from 0 to 65535"),
+    ("check --fuel 3", "standard input"),
+    ("check program.sect", "sectc locks < FILE"),
     ("serial x", "a number from 0 to 65535"),
     ("serial -1", "standard input"),
     ("serial 65536", "a number from 0 to 65535"),

@@ -1,0 +1,55 @@
+-- The steps of chains, one from another.
+use Rattle.std.specs.Prelude.{◌≡◌, ◌↔◌, ◌⊎◌, ◌<◌, ◌≤◌, ◌+◌, ℕ, List, [], ◌++◌, length, slice_get, slice_index_or}
+use Rattle.std.specs.Prelude.{Option, Some, None}
+use Rattle.sect_types.specs.Lists.{Has}
+use Rattle.sect_graph.specs.declared.flow.Node.{Node}
+use Rattle.sect_graph.specs.Paths.{LeadsTo}
+use Rattle.sect_names.specs.declared.link.Link.{Link}
+use Rattle.sect_names.specs.declared.lock.Lock.{Lock}
+use Rattle.sect_names.specs.Schemes.{SchemeView}
+use Rattle.sect_names.specs.Locks.{IsLockOf}
+use Rattle.sect_names.specs.Carrying.{Generated, CarriedBack}
+use Rattle.sect_names.specs.Chains.{IsGeneratedAt, LinksTo, AreLinked}
+
+-- steps lead on from this one to where a lock is generated
+abbrev pub HasTrail : SchemeView → ℕ → List Lock → List Node → Link → Type 0
+HasTrail s t last g a = (links : List Link) × AreLinked s t last g a links
+
+-- control goes on from a node to a node or to the exit
+abbrev pub StaysWithin : List Node → Type 0
+StaysWithin g = (i j : ℕ) (x : Node) → slice_get g i ≡ Some x → LeadsTo x j → j ≤ length g
+
+-- the locks that the nodes and the section's end generate, and those that the nodes carry back, are the program's
+pub record AreLawful (s : SchemeView) (t : ℕ) (last : List Lock) (g : List Node) : Type 0 where
+  pub generated : (j : ℕ) (y : Node) → slice_get g j ≡ Some y → (l : Lock) → Generated s t y.label l → IsLockOf s t l
+  pub ended : (l : Lock) → Has last l → IsLockOf s t l
+  pub carried : (j : ℕ) (y : Node) → slice_get g j ≡ Some y → (l r : Lock) → IsLockOf s t l
+      → CarriedBack s t y.label l r → IsLockOf s t r
+
+-- steps with this property are put behind others, where they were not there
+pub record Grows (old new : List Link) (P : Link → Type 0) : Type 0 where
+  pub longer : (more : List Link) × (new ≡ old ++ more)
+  pub each : (a : Link) → P a → Has new a
+  pub only : (a : Link) → Has new a → Has old a ⊎ P a
+
+-- these are the nodes from which control may go on to node m
+abbrev pub AreBefore : List Node → ℕ → List ℕ → Type 0
+AreBefore g m before = (i : ℕ) → Has before i ↔ ((y : Node) × (slice_get g i ≡ Some y) × LeadsTo y m)
+
+-- a list of them for each node, and for the exit
+pub record AreAllBefore (g : List Node) (lists : List (List ℕ)) : Type 0 where
+  pub count : length lists ≡ length g + 1
+  pub each : (m : ℕ) → m ≤ length g → AreBefore g m (slice_index_or lists m [])
+
+-- the lock of the step at an index is generated there, or the step links to an earlier one
+abbrev pub LeadsOn : SchemeView → ℕ → List Lock → List Node → List Link → ℕ → Link → Option ℕ → Type 0
+LeadsOn s t last g kept i a None = IsGeneratedAt s t last g a
+LeadsOn s t last g kept i a (Some j) =
+    (j < i) × ((b : Link) × (slice_get kept j ≡ Some b) × LinksTo s t g a b)
+
+-- for each step, which one it links to, if its lock isn't generated there
+pub record LeadOn (s : SchemeView) (t : ℕ) (last : List Lock) (g : List Node) (kept : List Link)
+    (next : List (Option ℕ)) : Type 0 where
+  pub count : length next ≡ length kept
+  pub each : (i : ℕ) (a : Link) (o : Option ℕ) → slice_get kept i ≡ Some a → slice_get next i ≡ Some o
+      → LeadsOn s t last g kept i a o

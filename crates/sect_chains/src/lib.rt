@@ -1,0 +1,12 @@
+//! Chains: for each lock that a section takes, along which steps it is needed.
+#![tactic(auto)]
+
+mod chain;
+mod keep;
+mod predecessors;
+mod section;
+mod trail;
+mod work;
+
+pub use chain::Chain;
+pub use section::chains;

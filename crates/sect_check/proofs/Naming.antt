@@ -1,0 +1,64 @@
+-- Places of names, and how many names there are.
+use Rattle.std.proofs.Common.{◌≡◌, ℕ, ◌<◌, ◌≤◌, List, [], Some, None, Bool, true, false, length, get_or, refl, sym, ap, ◌∙◌, arith}
+use Rattle.std.specs.Prelude.{cond, nat_lt, nat_eq, slice_get}
+use Rattle.std.specs.Cmp.Lexicographic.{pointwise}
+use Rattle.std.proofs.lemmas.Bool.{ltb-false, ltb-true}
+use Rattle.std.proofs.lemmas.List.{get_or-map, length-map}
+use Rattle.std.proofs.lemmas.List.Elements.{All-get_or}
+use Rattle.std.proofs.lemmas.List.Sums.{position_or_len_is}
+use Rattle.std.proofs.lemmas.Option.{slice_get_within, get_or_from_slice_get}
+use Rattle.sect_front.specs.declared.tree.Thread.{Thread}
+use Rattle.sect_front.specs.declared.tree.Record.{Record}
+use Rattle.sect_types.specs.declared.types.ValueType.{ValueType}
+use Rattle.sect_types.specs.Sight.{place, names_of_records}
+use Rattle.sect_types.specs.Environments.{types_of, type_of}
+use Rattle.sect_types.specs.Programs.{ProgramView, IsOfTree, IsWithinLimits}
+
+-- no name before this one is x
+abbrev pub NoneBefore : List ℕ → List (List ℕ) → ℕ → Type 0
+NoneBefore x names i = (k : ℕ) → k < i → pointwise nat_eq x (get_or names k []) ≡ false
+
+chosen : (i n : ℕ) → i < n → cond (nat_lt i n) (Some i) None ≡ Some i
+chosen i n lt = go (nat_lt i n) refl
+  where
+    go : (b : Bool) → nat_lt i n ≡ b → cond b (Some i) None ≡ Some i
+    go true e = refl
+    go false e = absurd (let past = ltb-false i n e in omega (arith, lt, past))
+
+passed : (n : ℕ) → cond (nat_lt n n) (Some n) None ≡ None
+passed n = go (nat_lt n n) refl
+  where
+    go : (b : Bool) → nat_lt n n ≡ b → cond b (Some n) None ≡ None
+    go true e = absurd (let lt = ltb-true n n e in omega (arith, lt))
+    go false e = refl
+
+pub place_found : (x : List ℕ) (names : List (List ℕ)) (i : ℕ) → i < length names → NoneBefore x names i → pointwise nat_eq x (get_or names i []) ≡ true → Some i ≡ place x names
+place_found x names i within before here =
+    let at = position_or_len_is (pointwise nat_eq x) names i [] (omega (arith, within)) before (λ lt. here) in
+    sym (ap (λ k. cond (nat_lt k (length names)) (Some k) None) at ∙ chosen i (length names) within)
+
+pub place_missing : (x : List ℕ) (names : List (List ℕ)) (i : ℕ) → length names ≡ i → NoneBefore x names i → None ≡ place x names
+place_missing x names i all before =
+    let at = position_or_len_is (pointwise nat_eq x) names (length names) [] (omega arith) (λ k lt. before k (omega (arith, lt, all))) (λ lt. absurd (omega (arith, lt))) in
+    sym (ap (λ k. cond (nat_lt k (length names)) (Some k) None) at ∙ passed (length names))
+
+-- a thread has few locals
+pub few_locals : (p : ProgramView) → IsOfTree p → IsWithinLimits p → (t : ℕ) (th : Thread) → t < length p.locals → th ≡ get_or p.source.threads t th → length th.locals ≤ 64
+few_locals p tree limits t th within is =
+    let names = names_of_records p.source.records in
+    let f : Thread → List ValueType = λ (z : Thread). types_of names z.locals in
+    let there : t < length p.source.threads = omega (arith, within, ap length tree.locals_are, length-map p.source.threads f) in
+    let same : get_or p.locals t [] ≡ types_of names th.locals = ap (λ l. get_or l t []) tree.locals_are ∙ get_or-map f p.source.threads t th [] there ∙ ap f (sym is) in
+    let few = All-get_or (λ (ts : List ValueType). length ts ≤ 64) p.locals t [] within limits.few_locals in
+    omega (arith, few, ap length same, length-map th.locals (λ d. type_of names d.kind))
+
+-- a record has few fields
+pub few_fields : (p : ProgramView) → IsOfTree p → IsWithinLimits p → (r : ℕ) (shape : Record) → slice_get p.source.records r ≡ Some shape → length shape.fields ≤ 16
+few_fields p tree limits r shape at =
+    let names = names_of_records p.source.records in
+    let f : Record → List ValueType = λ (z : Record). types_of names z.fields in
+    let there = slice_get_within p.source.records r shape at in
+    let within : r < length p.records = omega (arith, there, ap length tree.records_are, length-map p.source.records f) in
+    let same : get_or p.records r [] ≡ types_of names shape.fields = ap (λ l. get_or l r []) tree.records_are ∙ get_or-map f p.source.records r shape [] there ∙ ap f (get_or_from_slice_get p.source.records r shape shape at) in
+    let few = All-get_or (λ (ts : List ValueType). length ts ≤ 16) p.records r [] within limits.few_fields in
+    omega (arith, few, ap length same, length-map shape.fields (λ d. type_of names d.kind))

@@ -1,0 +1,18 @@
+use Rattle.std.proofs.Common.{List, refl, subst}
+use Rattle.sect_types.specs.Lists.{Has}
+use Rattle.sect_names.specs.Needed.{end_locks}
+use Rattle.sect_check.specs.declared.claims.ChainClaim.{ChainClaim}
+use Rattle.sect_check.proofs.Chaining.{broken_at}
+use Rattle.sect_check.proofs.chains.judge_chain.Goals as goal
+
+pub chain_of-requires-clause-below : goal.chain_of-requires-clause-below
+chain_of-requires-clause-below c = rw c.as_slice.ensures c.requires.below
+
+pub returns-in-Some-2 : goal.returns-in-Some-2
+returns-in-Some-2 c =
+    let chain = c.in-Some.chain.now in
+    let found = subst (λ (xs : List ChainClaim). Has xs chain) c.as_slice.ensures c.in-Some.ensures.0 in (
+      refl,
+      broken_at c.args.scheme.now c.args.thread (end_locks c.args.locking) c.args.flow.now c.args.claims.now c.args.number c.args.lock.now chain (found, c.in-Some.ensures.1)
+          c.as_slice-links.result.now c.as_slice-links.ensures c.in_ok-first_wrong.field-0 c.in-Some-2.step c.in-Some-2.is c.in_ok-first_wrong.ensures,
+    )

@@ -1,0 +1,7 @@
+use Rattle.std.proofs.Common.{take}
+use Rattle.std.specs.List.{AllZip}
+use Rattle.sect_check.specs.Meaning.{DenotesChain}
+use Rattle.sect_check.proofs.claiming.chain_claims.Given as goal
+
+abbrev pub invariant-loop-chain : goal.invariant-loop-chain
+invariant-loop-chain l = AllZip (DenotesChain l.scheme l.thread) (take l.chain-index l.chains) l.claims.items

@@ -1,0 +1,8 @@
+use Rattle.std.proofs.Common.{take}
+use Rattle.sect_types.specs.Lists.{Has}
+use Rattle.sect_names.specs.declared.lock.Lock.{Lock}
+use Rattle.sect_names.specs.Locks.{CoveredBy}
+use Rattle.sect_check.proofs.covering.are_covered.Given as goal
+
+abbrev pub invariant-loop-lock : goal.invariant-loop-lock
+invariant-loop-lock l = (x : Lock) → Has (take l.lock-index l.locks) x → CoveredBy l.scheme l.set.keys x

@@ -1,0 +1,83 @@
+//! Whether each lock of an entry list has its chain.
+
+ghost use Rattle.std.specs.Prelude.{◌≡◌, ◌<◌, ℕ, MatchOption};
+ghost use Rattle.sect_types.specs.Lists.{Has};
+ghost use Rattle.sect_names.specs.Needed.{end_locks};
+ghost use Rattle.sect_check.specs.declared.claims.ChainClaim.{ChainClaim};
+ghost use Rattle.sect_check.specs.steps.Rising.{DoRise, HasNumber, HaveNumbersBelow};
+ghost use Rattle.sect_check.specs.steps.Parts.{JudgesChain, JudgesChains};
+
+use crate::claims::{ChainClaim, Claims};
+use crate::fault::SectionFault;
+use crate::links::first_wrong;
+use sect_front::Locking;
+use sect_graph::Flow;
+use sect_names::{Lock, Scheme};
+use std::alloc::Global;
+
+/// The chain of this number. Their numbers rise and each one below is there, so it stands at the place of its number or
+/// nowhere.
+fn chain_of(chains: &[ChainClaim], number: usize) -> Option<&ChainClaim>
+    requires rise { DoRise chains.now }
+    requires below { HaveNumbersBelow chains.now number }
+    ensures { MatchOption result (HasNumber chains.now number
+        → ⊥) (λ chain. Has chains.now chain.now × (chain.now.lock ≡ number)) }
+{
+    let chain = chains.get(number)?;
+    if chain.lock as usize == number {
+        Some(chain)
+    } else {
+        None
+    }
+}
+
+/// Whether the lock of this number has its chain.
+fn judge_chain(
+    alloc: Global,
+    scheme: &Scheme,
+    thread: u16,
+    locking: Locking,
+    flow: &Flow,
+    claims: &Claims,
+    number: usize,
+    lock: &Lock,
+) -> Result<(), SectionFault>
+    requires rise { DoRise claims.now.chains }
+    requires below { HaveNumbersBelow claims.now.chains number }
+    ensures { JudgesChain scheme.now thread (end_locks locking) flow.now claims.now number lock.now result }
+{
+    let Some(chain) = chain_of(claims.chains.as_slice(), number) else {
+        return Err(SectionFault::NoChain { lock: number });
+    };
+    let links = chain.links.as_slice();
+    match first_wrong(alloc, scheme, thread, locking, flow, lock, links)? {
+        None => Ok(()),
+        Some(step) => Err(SectionFault::BrokenChain { lock: number, step }),
+    }
+}
+
+/// Whether each lock of the entry list has its chain, and there is no other.
+pub fn judge_chains(
+    alloc: Global,
+    scheme: &Scheme,
+    thread: u16,
+    locking: Locking,
+    flow: &Flow,
+    claims: &Claims,
+) -> Result<(), SectionFault>
+    requires { DoRise claims.now.chains }
+    ensures { JudgesChains scheme.now thread (end_locks locking) flow.now claims.now result }
+{
+    let entry = claims.entry.as_slice();
+    for number in 0..entry.len() {
+        let lock = &entry[number];
+        judge_chain(alloc, scheme, thread, locking, flow, claims, number, lock)?;
+    }
+    match claims.chains.as_slice().get(entry.len()) {
+        None => Ok(()),
+        Some(chain) => Err(SectionFault::BrokenChain {
+            lock: chain.lock as usize,
+            step: 0,
+        }),
+    }
+}

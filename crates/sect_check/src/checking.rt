@@ -1,0 +1,107 @@
+//! The checker.
+
+ghost use Rattle.std.specs.Prelude.{◌<◌, length, IfOk, IsOkUnless};
+ghost use Rattle.sect_types.specs.Sections.{sections_of};
+ghost use Rattle.sect_cert.specs.Texts.{HasText};
+ghost use Rattle.sect_check.specs.declared.fault.CheckFault.TheVariants.{Memory};
+ghost use Rattle.sect_check.specs.Meaning.{DenotesAll};
+ghost use Rattle.sect_check.specs.Valid.{IsValid, AreEntriesLeast};
+ghost use Rattle.sect_check.specs.Verdicts.{IsRead, Judges};
+ghost use Rattle.sect_check.specs.steps.Resolving.{Resolves, DenotesAt};
+ghost use Rattle.sect_check.specs.steps.Rising.{DoRise};
+ghost use Rattle.sect_check.specs.steps.Parts.{JudgesAt, JudgesCert};
+
+use crate::claiming::claims_of;
+use crate::claims::Claims;
+use crate::fault::{CheckFault, of_section};
+use crate::section::judge_section;
+use crate::unresolved::Unresolved;
+use sect_cert::{Cert, CertSection, Items, read_cert};
+use sect_names::{Scheme, accept};
+use std::alloc::Global;
+
+/// What a certificate claims of the section of this number.
+fn claims_at(
+    alloc: Global,
+    scheme: &Scheme,
+    sections: &[CertSection],
+    number: u16,
+) -> Result<Claims, Unresolved>
+    requires section { number < length (sections_of scheme.now.program.texts) }
+    requires there { number < length sections.now }
+    ensures { Resolves result (DenotesAt scheme.now sections.now number) }
+{
+    scheme.rules();
+    scheme.program().typing();
+    let thread = scheme.program().section(number).thread;
+    let flow = scheme.graph().section(number);
+    claims_of(alloc, scheme, thread, flow, &sections[number as usize])
+}
+
+/// What a certificate claims of each section of a program.
+fn all_claims(alloc: Global, scheme: &Scheme, cert: &Cert) -> Result<Items<Claims>, Unresolved>
+    ensures { Resolves result (DenotesAll scheme.now cert.now) }
+{
+    scheme.rules();
+    scheme.program().typing();
+    let count = scheme.program().section_count();
+    if cert.k != scheme.k() as u32 || cert.sections.len() != count as usize {
+        return Err(Unresolved::Wrong);
+    }
+    let mut all = Vec::new(alloc);
+    for section in 0..count {
+        all.push(claims_at(alloc, scheme, cert.sections.as_slice(), section)?)?;
+    }
+    Ok(Items::from_vec(all))
+}
+
+/// Whether what is claimed of the section of this number is right.
+fn judge_at(alloc: Global, scheme: &Scheme, claims: &Claims, number: u16) -> Result<(), CheckFault>
+    requires section { number < length (sections_of scheme.now.program.texts) }
+    requires rise { DoRise claims.now.chains }
+    ensures { JudgesAt scheme.now number claims.now result }
+{
+    scheme.rules();
+    let thread = scheme.program().section(number).thread;
+    let locking = scheme.program().locking(number);
+    let flow = scheme.graph().section(number);
+    match judge_section(alloc, scheme, thread, locking, flow, claims) {
+        Ok(()) => Ok(()),
+        Err(fault) => Err(of_section(number, fault)),
+    }
+}
+
+/// Whether a certificate that has a text is valid for a program: else its first fault.
+fn judge_cert(alloc: Global, scheme: &Scheme, cert: &Cert) -> Result<(), CheckFault>
+    requires { HasText cert.now }
+    ensures { JudgesCert scheme.now cert.now result }
+{
+    scheme.rules();
+    let all = match all_claims(alloc, scheme, cert) {
+        Ok(all) => all,
+        Err(Unresolved::Memory) => return Err(CheckFault::Memory),
+        Err(Unresolved::Wrong) => return Err(CheckFault::WrongProgram),
+    };
+    let claims = all.as_slice();
+    for section in 0..scheme.program().section_count() {
+        judge_at(alloc, scheme, &claims[section as usize], section)?;
+    }
+    Ok(())
+}
+
+/// Whether these bytes are the text of a certificate that is valid for a source text and paths of at most `k` fields:
+/// else the first fault. The source is judged before the bytes, and those before what the certificate says; sections
+/// are judged in order. `Memory` is answered only where a growth was refused, and none follows a number that the
+/// certificate merely claims.
+pub fn check(alloc: Global, source: &[u8], k: u16, cert: &[u8]) -> Result<(), CheckFault>
+    // The certificate is valid, or the fault is the first that is there.
+    ensures judges { Judges source.now k cert.now result }
+    // A valid certificate is never refused, unless memory runs out.
+    ensures only { IsRead source.now k cert.now IsValid → IsOkUnless result Memory }
+    // The entry lists of a certificate that isn't refused are the least lock sets of the sections.
+    ensures least { IfOk result (λ _. IsRead source.now k cert.now AreEntriesLeast) }
+{
+    let scheme = accept(alloc, source, k)?;
+    let read = read_cert(alloc, cert)?;
+    judge_cert(alloc, &scheme, &read)
+}

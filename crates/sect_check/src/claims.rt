@@ -1,0 +1,20 @@
+//! What a certificate claims of a section, by the program's numbers.
+
+use sect_cert::Items;
+use sect_names::{Link, Lock};
+
+/// A claimed chain: the number of its lock in the entry list, and its steps.
+#[derive(Drop)]
+pub struct ChainClaim {
+    pub lock: u32,
+    pub links: Items<Link>,
+}
+
+/// What is claimed of a section: the locks that are needed from each node on, by its number and the exit counted; those
+/// to take at the entry; and why they are needed.
+#[derive(Drop)]
+pub struct Claims {
+    pub nodes: Items<Items<Lock>>,
+    pub entry: Items<Lock>,
+    pub chains: Items<ChainClaim>,
+}

@@ -1,0 +1,20 @@
+//! The checker of certificates: whether what a certificate says of a program is right. It trusts nothing that was
+//! inferred, and judges by the definitions of locks, of what is carried back and of chains alone.
+#![tactic(auto)]
+
+mod chains;
+mod checking;
+mod claiming;
+mod claims;
+mod covering;
+mod fault;
+pub mod laws;
+mod links;
+mod lists;
+mod locks;
+mod names;
+mod section;
+mod unresolved;
+
+pub use checking::check;
+pub use fault::CheckFault;

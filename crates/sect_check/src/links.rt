@@ -1,0 +1,143 @@
+//! Whether the steps of a claimed chain link to each other.
+
+ghost use Rattle.std.specs.Prelude.{◌≡◌, ◌≤◌, ◌<◌, ◌↔◌, length, slice_get, Some, MatchOption, IfOk, IsTrue};
+ghost use Rattle.sect_graph.specs.Paths.{IsSuccessor};
+ghost use Rattle.sect_names.specs.Needed.{end_locks};
+ghost use Rattle.sect_names.specs.Chains.{link, IsGeneratedAt, LinksTo, IsChain};
+ghost use Rattle.sect_check.specs.Faults.{IsFirst, ComesRight, EndsRight, IsStepRight};
+
+use crate::covering::has;
+use crate::lists::generated_at;
+use sect_front::Locking;
+use sect_graph::{Flow, Successors};
+use sect_names::{Link, Lock, Scheme};
+use std::alloc::{AllocError, Global};
+
+/// The node of this number, unless it is the exit or past it.
+fn node_of(flow: &Flow, number: u32) -> Option<u16>
+    ensures { MatchOption result (length flow.now ≤ number) (λ node. (node ≡ number) × (node < length flow.now)) }
+{
+    if number < flow.exit() as u32 {
+        Some(number as u16)
+    } else {
+        None
+    }
+}
+
+/// Whether control may go on to the node of this number.
+fn leads_to(next: Successors, number: u32) -> bool
+    ensures { IsTrue result ↔ IsSuccessor next number }
+{
+    match next {
+        Successors::Next(node) => node as u32 == number,
+        Successors::Branch(holds, fails) => holds as u32 == number || fails as u32 == number,
+    }
+}
+
+/// Whether the node of a step generates its lock.
+fn is_generated(
+    alloc: Global,
+    scheme: &Scheme,
+    thread: u16,
+    locking: Locking,
+    flow: &Flow,
+    step: &Link,
+) -> bool
+    ensures { IsTrue result ↔ IsGeneratedAt scheme.now thread (end_locks locking) flow.now step.now }
+{
+    if step.node > flow.exit() as u32 {
+        return false;
+    }
+    match generated_at(alloc, scheme, thread, locking, flow, step.node as u16) {
+        Some(lock) => lock == step.lock,
+        None => false,
+    }
+}
+
+/// Whether a step links to another.
+fn links_to(
+    alloc: Global,
+    scheme: &Scheme,
+    thread: u16,
+    flow: &Flow,
+    step: &Link,
+    next: &Link,
+) -> Result<bool, AllocError>
+    ensures { IfOk result (λ it. IsTrue it ↔ LinksTo scheme.now thread flow.now step.now next.now) }
+{
+    let Some(node) = node_of(flow, step.node) else {
+        return Ok(false);
+    };
+    if !leads_to(flow.succ(node), next.node) {
+        return Ok(false);
+    }
+    let carried = scheme.rewrite(alloc, thread, flow.action(node), &next.lock)?;
+    Ok(has(carried.as_slice(), &step.lock))
+}
+
+/// Whether the steps begin at the entry with this lock.
+fn begins(links: &[Link], lock: &Lock) -> bool
+    ensures { IsTrue result ↔ (slice_get links.now 0 ≡ Some (link 0 lock.now)) }
+{
+    match links.first() {
+        Some(step) => step.node == 0 && step.lock == *lock,
+        None => false,
+    }
+}
+
+/// Whether a step that isn't the first is linked to by the one before it, and the last one's lock is generated.
+fn is_right(
+    alloc: Global,
+    scheme: &Scheme,
+    thread: u16,
+    locking: Locking,
+    flow: &Flow,
+    links: &[Link],
+    number: usize,
+) -> Result<bool, AllocError>
+    requires { number < length links.now }
+    ensures { IfOk result (λ it. IsTrue it ↔ (ComesRight scheme.now thread flow.now links.now number
+        × EndsRight scheme.now thread (end_locks locking) flow.now links.now number)) }
+{
+    if number > 0
+        && !links_to(
+            alloc,
+            scheme,
+            thread,
+            flow,
+            &links[number - 1],
+            &links[number],
+        )?
+    {
+        return Ok(false);
+    }
+    Ok(
+        number + 1 < links.len()
+            || is_generated(alloc, scheme, thread, locking, flow, &links[number]),
+    )
+}
+
+/// The first step at which these aren't a chain of the lock.
+pub fn first_wrong(
+    alloc: Global,
+    scheme: &Scheme,
+    thread: u16,
+    locking: Locking,
+    flow: &Flow,
+    lock: &Lock,
+    links: &[Link],
+) -> Result<Option<usize>, AllocError>
+    ensures { IfOk result (λ found. MatchOption found
+        (IsChain scheme.now thread (end_locks locking) flow.now lock.now links.now)
+        (IsFirst (IsStepRight scheme.now thread (end_locks locking) flow.now lock.now links.now))) }
+{
+    if !begins(links, lock) {
+        return Ok(Some(0));
+    }
+    for number in 0..links.len() {
+        if !is_right(alloc, scheme, thread, locking, flow, links, number)? {
+            return Ok(Some(number));
+        }
+    }
+    Ok(None)
+}

@@ -1,0 +1,92 @@
+//! Whether what is claimed of one section is right.
+
+ghost use Rattle.std.specs.Prelude.{◌↔◌, IfOk, IsTrue};
+ghost use Rattle.sect_types.specs.Lists.{Has};
+ghost use Rattle.sect_names.specs.declared.lock.Lock.{Lock};
+ghost use Rattle.sect_names.specs.Needed.{end_locks};
+ghost use Rattle.sect_names.specs.Order.{AreInOrder};
+ghost use Rattle.sect_check.specs.Valid.{AreApart};
+ghost use Rattle.sect_check.specs.steps.Rising.{DoRise};
+ghost use Rattle.sect_check.specs.steps.Parts.{JudgesLists, JudgesEntry, JudgesSection};
+
+use crate::chains::judge_chains;
+use crate::claims::Claims;
+use crate::covering::{are_covered, list_at, set_of};
+use crate::fault::SectionFault;
+use crate::lists::{first_uncarried, first_ungenerated};
+use indexmap::IndexSet;
+use sect_front::Locking;
+use sect_graph::Flow;
+use sect_names::{Lock, Scheme};
+use std::alloc::{AllocError, Global};
+
+/// Whether the lists of the nodes are right.
+fn judge_lists(
+    alloc: Global,
+    scheme: &Scheme,
+    thread: u16,
+    locking: Locking,
+    flow: &Flow,
+    claims: &Claims,
+) -> Result<(), SectionFault>
+    ensures { JudgesLists scheme.now thread (end_locks locking) flow.now claims.now result }
+{
+    if let Some(node) = first_ungenerated(alloc, scheme, thread, locking, flow, claims) {
+        return Err(SectionFault::NotGenerated { node });
+    }
+    match first_uncarried(alloc, scheme, thread, flow, claims)? {
+        None => Ok(()),
+        Some((from, to)) => Err(SectionFault::NotCarried { from, to }),
+    }
+}
+
+/// Whether the list is in canonical order and no lock of it covers another, where the set has the same locks.
+fn is_maximal(
+    alloc: Global,
+    scheme: &Scheme,
+    set: &IndexSet<Lock>,
+    locks: &[Lock],
+) -> Result<bool, AllocError>
+    requires { (l : Lock) → Has set.now.keys l ↔ Has locks.now l }
+    ensures { IfOk result (λ it. IsTrue it ↔ (AreInOrder locks.now × AreApart scheme.now locks.now)) }
+{
+    let maximal = scheme.maximal(alloc, set)?;
+    Ok(maximal.as_slice() == locks)
+}
+
+/// Whether the entry list is right, but for its chains, where the set has the same locks.
+fn judge_entry(
+    alloc: Global,
+    scheme: &Scheme,
+    claims: &Claims,
+    set: &IndexSet<Lock>,
+) -> Result<(), SectionFault>
+    requires { (l : Lock) → Has set.now.keys l ↔ Has claims.now.entry l }
+    ensures { JudgesEntry scheme.now claims.now result }
+{
+    if !are_covered(scheme, set, list_at(claims, 0))? {
+        return Err(SectionFault::EntryNotCovered);
+    }
+    if !is_maximal(alloc, scheme, set, claims.entry.as_slice())? {
+        return Err(SectionFault::NotMaximal);
+    }
+    Ok(())
+}
+
+/// Whether what is claimed of a section is right: else its first fault.
+pub fn judge_section(
+    alloc: Global,
+    scheme: &Scheme,
+    thread: u16,
+    locking: Locking,
+    flow: &Flow,
+    claims: &Claims,
+) -> Result<(), SectionFault>
+    requires { DoRise claims.now.chains }
+    ensures { JudgesSection scheme.now thread (end_locks locking) flow.now claims.now result }
+{
+    judge_lists(alloc, scheme, thread, locking, flow, claims)?;
+    let set = set_of(alloc, claims.entry.as_slice())?;
+    judge_entry(alloc, scheme, claims, &set)?;
+    judge_chains(alloc, scheme, thread, locking, flow, claims)
+}

@@ -16,6 +16,7 @@ pub record CompiledView : Type 0 where
   pub sets : List (List Lock)
   pub parts : List (List Grip)
 
+-- its program
 abbrev pub program_of : CompiledView → ProgramView
 program_of c = c.scheme.program
 

@@ -39,6 +39,7 @@ MakesLocked s t a None i =
     (n : ℕ) × (slice_get s.classes.numbers i ≡ Some n) × Generated s t (label.Act a) (lock.Class n right.Make)
 MakesLocked s t a (Some g) i = Generated s t (label.Act a) (lock.Path (var (Global g)) effect.Write)
 
+-- the statement needs of itself the locks for what it looks into and for what it makes
 abbrev pub NeedsItsAccess : SchemeView → ℕ → StoreView → WorkView → Action → Type 0
 NeedsItsAccess s t store w (action.Assign x v) = ⊤
 NeedsItsAccess s t store w (action.Compute x v o u) = ⊤

@@ -27,9 +27,11 @@ use Rattle.sect_emit.specs.declared.plan.Grip.{Grip}
 use Rattle.sect_types.specs.Store.{ObjectView, StoreView, object_at}
 use Rattle.sect_types.specs.Meaning.{datum_or_null, local_datum}
 
+-- a key in a mode
 abbrev pub grip : Key → Mode → Grip
 grip k m = record { key = k; mode = m }
 
+-- the key of an object
 abbrev pub key_of : ObjectName → Key
 key_of (object.Global g) = key.Global g
 key_of (object.Made t n) = key.Made t n
@@ -87,6 +89,7 @@ AreFixedWishes s (l ∷ ls) gs =
 abbrev pub IsFixedPart : SchemeView → List Lock → List Grip → Type 0
 IsFixedPart s locks part = (wishes : List Grip) × AreFixedWishes s locks wishes × (part ≡ gathered wishes)
 
+-- what a field of the object holds, and of the object that a datum refers to; null where there is no such object
 abbrev pub field_datum : Option ObjectView → ℕ → Datum
 field_datum None f = Null
 field_datum (Some o) f = datum_or_null (slice_get o.fields f)
@@ -106,6 +109,7 @@ abbrev pub path_datum : StoreView → List Datum → PathView → Datum
 path_datum s locals (var v) = variable_datum locals v
 path_datum s locals (dot p f) = field_of s (path_datum s locals p) f.number
 
+-- the key that a path asks for which denotes this
 abbrev pub object_wish : Datum → Mode → List Grip
 object_wish (Number n) m = []
 object_wish Null m = []
@@ -128,6 +132,7 @@ abbrev pub held_mode : Key → List Grip → Option Mode
 held_mode k [] = None
 held_mode k (g ∷ gs) = if is_same_key k g.key then Some g.mode else held_mode k gs
 
+-- the key is held, at least as strongly
 abbrev pub is_met : Option Mode → Mode → Bool
 is_met None m = false
 is_met (Some n) m = is_at_least n m

@@ -25,6 +25,7 @@ pub record ThreadState : Type 0 where
   pub wanted : List Grip
   pub held : List Grip
 
+-- the store, what has been delivered, and the threads
 pub record State : Type 0 where
   pub store : StoreView
   pub output : List ℤ
@@ -34,6 +35,7 @@ pub record State : Type 0 where
 abbrev pub outside : FrameView → ThreadState
 outside f = record { position = Outside; frame = f; wanted = []; held = [] }
 
+-- the state in which runs start, with so much fuel for each thread
 abbrev pub start : CompiledView → ℕ → State
 start c fuel = record {
   store = first_store (program_of c);

@@ -35,10 +35,11 @@ pub in_passes : (test : Mode → Bool) (o : Option Mode) → IsIn test o → pas
 in_passes test o (m, is, h) = subst (λ z. passes test z ≡ true) (sym is) h
 
 module _ (c : CompiledView) (for_key for_class : Mode → Bool) where
-  -- all objects are held in X, or an object's key or its class is held so
+  -- an object's key or its class is held so
   abbrev pub IsHeldPart : List Grip → ObjectName → ObjectView → Type 0
   IsHeldPart held o x = IsIn for_key (held_mode (key_of o) held) ⊎ IsIn for_class (mode_of_class c held x.site)
 
+  -- all objects are held in X, or this one is held so
   abbrev pub IsHeldBy : List Grip → ObjectName → ObjectView → Type 0
   IsHeldBy held o x = (holds_all held ≡ true) ⊎ IsHeldPart held o x
 

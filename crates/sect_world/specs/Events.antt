@@ -70,23 +70,27 @@ abbrev pub IsOver : Position → Option Fault → Type 0
 IsOver p None = (i : ℕ) × (p ≡ Running i Stop)
 IsOver p (Some why) = (i : ℕ) × (p ≡ Faulted i why)
 
--- the thread as it enters a section with this plan, takes its first key, begins the section, and gives all back
+-- the thread as it enters a section with this plan
 abbrev pub entering : List Grip → ThreadState → ThreadState
 entering plan th = record th { position = Entered; wanted = plan }
 
+-- as it comes to hold the first key that it wants, and wants the rest
 abbrev pub taking : Key → Mode → List Grip → ThreadState → ThreadState
 taking k m rest th = record th { wanted = rest; held = th.held ++ grip k m ∷ [] }
 
+-- as it begins section i, and is to go on with the rest after it
 abbrev pub beginning : ℕ → TextView → TextView → ThreadState → ThreadState
 beginning i body rest th = record th { position = Running i body; frame = record th.frame { text = rest } }
 
+-- as it gives all back
 abbrev pub giving_back : ThreadState → ThreadState
 giving_back th = record th { position = Outside; held = [] }
 
--- the thread with another frame, and a frame with other work
+-- with another frame
 abbrev pub with_frame : FrameView → ThreadState → ThreadState
 with_frame f th = record th { frame = f }
 
+-- a frame with other work
 abbrev pub with_work : WorkView → FrameView → FrameView
 with_work w f = record f { work = w }
 
@@ -101,11 +105,12 @@ acting c t i (On rest w change) th = record {
 acting c t i (Off why w) th =
     record { position = Faulted i why; frame = with_work w th.frame; wanted = th.wanted; held = th.held }
 
--- the store after that step, and the state
+-- the store after that step
 abbrev pub changed_by : ℕ → Next → StoreView → StoreView
 changed_by t (On rest w change) s = after_change t s change
 changed_by t (Off why w) s = s
 
+-- the state after the next step of thread t in section i
 abbrev pub after_act : CompiledView → ℕ → ℕ → ThreadState → Next → State → State
 after_act c t i th n s =
     record { store = changed_by t n s.store; output = s.output; threads = put_at t (acting c t i n th) s.threads }
@@ -114,11 +119,12 @@ after_act c t i th n s =
 abbrev pub emptied : WorkView → WorkView
 emptied w = record w { printed = [] }
 
--- the frame of a thread that leaves its section, and the state then
+-- the frame of a thread that leaves its section
 abbrev pub frame_out : Option Fault → FrameView → FrameView
 frame_out None f = settled f.text (emptied f.work)
 frame_out (Some why) f = failed why f.text (emptied f.work)
 
+-- the state once thread t has left its section
 abbrev pub after_leave : ℕ → Option Fault → ThreadState → State → State
 after_leave t how th s = record {
   store = s.store;

@@ -37,13 +37,16 @@ is_held_at c for_key for_class held o None = false
 is_held_at c for_key for_class held o (Some x) =
     holds_all held || (passes for_key (held_mode (key_of o) held) || passes for_class (mode_of_class c held x.site))
 
+-- the same of an object of the store; none that isn't there
 abbrev pub is_held : CompiledView → (Mode → Bool) → (Mode → Bool) → StoreView → List Grip → ObjectName → Bool
 is_held c for_key for_class s held o = is_held_at c for_key for_class held o (object_at s o)
 
+-- the object of the guard if there is one, else this one
 abbrev pub guard_or : Option ℕ → ObjectName → ObjectName
 guard_or None o = o
 guard_or (Some g) o = object.Global g
 
+-- the object that is locked for one that is this, if it is there
 abbrev pub locked_object_at : CompiledView → ObjectName → Option ObjectView → ObjectName
 locked_object_at c o None = o
 locked_object_at c o (Some x) = guard_or (guard_at c x.site) o
@@ -67,6 +70,7 @@ abbrev pub may_make_by : CompiledView → StoreView → List Grip → ℕ → Op
 may_make_by c s held site None = holds_all held || passes is_making (mode_of_class c held site)
 may_make_by c s held site (Some g) = is_held c is_writing is_writing s held (object.Global g)
 
+-- the same, by the guard of the site's record
 abbrev pub may_make : CompiledView → StoreView → List Grip → ℕ → Bool
 may_make c s held site = may_make_by c s held site (guard_at c site)
 
@@ -76,11 +80,13 @@ pub data Access : Type 0 where
   Storing : ObjectName → Access
   Making : ℕ → Access
 
+-- who holds these keys may do this with objects
 abbrev pub may : CompiledView → StoreView → List Grip → Access → Bool
 may c s held (Loading o) = may_read c s held o
 may c s held (Storing o) = may_write c s held o
 may c s held (Making site) = may_make c s held site
 
+-- a load from the object, and a store to it, if there is one
 abbrev pub load_of : Option ObjectName → Option Access
 load_of None = None
 load_of (Some o) = Some (Loading o)
@@ -89,6 +95,7 @@ abbrev pub store_of : Option ObjectName → Option Access
 store_of None = None
 store_of (Some o) = Some (Storing o)
 
+-- what a statement does with objects
 abbrev pub access_of : Action → List Datum → Option Access
 access_of (action.Assign x v) locals = None
 access_of (action.Compute x v o u) locals = None
@@ -97,10 +104,12 @@ access_of (action.Load x b f) locals = load_of (name_in (base_datum locals b))
 access_of (action.Store b f v) locals = store_of (name_in (base_datum locals b))
 access_of (action.Print v) locals = None
 
+-- nothing where no unit of fuel is left
 abbrev pub if_paid : ℕ → Option Access → Option Access
 if_paid zero a = None
 if_paid (suc n) a = a
 
+-- what the first statement of a text does
 abbrev pub access_in : TextView → List Datum → Option Access
 access_in Stop locals = None
 access_in (Do a rest) locals = access_of a locals

@@ -32,6 +32,7 @@ IsPlaced Entered th = (th.frame.ended ≡ None) × Ascends (th.held ++ th.wanted
 IsPlaced (Running i k) th = (th.frame.ended ≡ None) × (th.wanted ≡ [])
 IsPlaced (Faulted i why) th = (th.frame.ended ≡ None) × (th.wanted ≡ [])
 
+-- by the place where it is
 abbrev pub AsksInOrder : ThreadState → Type 0
 AsksInOrder th = IsPlaced th.position th
 
@@ -49,6 +50,7 @@ pub record IsTextOf (p : ProgramView) (t : ℕ) (inside : Bool) (k : TextView) :
   pub listed : Each (λ a. Has (statements_of p) (thread_action t a))
       (λ i b. slice_get (sections_of p.texts) i ≡ Some (record { thread = t; body = b })) k
 
+-- the object is there
 abbrev pub IsObject : StoreView → ObjectName → Type 0
 IsObject s o = (x : ObjectView) × (object_at s o ≡ Some x)
 
@@ -97,6 +99,7 @@ IsAt c s t Entered th =
 IsAt c s t (Running i k) th = IsTextOf (program_of c) t true k
 IsAt c s t (Faulted i why) th = ⊤
 
+-- what holds of thread t
 pub record IsThreadKept (c : CompiledView) (s : StoreView) (t : ℕ) (th : ThreadState) : Type 0 where
   pub asks : AsksInOrder th
   pub at : IsAt c s t th.position th
@@ -112,6 +115,7 @@ AreCompatible s =
     (t u : ℕ) (th other : ThreadState) (k : Key) (m n : Mode) → t ≢ u → IsThread s t th → IsThread s u other
     → held_mode k th.held ≡ Some m → held_mode k other.held ≡ Some n → are_compatible m n ≡ true
 
+-- what holds of the whole state
 pub record IsWellKept (c : CompiledView) (s : State) : Type 0 where
   pub as_many : length s.threads ≡ length (program_of c).texts
   pub store : IsStoreKept c s.store

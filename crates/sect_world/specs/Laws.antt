@@ -24,6 +24,7 @@ EveryRunIsSerial c =
 abbrev pub StatesAreWellKept : CompiledView → Type 0
 StatesAreWellKept c = (fuel : ℕ) (trace : List Event) (s : State) → IsRun c fuel trace s → IsWellKept c s
 
+-- no state of a run is stuck
 abbrev pub NoStateIsStuck : CompiledView → Type 0
 NoStateIsStuck c = (fuel : ℕ) (trace : List Event) (s : State) → IsRun c fuel trace s → IsStuck s → ⊥
 

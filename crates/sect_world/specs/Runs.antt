@@ -18,6 +18,7 @@ RunsTo c s (e ∷ es) after = (between : State) × Happens c s e between × Runs
 abbrev pub IsRun : CompiledView → ℕ → List Event → State → Type 0
 IsRun c fuel trace s = RunsTo c (start c fuel) trace s
 
+-- the thread, where it leaves a section
 abbrev pub leaver : ℕ → Deed → List ℕ
 leaver t Local = []
 leaver t Enter = []

@@ -13,7 +13,7 @@ use Rattle.sect_names.specs.Carrying.{CarriedBack}
 use Rattle.sect_check.specs.declared.claims.Claims.{Claims}
 use Rattle.sect_check.specs.Valid.{list_at, AreCarriedInto, CoversCarried}
 use Rattle.sect_check.specs.Faults.{IsFirst}
-use Rattle.sect_check.proofs.Indices.{told_at, told_of}
+use Rattle.sect_types.proofs.Places.{told_at, told_of}
 
 module _ (s : SchemeView) (t : ℕ) (g : List Node) (c : Claims) (i : ℕ) (label : Label) (next : Successors)
     (label_at : option_map (λ (x : Node). x.label) (slice_get g i) ≡ Some label) (next_at : option_map (λ (x : Node). x.next) (slice_get g i) ≡ Some next)

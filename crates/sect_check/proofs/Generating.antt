@@ -12,7 +12,7 @@ use Rattle.sect_names.specs.Carrying.{Generated, CarriedBack}
 use Rattle.sect_names.specs.Chains.{link, IsGeneratedAt}
 use Rattle.sect_check.specs.declared.claims.Claims.{Claims}
 use Rattle.sect_check.specs.Valid.{list_at, CoversGenerated, AreCarriedInto}
-use Rattle.sect_check.proofs.Indices.{told_at, told_of}
+use Rattle.sect_types.proofs.Places.{told_at, told_of}
 use Rattle.sect_check.proofs.Scanning.{each_more}
 
 module _ (s : SchemeView) (t : ℕ) (last : List Lock) (g : List Node) (j : ℕ) where

@@ -24,7 +24,7 @@ use Rattle.sect_check.specs.Faults.{IsFaultAt}
 use Rattle.sect_check.specs.Verdicts.{of_section}
 use Rattle.sect_check.specs.steps.Resolving.{Resolves, DenotesAt}
 use Rattle.sect_check.specs.steps.Parts.{IsFaultHere, JudgesAt, JudgesCert}
-use Rattle.sect_check.proofs.Indices.{at_of, one_at, pushed_at}
+use Rattle.sect_types.proofs.Places.{at_of, one_at, pushed_at}
 
 -- what the end of a section generates goes by which locks it takes
 pub end_is : (s : SchemeView) (i : ℕ) (l : Locking) → slice_get s.program.lockings i ≡ Some l → end_locks l ≡ end_of s i

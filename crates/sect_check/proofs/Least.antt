@@ -22,7 +22,7 @@ use Rattle.sect_cert.specs.declared.certificate.Cert.{Cert}
 use Rattle.sect_check.specs.declared.claims.Claims.{Claims}
 use Rattle.sect_check.specs.Meaning.{IsSectionAt}
 use Rattle.sect_check.specs.Valid.{list_at, IsValidSection, IsValid, AreEntriesLeast}
-use Rattle.sect_check.proofs.Indices.{Has-index, at_of}
+use Rattle.sect_types.proofs.Places.{Has-index, at_of}
 
 module _ (s : SchemeView) (t : ℕ) (last : List Lock) (g : List Node) where
   -- a path from a node begins with what the node does

@@ -1,6 +1,4 @@
-pub mod Indices
 pub mod Scanning
-pub mod Naming
 pub mod Standing
 pub mod Resolving
 pub mod Generating
@@ -12,7 +10,6 @@ pub mod Judging
 pub mod Excluding
 pub mod Unique
 pub mod Least
-pub mod Alike
 pub mod Either
 pub mod Chaining
 pub mod Answering

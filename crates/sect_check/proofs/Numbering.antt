@@ -16,7 +16,7 @@ use Rattle.sect_check.specs.declared.claims.ChainClaim.{ChainClaim}
 use Rattle.sect_check.specs.Meaning.{DenotesChain, DenotesAll}
 use Rattle.sect_check.specs.Faults.{IsStray}
 use Rattle.sect_check.specs.steps.Rising.{DoRise, HasNumber, HaveNumbersBelow}
-use Rattle.sect_check.proofs.Indices.{Has-index, at_of, one_at}
+use Rattle.sect_types.proofs.Places.{Has-index, at_of, one_at}
 
 module _ (chains : List ChainClaim) (rise : DoRise chains) where
   -- a chain's number isn't below its place

@@ -20,7 +20,7 @@ use Rattle.sect_check.specs.declared.unresolved.Unresolved.{Unresolved}
 use Rattle.sect_check.specs.declared.unresolved.Unresolved.TheVariants.{Memory, Wrong}
 use Rattle.sect_check.specs.Names.{path_named}
 use Rattle.sect_check.specs.steps.Resolving.{Resolves}
-use Rattle.sect_check.proofs.Indices.{Has-index}
+use Rattle.sect_types.proofs.Places.{Has-index}
 use Rattle.sect_check.proofs.Standing.{path_stands}
 
 -- one pair more

@@ -32,13 +32,13 @@ BeginsRight l links i = i ≡ 0 → slice_get links 0 ≡ Some (link 0 l)
 
 -- where a step stands before it, that one links to it
 abbrev pub ComesRight : SchemeView → ℕ → List Node → List Link → ℕ → Type 0
-ComesRight s t g links i = (h : ℕ) (a b : Link) → i ≡ h + 1 → slice_get links h ≡ Some a → slice_get links i ≡ Some b
-    → LinksTo s t g a b
+ComesRight s t g links i =
+    (h : ℕ) (a b : Link) → i ≡ h + 1 → slice_get links h ≡ Some a → slice_get links i ≡ Some b → LinksTo s t g a b
 
 -- where it is the last step, its lock is generated
 abbrev pub EndsRight : SchemeView → ℕ → List Lock → List Node → List Link → ℕ → Type 0
-EndsRight s t last g links i = (a : Link) → i + 1 ≡ length links → slice_get links i ≡ Some a
-    → IsGeneratedAt s t last g a
+EndsRight s t last g links i =
+    (a : Link) → i + 1 ≡ length links → slice_get links i ≡ Some a → IsGeneratedAt s t last g a
 
 -- step i of the claimed chain of a lock is as it is to be
 abbrev pub IsStepRight : SchemeView → ℕ → List Lock → List Node → Lock → List Link → ℕ → Type 0
@@ -72,8 +72,8 @@ HaveChainsBefore s t last g c n = (m : ℕ) → m < n → HasItsChain s t last g
 
 -- lock n is the first without its chain, and no chain has its number
 abbrev pub LacksChain : SchemeView → ℕ → List Lock → List Node → Claims → ℕ → Type 0
-LacksChain s t last g c n = (n < length c.entry) × HaveChainsBefore s t last g c n
-    × ((x : ChainClaim) → IsClaimed c n x → ⊥)
+LacksChain s t last g c n =
+    (n < length c.entry) × HaveChainsBefore s t last g c n × ((x : ChainClaim) → IsClaimed c n x → ⊥)
 
 -- lock n is the first without its chain, and the one that has its number is first wrong at step i; or each lock has its
 -- chain, and n is the least number of a chain of no lock
@@ -86,11 +86,11 @@ BreaksChain s t last g c n i =
 abbrev pub IsFaultOf : SchemeView → ℕ → List Lock → List Node → Claims → SectionFault → Type 0
 IsFaultOf s t last g c fault.Memory = ⊤
 IsFaultOf s t last g c (fault.NotGenerated j) = IsFirst (CoversGenerated s t last g c) j
-IsFaultOf s t last g c (fault.NotCarried i j) = ((m : ℕ) → CoversGenerated s t last g c m)
-    × IsFirstPair (CoversCarried s t g c) i j
+IsFaultOf s t last g c (fault.NotCarried i j) =
+    ((m : ℕ) → CoversGenerated s t last g c m) × IsFirstPair (CoversCarried s t g c) i j
 IsFaultOf s t last g c fault.EntryNotCovered = AreListsRight s t last g c × (AreCovered s c.entry (list_at c 0) → ⊥)
-IsFaultOf s t last g c fault.NotMaximal = AreListsRight s t last g c × AreCovered s c.entry (list_at c 0)
-    × (AreInOrder c.entry × AreApart s c.entry → ⊥)
+IsFaultOf s t last g c fault.NotMaximal =
+    AreListsRight s t last g c × AreCovered s c.entry (list_at c 0) × (AreInOrder c.entry × AreApart s c.entry → ⊥)
 IsFaultOf s t last g c (fault.NoChain n) = IsEntryRight s t last g c × LacksChain s t last g c n
 IsFaultOf s t last g c (fault.BrokenChain n i) = IsEntryRight s t last g c × BreaksChain s t last g c n i
 

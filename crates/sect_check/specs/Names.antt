@@ -39,10 +39,8 @@ variable_named p t x = or_variable (local_named p t x) (global_named p x)
 
 -- the field of this name of record r
 abbrev pub field_named : TreeView → ℕ → List ℕ → Option Field
-field_named p r x = option_map (λ i. record {
-  of = r;
-  number = i;
-}) (place x (slice_index_or (all_fields p.records) r []))
+field_named p r x =
+    option_map (λ i. record { of = r; number = i }) (place x (slice_index_or (all_fields p.records) r []))
 
 -- the record to whose objects a type refers
 abbrev pub referred : ValueType → Option ℕ
@@ -71,8 +69,8 @@ base_named p t (base.Name x) = variable_named p t x
 base_named p t (base.InCall x n) = None
 
 abbrev pub path_named : ProgramView → ℕ → CertPath → Option PathView
-path_named p t q = option_and_then (λ v. path_from p (var v) (record_of_variable p v) q.fields)
-    (base_named p.source t q.base)
+path_named p t q =
+    option_and_then (λ v. path_from p (var v) (record_of_variable p v) q.fields) (base_named p.source t q.base)
 
 -- the lock that the words of a certificate name in thread t
 abbrev pub lock_named : ProgramView → ℕ → CertLock → Option Lock

@@ -38,8 +38,8 @@ AreCarriedInto s t step list locks = (l r : Lock) → Has locks l → CarriedBac
 
 -- where control may go on from node i to node j, what is carried back from the list of j is covered by that of i
 abbrev pub CoversCarried : SchemeView → ℕ → List Node → Claims → ℕ → ℕ → Type 0
-CoversCarried s t g c i j = (x : Node) → slice_get g i ≡ Some x → LeadsTo x j
-    → AreCarriedInto s t x.label (list_at c i) (list_at c j)
+CoversCarried s t g c i j =
+    (x : Node) → slice_get g i ≡ Some x → LeadsTo x j → AreCarriedInto s t x.label (list_at c i) (list_at c j)
 
 -- no lock of the list covers another
 abbrev pub AreApart : SchemeView → List Lock → Type 0
@@ -81,8 +81,8 @@ pub record IsValid (s : SchemeView) (a : Cert) : Type 0 where
 -- the entry list of this section of a certificate stands for the section's least lock set, in canonical order
 abbrev pub HasLeastEntry : SchemeView → ℕ → SectionView → CertSection → Type 0
 HasLeastEntry s i of x =
-    (locks : List Lock) × AllZip (Denotes s of.thread) x.entry locks × IsLeast s of.thread (end_of s i) of.body locks
-    × AreInOrder locks
+    (locks : List Lock) × AllZip (Denotes s of.thread) x.entry locks
+    × IsLeast s of.thread (end_of s i) of.body locks × AreInOrder locks
 
 -- so does that of each section of the program
 abbrev pub AreEntriesLeast : SchemeView → Cert → Type 0

@@ -67,6 +67,6 @@ abbrev pub Judges : {A : Type 0} → List ℕ → ℕ → List ℕ → Result A 
 Judges source k bytes (Ok x) = IsRead source k bytes IsValid
 Judges source k bytes (Err fault.Memory) = ⊤
 Judges source k bytes (Err (fault.Source r)) = (r ≢ refusal.Memory) × IsDue source k r
-Judges source k bytes (Err (fault.Text f)) = ((s : SchemeView) × IsAccepted source k s) × (f ≢ text.Memory)
-    × texts.Judges bytes (Err f)
+Judges source k bytes (Err (fault.Text f)) =
+    ((s : SchemeView) × IsAccepted source k s) × (f ≢ text.Memory) × texts.Judges bytes (Err f)
 Judges source k bytes (Err f) = IsRead source k bytes (λ s a. IsCertFault s a f)

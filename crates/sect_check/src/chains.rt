@@ -10,8 +10,8 @@ ghost use Rattle.sect_check.specs.steps.Parts.{JudgesChain, JudgesChains};
 use crate::claims::{ChainClaim, Claims};
 use crate::fault::SectionFault;
 use crate::links::first_wrong;
-use sect_front::Locking;
-use sect_graph::Flow;
+use sect_front::tree::Locking;
+use sect_graph::flow::Flow;
 use sect_names::{Lock, Scheme};
 use std::alloc::Global;
 
@@ -20,8 +20,8 @@ use std::alloc::Global;
 fn chain_of(chains: &[ChainClaim], number: usize) -> Option<&ChainClaim>
     requires rise { DoRise chains.now }
     requires below { HaveNumbersBelow chains.now number }
-    ensures { MatchOption result (HasNumber chains.now number
-        → ⊥) (λ chain. Has chains.now chain.now × (chain.now.lock ≡ number)) }
+    ensures { MatchOption result (HasNumber chains.now number → ⊥)
+        (λ chain. Has chains.now chain.now × (chain.now.lock ≡ number)) }
 {
     let chain = chains.get(number)?;
     if chain.lock as usize == number {

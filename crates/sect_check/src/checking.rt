@@ -90,8 +90,8 @@ fn judge_cert(alloc: Global, scheme: &Scheme, cert: &Cert) -> Result<(), CheckFa
 }
 
 /// Whether these bytes are the text of a certificate that is valid for a source text and paths of at most `k` fields:
-/// else the first fault. The source is judged before the bytes, and those before what the certificate says; sections
-/// are judged in order. `Memory` is answered only where a growth was refused, and none follows a number that the
+/// else the first fault. The source is judged before the bytes, those before what the certificate says, and that
+/// section by section. `Memory` is answered only where a growth was refused, and none follows a number that the
 /// certificate merely claims.
 pub fn check(alloc: Global, source: &[u8], k: u16, cert: &[u8]) -> Result<(), CheckFault>
     // The certificate is valid, or the fault is the first that is there.

@@ -12,10 +12,10 @@ ghost use Rattle.sect_check.specs.Faults.{IsFirst, IsFirstPair};
 use crate::claims::Claims;
 use crate::covering::{are_covered, is_covered, list_at, set_of};
 use indexmap::IndexSet;
-use sect_front::Locking;
-use sect_graph::{Flow, Successors};
+use sect_front::tree::Locking;
+use sect_graph::flow::{Flow, Successors};
 use sect_names::{Lock, Scheme};
-use sect_types::Label;
+use sect_types::action::Label;
 use std::alloc::{AllocError, Global};
 
 /// What the end of a section generates: the lock on all where the section takes that.
@@ -76,9 +76,10 @@ pub fn first_ungenerated(
     flow: &Flow,
     claims: &Claims,
 ) -> Option<u16>
-    ensures none { IfNone result ((j : ℕ)
-        → CoversGenerated scheme.now thread (end_locks locking) flow.now claims.now j) }
-    ensures some { IfSome result (IsFirst (CoversGenerated scheme.now thread (end_locks locking) flow.now claims.now)) }
+    ensures none { IfNone result ((j : ℕ) →
+        CoversGenerated scheme.now thread (end_locks locking) flow.now claims.now j) }
+    ensures some { IfSome result
+        (IsFirst (CoversGenerated scheme.now thread (end_locks locking) flow.now claims.now)) }
 {
     for node in 0..flow.exit() + 1 {
         if !covers_generated(alloc, scheme, thread, locking, flow, claims, node) {
@@ -136,8 +137,8 @@ fn first_uncarried_from(
     from: u16,
 ) -> Result<Option<u16>, AllocError>
     requires { from < length flow.now }
-    ensures none { IfOk result (λ found. IfNone found ((j : ℕ)
-        → CoversCarried scheme.now thread flow.now claims.now from j)) }
+    ensures none { IfOk result (λ found. IfNone found ((j : ℕ) →
+        CoversCarried scheme.now thread flow.now claims.now from j)) }
     ensures some { IfOk result (λ found. IfSome found
         (IsFirst (CoversCarried scheme.now thread flow.now claims.now from))) }
 {
@@ -165,10 +166,10 @@ pub fn first_uncarried(
     flow: &Flow,
     claims: &Claims,
 ) -> Result<Option<(u16, u16)>, AllocError>
-    ensures none { IfOk result (λ found. IfNone found ((i j : ℕ)
-        → CoversCarried scheme.now thread flow.now claims.now i j)) }
-    ensures some { IfOk result (λ found. IfSome found
-        (λ e. IsFirstPair (CoversCarried scheme.now thread flow.now claims.now) e.0 e.1)) }
+    ensures none { IfOk result (λ found. IfNone found ((i j : ℕ) →
+        CoversCarried scheme.now thread flow.now claims.now i j)) }
+    ensures some { IfOk result (λ found. IfSome found (λ e.
+        IsFirstPair (CoversCarried scheme.now thread flow.now claims.now) e.0 e.1)) }
 {
     for from in 0..flow.exit() {
         if let Some(to) = first_uncarried_from(alloc, scheme, thread, flow, claims, from)? {

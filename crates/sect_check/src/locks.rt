@@ -68,8 +68,8 @@ fn path_lock(
     effect: Effect,
 ) -> Result<Lock, Unresolved>
     requires { thread < length scheme.now.program.locals }
-    ensures { Resolves result (λ m. (option_map (λ x. lock.Path x effect) (path_by scheme.now.program thread named.now)
-        ≡ Some m)
+    ensures { Resolves result (λ m.
+        (option_map (λ x. lock.Path x effect) (path_by scheme.now.program thread named.now) ≡ Some m)
         × IsLockOf scheme.now thread m) }
 {
     let path = path_named(alloc, scheme.program(), thread, named)?;
@@ -81,8 +81,8 @@ fn path_lock(
 
 /// The class of this number.
 fn class_of(scheme: &Scheme, number: u32) -> Option<u16>
-    ensures { MatchOption result (Has scheme.now.classes.numbers number
-        → ⊥) (λ class. (class ≡ number) × Has scheme.now.classes.numbers number) }
+    ensures { MatchOption result (Has scheme.now.classes.numbers number → ⊥)
+        (λ class. (class ≡ number) × Has scheme.now.classes.numbers number) }
 {
     if number < scheme.classes().class_count() as u32 {
         Some(number as u16)

@@ -9,7 +9,7 @@ use Rattle.sect_types.specs.Lists.{Has}
 use Rattle.sect_types.proofs.Membership.{Has-cases, Has-left, Has-right}
 use Rattle.sect_names.specs.declared.lock.Lock.{Lock}
 use Rattle.sect_names.proofs.Making.{last_of, so_far}
-use Rattle.sect_names.proofs.Telling.{any_tells}
+use Rattle.sect_names.proofs.Inserting.{behind}
 use Rattle.sect_infer.specs.declared.need.Need.{Need}
 use Rattle.sect_infer.specs.steps.Needs.{need, IsAdded, AreByNode}
 
@@ -40,21 +40,6 @@ put_at lists to x new there put m within y =
             λ h. subst (λ l. Has l y) (sym here) (elim h [ inl a ↦ a | inr b ↦ absurd (n b.0) ]),
           )
     ]
-
--- one element behind a list
-pub behind : {X : Type 0} (xs : List X) (x y : X) → Has (xs ++ x ∷ []) y ↔ (Has xs y ⊎ (y ≡ x))
-behind xs x y = (
-  λ h. elim (Has-cases xs (x ∷ []) y h) [ inl a ↦ inl a | inr b ↦ elim b [ inl e ↦ inr (sym e) | inr k ↦ absurd k ] ],
-  λ h. elim h [ inl a ↦ Has-left xs (x ∷ []) y a | inr e ↦ Has-right xs (x ∷ []) y (inl (sym e)) ],
-)
-
--- an element that is inserted where it isn't there
-pub inserted : {X : Type 0} (eq : X → X → Bool) → ((x y : X) → Decides (eq x y) (x ≡ y)) → (xs : List X) (x y : X) → Has (if list_any (eq x) xs then xs else xs ++ x ∷ []) y ↔ (Has xs y ⊎ (y ≡ x))
-inserted {X} eq tells xs x y = go (list_any (eq x) xs) (any_tells eq tells xs x)
-  where
-    go : (b : Bool) → ((b ≡ true) ↔ Has xs x) → Has (if b then xs else xs ++ x ∷ []) y ↔ (Has xs y ⊎ (y ≡ x))
-    go true t = (λ h. inl h, λ h. elim h [ inl a ↦ a | inr e ↦ subst (Has xs) (sym e) (t.0 refl) ])
-    go false t = behind xs x y
 
 -- the locks of one need more
 pub by_next : (count : ℕ) (kept : List Need) (i : ℕ) (x : Need) (old new : List (List Lock)) → i < length kept → x ≡ get_or kept i x → length new ≡ length old → IsAdded old new x.node x.lock

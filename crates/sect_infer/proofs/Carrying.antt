@@ -6,6 +6,7 @@ use Rattle.std.proofs.lemmas.List.{take_all}
 use Rattle.std.proofs.lemmas.Option.{slice_get_within}
 use Rattle.sect_types.specs.Lists.{Has}
 use Rattle.sect_types.proofs.Membership.{Has-get_or}
+use Rattle.sect_types.proofs.Places.{one_at}
 use Rattle.sect_graph.specs.declared.flow.Node.{Node}
 use Rattle.sect_names.specs.declared.lock.Lock.{Lock}
 use Rattle.sect_names.specs.Schemes.{SchemeView}
@@ -14,17 +15,6 @@ use Rattle.sect_infer.specs.declared.need.Need.{Need}
 use Rattle.sect_infer.specs.steps.Needs.{need, IsSeed, CarriesTo, Grows, AreBefore}
 use Rattle.sect_names.proofs.Making.{last_of, so_far}
 use Rattle.sect_infer.proofs.Growing.{grows_none, grows_as, grows_then, same_need}
-
--- the node of which the graph tells something
-pub node_at : {X : Type 0} (f : Node → X) (g : List Node) (j : ℕ) (x : X) → option_map f (slice_get g j) ≡ Some x → (y : Node) × (slice_get g j ≡ Some y) × (f y ≡ x)
-node_at {X} f g j x e = go (slice_get g j) refl e
-  where
-    go : (o : Option Node) → slice_get g j ≡ o → option_map f o ≡ Some x → (y : Node) × (slice_get g j ≡ Some y) × (f y ≡ x)
-    go None at e = absurd cc
-    go (Some y) at e = (y, at, let q : f y ≡ x = cc in q)
-
-pub same_node : (g : List Node) (j : ℕ) (y z : Node) → slice_get g j ≡ Some y → slice_get g j ≡ Some z → y ≡ z
-same_node g j y z e f = cc
 
 module _ (s : SchemeView) (t : ℕ) (g : List Node) where
   -- the seeds at the nodes below j
@@ -36,7 +26,7 @@ module _ (s : SchemeView) (t : ℕ) (g : List Node) where
     at_node : (x : Need) → x.node ≡ j → IsSeed s t g x → o ≡ Some x.lock
     at_node x e (z, f, h) =
         let here = subst (λ k. slice_get g k ≡ Some z) e f in
-        (tells x.lock).1 (subst (λ w. Generated s t w.label x.lock) (same_node g j z y here at) h)
+        (tells x.lock).1 (subst (λ w. Generated s t w.label x.lock) (one_at g j z y here at) h)
 
     below : (x : Need) → x.node < j + 1 → (x.node < j) ⊎ (x.node ≡ j)
     below x h = elim (cases_lt x.node j) [ inl a ↦ inl a | inr b ↦ inr (omega (arith, h, b)) ]
@@ -89,7 +79,7 @@ module _ (s : SchemeView) (t : ℕ) (g : List Node) where
         grows_as old new (λ x. CarriesToFirst i x ⊎ ((x.node ≡ j) × CarriedBack s t y.label n.lock x.lock)) (CarriesToFirst (i + 1))
         (λ x h. elim (last_of nodes i j x.node within is h.0) [
           | inl a ↦ inl (a, h.1)
-          | inr e ↦ (let same = same_node g j h.1.0 y (subst (λ k. slice_get g k ≡ Some h.1.0) e h.1.1) at in
+          | inr e ↦ (let same = one_at g j h.1.0 y (subst (λ k. slice_get g k ≡ Some h.1.0) e h.1.1) at in
               inr (e, subst (λ z. CarriedBack s t z.label n.lock x.lock) same h.1.3))
         ])
         (λ x h. elim h [

@@ -3,6 +3,7 @@ use Rattle.std.proofs.Common.{◌≡◌, ◌↔◌, ℕ, zero, suc, ◌+◌, ◌
 use Rattle.std.specs.Prelude.{slice_get, slice_index_or}
 use Rattle.std.proofs.lemmas.Bool.{cases_lt}
 use Rattle.std.proofs.lemmas.Option.{slice_get_within, get_or_from_slice_get}
+use Rattle.sect_types.proofs.Places.{pushed_at}
 use Rattle.sect_types.specs.Lists.{Has}
 use Rattle.sect_types.specs.Statements.{TextView}
 use Rattle.sect_types.specs.Traces.{Visit}
@@ -25,13 +26,6 @@ use Rattle.sect_infer.specs.Sets.{LocksView, AreNeeded, AreLocksOf}
 use Rattle.sect_infer.proofs.Working.{derived_lock}
 use Rattle.sect_infer.proofs.Meaning.{derived_from}
 
--- what a list that is longer by one has at a place
-pub at_longer : {X : Type 0} (xs : List X) (x : X) (i : ℕ) (y : X) → slice_get (xs ++ x ∷ []) i ≡ Some y → (slice_get xs i ≡ Some y) ⊎ ((i ≡ length xs) × (x ≡ y))
-at_longer [] x zero y e = inr (refl, let f : x ≡ y = cc in f)
-at_longer [] x (suc i) y e = absurd cc
-at_longer (z ∷ xs) x zero y e = inl e
-at_longer (z ∷ xs) x (suc i) y e = elim (at_longer xs x i y e) [ inl a ↦ inl a | inr b ↦ inr (ap suc b.0, b.1) ]
-
 -- the first lists have their maximal locks
 pub record AreMaximalSoFar (s : SchemeView) (nodes lists : List (List Lock)) (j : ℕ) : Type 0 where
   pub count : length lists ≡ j
@@ -44,9 +38,9 @@ pub one_so_far : (s : SchemeView) (nodes lists : List (List Lock)) (j : ℕ) (ke
     → AreMaximalSoFar s nodes (lists ++ kept ∷ []) (j + 1)
 one_so_far s nodes lists j kept max so = record {
   count = omega (arith, length-append lists (kept ∷ []), so.count);
-  each = λ i locks at. elim (at_longer lists kept i locks at) [
-    | inl a ↦ so.each i locks a
-    | inr b ↦ subst (λ k. AreMaximal s (Has (slice_index_or nodes k [])) locks) (sym (b.0 ∙ so.count)) (subst (AreMaximal s (Has (slice_index_or nodes j []))) b.1 max)
+  each = λ i locks at. elim (pushed_at lists kept locks i at) [
+    | inl a ↦ subst (λ k. AreMaximal s (Has (slice_index_or nodes k [])) locks) (sym (a.0 ∙ so.count)) (subst (AreMaximal s (Has (slice_index_or nodes j []))) a.1 max)
+    | inr b ↦ so.each i locks b
   ];
 }
 
@@ -57,7 +51,7 @@ all_so_far s nodes lists j is so = record { count = so.count ∙ is; each = so.e
 pub one_on_all : (lists : List (List Lock)) (n : ℕ) (more : List Lock) → more ≡ lock.All ∷ [] → AreAllOnAll n lists → AreAllOnAll (n + 1) (lists ++ more ∷ [])
 one_on_all lists n more is so = record {
   counted = omega (arith, length-append lists (more ∷ []), so.counted);
-  each = λ j locks at. elim (at_longer lists more j locks at) [ inl a ↦ so.each j locks a | inr b ↦ sym b.1 ∙ is ];
+  each = λ j locks at. elim (pushed_at lists more locks j at) [ inl a ↦ sym a.1 ∙ is | inr b ↦ so.each j locks b ];
 }
 
 -- the first of some lists

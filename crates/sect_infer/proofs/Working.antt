@@ -8,6 +8,7 @@ use Rattle.std.proofs.lemmas.Map.Made.{length-le_from_is_member}
 use Rattle.std.proofs.lemmas.Option.{slice_get_within, get_or_from_slice_get, slice_get-get_or}
 use Rattle.sect_types.specs.Lists.{Has}
 use Rattle.sect_types.proofs.Membership.{Has-left, Has-slice_get}
+use Rattle.sect_types.proofs.Places.{Has-index}
 use Rattle.sect_graph.specs.declared.flow.Node.{Node}
 use Rattle.sect_names.specs.Schemes.{SchemeView}
 use Rattle.sect_names.specs.Locks.{IsLockOf}
@@ -18,10 +19,6 @@ use Rattle.sect_infer.specs.contracts.need.NeedPartialEq.TheImpl.{ghosts as the_
 use Rattle.sect_infer.specs.contracts.need.NeedEq.TheImpl.Laws.{laws-law as the_need_laws}
 use Rattle.sect_infer.specs.steps.Needs.{need, IsSeed, CarriesTo, Derived, IsDerived, Grows, AreLawful}
 use Rattle.sect_infer.proofs.Growing.{need_tells}
-
-Has-index : {X : Type 0} (xs : List X) (x : X) → Has xs x → (i : ℕ) × (slice_get xs i ≡ Some x)
-Has-index [] x h = absurd h
-Has-index (y ∷ xs) x h = elim h [ inl e ↦ (0, ap (λ z. Some z) e) | inr k ↦ (let r = Has-index xs x k in (suc r.0, r.1)) ]
 
 -- every lock of the program at every node
 pub all_needs : SchemeView → List Node → List Need

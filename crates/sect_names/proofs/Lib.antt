@@ -30,3 +30,5 @@ pub mod Walking
 pub mod AtNodes
 pub mod Needing
 pub mod Ends
+pub mod Inserting
+pub mod Alike

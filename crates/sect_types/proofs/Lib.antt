@@ -28,3 +28,5 @@ pub mod ProgramTexts
 pub mod WholeRows
 pub mod Changed
 pub mod SameData
+pub mod Places
+pub mod Naming

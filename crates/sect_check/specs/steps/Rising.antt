@@ -5,8 +5,8 @@ use Rattle.sect_check.specs.declared.claims.ChainClaim.{ChainClaim}
 
 -- they rise
 abbrev pub DoRise : List ChainClaim → Type 0
-DoRise chains = (i j : ℕ) (x y : ChainClaim) → i < j → slice_get chains i ≡ Some x → slice_get chains j ≡ Some y
-    → x.lock < y.lock
+DoRise chains =
+    (i j : ℕ) (x y : ChainClaim) → i < j → slice_get chains i ≡ Some x → slice_get chains j ≡ Some y → x.lock < y.lock
 
 -- a chain has this number
 abbrev pub HasNumber : List ChainClaim → ℕ → Type 0

@@ -1,7 +1,7 @@
-use Rattle.std.proofs.Common.{length, sym, arith}
+use Rattle.std.proofs.Common.{length, sym, arith, refl}
 use Rattle.std.proofs.lemmas.Bool.{ltb-false, ltb-true}
 use Rattle.sect_types.proofs.Membership.{Has-slice_get}
-use Rattle.sect_check.proofs.Indices.{at_item}
+use Rattle.std.proofs.lemmas.Option.{slice_get_read}
 use Rattle.sect_check.proofs.Numbering.{no_more, another_there}
 use Rattle.sect_check.proofs.chains.chain_of.Goals as goal
 
@@ -16,7 +16,7 @@ returns-then-chain-number c =
     let chains = c.args.chains.now in
     let look = c.in_ok-chain.ensures.lookup in
     let chain = c.in_ok-chain.chain.now in
-    let at = at_item chains c.args.number chain (ltb-true c.args.number (length chains) (sym look.0)) look.1 in
+    let at = slice_get_read chains (length chains) c.args.number chain refl (ltb-true c.args.number (length chains) (sym look.0)) look.1 in
     (Has-slice_get chains c.args.number chain at, c.if-chain-number.true)
 
 pub returns-else-chain-number : goal.returns-else-chain-number
@@ -24,5 +24,5 @@ returns-else-chain-number c =
     let chains = c.args.chains.now in
     let look = c.in_ok-chain.ensures.lookup in
     let chain = c.in_ok-chain.chain.now in
-    let at = at_item chains c.args.number chain (ltb-true c.args.number (length chains) (sym look.0)) look.1 in
+    let at = slice_get_read chains (length chains) c.args.number chain refl (ltb-true c.args.number (length chains) (sym look.0)) look.1 in
     another_there chains c.requires.rise c.args.number c.requires.below chain at c.if-chain-number.false

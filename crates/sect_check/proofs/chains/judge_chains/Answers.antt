@@ -1,10 +1,10 @@
-use Rattle.std.proofs.Common.{◌≡◌, ◌≤◌, List, Some, length, ap, sym, subst, arith}
+use Rattle.std.proofs.Common.{◌≡◌, ◌≤◌, List, Some, length, ap, sym, subst, arith, refl}
 use Rattle.std.specs.Prelude.{slice_get}
 use Rattle.std.proofs.lemmas.Bool.{ltb-false, ltb-true}
 use Rattle.sect_names.specs.declared.lock.Lock.{Lock}
 use Rattle.sect_names.specs.Needed.{end_locks}
 use Rattle.sect_check.specs.declared.claims.ChainClaim.{ChainClaim}
-use Rattle.sect_check.proofs.Indices.{at_item}
+use Rattle.std.proofs.lemmas.Option.{slice_get_read}
 use Rattle.sect_check.proofs.Chaining.{numbers_below, chain_passed, chains_more, chains_done, no_others, stray_breaks}
 use Rattle.sect_check.proofs.chains.judge_chains.Goals as goal
 
@@ -18,7 +18,7 @@ returns-in_err-judge_chain c =
     let entry = c.as_slice-entry.result.now in
     let n = c.loop-number.number in
     let l = c.index-entry-number.result in
-    let at = subst (λ (ls : List Lock). slice_get ls n ≡ Some l) c.as_slice-entry.ensures (at_item entry n l c.loop-number-test.true c.index-entry-number.is) in
+    let at = subst (λ (ls : List Lock). slice_get ls n ≡ Some l) c.as_slice-entry.ensures (slice_get_read entry (length entry) n l refl c.loop-number-test.true c.index-entry-number.is) in
     chain_passed c.args.scheme.now c.args.thread (end_locks c.args.locking) c.args.flow.now c.args.claims.now n l at c.loop-number.invariant (Unit {0})
     c.from_residual.result c.in_err-judge_chain.field-0.0 c.from_residual.ensures.1 c.in_err-judge_chain.ensures
 
@@ -27,7 +27,7 @@ loop-number-preserved c =
     let entry = c.as_slice-entry.result.now in
     let n = c.loop-number.number in
     let l = c.index-entry-number.result in
-    let at = subst (λ (ls : List Lock). slice_get ls n ≡ Some l) c.as_slice-entry.ensures (at_item entry n l c.loop-number-test.true c.index-entry-number.is) in
+    let at = subst (λ (ls : List Lock). slice_get ls n ≡ Some l) c.as_slice-entry.ensures (slice_get_read entry (length entry) n l refl c.loop-number-test.true c.index-entry-number.is) in
     chains_more c.args.scheme.now c.args.thread (end_locks c.args.locking) c.args.flow.now c.args.claims.now n l at c.loop-number.invariant c.in_ok-judge_chain.ensures
 
 pub returns-in-None : goal.returns-in-None
@@ -51,6 +51,6 @@ returns-in-Some c =
     let chains = c.as_slice.result.now in
     let look = c.in-Some.ensures.lookup in
     let past : length claims.entry ≤ n = omega (arith, c.loop-number-test.false, ap length c.as_slice-entry.ensures) in
-    let found = at_item chains (length entry) chain (ltb-true (length entry) (length chains) (sym look.0)) look.1 in
+    let found = slice_get_read chains (length chains) (length entry) chain refl (ltb-true (length entry) (length chains) (sym look.0)) look.1 in
     let at = subst (λ (xs : List ChainClaim). slice_get xs (length claims.entry) ≡ Some chain) c.as_slice.ensures (subst (λ k. slice_get chains k ≡ Some chain) (ap length c.as_slice-entry.ensures) found) in
     stray_breaks c.args.scheme.now c.args.thread (end_locks c.args.locking) c.args.flow.now claims n past c.loop-number.invariant c.requires chain at

@@ -1,8 +1,8 @@
-use Rattle.std.proofs.Common.{◌<◌, ◌≤◌, length, arith, sym, ap, ◌∙◌, subst}
+use Rattle.std.proofs.Common.{◌<◌, ◌≤◌, length, arith, sym, ap, ◌∙◌, subst, refl}
 use Rattle.sect_types.specs.Programs.{ProgramView}
 use Rattle.sect_types.specs.Sections.{sections_of}
 use Rattle.sect_check.specs.Meaning.{DenotesAll}
-use Rattle.sect_check.proofs.Indices.{at_item}
+use Rattle.std.proofs.lemmas.Option.{slice_get_read}
 use Rattle.sect_check.proofs.Judging.{passes_on, valid_more, all_valid}
 use Rattle.sect_check.proofs.Numbering.{all_rise}
 use Rattle.sect_check.proofs.checking.judge_cert.Goals as goal
@@ -17,7 +17,7 @@ returns-in_err-judge_at c =
     let count = c.section_count-section-end.ensures.count ∙ ap (λ (p : ProgramView). length (sections_of p.texts)) c.program.ensures in
     let within : n < length all = omega (arith, c.loop-section-test.true, count, denoted.count, denoted.sections) in
     let claims = c.index-claims-section.result in
-    passes_on s a all denoted n claims (at_item all n claims within c.index-claims-section.is) c.loop-section.invariant (Unit {0}) c.from_residual.result c.in_err-judge_at.field-0.0 c.from_residual.ensures.1 c.in_err-judge_at.ensures
+    passes_on s a all denoted n claims (slice_get_read all (length all) n claims refl within c.index-claims-section.is) c.loop-section.invariant (Unit {0}) c.from_residual.result c.in_err-judge_at.field-0.0 c.from_residual.ensures.1 c.in_err-judge_at.ensures
 
 pub loop-section-preserved : goal.loop-section-preserved
 loop-section-preserved c =
@@ -29,7 +29,7 @@ loop-section-preserved c =
     let count = c.section_count-section-end.ensures.count ∙ ap (λ (p : ProgramView). length (sections_of p.texts)) c.program.ensures in
     let within : n < length all = omega (arith, c.loop-section-test.true, count, denoted.count, denoted.sections) in
     let claims = c.index-claims-section.result in
-    valid_more s a all denoted n claims (at_item all n claims within c.index-claims-section.is) c.loop-section.invariant c.in_ok-judge_at.field-0 c.in_ok-judge_at.ensures
+    valid_more s a all denoted n claims (slice_get_read all (length all) n claims refl within c.index-claims-section.is) c.loop-section.invariant c.in_ok-judge_at.field-0 c.in_ok-judge_at.ensures
 
 pub returns : goal.returns
 returns c =
@@ -51,4 +51,4 @@ judge_at-requires-clause-rise c =
     let count = c.section_count-section-end.ensures.count ∙ ap (λ (p : ProgramView). length (sections_of p.texts)) c.program.ensures in
     let within : n < length all = omega (arith, c.loop-section-test.true, count, denoted.count, denoted.sections) in
     let claims = c.index-claims-section.result in
-    all_rise s c.rules.ensures a c.requires all denoted n claims (at_item all n claims within c.index-claims-section.is)
+    all_rise s c.rules.ensures a c.requires all denoted n claims (slice_get_read all (length all) n claims refl within c.index-claims-section.is)

@@ -1,10 +1,10 @@
-use Rattle.std.proofs.Common.{◌≡◌, List, Some, length, ap, sym, ◌∙◌, subst, arith}
+use Rattle.std.proofs.Common.{◌≡◌, List, Some, length, ap, sym, ◌∙◌, subst, arith, refl}
 use Rattle.std.specs.Prelude.{slice_get}
 use Rattle.std.proofs.lemmas.Bool.{ltb-true}
 use Rattle.sect_front.specs.TreeView.{TreeView}
 use Rattle.sect_front.specs.declared.tree.Record.{Record}
-use Rattle.sect_check.proofs.Indices.{at_item}
-use Rattle.sect_check.proofs.Naming.{few_fields}
+use Rattle.std.proofs.lemmas.Option.{slice_get_read}
+use Rattle.sect_types.proofs.Naming.{few_fields}
 use Rattle.sect_check.proofs.names.field_named.Goals as goal
 
 pub overflow_cast-result : goal.overflow_cast-result
@@ -13,7 +13,7 @@ overflow_cast-result c =
     let shape = c.in_ok-shape.shape.now in
     let records = c.records.result.now in
     let look = c.in_ok-shape.ensures.lookup in
-    let at = at_item records c.args.of shape (ltb-true c.args.of (length records) (sym look.0)) look.1 in
+    let at = slice_get_read records (length records) c.args.of shape refl (ltb-true c.args.of (length records) (sym look.0)) look.1 in
     let there = subst (λ (l : List Record). slice_get l c.args.of ≡ Some shape) (c.records.ensures ∙ ap (λ (t : TreeView). t.records) c.tree.ensures.tree) at in
     let few = few_fields p c.tree.ensures.numbers c.typing.ensures.limits c.args.of shape there in
     omega (arith, few, c.in_ok-number.ensures.within, ap length c.as_slice.ensures)

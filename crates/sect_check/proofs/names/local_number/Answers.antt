@@ -1,7 +1,7 @@
 use Rattle.std.proofs.Common.{◌≡◌, get_or, length, ap, ◌∙◌, arith}
 use Rattle.sect_front.specs.TreeView.{TreeView}
 use Rattle.sect_front.specs.declared.tree.Thread.{Thread}
-use Rattle.sect_check.proofs.Naming.{few_locals}
+use Rattle.sect_types.proofs.Naming.{few_locals}
 use Rattle.sect_check.proofs.names.local_number.Goals as goal
 
 pub overflow_cast-result : goal.overflow_cast-result

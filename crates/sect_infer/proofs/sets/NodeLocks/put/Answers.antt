@@ -6,7 +6,8 @@ use Rattle.sect_names.specs.declared.lock.Lock.{Lock}
 use Rattle.sect_names.specs.contracts.lock.LockPartialEq.TheImpl.{ghosts as the_lock_eq}
 use Rattle.sect_names.proofs.Telling.{lock_tells}
 use Rattle.sect_infer.specs.steps.Needs.{IsAdded}
-use Rattle.sect_infer.proofs.Adding.{map-set, put_at, inserted}
+use Rattle.sect_names.proofs.Inserting.{inserted}
+use Rattle.sect_infer.proofs.Adding.{map-set, put_at}
 use Rattle.sect_infer.proofs.sets.NodeLocks.put.Goals as goal
 
 pub returns-clause-added : goal.returns-clause-added

@@ -1,29 +1,20 @@
--- Elements of lists and their indices.
-use Rattle.std.proofs.Common.{◌≡◌, ◌↔◌, ◌⊎◌, ◌∙◌, ℕ, zero, suc, ◌<◌, List, [], ◌∷◌, ◌++◌, length, get_or, Bool, true, false, Option, Some, None, refl, sym, ap, subst, inl, inr, arith}
-use Rattle.std.specs.Prelude.{slice_get, option_map, if◌then◌else◌}
-use Rattle.std.specs.Bool.{Decides}
-use Rattle.std.specs.List.{list_any}
-use Rattle.std.proofs.lemmas.Option.{slice_get-get_or}
+-- Elements of lists and the places where they stand.
+use Rattle.std.proofs.Common.{◌≡◌, ◌⊎◌, ◌∙◌, ℕ, zero, suc, ◌<◌, List, [], ◌∷◌, ◌++◌, length, Option, Some, None, refl, ap, inl, inr, arith}
+use Rattle.std.specs.Prelude.{slice_get, option_map}
 use Rattle.sect_types.specs.Lists.{Has}
-use Rattle.sect_types.proofs.Membership.{Has-cases, Has-left, Has-right}
-use Rattle.sect_names.proofs.Telling.{any_tells}
 
--- what a list has stands at some index
+-- what a list has stands at some place
 pub Has-index : {X : Type 0} (xs : List X) (x : X) → Has xs x → (i : ℕ) × (slice_get xs i ≡ Some x)
 Has-index [] x h = absurd h
 Has-index (y ∷ xs) x h = elim h [ inl e ↦ (0, ap (λ z. Some z) e) | inr k ↦ (let r = Has-index xs x k in (suc r.0, r.1)) ]
 
--- what stands at an index
+-- what stands at a place
 pub at_of : {X : Type 0} (xs : List X) (i : ℕ) → i < length xs → (x : X) × (slice_get xs i ≡ Some x)
 at_of [] i h = absurd (omega (arith, h))
 at_of (x ∷ xs) zero h = (x, refl)
 at_of (x ∷ xs) (suc i) h = at_of xs i (omega (arith, h))
 
--- the element that a look-up gives stands at the index
-pub at_item : {X : Type 0} (xs : List X) (i : ℕ) (x : X) → i < length xs → x ≡ get_or xs i x → slice_get xs i ≡ Some x
-at_item xs i x within is = slice_get-get_or xs i x within ∙ ap (λ z. Some z) (sym is)
-
--- one thing alone stands at an index
+-- one thing alone stands at a place
 pub one_at : {X : Type 0} (xs : List X) (i : ℕ) (x y : X) → slice_get xs i ≡ Some x → slice_get xs i ≡ Some y → x ≡ y
 one_at xs i x y a b = let e : x ≡ y = cc in e
 
@@ -44,14 +35,3 @@ pushed_at [] y x zero at = inl (refl, cc)
 pushed_at [] y x (suc i) at = absurd cc
 pushed_at (z ∷ xs) y x zero at = inr at
 pushed_at (z ∷ xs) y x (suc i) at = elim (pushed_at xs y x i at) [ inl a ↦ inl (omega (arith, a.0), a.1) | inr b ↦ inr b ]
-
--- an element that is inserted where it isn't there
-pub inserted : {X : Type 0} (eq : X → X → Bool) → ((x y : X) → Decides (eq x y) (x ≡ y)) → (xs : List X) (x y : X) → Has (if list_any (eq x) xs then xs else xs ++ x ∷ []) y ↔ (Has xs y ⊎ (y ≡ x))
-inserted {X} eq tells xs x y = go (list_any (eq x) xs) (any_tells eq tells xs x)
-  where
-    go : (b : Bool) → ((b ≡ true) ↔ Has xs x) → Has (if b then xs else xs ++ x ∷ []) y ↔ (Has xs y ⊎ (y ≡ x))
-    go true t = (λ h. inl h, λ h. elim h [ inl a ↦ a | inr e ↦ subst (Has xs) (sym e) (t.0 refl) ])
-    go false t = (
-      λ h. elim (Has-cases xs (x ∷ []) y h) [ inl a ↦ inl a | inr b ↦ elim b [ inl e ↦ inr (sym e) | inr k ↦ absurd k ] ],
-      λ h. elim h [ inl a ↦ Has-left xs (x ∷ []) y a | inr e ↦ Has-right xs (x ∷ []) y (inl (sym e)) ],
-    )

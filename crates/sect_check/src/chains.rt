@@ -10,8 +10,8 @@ ghost use Rattle.sect_check.specs.steps.Parts.{JudgesChain, JudgesChains};
 use crate::claims::{ChainClaim, Claims};
 use crate::fault::SectionFault;
 use crate::links::first_wrong;
-use sect_front::tree::Locking;
-use sect_graph::flow::Flow;
+use sect_front::Locking;
+use sect_graph::Flow;
 use sect_names::{Lock, Scheme};
 use std::alloc::Global;
 

@@ -8,7 +8,7 @@ mod claiming;
 mod claims;
 mod covering;
 mod fault;
-pub mod laws;
+mod laws;
 mod links;
 mod lists;
 mod locks;
@@ -18,3 +18,4 @@ mod unresolved;
 
 pub use checking::check;
 pub use fault::CheckFault;
+pub use laws::valid_entry_lists_are_least;

@@ -12,10 +12,10 @@ ghost use Rattle.sect_check.specs.Faults.{IsFirst, IsFirstPair};
 use crate::claims::Claims;
 use crate::covering::{are_covered, is_covered, list_at, set_of};
 use indexmap::IndexSet;
-use sect_front::tree::Locking;
-use sect_graph::flow::{Flow, Successors};
+use sect_front::Locking;
+use sect_graph::{Flow, Successors};
 use sect_names::{Lock, Scheme};
-use sect_types::action::Label;
+use sect_types::Label;
 use std::alloc::{AllocError, Global};
 
 /// What the end of a section generates: the lock on all where the section takes that.

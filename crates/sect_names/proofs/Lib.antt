@@ -1,6 +1,7 @@
 pub mod Paths
 pub mod Classed
 pub mod Telling
+pub mod Untouched
 pub mod Generating
 pub mod Making
 pub mod Replacing

@@ -215,6 +215,7 @@ impl Scheme {
                     rebased(Variable::Local(thread, target), &start, path)?,
                 )
             }
+            Action::Store(_, field, _) if !path.follows(field) => alone(alloc, path.try_clone()?),
             Action::Store(base, field, value) => {
                 let z = variable_of(thread, base);
                 before_store(self, alloc, z, field, variable_in(thread, value), path)

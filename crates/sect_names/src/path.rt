@@ -2,6 +2,7 @@
 
 ghost use Rattle.std.specs.Prelude.{◌≡◌, ◌↔◌, IfOk, OnOk, IsTrue, length};
 ghost use Rattle.std.specs.Ordering.{as_partial_cmp};
+ghost use Rattle.sect_types.specs.Lists.{Has};
 ghost use Rattle.std.specs.Cmp.{partial_equiv_from_equiv};
 ghost use Rattle.std.specs.Cmp.Rules.{comparing};
 ghost use Rattle.std.proofs.Common.{rules};
@@ -61,6 +62,13 @@ impl Path {
         ensures depth { length result.now ≡ depth self.now }
     {
         self.fields.as_slice()
+    }
+
+    /// Whether it follows this field.
+    pub fn follows(&self, field: Field) -> bool
+        ensures { IsTrue result ↔ Has (fields_of self.now) field }
+    {
+        self.fields().contains(&field)
     }
 
     /// Whether it is the path of this variable alone.

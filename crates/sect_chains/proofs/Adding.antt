@@ -4,7 +4,6 @@ use Rattle.std.specs.Prelude.{slice_index_or}
 use Rattle.std.proofs.lemmas.Bool.{cases_eq}
 use Rattle.std.proofs.lemmas.List.{get_or-set_same, get_or-set_other}
 use Rattle.sect_types.specs.Lists.{Has}
-use Rattle.sect_types.proofs.Membership.{Has-cases, Has-left, Has-right}
 use Rattle.sect_chains.specs.steps.Lists.{IsAdded}
 
 -- an element that is set, seen through a map
@@ -36,10 +35,3 @@ put_at lists to x new there put m within y =
             λ h. subst (λ l. Has l y) (sym here) (elim h [ inl a ↦ a | inr b ↦ absurd (n b.0) ]),
           )
     ]
-
--- one element behind a list
-pub behind : {X : Type 0} (xs : List X) (x y : X) → Has (xs ++ x ∷ []) y ↔ (Has xs y ⊎ (y ≡ x))
-behind xs x y = (
-  λ h. elim (Has-cases xs (x ∷ []) y h) [ inl a ↦ inl a | inr b ↦ elim b [ inl e ↦ inr (sym e) | inr k ↦ absurd k ] ],
-  λ h. elim h [ inl a ↦ Has-left xs (x ∷ []) y a | inr e ↦ Has-right xs (x ∷ []) y (inl (sym e)) ],
-)

@@ -1,11 +1,12 @@
 -- Steps whose locks are generated, and steps that link to others.
-use Rattle.std.proofs.Common.{◌≡◌, ◌↔◌, ◌⊎◌, ℕ, ◌+◌, ◌<◌, ◌≤◌, List, [], Option, Some, None, inl, inr, refl, sym, ap, ◌∙◌, subst, take, length, get_or, arith}
-use Rattle.std.specs.Prelude.{slice_get, option_map}
+use Rattle.std.proofs.Common.{◌≡◌, ◌↔◌, ◌⊎◌, ℕ, ◌+◌, ◌<◌, ◌≤◌, List, [], Option, Some, None, inl, inr, sym, ap, ◌∙◌, subst, take, length, get_or, arith}
+use Rattle.std.specs.Prelude.{slice_get}
 use Rattle.std.proofs.lemmas.Bool.{cases_lt}
 use Rattle.std.proofs.lemmas.List.{take_all}
 use Rattle.std.proofs.lemmas.Option.{slice_get_within}
 use Rattle.sect_types.specs.Lists.{Has}
 use Rattle.sect_types.proofs.Membership.{Has-get_or, Has-left}
+use Rattle.sect_types.proofs.Places.{one_at}
 use Rattle.sect_graph.specs.declared.flow.Node.{Node}
 use Rattle.sect_names.specs.declared.link.Link.{Link}
 use Rattle.sect_names.specs.declared.lock.Lock.{Lock}
@@ -15,18 +16,6 @@ use Rattle.sect_names.specs.Chains.{link, IsGeneratedAt, LinksTo}
 use Rattle.sect_names.proofs.Making.{last_of, so_far}
 use Rattle.sect_chains.specs.steps.Trails.{Grows, AreBefore}
 use Rattle.sect_chains.proofs.Growing.{grows_none, grows_as, grows_then, same_link}
-
--- the node of which the graph tells something
-pub node_at : {X : Type 0} (f : Node → X) (g : List Node) (j : ℕ) (x : X) → option_map f (slice_get g j) ≡ Some x → (y : Node) × (slice_get g j ≡ Some y) × (f y ≡ x)
-node_at {X} f g j x e = go (slice_get g j) refl e
-  where
-    go : (o : Option Node) → slice_get g j ≡ o → option_map f o ≡ Some x → (y : Node) × (slice_get g j ≡ Some y) × (f y ≡ x)
-    go None at e = absurd cc
-    go (Some y) at e = (y, at, let q : f y ≡ x = cc in q)
-
--- a node has one number
-pub same_node : (g : List Node) (j : ℕ) (y z : Node) → slice_get g j ≡ Some y → slice_get g j ≡ Some z → y ≡ z
-same_node g j y z e f = cc
 
 module _ (s : SchemeView) (t : ℕ) (g : List Node) where
   -- the node of the step generates its lock
@@ -42,7 +31,7 @@ module _ (s : SchemeView) (t : ℕ) (g : List Node) where
     at_node : (a : Link) → a.node ≡ j → IsGeneratedByNode a → o ≡ Some a.lock
     at_node a e (z, f, h) =
         let here = subst (λ k. slice_get g k ≡ Some z) e f in
-        (tells a.lock).1 (subst (λ w. Generated s t w.label a.lock) (same_node g j z y here at) h)
+        (tells a.lock).1 (subst (λ w. Generated s t w.label a.lock) (one_at g j z y here at) h)
 
     below : (a : Link) → a.node < j + 1 → (a.node < j) ⊎ (a.node ≡ j)
     below a h = elim (cases_lt a.node j) [ inl k ↦ inl k | inr k ↦ inr (omega (arith, h, k)) ]
@@ -116,7 +105,7 @@ module _ (s : SchemeView) (t : ℕ) (g : List Node) where
         grows_as old new (λ a. LinksFromFirst i a ⊎ ((a.node ≡ j) × CarriedBack s t y.label b.lock a.lock)) (LinksFromFirst (i + 1))
         (λ a h. elim (last_of nodes i j a.node within is h.0) [
           | inl c ↦ inl (c, h.1)
-          | inr e ↦ (let same = same_node g j h.1.0 y (subst (λ k. slice_get g k ≡ Some h.1.0) e h.1.1) at in
+          | inr e ↦ (let same = one_at g j h.1.0 y (subst (λ k. slice_get g k ≡ Some h.1.0) e h.1.1) at in
               inr (e, subst (λ z. CarriedBack s t z.label b.lock a.lock) same h.1.3))
         ])
         (λ a h. elim h [

@@ -11,17 +11,7 @@ use Rattle.std.proofs.lemmas.Slice.Zip.{all_zipped_more}
 use Rattle.std.proofs.lemmas.Option.{slice_get_within, get_or_from_slice_get, slice_get-get_or}
 use Rattle.sect_types.specs.Lists.{Has}
 use Rattle.sect_types.proofs.Membership.{Has-right, Has-slice_get}
-
--- what stands in a list stands at an index
-pub Has-index : {X : Type 0} (xs : List X) (x : X) → Has xs x → (i : ℕ) × (slice_get xs i ≡ Some x)
-Has-index [] x h = absurd h
-Has-index (y ∷ xs) x h = elim h [ inl e ↦ (0, ap (λ z. Some z) e) | inr k ↦ (let r = Has-index xs x k in (suc r.0, r.1)) ]
-
--- what stands at an index
-pub at_of : {X : Type 0} (xs : List X) (i : ℕ) → i < length xs → (x : X) × (slice_get xs i ≡ Some x)
-at_of [] i h = absurd (omega (arith, h))
-at_of (x ∷ xs) zero h = (x, refl)
-at_of (x ∷ xs) (suc i) h = at_of xs i (omega (arith, h))
+use Rattle.sect_types.proofs.Places.{Has-index}
 
 -- what is read at an index, and turns out to be this, stands there
 pub read_at : {X : Type 0} (xs : List X) (i : ℕ) (r x : X) → i < length xs → r ≡ get_or xs i r → r ≡ x → slice_get xs i ≡ Some x

@@ -9,7 +9,7 @@ use Rattle.sect_graph.specs.declared.flow.Successors.{Successors}
 use Rattle.sect_graph.specs.Paths.{LeadsTo, IsSuccessor}
 use Rattle.sect_chains.specs.steps.Lists.{IsAdded}
 use Rattle.sect_chains.specs.steps.Trails.{StaysWithin, AreAllBefore}
-use Rattle.sect_chains.proofs.Carrying.{node_at}
+use Rattle.sect_types.proofs.Places.{told_at}
 
 -- each list has the predecessors that are below a node
 pub record AreBeforeSo (g : List Node) (j : ℕ) (lists : List (List ℕ)) : Type 0 where
@@ -81,5 +81,5 @@ added_two next k l old mid new j is long a b m within x =
 -- where control goes on to from a node is a node or the exit
 pub goes_within : (g : List Node) → StaysWithin g → (j : ℕ) (next : Successors) (m : ℕ) → option_map (λ y. y.next) (slice_get g j) ≡ Some next → IsSuccessor next m → m ≤ length g
 goes_within g stays j next m is leads =
-    let node = node_at (λ (y : Node). y.next) g j next is in
+    let node = told_at (λ (y : Node). y.next) g j next is in
     stays j m node.0 node.1 (subst (λ n. IsSuccessor n m) (sym node.2) leads)

@@ -1,10 +1,11 @@
 -- Which step each of the kept ones links to, and the chains that come of it.
-use Rattle.std.proofs.Common.{◌≡◌, ◌↔◌, ℕ, ◌<◌, List, [], ◌∷◌, ◌++◌, Option, Some, None, length, inl, inr, sym, ap, subst, arith, append_assoc}
+use Rattle.std.proofs.Common.{◌≡◌, ◌↔◌, ℕ, List, [], ◌∷◌, ◌++◌, Option, Some, None, length, inl, inr, sym, subst, arith, append_assoc}
 use Rattle.std.specs.Prelude.{slice_get}
 use Rattle.std.specs.List.{IsDistinct}
 use Rattle.std.proofs.lemmas.Option.{slice_get_within}
 use Rattle.sect_types.specs.Lists.{Has}
 use Rattle.sect_types.proofs.Membership.{Has-slice_get, Has-right}
+use Rattle.sect_types.proofs.Places.{at_of}
 use Rattle.sect_graph.specs.declared.flow.Node.{Node}
 use Rattle.sect_names.specs.declared.link.Link.{Link}
 use Rattle.sect_names.specs.contracts.link.LinkPartialEq.TheImpl.{ghosts as the_link_eq}
@@ -13,7 +14,7 @@ use Rattle.sect_names.specs.Schemes.{SchemeView}
 use Rattle.sect_names.specs.Chains.{link, LinksTo, IsGeneratedAt, AreLinked, IsChain}
 use Rattle.sect_names.proofs.Telling.{link_tells}
 use Rattle.sect_chains.specs.steps.Lists.{IsFilled}
-use Rattle.sect_chains.specs.steps.Trails.{Grows, LeadsOn, LeadOn}
+use Rattle.sect_chains.specs.steps.Trails.{Grows, LeadsOn, LeadOn, GoBack, AreBehind, AreFrom, AreFromEntry}
 use Rattle.sect_chains.proofs.Places.{apart, front_or_back, in_front}
 
 module _ (s : SchemeView) (t : ℕ) (last : List Lock) (g : List Node) where
@@ -58,32 +59,39 @@ module _ (s : SchemeView) (t : ℕ) (last : List Lock) (g : List Node) where
         ]);
   }
 
-  -- the steps so far lead on to this one: whatever steps follow it, they are a chain
-  abbrev pub LeadTo : Lock → List Link → Link → Type 0
-  LeadTo l links a = (rest : List Link) → AreLinked s t last g a rest → IsChain s t last g l (links ++ a ∷ rest)
+  module _ (kept : List Link) (next : List (Option ℕ)) (leads : LeadOn s t last g kept next) where
+    -- each step links to an earlier one
+    pub go_back : GoBack kept next
+    go_back = record {
+      count = leads.count;
+      earlier = λ i j to.
+          let a = at_of kept i (omega (arith, slice_get_within next i (Some j) to, leads.count)) in
+          (leads.each i a.0 (Some j) a.1 to).0;
+    }
 
-  -- a chain begins at the entry
-  pub lead_first : (a : Link) → a.node ≡ 0 → LeadTo a.lock [] a
-  lead_first a at rest h = (ap (λ k. link k a.lock) at, h)
+    -- the steps behind one are linked
+    behind_linked : (i : ℕ) (a : Link) (links : List Link) → slice_get kept i ≡ Some a → AreBehind kept next i links → AreLinked s t last g a links
+    behind_linked i a [] at to = leads.each i a None at to
+    behind_linked i a (b ∷ links) at (j, to, there, h) =
+        let r = leads.each i a (Some j) at to in
+        let found = r.1.1 in
+        let same : r.1.0 ≡ b = cc in
+        (subst (λ z. LinksTo s t g a z) same r.1.2, behind_linked j b links there h)
 
-  -- it goes on by a step that the one before links to
-  lead_next : (l : Lock) (links : List Link) (a b : Link) → LeadTo l links a → LinksTo s t g a b → LeadTo l (links ++ a ∷ []) b
-  lead_next l links a b leads c rest h =
-      subst (IsChain s t last g l) (sym (append_assoc links (a ∷ []) (b ∷ rest))) (leads (b ∷ rest) (c, h))
+    -- so those from the lock at the entry on are its chain
+    pub entry_chain : (l : Lock) (links : List Link) → AreFromEntry kept next l links → IsChain s t last g l links
+    entry_chain l [] h = h.2
+    entry_chain l (a ∷ links) (i, entry, (at, h)) =
+        let same : a ≡ link 0 l = cc in
+        (same, behind_linked i a links at h)
 
-  module _ (kept : List Link) (next : List (Option ℕ)) (leads : LeadOn s t last g kept next) (at : ℕ) (a : Link) (here : slice_get kept at ≡ Some a) where
-    -- an earlier step is the next one
-    pub goes_back : (j : ℕ) → slice_get next at ≡ Some (Some j) → j < at
-    goes_back j to = (leads.each at a (Some j) here to).0
+-- the steps so far, from the one at the start on, lead to the one at an index
+abbrev pub LeadTo : List Link → List (Option ℕ) → ℕ → List Link → ℕ → Type 0
+LeadTo kept next start links i = (rest : List Link) → AreFrom kept next i rest → AreFrom kept next start (links ++ rest)
 
-    module _ (l : Lock) (links : List Link) (so_far : LeadTo l links a) where
-      pub goes_on : (j : ℕ) → slice_get next at ≡ Some (Some j) → (b : Link) → slice_get kept j ≡ Some b → LeadTo l (links ++ a ∷ []) b
-      goes_on j to b there =
-          let r = leads.each at a (Some j) here to in
-          let found = r.1.1 in
-          let same : r.1.0 ≡ b = cc in
-          lead_next l links a b so_far (subst (λ z. LinksTo s t g a z) same r.1.2)
-
-      -- a chain ends where its lock is generated
-      pub ends : slice_get next at ≡ Some None → IsChain s t last g l (links ++ a ∷ [])
-      ends to = so_far [] (leads.each at a None here to)
+-- they go on by the step to which that one links
+pub lead_next : (kept : List Link) (next : List (Option ℕ)) (start : ℕ) (links : List Link) (i j : ℕ) (a : Link) → slice_get kept i ≡ Some a → slice_get next i ≡ Some (Some j)
+    → LeadTo kept next start links i → LeadTo kept next start (links ++ a ∷ []) j
+lead_next kept next start links i j a at to so_far [] h = absurd h
+lead_next kept next start links i j a at to so_far (b ∷ rest) (there, h) =
+    subst (AreFrom kept next start) (sym (append_assoc links (a ∷ []) (b ∷ rest))) (so_far (a ∷ b ∷ rest) (at, (j, to, there, h)))

@@ -8,6 +8,7 @@ use Rattle.std.proofs.lemmas.Map.Made.{length-le_from_is_member}
 use Rattle.std.proofs.lemmas.Option.{slice_get_within, get_or_from_slice_get, slice_get-get_or}
 use Rattle.sect_types.specs.Lists.{Has}
 use Rattle.sect_types.proofs.Membership.{Has-left, Has-slice_get}
+use Rattle.sect_types.proofs.Places.{Has-index}
 use Rattle.sect_graph.specs.declared.flow.Node.{Node}
 use Rattle.sect_names.specs.declared.link.Link.{Link}
 use Rattle.sect_names.specs.contracts.link.LinkPartialEq.TheImpl.{ghosts as the_link_eq}
@@ -19,7 +20,6 @@ use Rattle.sect_names.specs.Chains.{link, IsGeneratedAt, LinksTo, AreLinked}
 use Rattle.sect_names.proofs.Finiteness.{Has-map, Has-flat_map, below, Has-below, all_locks, finite_locks}
 use Rattle.sect_names.proofs.Telling.{link_tells, any_tells}
 use Rattle.sect_chains.specs.steps.Trails.{HasTrail, AreLawful, Grows}
-use Rattle.sect_chains.proofs.Places.{Has-index}
 
 -- every lock of the program at every node and at the exit
 pub all_steps : SchemeView → List Node → List Link

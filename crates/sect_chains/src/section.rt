@@ -6,10 +6,10 @@ ghost use Rattle.sect_types.specs.Sections.{SectionView, sections_of};
 ghost use Rattle.sect_graph.specs.declared.flow.Node.{Node};
 ghost use Rattle.sect_names.specs.declared.lock.Lock.{Lock};
 ghost use Rattle.sect_names.specs.Needed.{end_locks, end_of};
-ghost use Rattle.sect_names.specs.Chains.{link, IsChain};
+ghost use Rattle.sect_names.specs.Chains.{link};
 ghost use Rattle.sect_infer.specs.Sets.{AreLocksOf};
 ghost use Rattle.sect_chains.specs.Chains.{AreChains};
-ghost use Rattle.sect_chains.specs.steps.Trails.{HasTrail, StaysWithin, AreLawful, LeadOn};
+ghost use Rattle.sect_chains.specs.steps.Trails.{HasTrail, StaysWithin, AreLawful, GoBack, AreFromEntry};
 
 use crate::chain::Chain;
 use crate::trail::{Trail, links_from, trail_of};
@@ -109,30 +109,22 @@ fn found(
     let trail = trail_of(alloc, scheme, thread, flow, last)?;
     let mut chains = Vec::new(alloc);
     for lock in locks {
-        chains.push(chain_of(alloc, scheme, thread, flow, last, &trail, lock)?)?;
+        chains.push(chain_of(alloc, &trail, lock)?)?;
     }
     Ok(chains)
 }
 
 /// The chain of a lock that is needed at the entry.
-fn chain_of(
-    alloc: Global,
-    scheme: &Scheme,
-    thread: u16,
-    flow: &Flow,
-    last: &[Lock],
-    trail: &Trail,
-    lock: &Lock,
-) -> Result<Chain, AllocError>
-    requires leads { LeadOn scheme.now thread last.now flow.now trail.now.kept.keys trail.now.next.items }
+fn chain_of(alloc: Global, trail: &Trail, lock: &Lock) -> Result<Chain, AllocError>
+    requires back { GoBack trail.now.kept.keys trail.now.next.items }
     requires there { Has trail.now.kept.keys (link 0 lock.now) }
-    ensures { IfOk result (IsChain scheme.now thread last.now flow.now lock.now) }
+    ensures { IfOk result (AreFromEntry trail.now.kept.keys trail.now.next.items lock.now) }
 {
     let step = Link {
         node: 0,
         lock: lock.try_clone()?,
     };
     let start = trail.index_of(&step).unwrap();
-    let links = links_from(alloc, scheme, thread, flow, last, trail, start)?;
+    let links = links_from(alloc, trail, start)?;
     Ok(Chain::of(links))
 }

@@ -3,10 +3,8 @@
 ghost use Rattle.std.specs.Prelude.{◌≡◌, ◌<◌, ◌≤◌, List, length, slice_get, Some, MatchOption, IfOk, OnOk};
 ghost use Rattle.sect_types.specs.Lists.{Has};
 ghost use Rattle.sect_names.specs.declared.link.Link.{Link};
-ghost use Rattle.sect_names.specs.declared.lock.Lock.{Lock};
-ghost use Rattle.sect_names.specs.Chains.{link, IsChain};
 ghost use Rattle.sect_chains.specs.steps.Lists.{IsFilled};
-ghost use Rattle.sect_chains.specs.steps.Trails.{HasTrail, StaysWithin, AreLawful, LeadOn};
+ghost use Rattle.sect_chains.specs.steps.Trails.{HasTrail, StaysWithin, AreLawful, LeadOn, GoBack, AreFrom};
 
 use crate::predecessors::predecessors_of;
 use crate::work::{advance, generated};
@@ -72,22 +70,11 @@ impl Trail {
     }
 }
 
-/// The steps from the one at an index, which is at the entry, to where a lock is generated. The clauses speak of the
-/// graph that the trail is of.
-pub fn links_from(
-    alloc: Global,
-    scheme: &Scheme,
-    thread: u16,
-    flow: &Flow,
-    last: &[Lock],
-    trail: &Trail,
-    start: usize,
-) -> Result<Vec<Link>, AllocError>
-    requires leads { LeadOn scheme.now thread last.now flow.now trail.now.kept.keys trail.now.next.items }
-    requires entry { (a : Link) → slice_get trail.now.kept.keys start ≡ Some a → a.node ≡ 0 }
+/// The steps from the one at an index on, to where a lock is generated.
+pub fn links_from(alloc: Global, trail: &Trail, start: usize) -> Result<Vec<Link>, AllocError>
+    requires back { GoBack trail.now.kept.keys trail.now.next.items }
     requires there { start < length trail.now.kept.keys }
-    ensures { (a : Link) → slice_get trail.now.kept.keys start ≡ Some a
-        → IfOk result (λ links. IsChain scheme.now thread last.now flow.now a.lock links.items) }
+    ensures { IfOk result (λ links. AreFrom trail.now.kept.keys trail.now.next.items start links.items) }
 {
     let mut links = Vec::new(alloc);
     let mut at = start;

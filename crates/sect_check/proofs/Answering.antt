@@ -32,16 +32,19 @@ module _ (A : Type 0) (source : List ℕ) (k : ℕ) (bytes : List ℕ) where
   passed (Ok x) f is h = absurd is
   passed (Err x) f is h = subst (λ z. Judges {A = A} source k bytes (Err z)) (sym is) h
 
+  -- a refusal of the source that is due is the fault
   source_judged : (f : Refusal) → IsDue source k f → Judges {A = A} source k bytes (Err (of_source f))
   source_judged refusal.Memory h = tt
   source_judged (refusal.Front x) h = (λ e. cc, h)
   source_judged (refusal.Types x) h = (λ e. cc, h)
   source_judged (refusal.Scheme x) h = (λ e. cc, h)
 
+  -- so is the answer that passes it on
   pub source_refused : (r : Result A CheckFault) (f : Refusal) → IsErrAnd r (λ x. x ≡ of_source f) → IsDue source k f → Judges source k bytes r
   source_refused r f is h = passed r (of_source f) is (source_judged f h)
 
   module _ (s : SchemeView) (accepted : IsAccepted source k s) where
+    -- a fault of the certificate's text is the fault, where the source is accepted
     text_judged : (f : CertFault) → texts.Judges bytes (Err f) → Judges {A = A} source k bytes (Err (of_text f))
     text_judged text.Memory h = tt
     text_judged (text.BadCertLine n) h = ((s, accepted), λ e. cc, h)
@@ -49,13 +52,16 @@ module _ (A : Type 0) (source : List ℕ) (k : ℕ) (bytes : List ℕ) where
     text_judged (text.NotCanonical n) h = ((s, accepted), λ e. cc, h)
     text_judged text.OldVersion h = ((s, accepted), λ e. cc, h)
 
+    -- so is the answer that passes it on
     pub text_refused : (r : Result A CheckFault) (f : CertFault) → IsErrAnd r (λ x. x ≡ of_text f) → texts.Judges bytes (Err f) → Judges source k bytes r
     text_refused r f is h = passed r (of_text f) is (text_judged f h)
 
     module _ (c : Cert) (has : HasText c) (is : bytes ≡ certificate_text c) where
+      -- what holds of the certificate that was read
       read_so : (P : SchemeView → Cert → Type 0) → P s c → IsRead source k bytes P
       read_so P h = record { s = s; accepted = accepted; cert = c; text = has; spelled = is; holds = h }
 
+      -- the verdict on that certificate is the answer
       pub cert_judged : (r : Result A CheckFault) → JudgesCert s c r → Judges source k bytes r
       cert_judged (Ok x) h = read_so IsValid h
       cert_judged (Err fault.Memory) h = tt
@@ -79,6 +85,7 @@ pub only_memory : {A : Type 0} (r : Result A CheckFault) (f : CheckFault) → Is
 only_memory (Ok x) f is memory = tt
 only_memory (Err x) f is memory = is ∙ memory
 
+-- the text of a certificate is refused for want of memory alone
 pub text_given : (c : Cert) (f : CertFault) → texts.Gives c (Err f) → of_text f ≡ fault.Memory
 text_given c text.Memory g = refl
 text_given c (text.BadCertLine n) g = absurd g

@@ -37,6 +37,7 @@ module _ (s : SchemeView) (t : ℕ) (last : List Lock) (g : List Node) (c : Clai
       (h.0, h.1.0, h.1.1)
 
   module _ (n : ℕ) (l : Lock) (at : slice_get c.entry n ≡ Some l) (have : HaveChainsBefore s t last g c n) where
+    -- the fault of a chain is one of all chains
     chain_err : (A B : Type 0) (f : SectionFault) → JudgesChain {A = A} s t last g c n l (Err f) → JudgesChains {A = B} s t last g c (Err f)
     chain_err A B fault.Memory h = tt
     chain_err A B (fault.NotGenerated j) h = absurd h
@@ -60,11 +61,14 @@ module _ (s : SchemeView) (t : ℕ) (last : List Lock) (g : List Node) (c : Clai
     pub chains_done : (m : ℕ) → HasItsChain s t last g c m
     chains_done m = λ l at. have m (let w = slice_get_within c.entry m l at in omega (arith, w, past)) l at
 
+    -- then each number below the count of the locks is a chain's
     all_below : HaveNumbersBelow c.chains (length c.entry)
     all_below = numbers_below (length c.entry) (omega arith) (λ m lt. chains_done m)
 
+    -- where no chain stands behind those, there is no other
     pub no_others : DoRise c.chains → length c.chains ≤ length c.entry → (x : ChainClaim) → Has c.chains x → x.lock < length c.entry
     no_others rise all x h = no_more c.chains rise (length c.entry) all_below all x h
 
+    -- the chain that stands behind those is of no lock
     pub stray_breaks : DoRise c.chains → (x : ChainClaim) → slice_get c.chains (length c.entry) ≡ Some x → BreaksChain s t last g c x.lock 0
     stray_breaks rise x at = ((λ m lt. chains_done m), inr (stray c x rise all_below at, refl))

@@ -31,15 +31,19 @@ zip_to R S to (x ∷ xs) (y ∷ ys) h = (to x y h.0, zip_to R S to xs ys h.1)
 
 module _ (s : SchemeView) (a b : PointsToView) (to : (p : PathView) (n : ℕ) → HasClass (classes_with s a) p n → HasClass (classes_with s b) p n) where
   module _ (t : ℕ) where
+    -- words that stand for a lock in the one scheme stand for it in the other
     denotes_to : (x : CertLock) (l : Lock) → Denotes (scheme_with s a) t x l → Denotes (scheme_with s b) t x l
     denotes_to x l h = (h.0, lock_to s a b to t l h.1)
 
+    -- so do steps
     step_to : (x : CertStep) (l : Link) → DenotesStep (scheme_with s a) t x l → DenotesStep (scheme_with s b) t x l
     step_to x l h = (h.0, denotes_to x.lock l.lock h.1)
 
+    -- so do chains
     chain_claim_to : (x : Chain) (c : ChainClaim) → DenotesChain (scheme_with s a) t x c → DenotesChain (scheme_with s b) t x c
     chain_claim_to x c h = (h.0, zip_to (DenotesStep (scheme_with s a) t) (DenotesStep (scheme_with s b) t) step_to x.steps c.links h.1)
 
+    -- so does what is said of a section
     section_to : (g : List Node) (x : CertSection) (c : Claims) → DenotesSection (scheme_with s a) t g x c → DenotesSection (scheme_with s b) t g x c
     section_to g x c h =
         let A = Denotes (scheme_with s a) t in
@@ -51,6 +55,7 @@ module _ (s : SchemeView) (a b : PointsToView) (to : (p : PathView) (n : ℕ) �
           chains = zip_to (DenotesChain (scheme_with s a) t) (DenotesChain (scheme_with s b) t) chain_claim_to x.chains c.chains h.chains;
         }
 
+  -- so does a certificate
   all_to : (x : Cert) (all : List Claims) → DenotesAll (scheme_with s a) x all → DenotesAll (scheme_with s b) x all
   all_to x all h = record {
     k = h.k;
@@ -60,6 +65,7 @@ module _ (s : SchemeView) (a b : PointsToView) (to : (p : PathView) (n : ℕ) �
   }
 
   module _ (from : (p : PathView) (n : ℕ) → HasClass (classes_with s b) p n → HasClass (classes_with s a) p n) where
+    -- claims that are right in the one scheme are right in the other
     valid_section_to : (t : ℕ) (last : List Lock) (g : List Node) (c : Claims) → IsValidSection (scheme_with s a) t last g c → IsValidSection (scheme_with s b) t last g c
     valid_section_to t last g c v = record {
       generated = λ j l h. covered_to s a b to t (list_at c j) l (v.generated j l (generated_at_to s b a from t last g (link j l) h));
@@ -71,6 +77,7 @@ module _ (s : SchemeView) (a b : PointsToView) (to : (p : PathView) (n : ℕ) �
       no_others = v.no_others;
     }
 
+    -- so a certificate that is valid is
     valid_to : (x : Cert) → IsValid (scheme_with s a) x → IsValid (scheme_with s b) x
     valid_to x v = record {
       claims = v.claims;
@@ -78,6 +85,7 @@ module _ (s : SchemeView) (a b : PointsToView) (to : (p : PathView) (n : ℕ) �
       each = λ i of g c at at_c. valid_section_to of.thread _ g c (v.each i of g c at at_c);
     }
 
+-- whichever scheme of a program is asked
 pub valid_either : (s r : SchemeView) → AreOneScheme s r → s.program ≡ r.program → s.most ≡ r.most → (x : Cert) → IsValid s x → IsValid r x
 valid_either s r one program most x v =
     let a = s.classes.sets in

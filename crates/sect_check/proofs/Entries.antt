@@ -20,6 +20,7 @@ module _ (s : SchemeView) (keys kept locks : List Lock) (maximal : AreMaximal s 
   has_kept : AreApart s locks → (l : Lock) → Has locks l → Has kept l
   has_kept apart l h = (maximal.kept_are l).1 ((same l).1 h, λ o. o.3 (apart l o.0 h ((same o.0).0 o.1) o.2))
 
+  -- the maximal locks are the list exactly where it is in order and its locks lie apart
   pub kept_when : (kept ≡ locks) ↔ (AreInOrder locks × AreApart s locks)
   kept_when = (
     λ e. (subst AreInOrder e maximal.in_order, subst (AreApart s) e apart_kept),

@@ -15,6 +15,7 @@ use Rattle.sect_check.proofs.Numbering.{one_number}
 use Rattle.sect_check.proofs.Stepping.{steps_right}
 
 module _ (s : SchemeView) (t : ℕ) (last : List Lock) (g : List Node) (c : Claims) (v : IsValidSection s t last g c) (rise : DoRise c.chains) where
+  -- none of its faults is there
   pub no_fault : (f : SectionFault) → f ≢ fault.Memory → IsFaultOf s t last g c f → ⊥
   no_fault fault.Memory some h = some refl
   no_fault (fault.NotGenerated j) some h = h.0 (v.generated j)

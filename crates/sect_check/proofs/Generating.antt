@@ -1,42 +1,18 @@
 -- What a node generates.
-use Rattle.std.proofs.Common.{◌≡◌, ◌↔◌, ℕ, ◌+◌, ◌<◌, List, Option, Some, None, Bool, true, sym, subst, take, length, get_or, inl, inr, arith}
-use Rattle.std.specs.Prelude.{slice_get, option_map}
+use Rattle.std.proofs.Common.{◌≡◌, ◌↔◌, ℕ, ◌+◌, ◌<◌, List, Option, Some, None, Bool, true, subst, take, length, get_or, inl, inr, arith}
 use Rattle.std.proofs.lemmas.Option.{slice_get_within}
-use Rattle.sect_types.specs.Lists.{Has}
 use Rattle.sect_types.specs.declared.action.Label.{Label}
 use Rattle.sect_graph.specs.declared.flow.Node.{Node}
 use Rattle.sect_names.specs.declared.lock.Lock.{Lock}
 use Rattle.sect_names.specs.Schemes.{SchemeView}
 use Rattle.sect_names.specs.Locks.{CoveredBy}
-use Rattle.sect_names.specs.Carrying.{Generated, CarriedBack}
+use Rattle.sect_names.specs.Carrying.{CarriedBack}
 use Rattle.sect_names.specs.Chains.{link, IsGeneratedAt}
 use Rattle.sect_check.specs.declared.claims.Claims.{Claims}
 use Rattle.sect_check.specs.Valid.{list_at, CoversGenerated, AreCarriedInto}
-use Rattle.sect_types.proofs.Places.{told_at, told_of}
 use Rattle.sect_check.proofs.Scanning.{each_more}
 
 module _ (s : SchemeView) (t : ℕ) (last : List Lock) (g : List Node) (j : ℕ) where
-  -- a node generates what its statement does
-  pub at_node : (label : Label) → j < length g → option_map (λ (x : Node). x.label) (slice_get g j) ≡ Some label → (l : Lock) → Generated s t label l ↔ IsGeneratedAt s t last g (link j l)
-  at_node label within at l = (
-    λ h. (let n = told_at (λ (x : Node). x.label) g j label at in inl (n.0, n.1, subst (λ a. Generated s t a l) (sym n.2) h)),
-    λ h. elim h [
-      | inl n ↦ subst (λ a. Generated s t a l) (told_of (λ (x : Node). x.label) g j label at n.0 n.1) n.2
-      | inr e ↦ absurd (omega (arith, within, e.0))
-    ],
-  )
-
-  -- the exit generates what the end does
-  pub at_exit : j ≡ length g → (l : Lock) → Has last l ↔ IsGeneratedAt s t last g (link j l)
-  at_exit is l = (
-    λ h. inr (is, h),
-    λ h. elim h [ inl n ↦ absurd (let w = slice_get_within g j n.0 n.1 in omega (arith, w, is)) | inr e ↦ e.1 ],
-  )
-
-  -- past the exit nothing is generated
-  pub past_exit : length g < j → (l : Lock) → IsGeneratedAt s t last g (link j l) → ⊥
-  past_exit past l h = elim h [ inl n ↦ (let w = slice_get_within g j n.0 n.1 in omega (arith, w, past)) | inr e ↦ omega (arith, past, e.0) ]
-
   module _ (o : Option Lock) (tells : (l : Lock) → (o ≡ Some l) ↔ IsGeneratedAt s t last g (link j l)) where
     -- the one lock that is generated is covered
     pub covers_one : (l : Lock) → o ≡ Some l → (c : Claims) (b : Bool) → ((b ≡ true) ↔ CoveredBy s (list_at c j) l) → (b ≡ true) ↔ CoversGenerated s t last g c j
@@ -49,12 +25,14 @@ module _ (s : SchemeView) (t : ℕ) (last : List Lock) (g : List Node) (j : ℕ)
     pub covers_none : o ≡ None → (c : Claims) → CoversGenerated s t last g c j
     covers_none is c = λ m h. (let e = (tells m).1 h in absurd cc)
 
+    -- a lock is generated exactly where it is the one that is
     pub generated_one : (l m : Lock) → o ≡ Some l → (b : Bool) → ((b ≡ true) ↔ (l ≡ m)) → (b ≡ true) ↔ IsGeneratedAt s t last g (link j m)
     generated_one l m is b same = (
       λ yes_so. subst (λ x. IsGeneratedAt s t last g (link j x)) (same.0 yes_so) ((tells l).0 is),
       λ h. same.1 (let e = (tells m).1 h in let found : l ≡ m = cc in found),
     )
 
+    -- no lock is, where none is
     pub generated_none : (m : Lock) → o ≡ None → IsGeneratedAt s t last g (link j m) → ⊥
     generated_none m is h = let e = (tells m).1 h in absurd cc
 

@@ -2,13 +2,11 @@
 use Rattle.std.proofs.Common.{◌≡◌, ℕ, ◌+◌, ◌<◌, ◌≤◌, List, [], ◌∷◌, ◌++◌, Some, Result, Ok, Err, IsErrAnd, length, refl, sym, ap, ◌∙◌, subst, arith, inl, inr, length-append}
 use Rattle.std.specs.Prelude.{slice_get}
 use Rattle.std.proofs.lemmas.Bool.{cases_lt}
-use Rattle.std.proofs.lemmas.Option.{slice_get_within, get_or_from_slice_get}
-use Rattle.sect_front.specs.declared.tree.Locking.{Locking}
-use Rattle.sect_front.specs.declared.tree.Locking.TheVariants as locking
+use Rattle.std.proofs.lemmas.Option.{slice_get_within}
 use Rattle.sect_types.specs.Sections.{SectionView, sections_of}
 use Rattle.sect_graph.specs.declared.flow.Node.{Node}
 use Rattle.sect_names.specs.Schemes.{SchemeView}
-use Rattle.sect_names.specs.Needed.{end_locks, end_of}
+use Rattle.sect_names.specs.Needed.{end_of}
 use Rattle.sect_cert.specs.declared.certificate.CertSection.{CertSection}
 use Rattle.sect_cert.specs.declared.certificate.Cert.{Cert}
 use Rattle.sect_check.specs.declared.claims.Claims.{Claims}
@@ -26,10 +24,6 @@ use Rattle.sect_check.specs.steps.Resolving.{Resolves, DenotesAt}
 use Rattle.sect_check.specs.steps.Parts.{IsFaultHere, JudgesAt, JudgesCert}
 use Rattle.sect_types.proofs.Places.{at_of, one_at, pushed_at}
 
--- what the end of a section generates goes by which locks it takes
-pub end_is : (s : SchemeView) (i : ℕ) (l : Locking) → slice_get s.program.lockings i ≡ Some l → end_locks l ≡ end_of s i
-end_is s i l at = sym (ap end_locks (get_or_from_slice_get s.program.lockings i l locking.Inferred at))
-
 module _ (s : SchemeView) (i : ℕ) (of other : SectionView) (g h : List Node) (a : IsSectionAt s i of g) (b : IsSectionAt s i other h) (P : SectionView → List Node → Type 0) where
   -- what holds of the section of a number holds whatever it is called
   pub section_is : P of g → P other h
@@ -41,6 +35,7 @@ resolves_as (Ok x) R S to from h = to x h
 resolves_as (Err Wrong) R S to from h = λ y k. h y (from y k)
 resolves_as (Err Memory) R S to from h = tt
 
+-- what is sought of a section is sought of its number
 pub denotes_at : (s : SchemeView) (sections : List CertSection) (i : ℕ) (of : SectionView) (g : List Node) (x : CertSection) → IsSectionAt s i of g → slice_get sections i ≡ Some x
     → (r : Result Claims Unresolved) → Resolves r (DenotesSection s of.thread g x) → Resolves r (DenotesAt s sections i)
 denotes_at s sections i of g x at at_x r = resolves_as r (DenotesSection s of.thread g x) (DenotesAt s sections i)
@@ -52,6 +47,7 @@ pub record AreFirst (s : SchemeView) (sections : List CertSection) (n : ℕ) (al
   pub count : length all ≡ n
   pub each : (i : ℕ) (c : Claims) → slice_get all i ≡ Some c → DenotesAt s sections i c
 
+-- one section more
 pub first_more : (s : SchemeView) (sections : List CertSection) (n : ℕ) (all : List Claims) (c : Claims) → AreFirst s sections n all → DenotesAt s sections n c → AreFirst s sections (n + 1) (all ++ c ∷ [])
 first_more s sections n all c before here = record {
   count = length-append all (c ∷ []) ∙ ap (λ k. k + 1) before.count;
@@ -61,6 +57,7 @@ first_more s sections n all c before here = record {
   ];
 }
 
+-- all sections are the certificate's
 pub denotes_all : (s : SchemeView) (a : Cert) (all : List Claims) (n : ℕ) → a.k ≡ s.most → length a.sections ≡ length (sections_of s.program.texts) → n ≡ length a.sections → AreFirst s a.sections n all → DenotesAll s a all
 denotes_all s a all n k sections is first = record {
   k = k;
@@ -85,10 +82,8 @@ judged_err A s i c section.NotMaximal h = (refl, h)
 judged_err A s i c (section.NoChain n) h = (refl, h)
 judged_err A s i c (section.BrokenChain n k) h = (refl, h)
 
-pub judged_ok : {A : Type 0} (s : SchemeView) (i : ℕ) (of : SectionView) (g : List Node) (c : Claims) (x : A) → IsSectionAt s i of g → IsValidSection s of.thread (end_of s i) g c → JudgesAt s i c (Ok x)
-judged_ok s i of g c x at v = λ other h there. section_is s i of other g h at there (λ z k. IsValidSection s z.thread (end_of s i) k c) v
-
 module _ (s : SchemeView) (a : Cert) (all : List Claims) (denoted : DenotesAll s a all) (n : ℕ) (c : Claims) (at : slice_get all n ≡ Some c) (before : (j : ℕ) → j < n → IsValidAt s all j) where
+  -- the first fault of this section is the first of all
   fault_at : (f : SectionFault) (j : ℕ) → j ≡ n → IsFaultHere s n c f → IsFaultAt s a j f
   fault_at f j e h = subst (λ k. IsFaultAt s a k f) (sym e) (record {
     claims = all;
@@ -102,6 +97,7 @@ module _ (s : SchemeView) (a : Cert) (all : List Claims) (denoted : DenotesAll s
     here = h.3;
   })
 
+  -- so it is the certificate's
   cert_err : (A B : Type 0) (f : CheckFault) → JudgesAt {A = A} s n c (Err f) → JudgesCert {A = B} s a (Err f)
   cert_err A B fault.Memory h = tt
   cert_err A B (fault.Source x) h = absurd h
@@ -127,6 +123,7 @@ module _ (s : SchemeView) (a : Cert) (all : List Claims) (denoted : DenotesAll s
         subst (IsValidAt s all) e (λ of g d at_section at_d. subst (IsValidSection s of.thread (end_of s n) g) (one_at all n c d at at_d) (h of g at_section)))
   ]
 
+-- where each section is right, the certificate is valid
 pub all_valid : (s : SchemeView) (a : Cert) (all : List Claims) → DenotesAll s a all → (n : ℕ) → length (sections_of s.program.texts) ≤ n → ((j : ℕ) → j < n → IsValidAt s all j) → IsValid s a
 all_valid s a all denoted n past valid = record {
   claims = all;

@@ -72,6 +72,7 @@ module _ (s : SchemeView) (t : ℕ) (last : List Lock) (g : List Node) where
         let w = v.carried j q.3 q.0 q.1 q.4 over.0 up.0 over.1 up.1 in
         (w.0, w.1, covers_trans s w.0 up.0 l w.2 up.2)
 
+-- the entry list of a valid section is least
 section_least : (s : SchemeView) → IsScheme s → (i : ℕ) (of : SectionView) (g : List Node) (c : Claims) → IsSectionAt s i of g → IsValidSection s of.thread (end_of s i) g c
     → IsLeast s of.thread (end_of s i) of.body c.entry
 section_least s scheme i of g c at v =

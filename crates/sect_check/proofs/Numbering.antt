@@ -1,7 +1,7 @@
 -- Chains whose numbers rise: where each number below one is there, the chain of that number stands at its place.
 use Rattle.std.proofs.Common.{◌≡◌, ℕ, zero, suc, ◌<◌, ◌≤◌, List, [], ◌∷◌, Some, length, refl, sym, ap, ◌∙◌, subst, inl, inr, arith}
 use Rattle.std.specs.Prelude.{slice_get}
-use Rattle.std.specs.List.{AllZip, AllByRecursion}
+use Rattle.std.specs.List.{AllZip}
 use Rattle.std.proofs.lemmas.Bool.{cases_lt, cases_eq}
 use Rattle.std.proofs.lemmas.Option.{slice_get_within}
 use Rattle.sect_types.specs.Lists.{Has}
@@ -16,11 +16,11 @@ use Rattle.sect_check.specs.declared.claims.ChainClaim.{ChainClaim}
 use Rattle.sect_check.specs.Meaning.{DenotesChain, DenotesAll}
 use Rattle.sect_check.specs.Faults.{IsStray}
 use Rattle.sect_check.specs.steps.Rising.{DoRise, HasNumber, HaveNumbersBelow}
-use Rattle.sect_types.proofs.Places.{Has-index, at_of, one_at}
+use Rattle.sect_types.proofs.Places.{Has-index, at_of, one_at, zipped_at, each_at}
 
 module _ (chains : List ChainClaim) (rise : DoRise chains) where
   -- a chain's number isn't below its place
-  pub place_low : (i : ℕ) (x : ChainClaim) → slice_get chains i ≡ Some x → i ≤ x.lock
+  place_low : (i : ℕ) (x : ChainClaim) → slice_get chains i ≡ Some x → i ≤ x.lock
   place_low zero x at = omega arith
   place_low (suc i) x at =
       let w = slice_get_within chains (suc i) x at in
@@ -30,7 +30,7 @@ module _ (chains : List ChainClaim) (rise : DoRise chains) where
       omega (arith, low, up)
 
   -- up to a number below which each is there, chains stand at the places of their numbers
-  pub placed : (n : ℕ) → HaveNumbersBelow chains n → (m : ℕ) → m < n → (x : ChainClaim) → slice_get chains m ≡ Some x → x.lock ≡ m
+  placed : (n : ℕ) → HaveNumbersBelow chains n → (m : ℕ) → m < n → (x : ChainClaim) → slice_get chains m ≡ Some x → x.lock ≡ m
   placed zero below m lt x at = absurd (omega (arith, lt))
   placed (suc n) below m lt x at = elim (cases_lt m n) [
     | inl less ↦ placed n (λ k k_less. below k (omega (arith, k_less))) m less x at
@@ -71,7 +71,7 @@ module _ (chains : List ChainClaim) (rise : DoRise chains) where
         omega (arith, p, w, past)
 
     -- the chain at this place has the least number that isn't lower
-    pub least_more : (y : ChainClaim) → slice_get chains n ≡ Some y → (x : ChainClaim) → Has chains x → n ≤ x.lock → y.lock ≤ x.lock
+    least_more : (y : ChainClaim) → slice_get chains n ≡ Some y → (x : ChainClaim) → Has chains x → n ≤ x.lock → y.lock ≤ x.lock
     least_more y at x h up =
         let i = Has-index chains x h in
         elim (cases_lt i.0 n) [
@@ -109,24 +109,18 @@ first_rises x y [] j h at = absurd cc
 first_rises x y (z ∷ xs) zero h at = let same : z ≡ y = cc in subst (λ w. x.lock < w.lock) same h.0
 first_rises x y (z ∷ xs) (suc j) h at = let r = first_rises z y xs j h.1 at in omega (arith, r, h.0)
 
+-- so they do behind the first
 rest_rises : (x : Chain) (xs : List Chain) → AreRising (x ∷ xs) → AreRising xs
 rest_rises x [] h = tt
 rest_rises x (y ∷ xs) h = h.1
 
+-- a chain at a later place has a greater number
 rises_by_place : (xs : List Chain) → AreRising xs → (i j : ℕ) (x y : Chain) → i < j → slice_get xs i ≡ Some x → slice_get xs j ≡ Some y → x.lock < y.lock
 rises_by_place [] h i j x y lt at_x at_y = absurd cc
 rises_by_place (z ∷ xs) h zero zero x y lt at_x at_y = absurd (omega (arith, lt))
 rises_by_place (z ∷ xs) h zero (suc j) x y lt at_x at_y = let same : z ≡ x = cc in subst (λ w. w.lock < y.lock) same (first_rises z y xs j h at_y)
 rises_by_place (z ∷ xs) h (suc i) zero x y lt at_x at_y = absurd (omega (arith, lt))
 rises_by_place (z ∷ xs) h (suc i) (suc j) x y lt at_x at_y = rises_by_place xs (rest_rises z xs h) i j x y (omega (arith, lt)) at_x at_y
-
--- an element of the second of two lists has one of the first at its place
-zipped_at : {A B : Type 0} (R : A → B → Type 0) (xs : List A) (ys : List B) → AllZip R xs ys → (i : ℕ) (y : B) → slice_get ys i ≡ Some y → (x : A) × (slice_get xs i ≡ Some x) × R x y
-zipped_at R [] [] h i y at = absurd cc
-zipped_at R [] (z ∷ ys) h i y at = absurd h
-zipped_at R (x ∷ xs) [] h i y at = absurd h
-zipped_at R (x ∷ xs) (z ∷ ys) h zero y at = let same : z ≡ y = cc in (x, refl, subst (R x) same h.0)
-zipped_at R (x ∷ xs) (z ∷ ys) h (suc i) y at = zipped_at R xs ys h.1 i y at
 
 -- so do those of the chains that are claimed
 claims_rise : (s : SchemeView) (t : ℕ) (xs : List Chain) (ys : List ChainClaim) → AreRising xs → AllZip (DenotesChain s t) xs ys → DoRise ys
@@ -135,11 +129,6 @@ claims_rise s t xs ys rising zipped i j x y lt at_x at_y =
     let b = zipped_at (DenotesChain s t) xs ys zipped j y at_y in
     let r = rises_by_place xs rising i j a.0 b.0 lt a.1 b.1 in
     omega (arith, r, a.2.0, b.2.0)
-
-each_at : {A : Type 0} (P : A → Type 0) (xs : List A) → AllByRecursion P xs → (i : ℕ) (x : A) → slice_get xs i ≡ Some x → P x
-each_at P [] h i x at = absurd cc
-each_at P (y ∷ xs) h zero x at = let same : y ≡ x = cc in subst P same h.0
-each_at P (y ∷ xs) h (suc i) x at = each_at P xs h.1 i x at
 
 -- in each section of a certificate that has a text
 pub all_rise : (s : SchemeView) → IsScheme s → (a : Cert) → HasText a → (all : List Claims) → DenotesAll s a all → (i : ℕ) (c : Claims) → slice_get all i ≡ Some c → DoRise c.chains

@@ -1,10 +1,8 @@
 -- Names that stand for nothing.
-use Rattle.std.proofs.Common.{◌≡◌, ◌↔◌, ◌≤◌, ℕ, zero, suc, ◌+◌, ◌<◌, List, [], ◌∷◌, ◌++◌, Option, Some, None, true, Result, Ok, Err, IsErrAnd, take, length, get_or, refl, sym, ap, ◌∙◌, subst, arith, true≢false}
+use Rattle.std.proofs.Common.{◌≡◌, ◌↔◌, ◌≤◌, ℕ, zero, suc, ◌<◌, List, [], ◌∷◌, Option, Some, None, true, Result, Ok, Err, IsErrAnd, length, get_or, refl, sym, ap, subst, arith, true≢false}
 use Rattle.std.specs.Prelude.{slice_get, slice_index, is_some}
 use Rattle.std.specs.Option.{option_map}
 use Rattle.std.specs.List.{AllZip}
-use Rattle.std.proofs.lemmas.List.{take_more}
-use Rattle.std.proofs.lemmas.Slice.Zip.{all_zipped_more}
 use Rattle.std.proofs.lemmas.Option.{slice_get_within, get_or_from_slice_get}
 use Rattle.sect_types.specs.Lists.{Has}
 use Rattle.sect_types.proofs.Membership.{Has-slice_get}
@@ -22,12 +20,6 @@ use Rattle.sect_check.specs.Names.{path_named}
 use Rattle.sect_check.specs.steps.Resolving.{Resolves}
 use Rattle.sect_types.proofs.Places.{Has-index}
 use Rattle.sect_check.proofs.Standing.{path_stands}
-
--- one pair more
-pub zip_more : {A B : Type 0} (R : A → B → Type 0) (xs : List A) (i : ℕ) (x : A) (ys : List B) (y : B) → i < length xs → x ≡ get_or xs i x → AllZip R (take i xs) ys → R x y → AllZip R (take (i + 1) xs) (ys ++ y ∷ [])
-zip_more R xs i x ys y within is before here =
-    let next : take (i + 1) xs ≡ take i xs ++ x ∷ [] = take_more xs i x within ∙ ap (λ z. take i xs ++ z ∷ []) (sym is) in
-    subst (λ zs. AllZip R zs (ys ++ y ∷ [])) (sym next) (all_zipped_more R (take i xs) ys x y before here)
 
 -- where one element is related to nothing, so is the list
 pub zip_none : {A B : Type 0} (R : A → B → Type 0) (xs : List A) (i : ℕ) (x : A) → i < length xs → x ≡ get_or xs i x → ((y : B) → R x y → ⊥) → (ys : List B) → AllZip R xs ys → ⊥
@@ -55,6 +47,7 @@ classed s p (Some n) tells = (λ t. (n, (tells n).0 refl), λ h. refl)
 pub class_there : (numbers : List ℕ) (count : ℕ) → ((class : ℕ) → class < count → (site : ℕ) × (slice_get numbers site ≡ Some class)) → (n : ℕ) → n < count → Has numbers n
 class_there numbers count each n lt = let at = each n lt in Has-slice_get numbers at.0 n at.1
 
+-- a class is below the count
 pub class_below : (numbers : List ℕ) (count : ℕ) → ((site : ℕ) → site < length numbers → slice_index numbers site < count) → (n : ℕ) → Has numbers n → n < count
 class_below numbers count below n h =
     let at = Has-index numbers n h in
@@ -67,18 +60,8 @@ module _ (s : SchemeView) (t : ℕ) (named : CertPath) (e : Effect) where
   abbrev pub IsLockNamed : Lock → Type 0
   IsLockNamed m = (option_map (λ x. lock.Path x e) (path_named s.program t named) ≡ Some m) × IsLockOf s t m
 
+  -- the path that the names stand for, where it is short and has a class, is locked
   pub lock_there : (p : PathView) → path_named s.program t named ≡ Some p → (depth p ≤ s.most) × IsClassed s p → IsLockNamed (lock.Path p e)
   lock_there p is fits =
       let own = path_stands s.program t named p is in
       (ap (option_map (λ x. lock.Path x e)) is, record { own = own.0; of = own.1.0; refers = own.1.1; short = fits.0; classed = fits.1 })
-
-  pub lock_missing : path_named s.program t named ≡ None → (m : Lock) → IsLockNamed m → ⊥
-  lock_missing is m h = let none = ap (option_map (λ x. lock.Path x e)) is in let found = h.0 in absurd cc
-
-  pub lock_unfit : (p : PathView) → path_named s.program t named ≡ Some p → ((depth p ≤ s.most) × IsClassed s p → ⊥) → (m : Lock) → IsLockNamed m → ⊥
-  lock_unfit p is bad m h =
-      let one = ap (option_map (λ x. lock.Path x e)) is in
-      let found = h.0 in
-      let same : lock.Path p e ≡ m = cc in
-      let lawful = subst (IsLockOf s t) (sym same) h.1 in
-      bad (lawful.short, lawful.classed)

@@ -1,6 +1,5 @@
 -- Loops through lists and numbers.
-use Rattle.std.proofs.Common.{◌≡◌, ℕ, ◌+◌, ◌<◌, ◌≤◌, List, inl, inr, sym, subst, take, length, get_or, arith}
-use Rattle.std.proofs.lemmas.List.{take_all}
+use Rattle.std.proofs.Common.{◌≡◌, ℕ, ◌+◌, ◌<◌, List, inl, inr, sym, subst, take, length, get_or, arith}
 use Rattle.std.proofs.lemmas.Bool.{cases_lt}
 use Rattle.sect_types.specs.Lists.{Has}
 use Rattle.sect_types.proofs.Membership.{Has-get_or}
@@ -10,9 +9,6 @@ module _ {X : Type 0} (P : X → Type 0) where
   -- so holds of the elements so far, and of one more
   pub each_more : (xs : List X) (i : ℕ) (x : X) → i < length xs → x ≡ get_or xs i x → ((y : X) → Has (take i xs) y → P y) → P x → (y : X) → Has (take (i + 1) xs) y → P y
   each_more xs i x within is before here y h = elim (last_of xs i x y within is h) [ inl a ↦ before y a | inr e ↦ subst P (sym e) here ]
-
-  pub each_done : (xs : List X) (n : ℕ) → length xs ≤ n → ((y : X) → Has (take n xs) y → P y) → (y : X) → Has xs y → P y
-  each_done xs n past all y h = all y (subst (λ ys. Has ys y) (sym (take_all n xs past)) h)
 
 -- the element that a loop has come to
 pub item_has : {X : Type 0} (xs : List X) (i : ℕ) (x : X) → i < length xs → x ≡ get_or xs i x → Has xs x

@@ -20,11 +20,12 @@ use Rattle.sect_cert.specs.declared.lock.CertPath.{CertPath}
 use Rattle.sect_check.specs.Names.{or_variable, variable_named, field_named, referred, record_of_variable, record_of_field, path_from, base_named, path_named}
 
 -- what is given after something was found
-pub and_then : {A B : Type 0} (f : A → Option B) (o : Option A) (y : B) → option_and_then f o ≡ Some y → (x : A) × (o ≡ Some x) × (f x ≡ Some y)
+and_then : {A B : Type 0} (f : A → Option B) (o : Option A) (y : B) → option_and_then f o ≡ Some y → (x : A) × (o ≡ Some x) × (f x ≡ Some y)
 and_then f None y e = absurd cc
 and_then f (Some x) y e = (x, refl, e)
 
-pub mapped : {A B : Type 0} (f : A → B) (o : Option A) (y : B) → option_map f o ≡ Some y → (x : A) × (o ≡ Some x) × (f x ≡ y)
+-- what was mapped was found
+mapped : {A B : Type 0} (f : A → B) (o : Option A) (y : B) → option_map f o ≡ Some y → (x : A) × (o ≡ Some x) × (f x ≡ y)
 mapped f None y e = absurd cc
 mapped f (Some x) y e = (x, refl, let q : f x ≡ y = cc in q)
 
@@ -51,6 +52,7 @@ field_to p f r e =
     let found = and_then referred (slice_get (slice_index_or p.records f.of []) f.number) r e in
     in_row p.records f.of f.number (Refers r) (found.1 ∙ ap (λ t. Some t) (refers found.0 r found.2))
 
+-- the field of this number of record r
 abbrev numbered : ℕ → ℕ → Field
 numbered r i = record { of = r; number = i }
 
@@ -80,6 +82,7 @@ own_variable p t x v e = go (place x (slice_index_or (all_locals p.threads) t []
     go None (Some g) e = (let same : Global g ≡ v = cc in subst (λ w. IsOwn t (var w)) same tt)
     go None None e = absurd cc
 
+-- so does a base
 own_base : (p : TreeView) (t : ℕ) (b : CertBase) (v : Variable) → base_named p t b ≡ Some v → IsOwn t (var v)
 own_base p t (base.Name x) v e = own_variable p t x v e
 own_base p t (base.InCall x n) v e = absurd cc

@@ -40,6 +40,7 @@ zip_one R one (x ∷ xs) [] zs a b = absurd a
 zip_one R one (x ∷ xs) (y ∷ ys) [] a b = absurd b
 zip_one R one (x ∷ xs) (y ∷ ys) (z ∷ zs) a b = ap (λ w. w ∷ ys) (one x y z a.0 b.0) ∙ ap (λ l. z ∷ l) (zip_one R one xs ys zs a.1 b.1)
 
+-- lists of one length that have the same at each place are one
 one_list : {X : Type 0} (xs ys : List X) → length xs ≡ length ys → ((i : ℕ) (x y : X) → slice_get xs i ≡ Some x → slice_get ys i ≡ Some y → x ≡ y) → xs ≡ ys
 one_list [] [] e same = refl
 one_list [] (y ∷ ys) e same = absurd (omega (arith, e))
@@ -47,22 +48,28 @@ one_list (x ∷ xs) [] e same = absurd (omega (arith, e))
 one_list (x ∷ xs) (y ∷ ys) e same = ap (λ z. z ∷ xs) (same 0 x y refl refl) ∙ ap (λ l. y ∷ l) (one_list xs ys (omega (arith, e)) (λ i. same (suc i)))
 
 module _ (s : SchemeView) (t : ℕ) where
+  -- words stand for one lock
   one_lock : (l : CertLock) (x y : Lock) → Denotes s t l x → Denotes s t l y → x ≡ y
   one_lock l x y a b = let p = a.0 in let q = b.0 in cc
 
+  -- a step stands for one step
   one_step : (p : CertStep) (x y : Link) → DenotesStep s t p x → DenotesStep s t p y → x ≡ y
   one_step p x y a b = ap (λ n. link n x.lock) (sym a.0 ∙ b.0) ∙ ap (link y.node) (one_lock p.lock x.lock y.lock a.1 b.1)
 
+  -- a claimed chain by its parts
   claim : ℕ → List Link → ChainClaim
   claim n links = record { lock = n; links = links }
 
+  -- a chain stands for one chain
   one_chain : (p : Chain) (x y : ChainClaim) → DenotesChain s t p x → DenotesChain s t p y → x ≡ y
   unfolding claim
   one_chain p x y a b = ap (λ n. claim n x.links) (sym a.0 ∙ b.0) ∙ ap (claim y.lock) (zip_one (DenotesStep s t) one_step p.steps x.links y.links a.1 b.1)
 
+  -- claims by their parts
   claims : List (List Lock) → List Lock → List ChainClaim → Claims
   claims nodes entry chains = record { nodes = nodes; entry = entry; chains = chains }
 
+  -- what is said of a section is one thing
   one_section : (g : List Node) (p : CertSection) (x y : Claims) → DenotesSection s t g p x → DenotesSection s t g p y → x ≡ y
   unfolding claims
   one_section g p x y a b =
@@ -71,7 +78,7 @@ module _ (s : SchemeView) (t : ℕ) where
       ∙ ap (claims y.nodes y.entry) (zip_one (DenotesChain s t) one_chain p.chains x.chains y.chains a.chains b.chains)
 
 -- what a certificate says of a program is one thing
-pub one_meaning : (s : SchemeView) → IsScheme s → (a : Cert) (x y : List Claims) → DenotesAll s a x → DenotesAll s a y → x ≡ y
+one_meaning : (s : SchemeView) → IsScheme s → (a : Cert) (x y : List Claims) → DenotesAll s a x → DenotesAll s a y → x ≡ y
 one_meaning s scheme a x y p q = one_list x y (p.count ∙ sym q.count) (λ i c d at_c at_d.
     let w = slice_get_within x i c at_c in
     let part = at_of a.sections i (omega (arith, w, p.count)) in
@@ -80,6 +87,7 @@ one_meaning s scheme a x y p q = one_list x y (p.count ∙ sym q.count) (λ i c 
     one_section s of.0.thread g.0 part.0 c d (p.each i of.0 g.0 part.0 c (of.1, g.1) part.1 at_c) (q.each i of.0 g.0 part.0 d (of.1, g.1) part.1 at_d))
 
 module _ (s : SchemeView) (scheme : IsScheme s) (a : Cert) (text : HasText a) (v : IsValid s a) where
+  -- no section has a fault
   no_section : (i : ℕ) (f : SectionFault) → f ≢ section.Memory → IsFaultAt s a i f → ⊥
   no_section i f some h =
       let same = one_meaning s scheme a h.claims v.claims h.denoted v.denoted in
@@ -87,7 +95,7 @@ module _ (s : SchemeView) (scheme : IsScheme s) (a : Cert) (text : HasText a) (v
       no_fault s h.of.thread (end_of s i) h.g h.c (v.each i h.of h.g h.c h.section at) (all_rise s scheme a text v.claims v.denoted i h.c at) f some h.here
 
   -- a valid certificate is refused for want of memory alone
-  pub no_err : (f : CheckFault) → JudgesCert {A = Unit {0}} s a (Err f) → f ≡ fault.Memory
+  no_err : (f : CheckFault) → JudgesCert {A = Unit {0}} s a (Err f) → f ≡ fault.Memory
   no_err fault.Memory h = refl
   no_err (fault.Source x) h = absurd h
   no_err (fault.Text x) h = absurd h
@@ -99,6 +107,7 @@ module _ (s : SchemeView) (scheme : IsScheme s) (a : Cert) (text : HasText a) (v
   no_err (fault.NoChain i n) h = absurd (no_section i (section.NoChain n) (λ e. cc) h)
   no_err (fault.BrokenChain i n j) h = absurd (no_section i (section.BrokenChain n j) (λ e. cc) h)
 
+  -- so it is accepted, unless memory runs out
   pub ok_unless : (r : Result (Unit {0}) CheckFault) → JudgesCert s a r → IsOkUnless r fault.Memory
   ok_unless (Ok x) h = tt
   ok_unless (Err f) h = no_err f h

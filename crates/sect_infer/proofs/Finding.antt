@@ -1,8 +1,8 @@
 -- The locks that are found for a section.
-use Rattle.std.proofs.Common.{◌≡◌, ◌↔◌, ℕ, zero, suc, ◌+◌, ◌<◌, ◌≤◌, List, [], ◌∷◌, ◌++◌, ◌⊎◌, Some, length, length-append, inl, inr, refl, sym, ap, ◌∙◌, subst, append-nil, arith}
+use Rattle.std.proofs.Common.{◌≡◌, ◌↔◌, ℕ, ◌+◌, ◌<◌, ◌≤◌, List, [], ◌∷◌, ◌++◌, ◌⊎◌, Some, length, length-append, inl, inr, refl, sym, ◌∙◌, subst, append-nil, arith}
 use Rattle.std.specs.Prelude.{slice_get, slice_index_or}
 use Rattle.std.proofs.lemmas.Bool.{cases_lt}
-use Rattle.std.proofs.lemmas.Option.{slice_get_within, get_or_from_slice_get}
+use Rattle.std.proofs.lemmas.Option.{slice_get_within}
 use Rattle.sect_types.proofs.Places.{pushed_at}
 use Rattle.sect_types.specs.Lists.{Has}
 use Rattle.sect_types.specs.Statements.{TextView}
@@ -14,9 +14,7 @@ use Rattle.sect_names.specs.declared.lock.Lock.{Lock}
 use Rattle.sect_names.specs.declared.lock.Lock.TheVariants as lock
 use Rattle.sect_names.specs.Schemes.{SchemeView}
 use Rattle.sect_names.specs.Locks.{IsLockOf, Covers}
-use Rattle.sect_front.specs.declared.tree.Locking.{Locking}
-use Rattle.sect_front.specs.declared.tree.Locking.TheVariants as locking
-use Rattle.sect_names.specs.Needed.{CarriedOver, IsNeededOn, IsNeeded, IsNeededFrom, end_locks, end_of}
+use Rattle.sect_names.specs.Needed.{CarriedOver, IsNeededOn, IsNeeded, IsNeededFrom}
 use Rattle.sect_names.specs.Order.{AreMaximal}
 use Rattle.sect_names.proofs.Maximals.{maximal_as, maximal_least}
 use Rattle.sect_infer.specs.declared.need.Need.{Need}
@@ -170,10 +168,6 @@ module _ (s : SchemeView) (t : ℕ) (g : List Node) where
 
   pub on_all_of : (body : TextView) → IsGraphOf body g → (locks : LocksView) → IsOnAll (length g + 1) locks → AreLocksOf s (lock.All ∷ []) (record { thread = t; body = body }) g locks
   on_all_of body graph locks found = locks_of (lock.All ∷ []) body graph locks found.first (all_needed body graph locks.at found.all)
-
--- what the end of a section generates goes by which locks it takes
-pub end_is : (s : SchemeView) (i : ℕ) (l : Locking) → slice_get s.program.lockings i ≡ Some l → end_of s i ≡ end_locks l
-end_is s i l at = ap end_locks (get_or_from_slice_get s.program.lockings i l locking.Inferred at)
 
 -- the locks on all are the program's
 pub all_lawful : (s : SchemeView) (t n : ℕ) (lists : List (List Lock)) → AreAllOnAll n lists → (j : ℕ) (locks : List Lock) → slice_get lists j ≡ Some locks → (l : Lock) → Has locks l → IsLockOf s t l

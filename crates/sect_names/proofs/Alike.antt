@@ -37,10 +37,12 @@ variable_has : (F G : Family) → Within F G → (v : Variable) (site : ℕ) →
 variable_has F G to (Global g) site h = h
 variable_has F G to (Local t x) site h = to (holder.Local t x) site h
 
+-- so does a longer path
 path_has : (F G : Family) → Within F G → (p : PathView) (site : ℕ) → PathHas F p site → PathHas G p site
 path_has F G to (var v) site h = variable_has F G to v site h
 path_has F G to (dot p f) site h = (h.0, path_has F G to p h.0 h.1, to (holder.Slot h.0 f.number) site h.2)
 
+-- so a path keeps its classes where sets grow
 pub class_to : (s : SchemeView) (a b : PointsToView) → Within (InSets a) (InSets b) → (p : PathView) (n : ℕ) → HasClass (classes_with s a) p n → HasClass (classes_with s b) p n
 class_to s a b to p n h = (h.0, path_has (InSets a) (InSets b) to p h.0 h.1, h.2)
 
@@ -56,6 +58,7 @@ module _ (s : SchemeView) (a b : PointsToView) (to : (p : PathView) (n : ℕ) �
   lock_to (lock.Class c r) h = h
   lock_to (lock.Path p e) h = record { own = h.own; of = h.of; refers = h.refers; short = h.short; classed = (h.classed.0, to p h.classed.0 h.classed.1) }
 
+  -- what an access needs
   access_to : (v : Variable) (r : ℕ) (e : Effect) (l : Lock) → Accesses (scheme_with s a) v r e l → Accesses (scheme_with s b) v r e l
   access_to v r e l h = ((h.0.0, to (var v) h.0.0 h.0.1), h.1)
 
@@ -68,11 +71,13 @@ module _ (s : SchemeView) (a b : PointsToView) (to : (p : PathView) (n : ℕ) �
   generated_by_to (action.Store y f v) l h = access_to (variable_of t y) f.of _ l h
   generated_by_to (action.Print v) l h = h
 
+  -- what a statement or a test generates
   generated_to : (step : Label) (l : Lock) → Generated (scheme_with s a) t step l → Generated (scheme_with s b) t step l
   generated_to (label.Act x) l h = generated_by_to x l h
   generated_to (label.Test c) l h = h
   generated_to (label.Section i) l h = h
 
+  -- what a step of a chain generates
   pub generated_at_to : (last : List Lock) (g : List Node) (x : Link) → IsGeneratedAt (scheme_with s a) t last g x → IsGeneratedAt (scheme_with s b) t last g x
   generated_at_to last g x h = elim h [ inl n ↦ inl (n.0, n.1, generated_to n.0.label x.lock n.2) | inr e ↦ inr e ]
 
@@ -84,6 +89,7 @@ module _ (s : SchemeView) (a b : PointsToView) (to : (p : PathView) (n : ℕ) �
     | inr r ↦ inr (r.0, (r.1.0, to p r.1.0 r.1.1, to (var z) r.1.0 r.1.2), r.2)
   ]
 
+  -- what is carried back over a statement
   before_action_to : (x : Action) (p q : PathView) → BeforeAction (classes_with s a) t x p q → BeforeAction (classes_with s b) t x p q
   before_action_to (action.Assign x v) p q h = h
   before_action_to (action.Compute x v o w) p q h = h
@@ -92,11 +98,13 @@ module _ (s : SchemeView) (a b : PointsToView) (to : (p : PathView) (n : ℕ) �
   before_action_to (action.Store y f v) p q h = before_store_to (variable_of t y) f (variable_in t v) p q h
   before_action_to (action.Print v) p q h = h
 
+  -- over a statement or a test
   before_to : (step : Label) (p q : PathView) → Before (classes_with s a) t step p q → Before (classes_with s b) t step p q
   before_to (label.Act x) p q h = before_action_to x p q h
   before_to (label.Test c) p q h = h
   before_to (label.Section i) p q h = h
 
+  -- what a lock is carried back to
   pub carried_to : (step : Label) (l m : Lock) → CarriedBack (scheme_with s a) t step l m → CarriedBack (scheme_with s b) t step l m
   carried_to step lock.All m h = h
   carried_to step (lock.Class c r) m h = h
@@ -109,6 +117,7 @@ module _ (s : SchemeView) (a b : PointsToView) (to : (p : PathView) (n : ℕ) �
       let first = h.0 in
       ((first.0, first.1, first.2, carried_to first.0.label y.lock x.lock first.3), linked_to last g y links h.1)
 
+  -- from the entry on
   pub chain_to : (last : List Lock) (g : List Node) (l : Lock) (links : List Link) → IsChain (scheme_with s a) t last g l links → IsChain (scheme_with s b) t last g l links
   chain_to last g l [] h = h
   chain_to last g l (x ∷ links) h = (h.0, linked_to last g x links h.1)
@@ -123,5 +132,6 @@ module _ (s : SchemeView) (a b : PointsToView) (to : (p : PathView) (n : ℕ) �
   covers_to (lock.Class c r) (lock.Class d q) h = h
   covers_to (lock.Path p e) (lock.Class d q) h = h
 
+  -- what is covered by a list
   pub covered_to : (locks : List Lock) (l : Lock) → CoveredBy (scheme_with s a) locks l → CoveredBy (scheme_with s b) locks l
   covered_to locks l h = (h.0, h.1, covers_to h.0 l h.2)

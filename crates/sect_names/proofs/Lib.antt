@@ -33,3 +33,4 @@ pub mod Needing
 pub mod Ends
 pub mod Inserting
 pub mod Alike
+pub mod Ending

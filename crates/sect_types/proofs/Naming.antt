@@ -18,6 +18,7 @@ use Rattle.sect_types.specs.Programs.{ProgramView, IsOfTree, IsWithinLimits}
 abbrev pub NoneBefore : List ℕ → List (List ℕ) → ℕ → Type 0
 NoneBefore x names i = (k : ℕ) → k < i → pointwise nat_eq x (get_or names k []) ≡ false
 
+-- a number below the count is given
 chosen : (i n : ℕ) → i < n → cond (nat_lt i n) (Some i) None ≡ Some i
 chosen i n lt = go (nat_lt i n) refl
   where
@@ -25,6 +26,7 @@ chosen i n lt = go (nat_lt i n) refl
     go true e = refl
     go false e = absurd (let past = ltb-false i n e in omega (arith, lt, past))
 
+-- the count itself isn't
 passed : (n : ℕ) → cond (nat_lt n n) (Some n) None ≡ None
 passed n = go (nat_lt n n) refl
   where
@@ -32,11 +34,13 @@ passed n = go (nat_lt n n) refl
     go true e = absurd (let lt = ltb-true n n e in omega (arith, lt))
     go false e = refl
 
+-- the place of a name is the first at which it stands
 pub place_found : (x : List ℕ) (names : List (List ℕ)) (i : ℕ) → i < length names → NoneBefore x names i → pointwise nat_eq x (get_or names i []) ≡ true → Some i ≡ place x names
 place_found x names i within before here =
     let at = position_or_len_is (pointwise nat_eq x) names i [] (omega (arith, within)) before (λ lt. here) in
     sym (ap (λ k. cond (nat_lt k (length names)) (Some k) None) at ∙ chosen i (length names) within)
 
+-- a name that stands nowhere has none
 pub place_missing : (x : List ℕ) (names : List (List ℕ)) (i : ℕ) → length names ≡ i → NoneBefore x names i → None ≡ place x names
 place_missing x names i all before =
     let at = position_or_len_is (pointwise nat_eq x) names (length names) [] (omega arith) (λ k lt. before k (omega (arith, lt, all))) (λ lt. absurd (omega (arith, lt))) in

@@ -1,5 +1,5 @@
 -- The steps of chains, one from another.
-use Rattle.std.specs.Prelude.{◌≡◌, ◌↔◌, ◌⊎◌, ◌<◌, ◌≤◌, ◌+◌, ℕ, List, [], ◌++◌, length, slice_get, slice_index_or}
+use Rattle.std.specs.Prelude.{◌≡◌, ◌↔◌, ◌⊎◌, ◌<◌, ◌≤◌, ◌+◌, ℕ, List, [], ◌∷◌, ◌++◌, length, slice_get, slice_index_or}
 use Rattle.std.specs.Prelude.{Option, Some, None}
 use Rattle.sect_types.specs.Lists.{Has}
 use Rattle.sect_graph.specs.declared.flow.Node.{Node}
@@ -9,7 +9,7 @@ use Rattle.sect_names.specs.declared.lock.Lock.{Lock}
 use Rattle.sect_names.specs.Schemes.{SchemeView}
 use Rattle.sect_names.specs.Locks.{IsLockOf}
 use Rattle.sect_names.specs.Carrying.{Generated, CarriedBack}
-use Rattle.sect_names.specs.Chains.{IsGeneratedAt, LinksTo, AreLinked}
+use Rattle.sect_names.specs.Chains.{link, IsGeneratedAt, LinksTo, AreLinked}
 
 -- steps lead on from this one to where a lock is generated
 abbrev pub HasTrail : SchemeView → ℕ → List Lock → List Node → Link → Type 0
@@ -53,3 +53,23 @@ pub record LeadOn (s : SchemeView) (t : ℕ) (last : List Lock) (g : List Node) 
   pub count : length next ≡ length kept
   pub each : (i : ℕ) (a : Link) (o : Option ℕ) → slice_get kept i ≡ Some a → slice_get next i ≡ Some o
       → LeadsOn s t last g kept i a o
+
+-- each step that links to one links to an earlier one
+pub record GoBack (kept : List Link) (next : List (Option ℕ)) : Type 0 where
+  pub count : length next ≡ length kept
+  pub earlier : (i j : ℕ) → slice_get next i ≡ Some (Some j) → j < i
+
+-- these are the steps behind the one at an index, each the one to which the step before it links
+abbrev pub AreBehind : List Link → List (Option ℕ) → ℕ → List Link → Type 0
+AreBehind kept next i [] = slice_get next i ≡ Some None
+AreBehind kept next i (b ∷ links) =
+    (j : ℕ) × (slice_get next i ≡ Some (Some j)) × (slice_get kept j ≡ Some b) × AreBehind kept next j links
+
+-- these are the steps from the one at an index on
+abbrev pub AreFrom : List Link → List (Option ℕ) → ℕ → List Link → Type 0
+AreFrom kept next i [] = ⊥
+AreFrom kept next i (a ∷ links) = (slice_get kept i ≡ Some a) × AreBehind kept next i links
+
+-- these are the steps from the lock at the entry on
+abbrev pub AreFromEntry : List Link → List (Option ℕ) → Lock → List Link → Type 0
+AreFromEntry kept next l links = (i : ℕ) × (slice_get kept i ≡ Some (link 0 l)) × AreFrom kept next i links

@@ -1,7 +1,7 @@
 use Rattle.std.proofs.Common.{◌≡◌, ◌≤◌, ◌+◌, length, arith, Some, ap, ◌∙◌, inl, inr, refl}
 use Rattle.sect_graph.specs.declared.flow.Successors.TheVariants.{Next, Branch}
 use Rattle.sect_graph.specs.declared.flow.Node.{Node}
-use Rattle.sect_chains.proofs.Carrying.{node_at}
+use Rattle.sect_types.proofs.Places.{told_at}
 use Rattle.sect_chains.proofs.Preceding.{before_none, before_next, before_done, added_one, added_two, goes_within}
 use Rattle.sect_chains.proofs.predecessors.predecessors_of.Goals as goal
 use Rattle.sect_chains.proofs.predecessors.predecessors_of.Goals.{in-Next+in_ok-add-in-Next, in-Branch+in_ok-add-in-Branch+in_ok-add-in-Branch-2}
@@ -32,7 +32,7 @@ loop-node-preserved c =
     let g = c.args.flow.now in
     let j = c.loop-node.node in
     let old = c.loop-node.lists in
-    let node = node_at (λ (y : Node). y.next) g j c.succ.result c.succ.ensures in
+    let node = told_at (λ (y : Node). y.next) g j c.succ.result c.succ.ensures in
     let y = node.0 in
     elim c.match-succ.branch [
       | in-Next+in_ok-add-in-Next w ↦

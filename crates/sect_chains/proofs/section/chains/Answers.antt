@@ -6,7 +6,7 @@ use Rattle.sect_types.specs.Sections.{SectionView, sections_of}
 use Rattle.sect_graph.specs.Graphs.{GraphView}
 use Rattle.sect_names.specs.Needed.{end_of}
 use Rattle.sect_names.specs.Chains.{link}
-use Rattle.sect_infer.proofs.Finding.{end_is}
+use Rattle.sect_names.proofs.Ending.{end_is}
 use Rattle.sect_chains.specs.steps.Trails.{HasTrail, AreLawful}
 use Rattle.sect_chains.proofs.section.chains.Goals as goal
 

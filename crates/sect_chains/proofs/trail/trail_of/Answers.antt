@@ -1,7 +1,7 @@
 use Rattle.std.proofs.Common.{◌≤◌, ◌<◌, [], None, Some, length, length-append, ap, subst, arith}
 use Rattle.sect_types.proofs.Membership.{Has-slice_get}
 use Rattle.sect_chains.specs.steps.Lists.{IsFilled}
-use Rattle.sect_chains.proofs.Places.{at_of}
+use Rattle.sect_types.proofs.Places.{at_of}
 use Rattle.sect_chains.proofs.Working.{work_begins, work_next, work_ends, trail_lock, few}
 use Rattle.sect_chains.proofs.Trails.{leads_none, leads_more}
 use Rattle.sect_chains.proofs.trail.trail_of.Goals as goal

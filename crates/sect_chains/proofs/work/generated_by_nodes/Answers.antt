@@ -2,7 +2,8 @@ use Rattle.std.proofs.Common.{◌≡◌, ◌≤◌, ◌↔◌, arith, length, su
 use Rattle.sect_names.specs.declared.lock.Lock.{Lock}
 use Rattle.sect_names.specs.Carrying.{Generated}
 use Rattle.sect_graph.specs.declared.flow.Node.{Node}
-use Rattle.sect_chains.proofs.Carrying.{node_at, generated_none, generated_skip, generated_next, generated_done}
+use Rattle.sect_types.proofs.Places.{told_at}
+use Rattle.sect_chains.proofs.Carrying.{generated_none, generated_skip, generated_next, generated_done}
 use Rattle.sect_chains.proofs.work.generated_by_nodes.Goals as goal
 use Rattle.sect_chains.proofs.work.generated_by_nodes.Goals.{in-Some+in_ok-keep, in_default}
 
@@ -15,7 +16,7 @@ loop-node-preserved c =
     let t = c.args.thread in
     let g = c.args.flow.now in
     let j = c.loop-node.node in
-    let node = node_at (λ (y : Node). y.label) g j c.action.result c.action.ensures in
+    let node = told_at (λ (y : Node). y.label) g j c.action.result c.action.ensures in
     let y = node.0 in
     let tells = subst (λ a. (l : Lock) → (c.generate.result ≡ Some l) ↔ Generated s t a l) (sym node.2) c.generate.ensures in
     elim c.match-generate.branch [

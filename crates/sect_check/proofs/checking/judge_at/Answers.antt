@@ -1,11 +1,12 @@
-use Rattle.std.proofs.Common.{◌≡◌, List, Some, subst}
+use Rattle.std.proofs.Common.{◌≡◌, List, Some, sym, subst}
 use Rattle.std.specs.Prelude.{slice_get}
 use Rattle.sect_types.specs.Programs.{ProgramView}
 use Rattle.sect_types.specs.Sections.{SectionView, sections_of}
 use Rattle.sect_graph.specs.Graphs.{GraphView}
 use Rattle.sect_names.specs.declared.lock.Lock.{Lock}
 use Rattle.sect_check.specs.Faults.{IsFaultOf}
-use Rattle.sect_check.proofs.Judging.{end_is, judged_err}
+use Rattle.sect_names.proofs.Ending.{end_is}
+use Rattle.sect_check.proofs.Judging.{judged_err}
 use Rattle.sect_check.proofs.checking.judge_at.Goals as goal
 
 pub returns-in-Err : goal.returns-in-Err
@@ -15,5 +16,5 @@ returns-in-Err c =
     let section_at = subst (λ (p : ProgramView). slice_get (sections_of p.texts) c.args.number ≡ Some of) c.program.ensures c.section-thread.ensures.section in
     let locking_at = subst (λ (p : ProgramView). slice_get p.lockings c.args.number ≡ Some c.locking-locking.result) c.program-2.ensures c.locking-locking.ensures in
     let graph_at = subst (λ (q : GraphView). slice_get q.sections c.args.number ≡ Some c.section-flow.result.now) c.graph.ensures c.section-flow.ensures in
-    let here = subst (λ (last : List Lock). IsFaultOf s of.thread last c.section-flow.result.now c.args.claims.now c.in-Err.fault) (end_is s c.args.number c.locking-locking.result locking_at) c.in-Err.ensures in
+    let here = subst (λ (last : List Lock). IsFaultOf s of.thread last c.section-flow.result.now c.args.claims.now c.in-Err.fault) (sym (end_is s c.args.number c.locking-locking.result locking_at)) c.in-Err.ensures in
     rw c.of_section.ensures (judged_err (Unit {0}) s c.args.number c.args.claims.now c.in-Err.fault (of, c.section-flow.result.now, (section_at, graph_at), here))

@@ -3,7 +3,8 @@ use Rattle.std.specs.List.{AllZip}
 use Rattle.sect_cert.specs.declared.lock.CertLock.{CertLock}
 use Rattle.sect_names.specs.declared.lock.Lock.{Lock}
 use Rattle.sect_check.specs.Names.{Denotes}
-use Rattle.sect_check.proofs.Resolving.{zip_more, zip_none, passes}
+use Rattle.sect_types.proofs.Places.{zip_more}
+use Rattle.sect_check.proofs.Resolving.{zip_none, passes}
 use Rattle.sect_check.proofs.claiming.lists_of.Goals as goal
 
 pub returns-in_err-locks_of : goal.returns-in_err-locks_of

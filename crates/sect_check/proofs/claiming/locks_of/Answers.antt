@@ -1,7 +1,8 @@
 use Rattle.std.proofs.Common.{◌<◌, length, arith}
 use Rattle.std.specs.List.{AllZip}
 use Rattle.sect_check.specs.Names.{Denotes}
-use Rattle.sect_check.proofs.Resolving.{zip_more, zip_none, passes}
+use Rattle.sect_types.proofs.Places.{zip_more}
+use Rattle.sect_check.proofs.Resolving.{zip_none, passes}
 use Rattle.sect_check.proofs.claiming.locks_of.Goals as goal
 
 pub returns-in_err-lock_of : goal.returns-in_err-lock_of

@@ -11,7 +11,8 @@ use Rattle.sect_names.specs.Schemes.{SchemeView}
 use Rattle.sect_names.specs.Locks.{IsLockOf}
 use Rattle.sect_infer.specs.Sets.{LocksView, AreLocksOf}
 use Rattle.sect_infer.specs.steps.Found.{IsFound, IsOnAll}
-use Rattle.sect_infer.proofs.Finding.{inferred_of, on_all_of, end_is, found_lawful, all_lawful}
+use Rattle.sect_names.proofs.Ending.{end_is}
+use Rattle.sect_infer.proofs.Finding.{inferred_of, on_all_of, found_lawful, all_lawful}
 use Rattle.sect_infer.proofs.section.infer.Goals as goal
 
 -- all the locks of a section may be taken by the thread

@@ -1,8 +1,9 @@
 use Rattle.std.proofs.Common.{◌≡◌, ◌<◌, ℕ, List, [], ◌∷◌, ◌++◌, map, set, length, ap, ◌∙◌, sym, arith, subst}
 use Rattle.std.specs.Prelude.{slice_index_or}
 use Rattle.std.proofs.lemmas.List.{get_or-map, length-map}
+use Rattle.sect_names.proofs.Inserting.{behind}
 use Rattle.sect_chains.specs.steps.Lists.{IsAdded}
-use Rattle.sect_chains.proofs.Adding.{map-set, put_at, behind}
+use Rattle.sect_chains.proofs.Adding.{map-set, put_at}
 use Rattle.sect_chains.proofs.predecessors.Predecessors.add.Goals as goal
 
 pub returns-clause-added : goal.returns-clause-added

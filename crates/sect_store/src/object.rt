@@ -76,7 +76,7 @@ impl Object {
     }
 
     /// What a field holds; null where there is no such field.
-    pub(crate) fn field(&self, number: u16) -> Datum
+    pub fn field(&self, number: u16) -> Datum
         ensures { result ≡ datum_or_null (slice_get self.now.fields number) }
     {
         match self.fields.get(number as usize) {

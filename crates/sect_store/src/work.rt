@@ -53,7 +53,7 @@ impl Work {
     }
 
     /// What a local holds; null where there is no such local.
-    fn local(&self, number: u16) -> Datum
+    pub fn local(&self, number: u16) -> Datum
         ensures { result ≡ local_datum self.now.locals number }
     {
         match self.locals.get(number as usize) {

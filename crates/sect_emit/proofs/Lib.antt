@@ -9,3 +9,5 @@ pub mod Pointing
 pub mod Securing
 pub mod Starting
 pub mod Valuing
+pub mod Wholes
+pub mod Adding

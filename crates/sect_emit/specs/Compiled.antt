@@ -6,7 +6,9 @@ use Rattle.sect_types.specs.Programs.{ProgramView, IsWellNumbered}
 use Rattle.sect_names.specs.declared.lock.Lock.{Lock}
 use Rattle.sect_names.specs.Locks.{IsLockOf}
 use Rattle.sect_names.specs.Schemes.{SchemeView, IsScheme}
-use Rattle.sect_names.specs.Needed.{end_of, Protects}
+use Rattle.sect_names.specs.Needed.{end_of, Protects, IsLeast}
+use Rattle.sect_names.specs.Order.{AreInOrder}
+use Rattle.sect_names.specs.Sources.{IsAccepted}
 use Rattle.sect_emit.specs.declared.plan.Grip.{Grip}
 use Rattle.sect_emit.specs.Plan.{IsFixedPart}
 
@@ -38,3 +40,16 @@ pub record IsCompiled (c : CompiledView) : Type 0 where
       → slice_get c.sets i ≡ Some locks → Has locks l → IsLockOf c.scheme section.thread l
   pub planned : (i : ℕ) (locks : List Lock) (part : List Grip) → slice_get c.sets i ≡ Some locks
       → slice_get c.parts i ≡ Some part → IsFixedPart c.scheme locks part
+
+-- each set is the least that protects its section, in canonical order
+abbrev pub AreSetsLeast : CompiledView → Type 0
+AreSetsLeast c =
+    (i : ℕ) (section : SectionView) (locks : List Lock) → slice_get (sections_of c.scheme.program.texts) i ≡ Some section
+    → slice_get c.sets i ≡ Some locks
+    → IsLeast c.scheme section.thread (end_of c.scheme i) section.body locks × AreInOrder locks
+
+-- the source text is accepted for paths of at most k fields, and this is its program, compiled with its least sets
+pub record IsCompiledFrom (source : List ℕ) (k : ℕ) (c : CompiledView) : Type 0 where
+  pub accepted : IsAccepted source k c.scheme
+  pub compiled : IsCompiled c
+  pub least : AreSetsLeast c

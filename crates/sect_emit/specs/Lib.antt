@@ -6,3 +6,4 @@ pub mod Plan
 pub mod PlanLaws
 pub mod Pointed
 pub mod State
+pub mod steps

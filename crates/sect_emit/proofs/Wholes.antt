@@ -1,0 +1,118 @@
+-- What is kept of each section makes a compiled program.
+use Rattle.std.proofs.Common.{◌≡◌, ◌⊎◌, ℕ, ◌+◌, ◌<◌, List, [], ◌∷◌, ◌++◌, Some, length, length-append, get_or, sym, ap, ◌∙◌, subst, arith, slice_get, inl, inr}
+use Rattle.std.proofs.lemmas.List.{length-map}
+use Rattle.std.proofs.lemmas.Option.{slice_get_within, slice_get-get_or}
+use Rattle.sect_types.specs.Lists.{Has}
+use Rattle.sect_types.specs.Sections.{SectionView, sections_of}
+use Rattle.sect_types.specs.Programs.{ProgramView, IsWellNumbered, sites_of, total_statements}
+use Rattle.sect_types.proofs.Places.{at_of, pushed_at}
+use Rattle.sect_types.proofs.Replaced.{slice_get-map}
+use Rattle.sect_names.specs.declared.lock.Lock.{Lock}
+use Rattle.sect_names.specs.declared.lock.Lock.TheVariants as lock
+use Rattle.sect_names.specs.Locks.{IsLockOf}
+use Rattle.sect_names.specs.Needed.{end_of, Protects, IsLeast}
+use Rattle.sect_names.specs.Order.{AreInOrder}
+use Rattle.sect_names.specs.Schemes.{SchemeView, IsScheme}
+use Rattle.sect_infer.specs.Sets.{LocksView}
+use Rattle.sect_emit.specs.declared.plan.Grip.{Grip}
+use Rattle.sect_emit.specs.Plan.{IsFixedPart}
+use Rattle.sect_emit.specs.Compiled.{IsCompiled, AreSetsLeast}
+use Rattle.sect_emit.specs.steps.Inferred.{entries_of, AreInferredAt, AreAllInferred, AreFixedParts, IsWhole}
+use Rattle.sect_emit.specs.steps.Wishes.{IsClassedLock}
+
+-- the program is well numbered, by its own counts
+abbrev pub IsNumbered : ProgramView → Type 0
+IsNumbered p = IsWellNumbered p (length (sections_of p.texts)) (length (sites_of p.globals p.texts)) (total_statements p.texts)
+
+-- the locks of so many sections
+pub record AreInferredBelow (s : SchemeView) (n : ℕ) (all : List LocksView) : Type 0 where
+  pub count : length all ≡ n
+  pub each : (i : ℕ) (locks : LocksView) → slice_get all i ≡ Some locks → AreInferredAt s i locks
+
+-- one section more
+pub one_inferred : (s : SchemeView) (n : ℕ) (all : List LocksView) (locks : LocksView) → AreInferredBelow s n all → AreInferredAt s n locks → AreInferredBelow s (n + 1) (all ++ locks ∷ [])
+one_inferred s n all locks before here = record {
+  count = (let e = before.count in omega (arith, e, length-append all (locks ∷ [])));
+  each = λ i x at. elim (pushed_at all locks x i at) [
+    | inl e ↦ subst (AreInferredAt s i) e.1 (subst (λ m. AreInferredAt s m locks) (sym (e.0 ∙ before.count)) here)
+    | inr h ↦ before.each i x h
+  ];
+}
+
+-- one part more
+pub one_part : (s : SchemeView) (sets : List (List Lock)) (parts : List (List Grip)) (locks : List Lock) (part : List Grip) → AreFixedParts s sets parts → IsFixedPart s locks part
+    → AreFixedParts s (sets ++ locks ∷ []) (parts ++ part ∷ [])
+one_part s sets parts locks part before here = record {
+  count = (let e = before.count in omega (arith, e, length-append sets (locks ∷ []), length-append parts (part ∷ [])));
+  each = λ i x y at has. by i x y (pushed_at sets locks x i at) (pushed_at parts part y i has);
+}
+  where
+    by : (i : ℕ) (x : List Lock) (y : List Grip) → ((i ≡ length sets) × (locks ≡ x)) ⊎ (slice_get sets i ≡ Some x)
+        → ((i ≡ length parts) × (part ≡ y)) ⊎ (slice_get parts i ≡ Some y) → IsFixedPart s x y
+    by i x y (inl a) (inl b) = subst (IsFixedPart s x) b.1 (subst (λ z. IsFixedPart s z part) a.1 here)
+    by i x y (inl a) (inr k) = (let w = slice_get_within parts i y k in let e = before.count in absurd (omega (arith, w, e, a.0)))
+    by i x y (inr h) (inl b) = (let w = slice_get_within sets i x h in let e = before.count in absurd (omega (arith, w, e, b.0)))
+    by i x y (inr h) (inr k) = before.each i x y h k
+
+-- each lock of an entry has a class where it is on a path
+pub classed_entry : (s : SchemeView) (all : List LocksView) → IsScheme s → AreAllInferred s all → (i : ℕ) (locks : LocksView) → i < length all → locks ≡ get_or all i locks
+    → (l : Lock) → Has locks.entry l → IsClassedLock s l
+classed_entry s all scheme inferred i locks within is l has =
+    let of = at_of (sections_of s.program.texts) i (omega (arith, within, inferred.count)) in
+    let g = at_of s.graphs.sections i (omega (arith, within, inferred.count, scheme.graphed.section_count)) in
+    let told = inferred.each i locks (slice_get-get_or all i locks within ∙ ap (λ x. Some x) (sym is)) of.0 g.0 of.1 g.1 in
+    classed s of.0.thread l (told.1 0 locks.entry told.0.first l has)
+  where
+    classed : (s : SchemeView) (t : ℕ) (l : Lock) → IsLockOf s t l → IsClassedLock s l
+    classed s t lock.All is = tt
+    classed s t (lock.Class c r) is = tt
+    classed s t (lock.Path p e) is = is.classed
+
+module _ (s : SchemeView) (all : List LocksView) (parts : List (List Grip)) (scheme : IsScheme s) (whole : IsWhole s all parts) where
+  set_count : length (entries_of all) ≡ length (sections_of s.program.texts)
+  set_count = length-map all (λ (locks : LocksView). locks.entry) ∙ whole.inferred.count
+
+  part_count : length parts ≡ length (sections_of s.program.texts)
+  part_count = whole.planned.count ∙ set_count
+
+  protects : (i : ℕ) (of : SectionView) (locks : List Lock) → slice_get (sections_of s.program.texts) i ≡ Some of
+      → slice_get (entries_of all) i ≡ Some locks → Protects s of.thread (end_of s i) of.body locks
+  protects i of locks at has =
+      let w = slice_get_within (sections_of s.program.texts) i of at in
+      let g = at_of s.graphs.sections i (omega (arith, w, scheme.graphed.section_count)) in
+      let kept = slice_get-map (λ (locks : LocksView). locks.entry) all i locks has in
+      let told = whole.inferred.each i kept.0 kept.1 of g.0 at g.1 in
+      subst (Protects s of.thread (end_of s i) of.body) kept.2 told.0.least.protects
+
+  laws : (i : ℕ) (of : SectionView) (locks : List Lock) (l : Lock) → slice_get (sections_of s.program.texts) i ≡ Some of
+      → slice_get (entries_of all) i ≡ Some locks → Has locks l → IsLockOf s of.thread l
+  laws i of locks l at has there =
+      let w = slice_get_within (sections_of s.program.texts) i of at in
+      let g = at_of s.graphs.sections i (omega (arith, w, scheme.graphed.section_count)) in
+      let kept = slice_get-map (λ (locks : LocksView). locks.entry) all i locks has in
+      let told = whole.inferred.each i kept.0 kept.1 of g.0 at g.1 in
+      told.1 0 locks (told.0.first ∙ ap (λ x. Some x) kept.2) l there
+
+  -- the sets are the least ones
+  pub sets_least : AreSetsLeast (record { scheme = s; sets = entries_of all; parts = parts })
+  sets_least i of locks at has =
+      let w = slice_get_within (sections_of s.program.texts) i of at in
+      let g = at_of s.graphs.sections i (omega (arith, w, scheme.graphed.section_count)) in
+      let kept = slice_get-map (λ (locks : LocksView). locks.entry) all i locks has in
+      let told = whole.inferred.each i kept.0 kept.1 of g.0 at g.1 in
+      (subst (IsLeast s of.thread (end_of s i) of.body) kept.2 told.0.least, subst AreInOrder kept.2 told.0.in_order)
+
+  -- a sound program with what is kept of its sections is compiled
+  pub compiled : IsNumbered s.program → IsCompiled (record { scheme = s; sets = entries_of all; parts = parts })
+  compiled numbers = record {
+    sections = length (sections_of s.program.texts);
+    sites = length (sites_of s.program.globals s.program.texts);
+    statements = total_statements s.program.texts;
+    numbers = numbers;
+    scheme = scheme;
+    set_count = set_count;
+    part_count = part_count;
+    protected = protects;
+    lawful = laws;
+    planned = whole.planned.each;
+  }

@@ -1,13 +1,11 @@
 -- Elements of lists and their places.
-use Rattle.std.proofs.Common.{◌≡◌, ◌⊎◌, ℕ, zero, suc, ◌+◌, ◌<◌, ◌≤◌, List, [], ◌∷◌, ◌++◌, Option, Some, None, Bool, true, false, take, length, get_or, inl, inr, refl, sym, ap, ◌∙◌, subst, arith, true≢false}
+use Rattle.std.proofs.Common.{◌≡◌, ◌⊎◌, ℕ, zero, suc, ◌<◌, ◌≤◌, List, [], ◌∷◌, ◌++◌, Option, Some, None, Bool, true, false, length, get_or, inl, inr, refl, sym, ap, ◌∙◌, subst, arith, true≢false}
 use Rattle.std.specs.Prelude.{slice_get, position, cond, nat_lt, MatchOption}
 use Rattle.std.specs.Bool.{Decides}
-use Rattle.std.specs.List.{AllZip, IsDistinct, AllByRecursion, position_or_len}
+use Rattle.std.specs.List.{IsDistinct, AllByRecursion, position_or_len}
 use Rattle.std.proofs.lemmas.Bool.{ltb-false}
-use Rattle.std.proofs.lemmas.List.{take_more}
 use Rattle.std.proofs.lemmas.List.Quantifiers.{position-Some}
 use Rattle.std.proofs.lemmas.List.Sums.{fails_before_first}
-use Rattle.std.proofs.lemmas.Slice.Zip.{all_zipped_more}
 use Rattle.std.proofs.lemmas.Option.{slice_get_within, get_or_from_slice_get, slice_get-get_or}
 use Rattle.sect_types.specs.Lists.{Has}
 use Rattle.sect_types.proofs.Membership.{Has-right, Has-slice_get}
@@ -20,12 +18,6 @@ read_at xs i r x within is e = slice_get-get_or xs i r within ∙ ap (λ z. Some
 -- a list with an element behind it, where that is another
 pub behind_is : {X : Type 0} (new old : List X) (x y : X) → new ≡ old ++ x ∷ [] → x ≡ y → new ≡ old ++ y ∷ []
 behind_is new old x y is e = is ∙ ap (λ z. old ++ z ∷ []) e
-
--- one pair more
-pub zip_more : {A B : Type 0} (R : A → B → Type 0) (xs : List A) (i : ℕ) (x : A) (ys : List B) (y : B) → i < length xs → x ≡ get_or xs i x → AllZip R (take i xs) ys → R x y → AllZip R (take (i + 1) xs) (ys ++ y ∷ [])
-zip_more R xs i x ys y within is before here =
-    let next : take (i + 1) xs ≡ take i xs ++ x ∷ [] = take_more xs i x within ∙ ap (λ z. take i xs ++ z ∷ []) (sym is) in
-    subst (λ zs. AllZip R zs (ys ++ y ∷ [])) (sym next) (all_zipped_more R (take i xs) ys x y before here)
 
 none_past : (i n : ℕ) → cond (nat_lt i n) (Some i) None ≡ None → n ≤ i
 none_past i n = go (nat_lt i n) refl

@@ -14,7 +14,7 @@ use Rattle.sect_check.specs.declared.fault.SectionFault.{SectionFault}
 use Rattle.sect_check.specs.declared.fault.SectionFault.TheVariants as fault
 use Rattle.sect_check.specs.Valid.{IsClaimed, HasChain, HasItsChain}
 use Rattle.sect_check.specs.Faults.{IsFirst, IsStepRight, IsBroken, HaveChainsBefore, BreaksChain}
-use Rattle.sect_check.specs.steps.Rising.{DoRise, HaveNumbersBelow}
+use Rattle.sect_check.specs.steps.Shapes.{DoRise, HaveNumbersBelow}
 use Rattle.sect_check.specs.steps.Parts.{JudgesChain, JudgesChains}
 use Rattle.sect_types.proofs.Places.{at_of, one_at}
 use Rattle.sect_check.proofs.Numbering.{no_more, stray}

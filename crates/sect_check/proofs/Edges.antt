@@ -1,5 +1,5 @@
 -- What the lists of two nodes say of the edge between them.
-use Rattle.std.proofs.Common.{◌≡◌, ◌↔◌, ◌⊎◌, ℕ, ◌≤◌, List, Some, inl, inr, refl, sym, subst, arith}
+use Rattle.std.proofs.Common.{length, ◌≡◌, ◌↔◌, ◌⊎◌, ℕ, ◌≤◌, List, Some, inl, inr, refl, sym, subst, arith}
 use Rattle.std.specs.Prelude.{slice_get, option_map}
 use Rattle.std.proofs.lemmas.Bool.{cases_eq}
 use Rattle.sect_types.specs.Lists.{Has}
@@ -13,7 +13,14 @@ use Rattle.sect_names.specs.Carrying.{CarriedBack}
 use Rattle.sect_check.specs.declared.claims.Claims.{Claims}
 use Rattle.sect_check.specs.Valid.{list_at, AreCarriedInto, CoversCarried}
 use Rattle.sect_check.specs.Faults.{IsFirst}
+use Rattle.sect_check.specs.steps.Shapes.{StaysWithin}
 use Rattle.sect_types.proofs.Places.{told_at, told_of}
+
+-- control goes on from a node to one of the graph, or to its exit
+pub stays : (g : List Node) → StaysWithin g → (i : ℕ) (next : Successors) → option_map (λ (x : Node). x.next) (slice_get g i) ≡ Some next → (j : ℕ) → IsSuccessor next j → j ≤ length g
+stays g within i next at j succ =
+    let n = told_at (λ (x : Node). x.next) g i next at in
+    within i j n.0 n.1 (subst (λ z. IsSuccessor z j) (sym n.2) succ)
 
 module _ (s : SchemeView) (t : ℕ) (g : List Node) (c : Claims) (i : ℕ) (label : Label) (next : Successors)
     (label_at : option_map (λ (x : Node). x.label) (slice_get g i) ≡ Some label) (next_at : option_map (λ (x : Node). x.next) (slice_get g i) ≡ Some next)

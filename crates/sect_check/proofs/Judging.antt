@@ -82,6 +82,10 @@ judged_err A s i c section.NotMaximal h = (refl, h)
 judged_err A s i c (section.NoChain n) h = (refl, h)
 judged_err A s i c (section.BrokenChain n k) h = (refl, h)
 
+-- what is right of a section is right of its number
+pub judged_ok : {A : Type 0} (s : SchemeView) (i : ℕ) (of : SectionView) (g : List Node) (c : Claims) (x : A) → IsSectionAt s i of g → IsValidSection s of.thread (end_of s i) g c → JudgesAt s i c (Ok x)
+judged_ok s i of g c x at v = λ other h there. section_is s i of other g h at there (λ z k. IsValidSection s z.thread (end_of s i) k c) v
+
 module _ (s : SchemeView) (a : Cert) (all : List Claims) (denoted : DenotesAll s a all) (n : ℕ) (c : Claims) (at : slice_get all n ≡ Some c) (before : (j : ℕ) → j < n → IsValidAt s all j) where
   -- the first fault of this section is the first of all
   fault_at : (f : SectionFault) (j : ℕ) → j ≡ n → IsFaultHere s n c f → IsFaultAt s a j f

@@ -3,19 +3,22 @@ use Rattle.std.proofs.Common.{◌≡◌, ℕ, zero, suc, ◌<◌, ◌≤◌, Lis
 use Rattle.std.specs.Prelude.{slice_get}
 use Rattle.std.specs.List.{AllZip}
 use Rattle.std.proofs.lemmas.Bool.{cases_lt, cases_eq}
+use Rattle.std.proofs.lemmas.Slice.Zip.{AllZip-long}
 use Rattle.std.proofs.lemmas.Option.{slice_get_within}
 use Rattle.sect_types.specs.Lists.{Has}
 use Rattle.sect_types.proofs.Membership.{Has-slice_get}
-use Rattle.sect_types.specs.Sections.{sections_of}
-use Rattle.sect_names.specs.Schemes.{SchemeView, IsScheme}
+use Rattle.sect_types.specs.Sections.{SectionView}
+use Rattle.sect_graph.specs.declared.flow.Node.{Node}
+use Rattle.sect_names.specs.Schemes.{SchemeView}
 use Rattle.sect_cert.specs.declared.certificate.Chain.{Chain}
 use Rattle.sect_cert.specs.declared.certificate.Cert.{Cert}
 use Rattle.sect_cert.specs.Texts.{AreRising, IsSection, HasText}
 use Rattle.sect_check.specs.declared.claims.Claims.{Claims}
 use Rattle.sect_check.specs.declared.claims.ChainClaim.{ChainClaim}
-use Rattle.sect_check.specs.Meaning.{DenotesChain, DenotesAll}
+use Rattle.sect_check.specs.Meaning.{IsSectionAt, DenotesChain, DenotesAll}
+use Rattle.sect_check.specs.Names.{Denotes}
 use Rattle.sect_check.specs.Faults.{IsStray}
-use Rattle.sect_check.specs.steps.Rising.{DoRise, HasNumber, HaveNumbersBelow}
+use Rattle.sect_check.specs.steps.Shapes.{DoRise, HasNumber, HaveNumbersBelow, HaveShape}
 use Rattle.sect_types.proofs.Places.{Has-index, at_of, one_at, zipped_at, each_at}
 
 module _ (chains : List ChainClaim) (rise : DoRise chains) where
@@ -130,12 +133,14 @@ claims_rise s t xs ys rising zipped i j x y lt at_x at_y =
     let r = rises_by_place xs rising i j a.0 b.0 lt a.1 b.1 in
     omega (arith, r, a.2.0, b.2.0)
 
--- in each section of a certificate that has a text
-pub all_rise : (s : SchemeView) → IsScheme s → (a : Cert) → HasText a → (all : List Claims) → DenotesAll s a all → (i : ℕ) (c : Claims) → slice_get all i ≡ Some c → DoRise c.chains
-all_rise s scheme a text all denoted i c at =
+-- what a certificate that has a text claims of each section has its shape
+pub all_shaped : (s : SchemeView) (a : Cert) → HasText a → (all : List Claims) → DenotesAll s a all → (i : ℕ) (c : Claims) → slice_get all i ≡ Some c
+    → (of : SectionView) (g : List Node) → IsSectionAt s i of g → HaveShape g c
+all_shaped s a text all denoted i c at of g section =
     let w = slice_get_within all i c at in
     let part = at_of a.sections i (omega (arith, w, denoted.count)) in
-    let of = at_of (sections_of s.program.texts) i (omega (arith, w, denoted.count, denoted.sections)) in
-    let g = at_of s.graphs.sections i (omega (arith, w, denoted.count, denoted.sections, scheme.graphed.section_count)) in
-    let said = denoted.each i of.0 g.0 part.0 c (of.1, g.1) part.1 at in
-    claims_rise s of.0.thread part.0.chains c.chains (each_at IsSection a.sections text.sections i part.0 part.1).rising said.chains
+    let said = denoted.each i of g part.0 c section part.1 at in
+    record {
+      count = AllZip-long (AllZip (Denotes s of.thread)) part.0.nodes c.nodes said.nodes ∙ said.count;
+      rise = claims_rise s of.thread part.0.chains c.chains (each_at IsSection a.sections text.sections i part.0 part.1).rising said.chains;
+    }

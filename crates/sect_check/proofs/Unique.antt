@@ -28,7 +28,7 @@ use Rattle.sect_check.specs.Valid.{IsValid}
 use Rattle.sect_check.specs.Faults.{IsFaultAt}
 use Rattle.sect_check.specs.steps.Parts.{JudgesCert}
 use Rattle.sect_types.proofs.Places.{at_of}
-use Rattle.sect_check.proofs.Numbering.{all_rise}
+use Rattle.sect_check.proofs.Numbering.{all_shaped}
 use Rattle.sect_check.proofs.Excluding.{no_fault}
 
 -- a relation that has one value at most has one list at most
@@ -92,7 +92,7 @@ module _ (s : SchemeView) (scheme : IsScheme s) (a : Cert) (text : HasText a) (v
   no_section i f some h =
       let same = one_meaning s scheme a h.claims v.claims h.denoted v.denoted in
       let at = subst (λ (l : List Claims). slice_get l i ≡ Some h.c) same h.claimed in
-      no_fault s h.of.thread (end_of s i) h.g h.c (v.each i h.of h.g h.c h.section at) (all_rise s scheme a text v.claims v.denoted i h.c at) f some h.here
+      no_fault s h.of.thread (end_of s i) h.g h.c (v.each i h.of h.g h.c h.section at) (all_shaped s a text v.claims v.denoted i h.c at h.of h.g h.section).rise f some h.here
 
   -- a valid certificate is refused for want of memory alone
   no_err : (f : CheckFault) → JudgesCert {A = Unit {0}} s a (Err f) → f ≡ fault.Memory

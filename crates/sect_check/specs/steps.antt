@@ -1,4 +1,4 @@
 -- What private functions answer. No public contract cites these words.
 pub mod Resolving
-pub mod Rising
+pub mod Shapes
 pub mod Parts

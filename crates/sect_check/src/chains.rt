@@ -4,7 +4,7 @@ ghost use Rattle.std.specs.Prelude.{◌≡◌, ◌<◌, ℕ, MatchOption};
 ghost use Rattle.sect_types.specs.Lists.{Has};
 ghost use Rattle.sect_names.specs.Needed.{end_locks};
 ghost use Rattle.sect_check.specs.declared.claims.ChainClaim.{ChainClaim};
-ghost use Rattle.sect_check.specs.steps.Rising.{DoRise, HasNumber, HaveNumbersBelow};
+ghost use Rattle.sect_check.specs.steps.Shapes.{DoRise, HasNumber, HaveNumbersBelow};
 ghost use Rattle.sect_check.specs.steps.Parts.{JudgesChain, JudgesChains};
 
 use crate::claims::{ChainClaim, Claims};

@@ -1,14 +1,15 @@
 //! The checker.
 
-ghost use Rattle.std.specs.Prelude.{◌<◌, length, IfOk, IsOkUnless};
-ghost use Rattle.sect_types.specs.Sections.{sections_of};
+ghost use Rattle.std.specs.Prelude.{◌<◌, List, length, IfOk, IsOkUnless};
+ghost use Rattle.sect_types.specs.Sections.{SectionView, sections_of};
+ghost use Rattle.sect_graph.specs.declared.flow.Node.{Node};
 ghost use Rattle.sect_cert.specs.Texts.{HasText};
 ghost use Rattle.sect_check.specs.declared.fault.CheckFault.TheVariants.{Memory};
-ghost use Rattle.sect_check.specs.Meaning.{DenotesAll};
+ghost use Rattle.sect_check.specs.Meaning.{IsSectionAt, DenotesAll};
 ghost use Rattle.sect_check.specs.Valid.{IsValid, AreEntriesLeast};
 ghost use Rattle.sect_check.specs.Verdicts.{IsRead, Judges};
 ghost use Rattle.sect_check.specs.steps.Resolving.{Resolves, DenotesAt};
-ghost use Rattle.sect_check.specs.steps.Rising.{DoRise};
+ghost use Rattle.sect_check.specs.steps.Shapes.{HaveShape};
 ghost use Rattle.sect_check.specs.steps.Parts.{JudgesAt, JudgesCert};
 
 use crate::claiming::claims_of;
@@ -58,7 +59,7 @@ fn all_claims(alloc: Global, scheme: &Scheme, cert: &Cert) -> Result<Items<Claim
 /// Whether what is claimed of the section of this number is right.
 fn judge_at(alloc: Global, scheme: &Scheme, claims: &Claims, number: u16) -> Result<(), CheckFault>
     requires section { number < length (sections_of scheme.now.program.texts) }
-    requires rise { DoRise claims.now.chains }
+    requires shape { (of : SectionView) (g : List Node) → IsSectionAt scheme.now number of g → HaveShape g claims.now }
     ensures { JudgesAt scheme.now number claims.now result }
 {
     scheme.rules();

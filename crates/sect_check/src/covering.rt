@@ -1,6 +1,6 @@
 //! Locks that are covered by those of a list.
 
-ghost use Rattle.std.specs.Prelude.{◌≡◌, ◌↔◌, IfOk, IsTrue};
+ghost use Rattle.std.specs.Prelude.{◌≡◌, ◌<◌, ◌↔◌, length, IfOk, IsTrue};
 ghost use Rattle.sect_types.specs.Lists.{Has};
 ghost use Rattle.sect_names.specs.declared.lock.Lock.{Lock};
 ghost use Rattle.sect_names.specs.Locks.{CoveredBy};
@@ -11,14 +11,12 @@ use indexmap::IndexSet;
 use sect_names::{Lock, Scheme};
 use std::alloc::{AllocError, Global};
 
-/// The list of a node; past the last there are none.
+/// The list of a node.
 pub fn list_at(claims: &Claims, node: u16) -> &[Lock]
+    requires { node < length claims.now.nodes }
     ensures { result.now ≡ list_at claims.now node }
 {
-    match claims.nodes.as_slice().get(node as usize) {
-        Some(list) => list.as_slice(),
-        None => &[],
-    }
+    claims.nodes.as_slice()[node as usize].as_slice()
 }
 
 /// Whether the lock is in the list.

@@ -1,6 +1,6 @@
 //! Whether the lists of a section's nodes are right.
 
-ghost use Rattle.std.specs.Prelude.{◌≡◌, ◌≤◌, ◌<◌, ◌⊎◌, ◌↔◌, ℕ, length, Some, IfOk, IfSome, IfNone, IsTrue};
+ghost use Rattle.std.specs.Prelude.{◌≡◌, ◌≤◌, ◌<◌, ◌+◌, ◌⊎◌, ◌↔◌, ℕ, length, Some, IfOk, IfSome, IfNone, IsTrue};
 ghost use Rattle.sect_types.specs.Lists.{Has};
 ghost use Rattle.sect_graph.specs.Paths.{IsSuccessor};
 ghost use Rattle.sect_names.specs.declared.lock.Lock.{Lock};
@@ -8,6 +8,7 @@ ghost use Rattle.sect_names.specs.Needed.{end_locks};
 ghost use Rattle.sect_names.specs.Chains.{link, IsGeneratedAt};
 ghost use Rattle.sect_check.specs.Valid.{CoversGenerated, AreCarriedInto, CoversCarried};
 ghost use Rattle.sect_check.specs.Faults.{IsFirst, IsFirstPair};
+ghost use Rattle.sect_check.specs.steps.Shapes.{StaysWithin};
 
 use crate::claims::Claims;
 use crate::covering::{are_covered, is_covered, list_at, set_of};
@@ -58,7 +59,8 @@ fn covers_generated(
     claims: &Claims,
     node: u16,
 ) -> bool
-    requires { node ≤ length flow.now }
+    requires there { node ≤ length flow.now }
+    requires count { length claims.now.nodes ≡ length flow.now + 1 }
     ensures { IsTrue result ↔ CoversGenerated scheme.now thread (end_locks locking) flow.now claims.now node }
 {
     match generated_at(alloc, scheme, thread, locking, flow, node) {
@@ -76,6 +78,7 @@ pub fn first_ungenerated(
     flow: &Flow,
     claims: &Claims,
 ) -> Option<u16>
+    requires { length claims.now.nodes ≡ length flow.now + 1 }
     ensures none { IfNone result ((j : ℕ) →
         CoversGenerated scheme.now thread (end_locks locking) flow.now claims.now j) }
     ensures some { IfSome result
@@ -136,7 +139,9 @@ fn first_uncarried_from(
     claims: &Claims,
     from: u16,
 ) -> Result<Option<u16>, AllocError>
-    requires { from < length flow.now }
+    requires there { from < length flow.now }
+    requires count { length claims.now.nodes ≡ length flow.now + 1 }
+    requires within { StaysWithin flow.now }
     ensures none { IfOk result (λ found. IfNone found ((j : ℕ) →
         CoversCarried scheme.now thread flow.now claims.now from j)) }
     ensures some { IfOk result (λ found. IfSome found
@@ -166,6 +171,8 @@ pub fn first_uncarried(
     flow: &Flow,
     claims: &Claims,
 ) -> Result<Option<(u16, u16)>, AllocError>
+    requires count { length claims.now.nodes ≡ length flow.now + 1 }
+    requires within { StaysWithin flow.now }
     ensures none { IfOk result (λ found. IfNone found ((i j : ℕ) →
         CoversCarried scheme.now thread flow.now claims.now i j)) }
     ensures some { IfOk result (λ found. IfSome found (λ e.

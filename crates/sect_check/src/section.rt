@@ -1,12 +1,12 @@
 //! Whether what is claimed of one section is right.
 
-ghost use Rattle.std.specs.Prelude.{◌↔◌, IfOk, IsTrue};
+ghost use Rattle.std.specs.Prelude.{◌≡◌, ◌<◌, ◌+◌, ◌↔◌, length, IfOk, IsTrue};
 ghost use Rattle.sect_types.specs.Lists.{Has};
 ghost use Rattle.sect_names.specs.declared.lock.Lock.{Lock};
 ghost use Rattle.sect_names.specs.Needed.{end_locks};
 ghost use Rattle.sect_names.specs.Order.{AreInOrder};
 ghost use Rattle.sect_check.specs.Valid.{AreApart};
-ghost use Rattle.sect_check.specs.steps.Rising.{DoRise};
+ghost use Rattle.sect_check.specs.steps.Shapes.{HaveShape, StaysWithin};
 ghost use Rattle.sect_check.specs.steps.Parts.{JudgesLists, JudgesEntry, JudgesSection};
 
 use crate::chains::judge_chains;
@@ -29,6 +29,8 @@ fn judge_lists(
     flow: &Flow,
     claims: &Claims,
 ) -> Result<(), SectionFault>
+    requires count { length claims.now.nodes ≡ length flow.now + 1 }
+    requires within { StaysWithin flow.now }
     ensures { JudgesLists scheme.now thread (end_locks locking) flow.now claims.now result }
 {
     if let Some(node) = first_ungenerated(alloc, scheme, thread, locking, flow, claims) {
@@ -61,7 +63,8 @@ fn judge_entry(
     claims: &Claims,
     set: &IndexSet<Lock>,
 ) -> Result<(), SectionFault>
-    requires { (l : Lock) → Has set.now.keys l ↔ Has claims.now.entry l }
+    requires nodes { 0 < length claims.now.nodes }
+    requires set { (l : Lock) → Has set.now.keys l ↔ Has claims.now.entry l }
     ensures { JudgesEntry scheme.now claims.now result }
 {
     if !are_covered(scheme, set, list_at(claims, 0))? {
@@ -82,7 +85,8 @@ pub fn judge_section(
     flow: &Flow,
     claims: &Claims,
 ) -> Result<(), SectionFault>
-    requires { DoRise claims.now.chains }
+    requires shape { HaveShape flow.now claims.now }
+    requires within { StaysWithin flow.now }
     ensures { JudgesSection scheme.now thread (end_locks locking) flow.now claims.now result }
 {
     judge_lists(alloc, scheme, thread, locking, flow, claims)?;

@@ -24,5 +24,8 @@ pub use name::Name;
 pub use parsing::{FrontFault, parse};
 pub use printing::print;
 pub use token::{Token, TokenAt};
-pub use tree::{Block, Comparison, Declaration, Declarations, GlobalObject, Hints, Kind, Locking, Operand, Operator, Primitive, Record, Statement, Test, Thread, Tree};
+pub use tree::{
+    Block, Comparison, Declaration, Declarations, GlobalObject, Hints, Kind, Locking, Operand,
+    Operator, Primitive, Record, Statement, Test, Thread, Tree,
+};
 pub use words::is_name;

@@ -1,40 +1,37 @@
 -- What a table that fits says of the state, and what its calls keep.
-use Rattle.std.proofs.Common.{◌≡◌, ◌≢◌, ◌⊎◌, inl, inr, ℕ, zero, suc, ◌+◌, ◌≤◌, ◌<◌, List, [], ◌∷◌, ◌++◌, length, map, drop, get_or, set, Bool, true, false, not, Option, Some, None, refl, sym, ◌∙◌, ap, subst, arith, append_assoc}
-use Rattle.std.specs.Prelude.{ℤ, slice_get, slice_index_or, slice_set, is_some, ◌==◌, ◌||◌, ◌&&◌, if◌then◌else◌}
+use Rattle.std.proofs.Common.{◌≡◌, ◌≢◌, inl, inr, ℕ, zero, suc, ◌<◌, List, [], ◌∷◌, ◌++◌, length, map, true, false, not, Some, None, refl, sym, ◌∙◌, ap, subst, arith, append_assoc}
+use Rattle.std.specs.Prelude.{ℤ, slice_get, slice_index_or, slice_set, is_some, ◌==◌, ◌||◌}
 use Rattle.std.specs.List.{list_any}
 use Rattle.std.proofs.lemmas.Bool.{eqb-true, eq-eqb}
-use Rattle.std.proofs.lemmas.List.{append-nil, map-append}
+use Rattle.std.proofs.lemmas.List.{append-nil}
 use Rattle.sect_types.specs.Lists.{Has}
 use Rattle.sect_types.proofs.Membership.{Has-cases, Has-right}
 use Rattle.sect_modes.specs.declared.mode.Mode.{Mode}
 use Rattle.sect_modes.specs.declared.key.Key.{Key}
 use Rattle.sect_modes.specs.Key.{is_same_key}
-use Rattle.sect_modes.specs.Mode.{are_compatible}
 use Rattle.sect_table.specs.declared.claims.Claim.{Claim}
 use Rattle.sect_table.specs.declared.claims.Hold.{Hold}
 use Rattle.sect_table.specs.declared.claims.Grant.{Grant}
 use Rattle.sect_table.specs.declared.claims.Answer.TheVariants.{Granted, Queued}
-use Rattle.sect_table.specs.Contents.{Entry, Contents, Released, number_of, entry_of, no_entry, put, mode_in, mode_for, stay, is_among, is_waiting, is_free, may_join, held_by, first_of, with_holder, with_waiter, claim_of, let_in, let_through, without_holder, grant_of, give, give_all, release_key, release_each, released, AreApart}
+use Rattle.sect_table.specs.Contents.{Entry, Contents, Released, entry_of, put, mode_in, mode_for, stay, is_among, is_waiting, may_join, held_by, first_of, with_holder, with_waiter, claim_of, let_through, without_holder, grant_of, give, give_all, release_key, release_each, released, AreApart}
 use Rattle.sect_table.specs.Answers.{IsAnswered}
-use Rattle.sect_table.specs.Sound.{waits_of, claims_by, AreEntriesApart, IsKept, IsFirstBlocked}
-use Rattle.sect_table.proofs.Shown.{cases_of, same_key, key_itself, entry_of-here, entry_of-later, put-here, put-later}
-use Rattle.sect_table.proofs.Entries.{number-here, number-later, entry_key, entry-new, entry_of-put, entry_of-put_other}
-use Rattle.sect_table.proofs.Claiming.{and_true, true_or_false, apart_left, mode_for-here, mode_for-later, mode_for-missing, mode_for-stay_other, missing_stay, missing-claims_by}
-use Rattle.sect_table.proofs.Sounding.{put_all, waits_at-le, waits_for_none}
-use Rattle.sect_emit.specs.declared.plan.Grip.{Grip}
-use Rattle.sect_world.specs.declared.event.Event.{Event}
-use Rattle.sect_types.specs.Store.{StoreView, changed_at, put_at}
-use Rattle.sect_emit.specs.Plan.{grip, held_mode}
+use Rattle.sect_table.specs.Sound.{waits_of, AreEntriesApart, IsKept, IsFirstBlocked}
+use Rattle.sect_table.proofs.Shown.{cases_of, same_key, key_itself, entry_of-here, entry_of-later}
+use Rattle.sect_table.proofs.Entries.{entry_key, entry-new, entry_of-put, entry_of-put_other}
+use Rattle.sect_table.proofs.Claiming.{and_true, apart_left, mode_for-here, mode_for-later, mode_for-missing, mode_for-stay_other, missing_stay, missing-claims_by}
+use Rattle.sect_table.proofs.Sounding.{waits_at-le, waits_for_none}
+use Rattle.sect_types.specs.Store.{StoreView, put_at}
+use Rattle.sect_emit.specs.Plan.{held_mode}
 use Rattle.sect_emit.specs.Compiled.{CompiledView}
-use Rattle.sect_emit.specs.State.{Position, Entered, ThreadState, State, IsThread}
+use Rattle.sect_emit.specs.State.{Entered, ThreadState, State, IsThread}
 use Rattle.sect_world.specs.Events.{Happens}
 use Rattle.sect_world.specs.Runs.{RunsTo}
 use Rattle.sect_world.specs.Blocked.{WantsFirst, IsBlocked}
 use Rattle.sect_types.proofs.Basics.{some_injective, none_or_some}
 use Rattle.sect_types.proofs.Replaced.{at-put_at}
-use Rattle.sect_world.specs.steps.Fits.{grips, Asks, AllWaitersAsk, Fits, FitsBut, granted, all_granted, take_of, takes, given_to, grants_at, entries_after, grants_of, entries_left, takes_first}
+use Rattle.sect_world.specs.steps.Fits.{grips, Asks, AllWaitersAsk, Fits, FitsBut, granted, all_granted, take_of, takes, given_to, grants_at, grants_of, entries_left, takes_first}
 use Rattle.sect_world.proofs.Claims.{held-grips, in_the_way, not_claiming, get-changed_other}
-use Rattle.sect_world.proofs.Letting.{take_happens, keys_let_in, LetsIn}
+use Rattle.sect_world.proofs.Letting.{take_happens, keys_let_in}
 
 off_of : (a b : ℕ) → a ≢ b → (a == b) ≡ false
 off_of a b ne = elim (cases_of (a == b)) [ inl e ↦ absurd (ne (eqb-true a b e)) | inr e ↦ e ]
@@ -117,27 +114,27 @@ claim_is_blocked c s t th k w kept f at there own = by (entry_of k c.entries).wa
   by : (ws : List Claim) → (entry_of k c.entries).waiters ≡ ws → Has ws w → IsBlocked s th
   by [] is here = absurd here
   by (v ∷ vs) is here =
-    let holders : List Claim = (entry_of k c.entries).holders in
-    let way = in_the_way holders v.thread v.mode (subst (λ z. IsFirstBlocked holders z) is (kept.settled k)) in
-    let asker = f.waits k v (subst (λ z. Has z v) (sym is) (inl refl)) in
-    let holder = holder_of c s kept f k way.who way.there in
-    record {
-      key = k;
-      mode = w.mode;
-      first = subst (λ z. WantsFirst z k w.mode) (some_injective asks.0 th (sym asks.1 ∙ at)) asks.3;
-      asker = v.thread;
-      asking = asker.0;
-      asker_is = asker.1;
-      asked = v.mode;
-      asks = asker.3;
-      holder = way.who.thread;
-      holding = holder.thread;
-      holder_is = holder.at;
-      other = way.other;
-      held = way.who.mode;
-      holds = holder.mode;
-      against = way.against;
-    }
+      let holders : List Claim = (entry_of k c.entries).holders in
+      let way = in_the_way holders v.thread v.mode (subst (λ z. IsFirstBlocked holders z) is (kept.settled k)) in
+      let asker = f.waits k v (subst (λ z. Has z v) (sym is) (inl refl)) in
+      let holder = holder_of c s kept f k way.who way.there in
+      record {
+        key = k;
+        mode = w.mode;
+        first = subst (λ z. WantsFirst z k w.mode) (some_injective asks.0 th (sym asks.1 ∙ at)) asks.3;
+        asker = v.thread;
+        asking = asker.0;
+        asker_is = asker.1;
+        asked = v.mode;
+        asks = asker.3;
+        holder = way.who.thread;
+        holding = holder.thread;
+        holder_is = holder.at;
+        other = way.other;
+        held = way.who.mode;
+        holds = holder.mode;
+        against = way.against;
+      }
 
 pub waiter_is_blocked : (c : Contents) (s : State) (t : ℕ) (th : ThreadState) → IsKept c → Fits c s → IsThread s t th → is_waiting t c ≡ true → IsBlocked s th
 waiter_is_blocked c s t th kept f at e =

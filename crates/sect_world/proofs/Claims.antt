@@ -1,5 +1,5 @@
 -- Small facts on holds, claims and threads.
-use Rattle.std.proofs.Common.{◌≡◌, ◌≢◌, ◌⊎◌, inl, inr, ℕ, zero, suc, ◌+◌, ◌≤◌, ◌<◌, List, [], ◌∷◌, ◌++◌, length, map, drop, Bool, true, false, not, Option, Some, None, refl, sym, ◌∙◌, ap, subst, arith}
+use Rattle.std.proofs.Common.{◌≡◌, ◌≢◌, ◌⊎◌, inl, inr, ℕ, zero, suc, List, [], ◌∷◌, ◌++◌, Bool, true, false, not, Option, Some, None, refl, sym, ◌∙◌, ap, subst, arith}
 use Rattle.std.specs.Prelude.{slice_get, ◌==◌, ◌||◌, ◌&&◌, if◌then◌else◌}
 use Rattle.std.specs.List.{list_all}
 use Rattle.std.proofs.lemmas.Bool.{eqb-true, eq-eqb}
@@ -11,14 +11,12 @@ use Rattle.sect_modes.specs.Mode.{are_compatible}
 use Rattle.sect_table.specs.declared.claims.Claim.{Claim}
 use Rattle.sect_table.specs.declared.claims.Hold.{Hold}
 use Rattle.sect_table.specs.Contents.{mode_in, mode_for, may_join, is_among, stay}
-use Rattle.sect_table.specs.Sound.{claims_by}
 use Rattle.sect_table.proofs.Shown.{cases_of, key_itself, same_key as key_of_test}
-use Rattle.sect_table.proofs.Claiming.{or_false, and_true, true_or_false, mode_in-here, mode_in-later, mode_for-here, mode_for-later, missing-claims_by}
+use Rattle.sect_table.proofs.Claiming.{or_false, and_true, true_or_false, mode_in-here, mode_in-later, mode_for-here, mode_for-later}
 use Rattle.sect_emit.specs.declared.plan.Grip.{Grip}
 use Rattle.sect_types.specs.Store.{changed_at, same_number}
 use Rattle.sect_emit.specs.Plan.{grip, held_mode}
-use Rattle.sect_emit.specs.State.{ThreadState}
-use Rattle.sect_world.specs.Events.{all_but, lets, lets_in}
+use Rattle.sect_world.specs.Events.{all_but, lets}
 use Rattle.sect_types.proofs.Basics.{some_injective, none_or_some}
 use Rattle.sect_types.proofs.Replaced.{get-changed_at, mapped, same_number-true, same_number-refl}
 use Rattle.sect_world.specs.steps.Fits.{grips}

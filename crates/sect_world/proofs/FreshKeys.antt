@@ -1,16 +1,15 @@
 -- The key of the object that a thread makes next is free.
-use Rattle.std.proofs.Common.{◌≡◌, ℕ, zero, suc, List, [], ◌∷◌, length, Bool, true, false, Option, Some, None, refl, sym, ◌∙◌, ap, subst}
+use Rattle.std.proofs.Common.{◌≡◌, ℕ, List, [], ◌∷◌, length, Option, Some, None, refl, sym, ◌∙◌, ap}
 use Rattle.std.specs.Prelude.{slice_get}
 use Rattle.sect_modes.specs.declared.mode.Mode.{Mode}
 use Rattle.sect_table.specs.Contents.{Contents, entry_of}
 use Rattle.sect_table.specs.Sound.{IsKept}
 use Rattle.sect_emit.specs.declared.plan.Grip.{Grip}
 use Rattle.sect_types.specs.declared.store.ObjectName.TheVariants.{Made}
-use Rattle.sect_types.specs.Store.{ObjectView, StoreView, object_at, row, count}
+use Rattle.sect_types.specs.Store.{ObjectView, StoreView, row, count}
 use Rattle.sect_emit.specs.Plan.{grip, key_of, held_mode}
 use Rattle.sect_emit.specs.Compiled.{CompiledView}
-use Rattle.sect_emit.specs.State.{ThreadState, State, IsThread}
-use Rattle.sect_world.specs.Blocked.{WantsFirst}
+use Rattle.sect_emit.specs.State.{State}
 use Rattle.sect_world.specs.Kept.{AreGripsKept, IsWellKept}
 use Rattle.sect_types.proofs.Basics.{none_or_some}
 use Rattle.sect_table.proofs.Shown.{key_itself}
@@ -33,6 +32,6 @@ pub next_key_free : (p : CompiledView) (c : Contents) (s : State) (t : ℕ) → 
     → ((entry_of (key_of (Made t (count s.store t))) c.entries).holders ≡ []) × ((entry_of (key_of (Made t (count s.store t))) c.entries).waiters ≡ [])
 next_key_free p c s t well kept f =
     nobody_claims c s (key_of (Made t (count s.store t))) kept f (λ u th at. ungripped s.store th.held t (well.threads u th at).held) (λ u th m at wants.
-      let none = ungripped s.store th.wanted t (well.threads u th at).wanted in
-      let some : held_mode (key_of (Made t (count s.store t))) th.wanted ≡ Some m = ap (held_mode (key_of (Made t (count s.store t)))) wants.1 ∙ held-here (key_of (Made t (count s.store t))) (grip (key_of (Made t (count s.store t))) m) wants.0 (key_itself (key_of (Made t (count s.store t)))) in
-      none_or_some m (sym none ∙ some))
+    let none = ungripped s.store th.wanted t (well.threads u th at).wanted in
+    let some : held_mode (key_of (Made t (count s.store t))) th.wanted ≡ Some m = ap (held_mode (key_of (Made t (count s.store t)))) wants.1 ∙ held-here (key_of (Made t (count s.store t))) (grip (key_of (Made t (count s.store t))) m) wants.0 (key_itself (key_of (Made t (count s.store t)))) in
+    none_or_some m (sym none ∙ some))

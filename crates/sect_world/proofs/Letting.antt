@@ -1,21 +1,20 @@
 -- The grants of a release are `take` events that may happen one after another.
-use Rattle.std.proofs.Common.{◌≡◌, ◌≢◌, ◌⊎◌, inl, inr, ℕ, zero, suc, ◌+◌, ◌≤◌, ◌<◌, List, [], ◌∷◌, ◌++◌, length, map, drop, Bool, true, false, not, Option, Some, None, refl, sym, ◌∙◌, ap, subst, arith, append_assoc}
-use Rattle.std.specs.Prelude.{slice_get, ◌==◌, if◌then◌else◌}
+use Rattle.std.proofs.Common.{◌≡◌, ◌≢◌, ◌⊎◌, inl, inr, ℕ, ◌+◌, ◌≤◌, List, [], ◌∷◌, ◌++◌, length, map, drop, true, false, Some, None, refl, sym, ◌∙◌, ap, subst, arith, append_assoc}
+use Rattle.std.specs.Prelude.{slice_get, ◌==◌}
 use Rattle.std.proofs.lemmas.Bool.{eqb-true, eq-eqb}
 use Rattle.std.proofs.lemmas.List.{append-nil, map-append}
 use Rattle.sect_types.specs.Lists.{Has}
 use Rattle.sect_modes.specs.declared.mode.Mode.{Mode}
 use Rattle.sect_modes.specs.declared.key.Key.{Key}
 use Rattle.sect_modes.specs.Key.{is_same_key}
-use Rattle.sect_modes.specs.Mode.{are_compatible}
 use Rattle.sect_table.specs.declared.claims.Claim.{Claim}
 use Rattle.sect_table.specs.declared.claims.Hold.{Hold}
 use Rattle.sect_table.specs.declared.claims.Grant.{Grant}
-use Rattle.sect_table.specs.Contents.{Entry, Contents, entry_of, put, mode_for, stay, is_among, may_join, let_in, let_through, without_holder, grant_of, AreApart}
+use Rattle.sect_table.specs.Contents.{Entry, entry_of, put, mode_for, stay, is_among, may_join, let_in, let_through, without_holder, grant_of, AreApart}
 use Rattle.sect_table.specs.Sound.{waits_of, claims_by}
 use Rattle.sect_table.proofs.Shown.{cases_of, same_key, key_itself}
 use Rattle.sect_table.proofs.Entries.{entry_key, entry_of-put, entry_of-put_other, put-put}
-use Rattle.sect_table.proofs.Claiming.{or_false, true_or_false, among-append, among_append, among_one, apart_swap, apart_insert, apart_left, apart_stay, mode_for-missing, mode_for-push, mode_for-push_other, mode_for-stay_other, missing_stay, claims_by-append, claims_by-missing, missing-claims_by, claims_by-drop}
+use Rattle.sect_table.proofs.Claiming.{or_false, true_or_false, among-append, among_append, among_one, apart_swap, apart_stay, mode_for-missing, mode_for-push, mode_for-push_other, missing_stay, missing-claims_by, claims_by-drop}
 use Rattle.sect_table.proofs.Sounding.{put_all, waits_of-put, waits_at-le}
 use Rattle.sect_table.proofs.Passing.{let_through-yes, let_through-no}
 use Rattle.sect_emit.specs.declared.plan.Grip.{Grip}
@@ -23,12 +22,11 @@ use Rattle.sect_world.specs.declared.event.Event.{Event}
 use Rattle.sect_types.specs.Store.{changed_at}
 use Rattle.sect_emit.specs.Plan.{grip, held_mode}
 use Rattle.sect_emit.specs.Compiled.{CompiledView}
-use Rattle.sect_emit.specs.State.{Position, Entered, ThreadState, State, IsThread}
+use Rattle.sect_emit.specs.State.{ThreadState, State, IsThread}
 use Rattle.sect_world.specs.Events.{taking, lets_in, all_but, Happens}
 use Rattle.sect_world.specs.Runs.{RunsTo}
-use Rattle.sect_world.specs.Blocked.{WantsFirst}
-use Rattle.sect_types.proofs.Basics.{some_injective, none_or_some}
-use Rattle.sect_world.specs.steps.Fits.{Asks, AllWaitersAsk, FitsBut, takes_first, granted, all_granted, take_of, takes, grants_at, entries_after, grants_of, entries_left}
+use Rattle.sect_types.proofs.Basics.{some_injective}
+use Rattle.sect_world.specs.steps.Fits.{Asks, FitsBut, takes_first, granted, all_granted, take_of, takes, grants_at, entries_after, grants_of, entries_left}
 use Rattle.sect_world.proofs.Claims.{held-push, held-push_other, joins, all_but_of, lets_of, get-changed_other, get-changed_here, changed-put, not_claiming, stay-missing}
 
 abbrev entry : Key → List Claim → List Claim → Entry
@@ -46,10 +44,10 @@ take_happens c s g hs asks agree joined =
     let th = asks.0 in
     let rest = asks.3.0 in
     let free : all_but g.thread (lets_in g.key g.mode) s.threads ≡ true =
-      all_but_of g.thread (lets_in g.key g.mode) s.threads (λ u other at ne.
-        lets_of (held_mode g.key other.held) g.mode (λ n e. joins hs g.thread g.mode u n joined (sym (agree u other at ne) ∙ e) ne)) in
+    all_but_of g.thread (lets_in g.key g.mode) s.threads (λ u other at ne.
+    lets_of (held_mode g.key other.held) g.mode (λ n e. joins hs g.thread g.mode u n joined (sym (agree u other at ne) ∙ e) ne)) in
     let same : changed_at g.thread (takes_first g.key g.mode) s.threads ≡ changed_at g.thread (λ old. taking g.key g.mode rest th) s.threads =
-      changed-put g.thread (takes_first g.key g.mode) s.threads th asks.1 ∙ ap (λ z. changed_at g.thread (λ old. z) s.threads) (taken g.key g.mode th rest asks.3.1) in
+    changed-put g.thread (takes_first g.key g.mode) s.threads th asks.1 ∙ ap (λ z. changed_at g.thread (λ old. z) s.threads) (taken g.key g.mode th rest asks.3.1) in
     (th, asks.1, (rest, asks.2, asks.3.1, free, ap (λ ths. record { store = s.store; output = s.output; threads = ths }) same))
 
 -- a thread after a grant: another one is as it was
@@ -72,7 +70,7 @@ was : (s : State) (g : Grant) (a : Asks s g.thread g.key g.mode) (u : ℕ) (th :
 was s g a u th at = elim (number_cases u g.thread) [
   | inl same ↦
       let here : slice_get (changed_at g.thread (takes_first g.key g.mode) s.threads) u ≡ Some (takes_first g.key g.mode a.0) =
-        ap (slice_get (changed_at g.thread (takes_first g.key g.mode) s.threads)) same ∙ get-changed_here g.thread (takes_first g.key g.mode) s.threads a.0 a.1 in
+      ap (slice_get (changed_at g.thread (takes_first g.key g.mode) s.threads)) same ∙ get-changed_here g.thread (takes_first g.key g.mode) s.threads a.0 a.1 in
       let is : takes_first g.key g.mode a.0 ≡ th = some_injective (takes_first g.key g.mode a.0) th (sym here ∙ at) in
       record { old = a.0; at = ap (slice_get s.threads) same ∙ a.1; is = inl (same, ap (λ (z : ThreadState). z.held) (sym is)) }
   | inr other ↦
@@ -99,7 +97,7 @@ put_fits t k e es s s' f p = record {
     | inl same ↦
         let is : q ≡ k = same_key q k same in
         subst (λ z. held_mode z th.held ≡ mode_for u (stay t (entry_of z (put e es)).holders)) (sym is)
-          (p.here u th at ∙ ap (λ (z : Entry). mode_for u (stay t z.holders)) (sym at_k))
+        (p.here u th at ∙ ap (λ (z : Entry). mode_for u (stay t z.holders)) (sym at_k))
     | inr other ↦ p.others u th at q other ∙ ap (λ (z : Entry). mode_for u (stay t z.holders)) (sym (at_other q other))
   ];
   waits = λ q w h. elim (cases_of (is_same_key q k)) [
@@ -109,11 +107,11 @@ put_fits t k e es s s' f p = record {
     | inr other ↦ p.others_waiting q other w (subst (λ (z : Entry). Has z.waiters w) (at_other q other) h)
   ];
   once = λ u.
-    let one = f.once u in
-    let eq : waits_of u (put e es) + claims_by u (entry_of k es).waiters ≡ waits_of u es + claims_by u e.waiters =
+      let one = f.once u in
+      let eq : waits_of u (put e es) + claims_by u (entry_of k es).waiters ≡ waits_of u es + claims_by u e.waiters =
       subst (λ z. waits_of u (put e es) + claims_by u (entry_of z es).waiters ≡ waits_of u es + claims_by u e.waiters) p.key (waits_of-put u e es) in
-    let less = p.fewer u in
-    omega arith;
+      let less = p.fewer u in
+      omega arith;
   apart = put_all (λ z. AreApart (z.holders ++ z.waiters)) e es p.apart (λ q other. f.apart q);
 } where
   at_k : entry_of k (put e es) ≡ e
@@ -148,14 +146,14 @@ first_out t es s k hs w ws f is = record {
   rest = (among-append w.thread hs ws apart.1).1;
   holds = (among-append w.thread hs ws apart.1).0;
   elsewhere = λ q other.
-    let without : List Entry = put (entry k hs ws) es in
-    let one = f.once w.thread in
-    let own = claims-own w ws in
-    let before : claims_by w.thread (entry_of k es).waiters ≡ claims_by w.thread (w ∷ ws) = ap (λ (z : Entry). claims_by w.thread z.waiters) is in
-    let eq : waits_of w.thread without + claims_by w.thread (entry_of k es).waiters ≡ waits_of w.thread es + claims_by w.thread ws = waits_of-put w.thread (entry k hs ws) es in
-    let there = waits_at-le w.thread q without in
-    let same : claims_by w.thread (entry_of q without).waiters ≡ claims_by w.thread (entry_of q es).waiters = ap (λ (z : Entry). claims_by w.thread z.waiters) (entry_of-put_other q (entry k hs ws) es other) in
-    missing-claims_by w.thread (entry_of q es).waiters (omega arith);
+      let without : List Entry = put (entry k hs ws) es in
+      let one = f.once w.thread in
+      let own = claims-own w ws in
+      let before : claims_by w.thread (entry_of k es).waiters ≡ claims_by w.thread (w ∷ ws) = ap (λ (z : Entry). claims_by w.thread z.waiters) is in
+      let eq : waits_of w.thread without + claims_by w.thread (entry_of k es).waiters ≡ waits_of w.thread es + claims_by w.thread ws = waits_of-put w.thread (entry k hs ws) es in
+      let there = waits_at-le w.thread q without in
+      let same : claims_by w.thread (entry_of q without).waiters ≡ claims_by w.thread (entry_of q es).waiters = ap (λ (z : Entry). claims_by w.thread z.waiters) (entry_of-put_other q (entry k hs ws) es other) in
+      missing-claims_by w.thread (entry_of q es).waiters (omega arith);
 } where
   apart : AreApart (hs ++ ws) × (is_among w.thread (hs ++ ws) ≡ false)
   apart = apart_swap hs w ws (subst (λ (z : Entry). AreApart (z.holders ++ z.waiters)) is (f.apart k))
@@ -166,23 +164,23 @@ grant_fits : (t : ℕ) (es : List Entry) (s : State) (k : Key) (hs : List Claim)
 grant_fits t es s k hs w ws f out ne is = put_fits t k (entry k (hs ++ w ∷ []) ws) es s (granted g s) f (record {
   key = refl;
   here = λ u th at.
-    let b = was s g asks u th at in
-    let before : held_mode k b.old.held ≡ mode_for u hs = f.agree u b.old b.at k ∙ (ap (λ (z : Entry). mode_for u (stay t z.holders)) is ∙ ap (mode_for u) (stay-missing t hs out)) in
-    let after : mode_for u (stay t (hs ++ w ∷ [])) ≡ mode_for u (hs ++ w ∷ []) = ap (mode_for u) (stay-missing t (hs ++ w ∷ []) (stay_push t hs w out ne)) in
-    elim b.is [
-      | inl own ↦
-          let none : held_mode k b.old.held ≡ None = before ∙ (ap (λ z. mode_for z hs) own.0 ∙ mode_for-missing w.thread hs o.holds) in
-          ap (held_mode k) own.1 ∙ (held-push k (grip k w.mode) b.old.held none (key_itself k) ∙ (sym (mode_for-push u hs w (subst (λ z. is_among z hs ≡ false) (sym own.0) o.holds) (eq-eqb w.thread u (sym own.0))) ∙ sym after))
-      | inr other ↦
-          let not_own : (w.thread == u) ≡ false = elim (cases_of (w.thread == u)) [ inl e ↦ absurd (other.0 (sym (eqb-true w.thread u e))) | inr e ↦ e ] in
-          ap (held_mode k) other.1 ∙ (before ∙ (sym (mode_for-push_other u hs w not_own) ∙ sym after))
-    ];
+      let b = was s g asks u th at in
+      let before : held_mode k b.old.held ≡ mode_for u hs = f.agree u b.old b.at k ∙ (ap (λ (z : Entry). mode_for u (stay t z.holders)) is ∙ ap (mode_for u) (stay-missing t hs out)) in
+      let after : mode_for u (stay t (hs ++ w ∷ [])) ≡ mode_for u (hs ++ w ∷ []) = ap (mode_for u) (stay-missing t (hs ++ w ∷ []) (stay_push t hs w out ne)) in
+      elim b.is [
+        | inl own ↦
+            let none : held_mode k b.old.held ≡ None = before ∙ (ap (λ z. mode_for z hs) own.0 ∙ mode_for-missing w.thread hs o.holds) in
+            ap (held_mode k) own.1 ∙ (held-push k (grip k w.mode) b.old.held none (key_itself k) ∙ (sym (mode_for-push u hs w (subst (λ z. is_among z hs ≡ false) (sym own.0) o.holds) (eq-eqb w.thread u (sym own.0))) ∙ sym after))
+        | inr other ↦
+            let not_own : (w.thread == u) ≡ false = elim (cases_of (w.thread == u)) [ inl e ↦ absurd (other.0 (sym (eqb-true w.thread u e))) | inr e ↦ e ] in
+            ap (held_mode k) other.1 ∙ (before ∙ (sym (mode_for-push_other u hs w not_own) ∙ sym after))
+      ];
   others = λ u th at q off.
-    let b = was s g asks u th at in
-    elim b.is [
-      | inl own ↦ ap (held_mode q) own.1 ∙ (held-push_other q (grip k w.mode) b.old.held off ∙ f.agree u b.old b.at q)
-      | inr other ↦ ap (held_mode q) other.1 ∙ f.agree u b.old b.at q
-    ];
+      let b = was s g asks u th at in
+      elim b.is [
+        | inl own ↦ ap (held_mode q) own.1 ∙ (held-push_other q (grip k w.mode) b.old.held off ∙ f.agree u b.old b.at q)
+        | inr other ↦ ap (held_mode q) other.1 ∙ f.agree u b.old b.at q
+      ];
   waiting = λ v h. asks_still s g v.thread k v.mode (not_claiming w.thread ws o.rest v h) (f.waits k v (subst (λ (z : Entry). Has z.waiters v) (sym is) (inr h)));
   others_waiting = λ q off v h. asks_still s g v.thread q v.mode (not_claiming w.thread (entry_of q es).waiters (o.elsewhere q off) v h) (f.waits q v h);
   fewer = λ u. subst (λ (z : Entry). claims_by u ws ≤ claims_by u z.waiters) (sym is) (omega arith);
@@ -259,16 +257,16 @@ through c t k (w ∷ ws) hs es s f out away is = by (λ hs1 es1 s1 f1 out1 away1
 
   by : Through c t k ws → (may_join hs w.thread w.mode ≡ true) ⊎ (may_join hs w.thread w.mode ≡ false) → LetsIn c t s (map (grant_of k) (let_through hs (w ∷ ws))) (put (let_in (entry k hs (w ∷ ws))) es)
   by next (inl joined) =
-    let e1 : Entry = entry k (hs ++ w ∷ []) ws in
-    let s1 : State = granted (grant_of k w) s in
-    let rec = next (hs ++ w ∷ []) (put e1 es) s1 (grant_fits t es s k hs w ws f out other is) (stay_push t hs w out other) off.1 (entry_of-put e1 es) in
-    let asks : Asks s w.thread k w.mode = f.waits k w (subst (λ (z : Entry). Has z.waiters w) (sym is) (inl refl)) in
-    let happens = take_happens c s (grant_of k w) hs asks (λ u th at ne. f.agree u th at k ∙ (ap (λ (z : Entry). mode_for u (stay t z.holders)) is ∙ ap (mode_for u) (stay-missing t hs out))) joined in
-    let puts : put (let_in e1) (put e1 es) ≡ put (let_in (entry k hs (w ∷ ws))) es = put-put (let_in e1) e1 es refl ∙ ap (λ z. put z es) (let_in_step k hs w ws joined) in
-    subst (λ z. LetsIn c t s (map (grant_of k) z) (put (let_in (entry k hs (w ∷ ws))) es)) (sym (let_through-yes hs w ws joined)) (record {
-      leads = (s1, happens, rec.leads);
-      fits = subst (λ z. FitsBut t z (all_granted (map (grant_of k) (let_through (hs ++ w ∷ []) ws)) s1)) puts rec.fits;
-    })
+      let e1 : Entry = entry k (hs ++ w ∷ []) ws in
+      let s1 : State = granted (grant_of k w) s in
+      let rec = next (hs ++ w ∷ []) (put e1 es) s1 (grant_fits t es s k hs w ws f out other is) (stay_push t hs w out other) off.1 (entry_of-put e1 es) in
+      let asks : Asks s w.thread k w.mode = f.waits k w (subst (λ (z : Entry). Has z.waiters w) (sym is) (inl refl)) in
+      let happens = take_happens c s (grant_of k w) hs asks (λ u th at ne. f.agree u th at k ∙ (ap (λ (z : Entry). mode_for u (stay t z.holders)) is ∙ ap (mode_for u) (stay-missing t hs out))) joined in
+      let puts : put (let_in e1) (put e1 es) ≡ put (let_in (entry k hs (w ∷ ws))) es = put-put (let_in e1) e1 es refl ∙ ap (λ z. put z es) (let_in_step k hs w ws joined) in
+      subst (λ z. LetsIn c t s (map (grant_of k) z) (put (let_in (entry k hs (w ∷ ws))) es)) (sym (let_through-yes hs w ws joined)) (record {
+        leads = (s1, happens, rec.leads);
+        fits = subst (λ z. FitsBut t z (all_granted (map (grant_of k) (let_through (hs ++ w ∷ []) ws)) s1)) puts rec.fits;
+      })
   by next (inr stopped) = stays c t k (w ∷ ws) hs es s f is (let_through-no hs w ws stopped)
 
 -- one key that thread t gives back

@@ -1,19 +1,20 @@
 -- How a lock table agrees with a state of the machine.
-use Rattle.std.specs.Prelude.{◌≡◌, ◌≤◌, ℕ, List, [], ◌∷◌, ◌++◌, length, map, drop, Option, slice_get, slice_index_or}
+use Rattle.std.specs.Prelude.{◌≡◌, ◌≤◌, ℕ, List, [], ◌∷◌, ◌++◌, length, map, drop}
 use Rattle.sect_types.specs.Lists.{Has}
 use Rattle.sect_modes.specs.declared.mode.Mode.{Mode}
 use Rattle.sect_modes.specs.declared.key.Key.{Key}
 use Rattle.sect_table.specs.declared.claims.Claim.{Claim}
 use Rattle.sect_table.specs.declared.claims.Hold.{Hold}
 use Rattle.sect_table.specs.declared.claims.Grant.{Grant}
-use Rattle.sect_table.specs.Contents.{Entry, Contents, number_of, entry_of, put, mode_for, stay, held_by, let_in, let_through, without_holder, give, grant_of, AreApart}
+use Rattle.sect_table.specs.Contents.{Entry, Contents, entry_of, put, mode_for, stay, held_by, let_in, let_through}
+use Rattle.sect_table.specs.Contents.{without_holder, give, grant_of, AreApart}
 use Rattle.sect_table.specs.Sound.{waits_of}
 use Rattle.sect_emit.specs.declared.plan.Grip.{Grip}
 use Rattle.sect_world.specs.declared.event.Event.{Event}
 use Rattle.sect_world.specs.declared.event.Deed.TheVariants.{Take}
 use Rattle.sect_types.specs.Store.{changed_at}
 use Rattle.sect_emit.specs.Plan.{grip, held_mode}
-use Rattle.sect_emit.specs.State.{Position, Entered, ThreadState, State, IsThread}
+use Rattle.sect_emit.specs.State.{Entered, ThreadState, State, IsThread}
 use Rattle.sect_world.specs.Events.{taking}
 use Rattle.sect_world.specs.Blocked.{WantsFirst}
 
@@ -37,7 +38,8 @@ pub record Fits (c : Contents) (s : State) : Type 0 where
 
 -- while thread t, which holds nothing any more, is being taken out of these entries
 pub record FitsBut (t : ℕ) (entries : List Entry) (s : State) : Type 0 where
-  pub agree : (u : ℕ) (th : ThreadState) → IsThread s u th → (k : Key) → held_mode k th.held ≡ mode_for u (stay t (entry_of k entries).holders)
+  pub agree : (u : ℕ) (th : ThreadState) → IsThread s u th → (k : Key)
+      → held_mode k th.held ≡ mode_for u (stay t (entry_of k entries).holders)
   pub waits : AllWaitersAsk s entries
   pub once : (u : ℕ) → waits_of u entries ≤ 1
   pub apart : (k : Key) → AreApart ((entry_of k entries).holders ++ (entry_of k entries).waiters)
@@ -47,7 +49,11 @@ abbrev pub takes_first : Key → Mode → ThreadState → ThreadState
 takes_first k m th = taking k m (drop 1 th.wanted) th
 
 abbrev pub granted : Grant → State → State
-granted g s = record { store = s.store; output = s.output; threads = changed_at g.thread (takes_first g.key g.mode) s.threads }
+granted g s = record {
+  store = s.store;
+  output = s.output;
+  threads = changed_at g.thread (takes_first g.key g.mode) s.threads;
+}
 
 abbrev pub all_granted : List Grant → State → State
 all_granted [] s = s

@@ -4,7 +4,7 @@ use Rattle.sect_types.specs.Sections.{sections_of}
 use Rattle.sect_check.specs.Meaning.{DenotesAll}
 use Rattle.std.proofs.lemmas.Option.{slice_get_read}
 use Rattle.sect_check.proofs.Judging.{passes_on, valid_more, all_valid}
-use Rattle.sect_check.proofs.Numbering.{all_rise}
+use Rattle.sect_check.proofs.Numbering.{all_shaped}
 use Rattle.sect_check.proofs.checking.judge_cert.Goals as goal
 
 pub returns-in_err-judge_at : goal.returns-in_err-judge_at
@@ -41,8 +41,8 @@ returns c =
     let past : length (sections_of s.program.texts) ≤ c.loop-section.section = omega (arith, count, c.loop-section-test.false) in
     all_valid s a all denoted c.loop-section.section past c.loop-section.invariant
 
-pub judge_at-requires-clause-rise : goal.judge_at-requires-clause-rise
-judge_at-requires-clause-rise c =
+pub judge_at-requires-clause-shape : goal.judge_at-requires-clause-shape
+judge_at-requires-clause-shape c =
     let s = c.args.scheme.now in
     let a = c.args.cert.now in
     let all = c.as_slice-claims.result.now in
@@ -51,4 +51,4 @@ judge_at-requires-clause-rise c =
     let count = c.section_count-section-end.ensures.count ∙ ap (λ (p : ProgramView). length (sections_of p.texts)) c.program.ensures in
     let within : n < length all = omega (arith, c.loop-section-test.true, count, denoted.count, denoted.sections) in
     let claims = c.index-claims-section.result in
-    all_rise s c.rules.ensures a c.requires all denoted n claims (slice_get_read all (length all) n claims refl within c.index-claims-section.is)
+    all_shaped s a c.requires all denoted n claims (slice_get_read all (length all) n claims refl within c.index-claims-section.is)

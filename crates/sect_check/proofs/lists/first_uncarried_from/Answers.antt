@@ -1,8 +1,8 @@
-use Rattle.std.proofs.Common.{◌↔◌, sym, ◌∙◌, subst, true≢false}
+use Rattle.std.proofs.Common.{inl, inr, refl, arith, ◌↔◌, sym, ◌∙◌, subst, true≢false}
 use Rattle.sect_types.specs.Lists.{Has}
 use Rattle.sect_names.specs.declared.lock.Lock.{Lock}
 use Rattle.sect_check.specs.Valid.{AreCarriedInto}
-use Rattle.sect_check.proofs.Edges.{first_is, second_is, all_hold, one_holds}
+use Rattle.sect_check.proofs.Edges.{stays, first_is, second_is, all_hold, one_holds}
 use Rattle.sect_check.proofs.lists.first_uncarried_from.Goals as goal
 
 pub returns-then-not-branch-clause-some : goal.returns-then-not-branch-clause-some
@@ -54,3 +54,15 @@ returns-then-second-first-clause-none c =
     let both = c.in_order-first.result in
     one_holds s t c.args.flow.now claims c.args.from label c.succ.result c.action-label.ensures c.succ.ensures keys same both.0 both.1 c.in_order-first.ensures.each c.in_order-first.ensures.order c.if-second-first.true
     (subst (AreCarriedInto s t label keys) c.list_at-2.ensures (c.in_ok-carries_into.ensures.0 c.if-not-branch.false))
+
+pub list_at-requires-2 : goal.list_at-requires-2
+list_at-requires-2 c =
+    let first = c.in_order-first.result.0 in
+    let to = stays c.args.flow.now c.requires.within c.args.from c.succ.result c.succ.ensures first ((c.in_order-first.ensures.each first).1 (inl refl)) in
+    omega (arith, to, c.requires.count)
+
+pub list_at-requires-3 : goal.list_at-requires-3
+list_at-requires-3 c =
+    let second = c.in_order-first.result.1 in
+    let to = stays c.args.flow.now c.requires.within c.args.from c.succ.result c.succ.ensures second ((c.in_order-first.ensures.each second).1 (inr refl)) in
+    omega (arith, to, c.requires.count)

@@ -1,8 +1,8 @@
-use Rattle.std.proofs.Common.{◌≡◌, ℕ, ◌+◌, ◌<◌, ◌++◌, ◌∷◌, [], List, length, take, get_or, arith, sym, ap, ◌∙◌}
+use Rattle.std.proofs.Common.{◌≡◌, ℕ, ◌+◌, ◌<◌, List, length, take, get_or, sym, ap, ◌∙◌}
 use Rattle.std.proofs.lemmas.List.{take_more, take_all}
 use Rattle.sect_types.specs.declared.action.Field.{Field}
 use Rattle.sect_points.specs.declared.holders.Variable.{Variable}
-use Rattle.sect_points.specs.Paths.{var, dot, path_of, base_of, fields_of, dots-push, path_of-fields}
+use Rattle.sect_points.specs.Paths.{var, dot, path_of, base_of, dots-push, path_of-fields}
 use Rattle.sect_emit.specs.Plan.{path_datum as denoted, field_of as field_in}
 use Rattle.sect_world.proofs.lookup.path_datum.Goals as goal
 

@@ -1,0 +1,29 @@
+-- What holds of claims before they are judged, and of the graphs of sections.
+use Rattle.std.specs.Prelude.{◌≡◌, ◌≤◌, ◌<◌, ◌+◌, ℕ, List, Some, slice_get, length}
+use Rattle.sect_types.specs.Lists.{Has}
+use Rattle.sect_graph.specs.declared.flow.Node.{Node}
+use Rattle.sect_graph.specs.Paths.{LeadsTo}
+use Rattle.sect_check.specs.declared.claims.ChainClaim.{ChainClaim}
+use Rattle.sect_check.specs.declared.claims.Claims.{Claims}
+
+-- the numbers of the chains rise
+abbrev pub DoRise : List ChainClaim → Type 0
+DoRise chains =
+    (i j : ℕ) (x y : ChainClaim) → i < j → slice_get chains i ≡ Some x → slice_get chains j ≡ Some y → x.lock < y.lock
+
+-- a chain has this number
+abbrev pub HasNumber : List ChainClaim → ℕ → Type 0
+HasNumber chains n = (x : ChainClaim) × Has chains x × (x.lock ≡ n)
+
+-- each number below this one is a chain's
+abbrev pub HaveNumbersBelow : List ChainClaim → ℕ → Type 0
+HaveNumbersBelow chains n = (m : ℕ) → m < n → HasNumber chains m
+
+-- the claims on a section with this graph have a list for each node, the exit counted, and chains whose numbers rise
+pub record HaveShape (g : List Node) (c : Claims) : Type 0 where
+  pub count : length c.nodes ≡ length g + 1
+  pub rise : DoRise c.chains
+
+-- control goes on to nodes of the graph or to its exit
+abbrev pub StaysWithin : List Node → Type 0
+StaysWithin g = (i j : ℕ) (x : Node) → slice_get g i ≡ Some x → LeadsTo x j → j ≤ length g

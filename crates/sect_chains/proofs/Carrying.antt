@@ -33,6 +33,7 @@ module _ (s : SchemeView) (t : ℕ) (g : List Node) where
         let here = subst (λ k. slice_get g k ≡ Some z) e f in
         (tells a.lock).1 (subst (λ w. Generated s t w.label a.lock) (one_at g j z y here at) h)
 
+    -- a node below the next one is below this one or it
     below : (a : Link) → a.node < j + 1 → (a.node < j) ⊎ (a.node ≡ j)
     below a h = elim (cases_lt a.node j) [ inl k ↦ inl k | inr k ↦ inr (omega (arith, h, k)) ]
 
@@ -53,6 +54,7 @@ module _ (s : SchemeView) (t : ℕ) (g : List Node) where
         ])
         (grows_then [] mid new (IsGeneratedBelow j) (λ a. a ≡ link j l) f n)
 
+  -- no node is below the first
   pub generated_none : (kept : List Link) → kept ≡ [] → Grows [] kept (IsGeneratedBelow 0)
   generated_none kept e = subst (λ l. Grows [] l (IsGeneratedBelow 0)) (sym e) (grows_none [] (IsGeneratedBelow 0) (λ a h. absurd (omega (arith, h.0))))
 
@@ -85,9 +87,11 @@ module _ (s : SchemeView) (t : ℕ) (g : List Node) where
     abbrev pub LinksFromFirst : ℕ → Link → Type 0
     LinksFromFirst i a = Has (take i nodes) a.node × LinksTo s t g a b
 
+    -- no node is among the first none
     pub carry_none : (kept : List Link) → Grows kept kept (LinksFromFirst 0)
     carry_none kept = grows_none kept (LinksFromFirst 0) (λ a h. absurd h.0)
 
+    -- each of these nodes is one of the graph
     pub node_within : (i : ℕ) → i < length nodes → get_or nodes i 0 < length g
     node_within i within =
         let found = (before (get_or nodes i 0)).0 (Has-get_or nodes i 0 within) in

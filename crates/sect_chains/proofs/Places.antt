@@ -19,6 +19,7 @@ read_at xs i r x within is e = slice_get-get_or xs i r within ∙ ap (λ z. Some
 pub behind_is : {X : Type 0} (new old : List X) (x y : X) → new ≡ old ++ x ∷ [] → x ≡ y → new ≡ old ++ y ∷ []
 behind_is new old x y is e = is ∙ ap (λ z. old ++ z ∷ []) e
 
+-- no place is given only past the end
 none_past : (i n : ℕ) → cond (nat_lt i n) (Some i) None ≡ None → n ≤ i
 none_past i n = go (nat_lt i n) refl
   where
@@ -41,6 +42,7 @@ place_tells {X} eq tells xs x = go (position (eq x) xs) refl
         let past = none_past (position_or_len (eq x) xs) (length xs) e in
         true≢false (sym ((tells x x).1 refl) ∙ ap (eq x) (sym here) ∙ fails_before_first (eq x) xs k.0 x (omega (arith, at, past)))
 
+-- what holds of all elements holds of each that the list has
 all_has : {X : Type 0} (P : X → Type 0) (xs : List X) → AllByRecursion P xs → (x : X) → Has xs x → P x
 all_has P [] a x h = absurd h
 all_has P (y ∷ ys) a x h = elim h [ inl e ↦ subst P e a.0 | inr k ↦ all_has P ys a.1 x k ]

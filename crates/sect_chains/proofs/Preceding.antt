@@ -16,12 +16,14 @@ pub record AreBeforeSo (g : List Node) (j : ℕ) (lists : List (List ℕ)) : Typ
   pub count : length lists ≡ length g + 1
   pub each : (m : ℕ) → m ≤ length g → (i : ℕ) → Has (slice_index_or lists m []) i ↔ ((i < j) × ((y : Node) × (slice_get g i ≡ Some y) × LeadsTo y m))
 
+-- no node is below the first
 pub before_none : (g : List Node) (lists : List (List ℕ)) → length lists ≡ length g + 1 → ((m : ℕ) → slice_index_or lists m [] ≡ []) → AreBeforeSo g 0 lists
 before_none g lists long none = record {
   count = long;
   each = λ m within i. (λ h. absurd (subst (λ l. Has l i) (none m) h), λ h. absurd (let a = h.0 in omega arith));
 }
 
+-- all nodes are below the exit
 pub before_done : (g : List Node) (j : ℕ) (lists : List (List ℕ)) → length g ≤ j → AreBeforeSo g j lists → AreAllBefore g lists
 before_done g j lists past b = record {
   count = b.count;
@@ -54,7 +56,7 @@ before_next g j y old new at long added b = record {
       );
 }
 
--- one successor, or two
+-- a node with one successor was added to its list
 pub added_one : (next : Successors) (k : ℕ) (old new : List (List ℕ)) (j : ℕ) → ((m : ℕ) → IsSuccessor next m ↔ (m ≡ k)) → IsAdded old new k j
     → (m : ℕ) → m < length old → (x : ℕ) → Has (slice_index_or new m []) x ↔ (Has (slice_index_or old m []) x ⊎ (IsSuccessor next m × (x ≡ j)))
 added_one next k old new j is a m within x =
@@ -63,6 +65,7 @@ added_one next k old new j is a m within x =
       λ h. put.1 (elim h [ inl o ↦ inl o | inr b ↦ inr ((is m).0 b.0, b.1) ]),
     )
 
+-- a node with two was added to both lists
 pub added_two : (next : Successors) (k l : ℕ) (old mid new : List (List ℕ)) (j : ℕ) → ((m : ℕ) → IsSuccessor next m ↔ ((m ≡ k) ⊎ (m ≡ l))) → length mid ≡ length old → IsAdded old mid k j → IsAdded mid new l j
     → (m : ℕ) → m < length old → (x : ℕ) → Has (slice_index_or new m []) x ↔ (Has (slice_index_or old m []) x ⊎ (IsSuccessor next m × (x ≡ j)))
 added_two next k l old mid new j is long a b m within x =

@@ -33,6 +33,7 @@ module _ (s : SchemeView) (t : ℕ) (last : List Lock) (g : List Node) where
     pub only : (a : Link) → Has kept a → HasTrail s t last g a
     pub within : done ≤ length kept
 
+  -- it begins with what is generated
   pub work_begins : (kept : List Link) → ((a : Link) → Has kept a ↔ IsGeneratedAt s t last g a) → IsWorklist kept 0
   work_begins kept generated = record {
     generated = λ a h. (generated a).1 h;

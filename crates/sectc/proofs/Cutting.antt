@@ -54,6 +54,7 @@ pub record IsCutSo (input : List ℕ) (start at : ℕ) : Type 0 where
   pub before : take start input ≡ fed lines
   pub feedless : Has (slice_range input start at) 10 → ⊥
 
+-- at the beginning there are no lines
 pub cut_begins : (input : List ℕ) → IsCutSo input 0 0
 cut_begins input = record {
   order = omega arith;
@@ -76,6 +77,7 @@ module _ (input : List ℕ) (start at : ℕ) (within : at < length input) where
   front_is : start ≤ at → take (at + 1) input ≡ take start input ++ slice_range input start (at + 1)
   front_is order = ap (λ n. take n input) (omega (arith, order)) ∙ take-add start (at + 1 - start) input
 
+  -- a byte that is no line feed belongs to the line that has begun
   pub cut_on : (get_or input at 0 ≡ 10 → ⊥) → IsCutSo input start at → IsCutSo input start (at + 1)
   cut_on other c = record {
     order = (let o = c.order in omega (arith, o));
@@ -96,6 +98,7 @@ module _ (input : List ℕ) (start at : ℕ) (within : at < length input) where
         front_is c.order ∙ ap (λ l. take start input ++ l) (line_more c.order ∙ ap (λ b. slice_range input start at ++ b ∷ []) feed)
         ∙ ap (λ l. l ++ (slice_range input start at ++ 10 ∷ [])) c.before ∙ sym (fed_more c.lines (slice_range input start at))
 
+    -- no line feed stands inside those lines
     whole_more : (l : List ℕ) → Has (c.lines ++ slice_range input start at ∷ []) l → Has l 10 → ⊥
     whole_more l h = elim (Has-cases c.lines (slice_range input start at ∷ []) l h) [
       | inl a ↦ c.whole l a

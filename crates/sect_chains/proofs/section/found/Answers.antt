@@ -1,8 +1,8 @@
 use Rattle.std.proofs.Common.{◌<◌, length, subst, sym, arith}
 use Rattle.sect_types.specs.Lists.{Has}
 use Rattle.sect_types.proofs.Membership.{Has-get_or}
-use Rattle.sect_names.specs.Chains.{link, IsChain}
 use Rattle.sect_types.proofs.Places.{zip_more}
+use Rattle.sect_names.specs.Chains.{link, IsChain}
 use Rattle.sect_chains.proofs.Trails.{go_back, entry_chain}
 use Rattle.sect_chains.proofs.section.found.Goals as goal
 

@@ -11,3 +11,7 @@ pub mod Starting
 pub mod Valuing
 pub mod Wholes
 pub mod Adding
+pub mod Counting
+pub mod Spelling
+pub mod Chained
+pub mod Validity

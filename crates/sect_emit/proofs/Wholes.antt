@@ -2,11 +2,22 @@
 use Rattle.std.proofs.Common.{◌≡◌, ◌⊎◌, ℕ, ◌+◌, ◌<◌, List, [], ◌∷◌, ◌++◌, Some, length, length-append, get_or, sym, ap, ◌∙◌, subst, arith, slice_get, inl, inr}
 use Rattle.std.proofs.lemmas.List.{length-map}
 use Rattle.std.proofs.lemmas.Option.{slice_get_within, slice_get-get_or}
+use Rattle.std.proofs.lemmas.Option.{slice_get-map as slice_get-mapped}
+use Rattle.std.specs.Option.{option_map}
+use Rattle.sect_cert.specs.declared.certificate.CertSection.{CertSection}
+use Rattle.sect_cert.specs.declared.certificate.Cert.{Cert}
+use Rattle.sect_cert.specs.Texts.{HasText}
+use Rattle.sect_emit.specs.Certificates.{IsCertificateOf}
+use Rattle.sect_emit.specs.steps.Spelled.{IsSpelled}
 use Rattle.sect_types.specs.Lists.{Has}
 use Rattle.sect_types.specs.Sections.{SectionView, sections_of}
 use Rattle.sect_types.specs.Programs.{ProgramView, IsWellNumbered, sites_of, total_statements}
-use Rattle.sect_types.proofs.Places.{at_of, pushed_at}
+use Rattle.sect_types.proofs.Places.{at_of, pushed_at, Has-index}
+use Rattle.sect_types.proofs.Membership.{Has-slice_get}
+use Rattle.sect_names.specs.Printing.{AreNamed}
+use Rattle.sect_names.proofs.Named.{named_lock}
 use Rattle.sect_types.proofs.Replaced.{slice_get-map}
+use Rattle.sect_graph.specs.declared.flow.Node.{Node}
 use Rattle.sect_names.specs.declared.lock.Lock.{Lock}
 use Rattle.sect_names.specs.declared.lock.Lock.TheVariants as lock
 use Rattle.sect_names.specs.Locks.{IsLockOf}
@@ -68,6 +79,30 @@ classed_entry s all scheme inferred i locks within is l has =
     classed s t (lock.Class c r) is = tt
     classed s t (lock.Path p e) is = is.classed
 
+-- a section has a list for each node, and one for the exit
+pub nodes_counted : (s : SchemeView) (i : ℕ) (locks : LocksView) → i < length (sections_of s.program.texts) → AreInferredAt s i locks
+    → (g : List Node) → slice_get s.graphs.sections i ≡ Some g → (exit : ℕ) → exit ≡ length g → length locks.at ≡ exit + 1
+nodes_counted s i locks within inferred g graph exit is =
+    let of = at_of (sections_of s.program.texts) i within in
+    let e = (inferred of.0 g of.1 graph).0.needed.count in
+    omega (arith, e, is)
+
+-- what the locks of a section name is there
+pub all_named : (s : SchemeView) → IsScheme s → (i : ℕ) (locks : LocksView) → i < length (sections_of s.program.texts) → AreInferredAt s i locks
+    → (list : List Lock) → Has locks.at list → AreNamed s.program list
+all_named s scheme i locks within inferred list has =
+    let of = at_of (sections_of s.program.texts) i within in
+    let g = at_of s.graphs.sections i (omega (arith, within, scheme.graphed.section_count)) in
+    let told = inferred of.0 g.0 of.1 g.1 in
+    let at = Has-index locks.at list has in
+    λ l there. named_lock s of.0.thread l (told.1 at.0 list at.1 l there)
+
+pub entry_named : (s : SchemeView) → IsScheme s → (i : ℕ) (locks : LocksView) → i < length (sections_of s.program.texts) → AreInferredAt s i locks → AreNamed s.program locks.entry
+entry_named s scheme i locks within inferred =
+    let of = at_of (sections_of s.program.texts) i within in
+    let g = at_of s.graphs.sections i (omega (arith, within, scheme.graphed.section_count)) in
+    all_named s scheme i locks within inferred locks.entry (Has-slice_get locks.at 0 locks.entry (inferred of.0 g.0 of.1 g.1).0.first)
+
 module _ (s : SchemeView) (all : List LocksView) (parts : List (List Grip)) (scheme : IsScheme s) (whole : IsWhole s all parts) where
   set_count : length (entries_of all) ≡ length (sections_of s.program.texts)
   set_count = length-map all (λ (locks : LocksView). locks.entry) ∙ whole.inferred.count
@@ -116,3 +151,28 @@ module _ (s : SchemeView) (all : List LocksView) (parts : List (List Grip)) (sch
     lawful = laws;
     planned = whole.planned.each;
   }
+
+-- what is spelled of the locks that are kept is the certificate
+pub is_certificate : (s : SchemeView) (all : List LocksView) (parts : List (List Grip)) → AreAllInferred s all → (a : Cert) → IsSpelled s all a → HasText a
+    → IsCertificateOf (record { scheme = s; sets = entries_of all; parts = parts }) a
+is_certificate s all parts inferred a spelled text = record {
+  text = text;
+  k = spelled.k;
+  count = spelled.count;
+  each = λ i of g x at graph has.
+      let w = slice_get_within (sections_of s.program.texts) i of at in
+      let locks = at_of all i (omega (arith, w, inferred.count)) in
+      let told = inferred.each i locks.0 locks.1 of g at graph in
+      let said = spelled.each i locks.0 x locks.1 has of g at graph in
+      record {
+        at = locks.0.at;
+        set = locks.0.entry;
+        chains = said.0;
+        needed = told.0.needed;
+        taken = slice_get-mapped (λ (l : LocksView). l.entry) all i ∙ ap (option_map (λ (l : LocksView). l.entry)) locks.1;
+        chained = said.1;
+        node_words = ap (λ (y : CertSection). y.nodes) said.2;
+        entry_words = ap (λ (y : CertSection). y.entry) said.2;
+        chain_words = ap (λ (y : CertSection). y.chains) said.2;
+      };
+}

@@ -1,3 +1,5 @@
+pub mod Certificates
+pub mod Claimed
 pub mod Compiled
 pub mod GoesOn
 pub mod ModeTests
@@ -6,4 +8,5 @@ pub mod Plan
 pub mod PlanLaws
 pub mod Pointed
 pub mod State
+pub mod Words
 pub mod steps

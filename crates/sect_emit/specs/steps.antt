@@ -1,3 +1,4 @@
 -- What the contracts of private functions speak of.
 pub mod Inferred
 pub mod Wishes
+pub mod Spelled

@@ -1,12 +1,16 @@
 //! Compiled programs.
 
-ghost use Rattle.std.specs.Prelude.{◌≡◌, ◌<◌, Some, length, map, slice_get};
+ghost use Rattle.std.specs.Prelude.{◌≡◌, ◌<◌, IfOk, Some, length, map, slice_get};
 ghost use Rattle.sect_types.specs.Sections.{sections_of};
 ghost use Rattle.sect_emit.specs.Compiled.{IsCompiled, AreSetsLeast};
+ghost use Rattle.sect_emit.specs.Certificates.{IsCertificateOf};
 
+use crate::certificate::certificate_of;
 use crate::plan::Grip;
+use sect_cert::Cert;
 use sect_infer::Locks;
 use sect_names::{Lock, Scheme};
+use std::alloc::{AllocError, Global};
 use std::marker::Model;
 
 /// A compiled program: what inference knows of it, the locks of each section, and the fixed part of each section's
@@ -90,5 +94,13 @@ impl Compiled {
         ensures { slice_get self.now.parts section ≡ Some result.now }
     {
         self.parts[section as usize].as_slice()
+    }
+
+    /// The certificate of the program: by the names of the text which locks are needed at each node and taken at each
+    /// entry, and along which steps. It is made when it is asked for, since it may be far larger than all else.
+    pub fn certificate(&self, alloc: Global) -> Result<Cert, AllocError>
+        ensures { IfOk result (IsCertificateOf self.now) }
+    {
+        certificate_of(alloc, &self.scheme, self.locks.as_slice())
     }
 }

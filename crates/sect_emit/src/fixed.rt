@@ -5,7 +5,8 @@ ghost use Rattle.sect_types.specs.Lists.{Has};
 ghost use Rattle.sect_modes.specs.declared.key.Key.TheVariants as key;
 ghost use Rattle.sect_modes.specs.Mode.{intention_of};
 ghost use Rattle.sect_names.specs.declared.lock.Lock.{Lock};
-ghost use Rattle.sect_emit.specs.Plan.{grip, with_grip, class_mode as mode_of_class, intended as mode_intended, IsFixedPart};
+ghost use Rattle.sect_emit.specs.Plan.{grip as grip_of, with_grip, IsFixedPart};
+ghost use Rattle.sect_emit.specs.Plan.{class_mode as mode_of_class, intended as mode_intended};
 ghost use Rattle.sect_emit.specs.steps.Wishes.{HasWishes, IsClassedLock};
 
 use crate::plan::Grip;
@@ -35,6 +36,13 @@ pub fn add_grip(grips: &mut Vec<Grip>, wish: Grip) -> Result<(), AllocError>
     Ok(())
 }
 
+/// A key in a mode.
+fn grip(key: Key, mode: Mode) -> Grip
+    ensures { result ≡ grip_of key mode }
+{
+    Grip { key, mode }
+}
+
 /// The mode of a class for a lock on it.
 fn class_mode(right: Right) -> Mode
     ensures { result ≡ mode_of_class right }
@@ -58,23 +66,11 @@ fn intended(effect: Effect) -> Mode
 
 /// Adds a class in this mode, and the key of all objects in the mode's intention.
 fn add_class(part: &mut Vec<Grip>, class: u16, mode: Mode) -> Result<(), AllocError>
-    ensures { OnOk result (part.new.items ≡ with_grip (grip key.All (intention_of mode))
-        (with_grip (grip (key.Class class) mode) part.old.items)) }
+    ensures { OnOk result (part.new.items ≡ with_grip (grip_of key.All (intention_of mode))
+        (with_grip (grip_of (key.Class class) mode) part.old.items)) }
 {
-    add_grip(
-        part,
-        Grip {
-            key: Key::Class(class),
-            mode,
-        },
-    )?;
-    add_grip(
-        part,
-        Grip {
-            key: Key::All,
-            mode: intention(mode),
-        },
-    )
+    add_grip(part, grip(Key::Class(class), mode))?;
+    add_grip(part, grip(Key::All, intention(mode)))
 }
 
 /// Adds the keys that a lock asks for whatever the state.
@@ -83,13 +79,7 @@ fn add_lock(part: &mut Vec<Grip>, scheme: &Scheme, lock: &Lock) -> Result<(), Al
     ensures { OnOk result (HasWishes scheme.now lock.now part.old.items part.new.items) }
 {
     match lock {
-        Lock::All => add_grip(
-            part,
-            Grip {
-                key: Key::All,
-                mode: Mode::Exclusive,
-            },
-        ),
+        Lock::All => add_grip(part, grip(Key::All, Mode::Exclusive)),
         Lock::Class(class, right) => add_class(part, *class, class_mode(*right)),
         Lock::Path(path, effect) => {
             let class = scheme.class_of(path).unwrap();

@@ -83,7 +83,7 @@ fn put_path(text: &mut String, program: &Program, path: &Path) -> Result<(), All
 }
 
 /// The name of a variable.
-fn variable_name(program: &Program, variable: Variable) -> &Name
+pub fn variable_name(program: &Program, variable: Variable) -> &Name
     requires { IsVariable program.now variable }
     ensures { result.now ≡ variable_name program.now.source variable }
 {
@@ -98,7 +98,7 @@ fn variable_name(program: &Program, variable: Variable) -> &Name
 }
 
 /// The name of a field.
-fn field_name(program: &Program, field: Field) -> &Name
+pub fn field_name(program: &Program, field: Field) -> &Name
     requires { IsField program.now field }
     ensures { result.now ≡ field_name program.now.source field }
 {

@@ -1,5 +1,6 @@
-use Rattle.std.proofs.Common.{refl, sym, subst}
+use Rattle.std.proofs.Common.{refl, sym, ap, ◌∙◌, subst}
 use Rattle.std.specs.Prelude.{IsSome}
+use Rattle.sect_emit.specs.Plan.{with_grip}
 use Rattle.sect_emit.specs.steps.Wishes.{IsClassedLock}
 use Rattle.sect_emit.proofs.Adding.{all_wishes, class_wishes, path_wishes, on_ok}
 use Rattle.sect_emit.proofs.fixed.add_lock.Goals as goal
@@ -10,7 +11,7 @@ unwrap-class-requires c =
     subst IsSome (sym ((c.class_of.ensures classed.0).1 classed.1)) refl
 
 pub returns-in-All : goal.returns-in-All
-returns-in-All c = on_ok c.add_grip.result (all_wishes c.args.scheme.now c.args.lock.now _ _ c.in-All.is) c.add_grip.ensures
+returns-in-All c = on_ok c.add_grip.result (λ e. all_wishes c.args.scheme.now c.args.lock.now _ _ c.in-All.is (e ∙ ap (λ g. with_grip g c.args.part.now.items) c.grip.ensures)) c.add_grip.ensures
 
 pub returns-in-Class : goal.returns-in-Class
 returns-in-Class c =

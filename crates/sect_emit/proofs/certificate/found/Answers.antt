@@ -1,0 +1,49 @@
+use Rattle.std.proofs.Common.{◌≡◌, arith, subst}
+use Rattle.sect_types.specs.Sections.{sections_of}
+use Rattle.sect_types.specs.Programs.{ProgramView, IsWithinLimits}
+use Rattle.sect_types.proofs.Places.{at_of}
+use Rattle.sect_names.specs.Needed.{end_of}
+use Rattle.sect_names.specs.Chains.{IsChain}
+use Rattle.std.specs.Prelude.{ℕ, Some, slice_get}
+use Rattle.sect_types.specs.Sound.{AreSound}
+use Rattle.sect_graph.specs.declared.flow.Node.{Node}
+use Rattle.sect_names.specs.Laws.{IsSoundStep}
+use Rattle.sect_chains.specs.steps.Trails.{AreLawful}
+use Rattle.sect_chains.proofs.Meaning.{ended_lawful}
+use Rattle.sect_emit.proofs.Chained.{chains_named}
+use Rattle.sect_emit.proofs.Counting.{few_locks}
+use Rattle.sect_emit.proofs.Spelling.{zip_length, if_ok}
+use Rattle.sect_emit.proofs.certificate.found.Goals as goal
+
+pub chains-requires-clause-locks : goal.chains-requires-clause-locks
+chains-requires-clause-locks c = λ of g at graph. (c.requires.inferred of g at graph).0
+
+pub returns-clause-few : goal.returns-clause-few
+returns-clause-few c =
+    let s = c.args.scheme.now in
+    let i = c.args.section in
+    let of = at_of (sections_of s.program.texts) i c.requires.section in
+    let within = c.requires.section in
+    let g = at_of s.graphs.sections i (omega (arith, within, c.rules.ensures.graphed.section_count)) in
+    let told = c.requires.inferred of.0 g.0 of.1 g.1 in
+    let limits = subst IsWithinLimits c.program.ensures c.typing.ensures.limits in
+    let entry = c.args.locks.now.entry in
+    let few = few_locks s c.rules.ensures limits of.0.thread entry told.0.in_order (told.1 0 entry told.0.first) in
+    if_ok c.chains.result (λ chains are. (let e = zip_length (IsChain s of.0.thread (end_of s i) g.0) entry chains.items are in omega (arith, few, e))) (c.chains.ensures of.0 g.0 of.1 g.1)
+
+pub returns-clause-named : goal.returns-clause-named
+returns-clause-named c =
+    let s = c.args.scheme.now in
+    let i = c.args.section in
+    let within = c.requires.section in
+    let of = at_of (sections_of s.program.texts) i within in
+    let g = at_of s.graphs.sections i (omega (arith, within, c.rules.ensures.graphed.section_count)) in
+    let sound = subst (λ (p : ProgramView). AreSound p.records p.globals p.locals p.texts) c.program.ensures c.typing.ensures.sound in
+    let step : (j : ℕ) (y : Node) → slice_get g.0 j ≡ Some y → IsSoundStep s.program of.0.thread y.label
+    = λ j y at. (c.steps_of_sections.ensures.sound s c.rules.ensures sound of.0 y (i, g.0, j, of.1, g.1, at)).0 in
+    let lawful : AreLawful s of.0.thread (end_of s i) g.0 = record {
+      generated = λ j y at. c.locks_stay_the_programs.ensures.generated s c.rules.ensures of.0.thread y.label (step j y at);
+      ended = ended_lawful s of.0.thread i;
+      carried = λ j y at. c.locks_stay_the_programs.ensures.carried s c.rules.ensures of.0.thread y.label (step j y at);
+    } in
+    if_ok c.chains.result (λ chains are. chains_named s of.0.thread (end_of s i) g.0 lawful c.args.locks.now.entry chains.items are) (c.chains.ensures of.0 g.0 of.1 g.1)

@@ -1,0 +1,86 @@
+//! The certificate of a compiled program.
+
+ghost use Rattle.std.specs.Prelude.{◌≡◌, ◌<◌, ◌≤◌, List, Some, length, slice_get, IfOk};
+ghost use Rattle.sect_types.specs.Lists.{Has};
+ghost use Rattle.sect_types.specs.Sections.{SectionView, sections_of};
+ghost use Rattle.sect_graph.specs.declared.flow.Node.{Node};
+ghost use Rattle.sect_names.specs.declared.link.Link.{Link};
+ghost use Rattle.sect_names.specs.Needed.{end_of};
+ghost use Rattle.sect_chains.specs.Chains.{AreChains};
+ghost use Rattle.sect_cert.specs.Texts.{IsSection, HasText};
+ghost use Rattle.sect_emit.specs.steps.Inferred.{AreInferredAt, AreAllInferred};
+ghost use Rattle.sect_emit.specs.Words.{IsChainNamed};
+ghost use Rattle.sect_emit.specs.steps.Spelled.{IsSectionSpelled, IsSpelled};
+
+use crate::words::{chains_of, list_of, lists_of};
+use sect_cert::{Cert, CertSection, Items};
+use sect_chains::{Chain, chains};
+use sect_infer::Locks;
+use sect_names::{Scheme, locks_stay_the_programs, steps_of_sections};
+use std::alloc::{AllocError, Global};
+
+/// The chains of a section, which are fewer than there are numbers.
+fn found(
+    alloc: Global,
+    scheme: &Scheme,
+    locks: &Locks,
+    section: u16,
+) -> Result<Vec<Chain>, AllocError>
+    requires section { section < length (sections_of scheme.now.program.texts) }
+    requires inferred { AreInferredAt scheme.now section locks.now }
+    ensures chains { (of : SectionView) (g : List Node)
+        → slice_get (sections_of scheme.now.program.texts) section ≡ Some of
+        → slice_get scheme.now.graphs.sections section ≡ Some g
+        → IfOk result (λ chains.
+        AreChains scheme.now of.thread (end_of scheme.now section) g locks.now.entry chains.items) }
+    ensures few { IfOk result (λ chains. length chains.items ≤ 4294967296) }
+    ensures named { IfOk result (λ chains. (links : List Link) → Has chains.items links
+        → IsChainNamed scheme.now.program links) }
+{
+    scheme.rules();
+    scheme.program().typing();
+    locks_stay_the_programs();
+    steps_of_sections();
+    chains(alloc, scheme, locks, section)
+}
+
+/// What is inferred of a section, by the names of the text.
+fn section_of(
+    alloc: Global,
+    scheme: &Scheme,
+    locks: &Locks,
+    section: u16,
+) -> Result<CertSection, AllocError>
+    requires section { section < length (sections_of scheme.now.program.texts) }
+    requires inferred { AreInferredAt scheme.now section locks.now }
+    ensures words { IfOk result (IsSectionSpelled scheme.now section locks.now) }
+    ensures good { IfOk result IsSection }
+{
+    scheme.rules();
+    let chains = found(alloc, scheme, locks, section)?;
+    let program = scheme.program();
+    let count = scheme.graph().section(section).exit() + 1;
+    Ok(CertSection {
+        nodes: lists_of(alloc, program, locks, count)?,
+        entry: list_of(alloc, program, locks.entry())?,
+        chains: chains_of(alloc, program, chains.as_slice())?,
+    })
+}
+
+/// What is inferred of a program, by the names of the text.
+pub fn certificate_of(alloc: Global, scheme: &Scheme, all: &[Locks]) -> Result<Cert, AllocError>
+    requires { AreAllInferred scheme.now all.now }
+    ensures words { IfOk result (IsSpelled scheme.now all.now) }
+    ensures text { IfOk result HasText }
+{
+    scheme.rules();
+    scheme.program().typing();
+    let mut sections = Vec::new(alloc);
+    for section in 0..scheme.program().section_count() {
+        sections.push(section_of(alloc, scheme, &all[section as usize], section)?)?;
+    }
+    Ok(Cert {
+        k: scheme.k() as u32,
+        sections: Items::from_vec(sections),
+    })
+}

@@ -1,0 +1,150 @@
+//! Locks and chains by the names that stand in a program's text.
+
+ghost use Rattle.std.specs.Prelude.{◌≡◌, ◌≤◌, List, map, length, IfOk};
+ghost use Rattle.std.specs.List.{AllByRecursion};
+ghost use Rattle.sect_types.specs.Lists.{Has};
+ghost use Rattle.sect_cert.specs.Texts.{IsPath, IsLock, IsStep, IsChain};
+ghost use Rattle.sect_names.specs.declared.link.Link.{Link};
+ghost use Rattle.sect_names.specs.declared.lock.Lock.{Lock};
+ghost use Rattle.sect_names.specs.Locks.{IsPathOf};
+ghost use Rattle.sect_names.specs.Printing.{IsNamed, AreNamed};
+ghost use Rattle.sect_emit.specs.Words.{path_words, lock_words, list_words, step_words, chain_words, chains_words};
+ghost use Rattle.sect_emit.specs.Words.{IsChainNamed};
+
+use sect_cert::{CertBase, CertLock, CertPath, CertStep, Items};
+use sect_chains::Chain;
+use sect_infer::Locks;
+use sect_names::{Effect, Link, Lock, Path, Right, field_name, variable_name};
+use sect_types::Program;
+use std::alloc::{AllocError, Global};
+
+/// A path by its names.
+fn path_of(alloc: Global, program: &Program, path: &Path) -> Result<CertPath, AllocError>
+    requires { IsPathOf program.now path.now }
+    ensures words { IfOk result (λ words. words ≡ path_words program.now.source path.now) }
+    ensures good { IfOk result IsPath }
+{
+    let mut fields = Vec::new(alloc);
+    for field in path.fields() {
+        let name = field_name(program, *field);
+        let _good = name.as_bytes();
+        fields.push(*name)?;
+    }
+    let name = variable_name(program, path.base());
+    let _good = name.as_bytes();
+    Ok(CertPath {
+        base: CertBase::Name(*name),
+        fields: Items::from_vec(fields),
+    })
+}
+
+/// A lock by its names.
+fn lock_of(alloc: Global, program: &Program, lock: &Lock) -> Result<CertLock, AllocError>
+    requires { IsNamed program.now lock.now }
+    ensures words { IfOk result (λ words. words ≡ lock_words program.now.source lock.now) }
+    ensures good { IfOk result IsLock }
+{
+    match lock {
+        Lock::All => Ok(CertLock::WriteAll),
+        Lock::Class(class, Right::Read) => Ok(CertLock::ReadClass(*class as u32)),
+        Lock::Class(class, Right::Write) => Ok(CertLock::WriteClass(*class as u32)),
+        Lock::Class(class, Right::Make) => Ok(CertLock::MakeClass(*class as u32)),
+        Lock::Path(path, Effect::Read) => Ok(CertLock::ReadPath(path_of(alloc, program, path)?)),
+        Lock::Path(path, Effect::Write) => Ok(CertLock::WritePath(path_of(alloc, program, path)?)),
+    }
+}
+
+/// A list of locks by their names.
+pub fn list_of(
+    alloc: Global,
+    program: &Program,
+    locks: &[Lock],
+) -> Result<Items<CertLock>, AllocError>
+    requires { AreNamed program.now locks.now }
+    ensures words { IfOk result (λ list. list ≡ list_words program.now.source locks.now) }
+    ensures good { IfOk result (λ list. AllByRecursion IsLock list) }
+{
+    let mut list = Vec::new(alloc);
+    for lock in locks {
+        list.push(lock_of(alloc, program, lock)?)?;
+    }
+    Ok(Items::from_vec(list))
+}
+
+/// A step at a node.
+fn step(node: u32, lock: CertLock) -> CertStep
+    requires { IsLock lock }
+    ensures node { result.node ≡ node }
+    ensures lock { result.lock ≡ lock }
+    ensures good { IsStep result }
+{
+    CertStep { node, lock }
+}
+
+/// A step of a chain by its names.
+fn step_of(alloc: Global, program: &Program, link: &Link) -> Result<CertStep, AllocError>
+    requires { IsNamed program.now link.now.lock }
+    ensures words { IfOk result (λ step. step ≡ step_words program.now.source link.now) }
+    ensures good { IfOk result IsStep }
+{
+    let lock = lock_of(alloc, program, &link.lock)?;
+    Ok(step(link.node, lock))
+}
+
+/// The chain of the lock of this number by its names.
+fn chain_of(
+    alloc: Global,
+    program: &Program,
+    lock: u32,
+    chain: &Chain,
+) -> Result<sect_cert::Chain, AllocError>
+    requires { IsChainNamed program.now chain.now }
+    ensures words { IfOk result (λ words. words ≡ chain_words program.now.source lock chain.now) }
+    ensures good { IfOk result IsChain }
+{
+    let mut steps = Vec::new(alloc);
+    for link in chain.links() {
+        steps.push(step_of(alloc, program, link)?)?;
+    }
+    Ok(sect_cert::Chain {
+        lock,
+        steps: Items::from_vec(steps),
+    })
+}
+
+/// The chains of locks, in order, by their names.
+pub fn chains_of(
+    alloc: Global,
+    program: &Program,
+    chains: &[Chain],
+) -> Result<Items<sect_cert::Chain>, AllocError>
+    requires few { length chains.now ≤ 4294967296 }
+    requires named { (links : List Link) → Has chains.now links → IsChainNamed program.now links }
+    ensures words { IfOk result (λ list. list ≡ chains_words program.now.source 0 chains.now) }
+    ensures good { IfOk result (λ list. AllByRecursion IsChain list) }
+{
+    let mut list = Vec::new(alloc);
+    for lock in 0..chains.len() {
+        list.push(chain_of(alloc, program, lock as u32, &chains[lock])?)?;
+    }
+    Ok(Items::from_vec(list))
+}
+
+/// The lists of a section's nodes, of which there are so many, by their names.
+pub fn lists_of(
+    alloc: Global,
+    program: &Program,
+    locks: &Locks,
+    count: u16,
+) -> Result<Items<Items<CertLock>>, AllocError>
+    requires count { length locks.now.at ≡ count }
+    requires named { (list : List Lock) → Has locks.now.at list → AreNamed program.now list }
+    ensures words { IfOk result (λ lists. lists ≡ map (list_words program.now.source) locks.now.at) }
+    ensures good { IfOk result (λ lists. AllByRecursion (λ list. AllByRecursion IsLock list) lists) }
+{
+    let mut lists = Vec::new(alloc);
+    for node in 0..count {
+        lists.push(list_of(alloc, program, locks.at(node))?)?;
+    }
+    Ok(Items::from_vec(lists))
+}

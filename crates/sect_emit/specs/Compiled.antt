@@ -44,8 +44,8 @@ pub record IsCompiled (c : CompiledView) : Type 0 where
 -- each set is the least that protects its section, in canonical order
 abbrev pub AreSetsLeast : CompiledView → Type 0
 AreSetsLeast c =
-    (i : ℕ) (section : SectionView) (locks : List Lock) → slice_get (sections_of c.scheme.program.texts) i ≡ Some section
-    → slice_get c.sets i ≡ Some locks
+    (i : ℕ) (section : SectionView) (locks : List Lock)
+    → slice_get (sections_of c.scheme.program.texts) i ≡ Some section → slice_get c.sets i ≡ Some locks
     → IsLeast c.scheme section.thread (end_of c.scheme i) section.body locks × AreInOrder locks
 
 -- the source text is accepted for paths of at most k fields, and this is its program, compiled with its least sets

@@ -1,7 +1,9 @@
 //! Why a measurement ends early.
 
 use sect_cert::CertFault;
+use sect_check::CheckFault;
 use sect_front::FrontFault;
+use sect_names::Refusal;
 use sect_table::TableFault;
 use sect_types::TypeFault;
 use std::alloc::AllocError;
@@ -12,11 +14,11 @@ use thiserror::Error;
 #[derive(Clone, Copy, Debug, Error)]
 pub enum Failure {
     /// The words of the command line aren't those of a measurement.
-    #[error("what is wanted: nothing, or sets TIMES, classes TIMES, table KEYS ROUNDS or cert SECTIONS LOCKS")]
+    #[error("what is wanted: nothing, or sets TIMES, classes TIMES, certified TIMES, table KEYS ROUNDS or cert SECTIONS LOCKS")]
     Usage,
     /// The source text was refused.
     #[error("the text on standard input is no program")]
-    TreeView,
+    Source,
     /// A growth was refused, or what was made isn't accepted again.
     #[error("the work could not be done")]
     Work,
@@ -33,13 +35,25 @@ impl From<AllocError> for Failure {
 
 impl From<FrontFault> for Failure {
     fn from(_fault: FrontFault) -> Failure {
-        Failure::TreeView
+        Failure::Source
     }
 }
 
 impl From<TypeFault> for Failure {
     fn from(_fault: TypeFault) -> Failure {
-        Failure::TreeView
+        Failure::Source
+    }
+}
+
+impl From<Refusal> for Failure {
+    fn from(_refusal: Refusal) -> Failure {
+        Failure::Source
+    }
+}
+
+impl From<CheckFault> for Failure {
+    fn from(_fault: CheckFault) -> Failure {
+        Failure::Work
     }
 }
 

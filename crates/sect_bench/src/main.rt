@@ -2,12 +2,14 @@
 //! line of what came of it. Without words it does each in turn, at a small size. `bench/run` times it.
 #![tactic(auto)]
 
+mod certified;
 mod failure;
 mod long_texts;
 mod rounds;
 mod sets;
 mod work;
 
+use crate::certified::certified;
 use crate::failure::Failure;
 use crate::long_texts::written_twice;
 use crate::rounds::{THREADS, granted};
@@ -58,6 +60,10 @@ fn line(alloc: Global, work: Work, source: &[u8]) -> Result<String, Failure> {
         Work::Classes { times } => {
             let classes = classes_found(alloc, &program_of(alloc, source)?, times)?;
             format!(in alloc; "{classes} classes\n")?
+        }
+        Work::Certified { times } => {
+            let bytes = certified(alloc, source, times)?;
+            format!(in alloc; "{bytes} bytes, checked {times} times\n")?
         }
         Work::Table { keys, rounds } => {
             let granted = granted(alloc, keys, rounds)?;

@@ -10,6 +10,8 @@ pub enum Work {
     Sets { times: u32 },
     /// Its points-to sets and the classes of its sites, found so many times.
     Classes { times: u32 },
+    /// The certificate of the program on standard input, made, and checked so many times.
+    Certified { times: u32 },
     /// So many rounds, in each of which 64 threads ask the lock table for a key, in turn over so many keys.
     Table { keys: u32, rounds: u32 },
     /// A certificate of so many sections and so many locks in each list, written, read and written again.
@@ -17,9 +19,10 @@ pub enum Work {
 }
 
 /// What is done where the command line asks for nothing.
-const EACH_IN_TURN: [Work; 4] = [
+const EACH_IN_TURN: [Work; 5] = [
     Work::Sets { times: 2 },
     Work::Classes { times: 2 },
+    Work::Certified { times: 1 },
     Work::Table {
         keys: 10000,
         rounds: 10,
@@ -33,7 +36,10 @@ const EACH_IN_TURN: [Work; 4] = [
 impl Work {
     /// Whether it is done on the text on standard input.
     pub fn reads(&self) -> bool {
-        matches!(self, Work::Sets { .. } | Work::Classes { .. })
+        matches!(
+            self,
+            Work::Sets { .. } | Work::Classes { .. } | Work::Certified { .. }
+        )
     }
 }
 
@@ -65,6 +71,7 @@ fn repeated(what: &str, times: u32) -> Result<Work, Failure> {
     match what {
         "sets" => Ok(Work::Sets { times }),
         "classes" => Ok(Work::Classes { times }),
+        "certified" => Ok(Work::Certified { times }),
         _ => Err(Failure::Usage),
     }
 }

@@ -14,7 +14,7 @@ use thiserror::Error;
 #[derive(Clone, Copy, Debug, Error)]
 pub enum Failure {
     /// The words of the command line aren't those of a measurement.
-    #[error("what is wanted: nothing, or sets TIMES, classes TIMES, certified TIMES, table KEYS ROUNDS or cert SECTIONS LOCKS")]
+    #[error("wanted: nothing, or sets, classes or certified TIMES, table KEYS ROUNDS or cert SECTIONS LOCKS")]
     Usage,
     /// The source text was refused.
     #[error("the text on standard input is no program")]

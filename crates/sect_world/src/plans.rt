@@ -2,7 +2,8 @@
 
 ghost use Rattle.std.specs.Prelude.{◌≡◌, ◌∷◌, [], ◌++◌, List, IfOk, OnOk};
 ghost use Rattle.sect_emit.specs.declared.plan.Grip.{Grip};
-ghost use Rattle.sect_emit.specs.Plan.{key_of as key_by, object_mode as mode_by, gathered, object_wishes, plan_of as plan_by};
+ghost use Rattle.sect_emit.specs.Plan.{key_of as key_by, object_mode as mode_by, gathered, object_wishes};
+ghost use Rattle.sect_emit.specs.Plan.{plan_of as plan_by};
 
 use crate::lookup::path_datum;
 use sect_emit::{Grip, add_grip};

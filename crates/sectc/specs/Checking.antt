@@ -27,6 +27,7 @@ of_check why = refusal.Check why
 -- the refusal is due: it is the first fault of the input's certificate, where its source is judged first
 abbrev pub IsCheckDue : List ℕ → ℕ → Refusal → Type 0
 IsCheckDue input k refusal.Memory = ⊤
-IsCheckDue input k (refusal.Check why) = (why ≢ fault.Memory) × OfParts input (λ cert source. Judges {A = ⊤} source k cert (Err why))
+IsCheckDue input k (refusal.Check why) =
+    (why ≢ fault.Memory) × OfParts input (λ cert source. Judges {A = ⊤} source k cert (Err why))
 IsCheckDue input k (refusal.Source why) = ⊥
 IsCheckDue input k (refusal.Serial why) = ⊥

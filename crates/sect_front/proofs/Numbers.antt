@@ -1,127 +1,31 @@
 -- The numbers that are read are those that are printed.
-use Rattle.std.proofs.Common.{◌≡◌, ◌≢◌, ℕ, zero, suc, ◌+◌, ◌-◌, ◌*◌, ◌/◌, ◌%◌, ◌<◌, ◌≤◌, Bool, true, false, ◌&&◌, cond, eqb, nat_lt, List, [], ◌∷◌, ◌++◌, Some, None, length, get_or, refl, sym, ◌∙◌, ap, arith, rules}
+use Rattle.std.proofs.Common.{◌≡◌, ℕ, ◌+◌, ◌-◌, ◌*◌, ◌<◌, ◌&&◌, cond, eqb, nat_lt, List, [], ◌∷◌, Some, None, length}
+use Rattle.std.proofs.Common.{true, refl, sym, ◌∙◌, ap, arith}
 use Rattle.std.specs.List.{list_all}
 use Rattle.std.specs.Fmt.{decimal}
-use Rattle.std.proofs.lemmas.Bool.{eq-eqb}
-use Rattle.std.proofs.lemmas.Bool.Decides.{nat_tests}
-use Rattle.std.proofs.lemmas.Fmt.{decimal_by_steps_wide, decimal-digits_value, digits_decimal, decimal_nonempty}
-use Rattle.std.proofs.lemmas.Str.Parse.{IsNumeralModel, IsDigitsTest, FoldsDigits, numerals_by_fold}
 use Rattle.sect_front.specs.Words.{is_digit}
 use Rattle.sect_front.specs.steps.Recognition.{decimal_from, number_of}
-use Rattle.sect_front.proofs.Choices.{chosen, refused, both, some_inj, no_some}
+use Rattle.sect_front.proofs.Numerals as numerals
 
-digit_test : (n : ℕ) → n < 10 → is_digit (48 + n) ≡ true
-digit_test n h = grind (arith, nat_tests)
+-- numbers are numerals below 2 ^ 63
+from_is : (n : ℕ) (ds : List ℕ) → decimal_from n ds ≡ numerals.numeral_from 9223372036854775808 n ds
+from_is n [] = refl
+from_is n (d ∷ ds) =
+    ap (λ r. cond (is_digit d && nat_lt (n * 10 + (d - 48)) 9223372036854775808) r None) (from_is (n * 10 + (d - 48)) ds)
 
-below : (n k : ℕ) → n < k → nat_lt n k ≡ true
-below n k h = grind (arith, nat_tests)
-
--- one more digit at the end
-last_digit : (k : ℕ) (ds : List ℕ) (m d : ℕ) → decimal_from k ds ≡ Some m → d < 10 → m * 10 + d < 9223372036854775808 → decimal_from k (ds ++ (48 + d) ∷ []) ≡ Some (m * 10 + d)
-last_digit k [] m d h small fits =
-    let e : k ≡ m = cc in
-    let f : 48 + d - 48 ≡ d = omega arith in
-    rw (e, digit_test d small, f, below (m * 10 + d) 9223372036854775808 fits) refl
-last_digit k (c ∷ ds) m d h small fits = go (is_digit c && nat_lt (k * 10 + (c - 48)) 9223372036854775808) h (λ g. last_digit (k * 10 + (c - 48)) ds m d g small fits)
-  where
-    go : (b : Bool) → cond b (decimal_from (k * 10 + (c - 48)) ds) None ≡ Some m → (decimal_from (k * 10 + (c - 48)) ds ≡ Some m → decimal_from (k * 10 + (c - 48)) (ds ++ (48 + d) ∷ []) ≡ Some (m * 10 + d)) →
-        cond b (decimal_from (k * 10 + (c - 48)) (ds ++ (48 + d) ∷ [])) None ≡ Some (m * 10 + d)
-    go true g f = f g
-    go false g f = cc
-
-and_false : (b : Bool) → (b && false) ≡ false
-and_false true = refl
-and_false false = refl
-
--- what is printed of a number is read as it
-record Reads (n : ℕ) (ds : List ℕ) : Type 0 where
-  value : n < 9223372036854775808 → decimal_from 0 ds ≡ Some n
-  some : 0 < length ds
-  lead : 0 < n → get_or ds 0 0 ≢ 48
-  zero_alone : n ≡ 0 → length ds ≡ 1
-
-reads_one : (n : ℕ) → n < 10 → Reads n ((48 + n) ∷ [])
-reads_one n h = record {
-  value = λ fits. let e : 0 * 10 + n ≡ n = omega arith in last_digit 0 [] 0 n refl h (omega arith) ∙ ap Some e;
-  some = omega arith;
-  lead = λ p e. omega arith;
-  zero_alone = λ _. refl;
-}
-
-reads_more : (n : ℕ) (ds : List ℕ) → 10 ≤ n → Reads (n / 10) ds → Reads n (ds ++ ((48 + n % 10) ∷ []))
-reads_more n [] h r = absurd (omega (arith, r.some))
-reads_more n (c ∷ ds) h r = record {
-  value = λ fits. let e : n / 10 * 10 + n % 10 ≡ n = omega arith in
-      last_digit 0 (c ∷ ds) (n / 10) (n % 10) (r.value (omega arith)) (omega arith) (omega arith) ∙ ap Some e;
-  some = omega arith;
-  lead = λ p e. r.lead (omega arith) e;
-  zero_alone = λ e. absurd (omega arith);
-}
-
-no_lead : (n d : ℕ) (ds : List ℕ) → Reads n (d ∷ ds) → (eqb d 48 && nat_lt 0 (length ds)) ≡ false
-no_lead zero d ds r = let one : length (d ∷ ds) ≡ 1 = r.zero_alone refl in
-    let none : nat_lt 0 (length ds) ≡ false = grind (arith, nat_tests) in rw none (and_false (eqb d 48))
-no_lead (suc n) d ds r = let ne : d ≢ 48 = r.lead (omega arith) in
-    let no : eqb d 48 ≡ false = grind (arith, nat_tests) in rw no refl
+number_is : (ds : List ℕ) → number_of ds ≡ numerals.numeral 9223372036854775808 ds
+number_is [] = refl
+number_is (d ∷ ds) = ap (cond (eqb d 48 && nat_lt 0 (length ds)) None) (from_is 0 (d ∷ ds))
 
 pub number_decimal : (n : ℕ) → n < 9223372036854775808 → number_of (decimal n) ≡ Some n
-number_decimal n h = go (decimal n) (decimal_by_steps_wide Reads reads_one reads_more n (omega arith))
-  where
-    go : (ds : List ℕ) → Reads n ds → number_of ds ≡ Some n
-    go [] r = absurd (omega (arith, r.some))
-    go (d ∷ ds) r = rw (no_lead n d ds r) (r.value h)
-
--- the number that digits are after a number
-abbrev value_after : ℕ → List ℕ → ℕ
-value_after n [] = n
-value_after n (d ∷ ds) = value_after (n * 10 + (d - 48)) ds
-
-abbrev AreDigits : List ℕ → Type 0
-AreDigits ds = list_all is_digit ds ≡ true
-
-tells : IsDigitsTest AreDigits
-tells = search rules
-
-folds : FoldsDigits value_after
-folds = search rules
-
-model : IsNumeralModel AreDigits (value_after 0)
-model = numerals_by_fold AreDigits tells value_after folds
-
--- what is read of digits
-record IsRead (k : ℕ) (ds : List ℕ) (n : ℕ) : Type 0 where
-  digits : AreDigits ds
-  value : value_after k ds ≡ n
-  low : k < 9223372036854775808 → n < 9223372036854775808
-
-decimal_read : (k : ℕ) (ds : List ℕ) (n : ℕ) → decimal_from k ds ≡ Some n → IsRead k ds n
-decimal_read k [] n h = let e = some_inj k n h in record { digits = refl; value = e; low = λ l. omega (arith, e) }
-decimal_read k (d ∷ ds) n h =
-    let more : ℕ = k * 10 + (d - 48) in
-    let c = chosen (is_digit d && nat_lt more 9223372036854775808) (decimal_from more ds) n h in
-    let e = both (is_digit d) (nat_lt more 9223372036854775808) c.0 in
-    let r = decimal_read (k * 10 + (d - 48)) ds n c.1 in
-    record { digits = rw e.0 r.digits; value = r.value; low = λ l. r.low (lt_from more 9223372036854775808 e.1) }
-  where
-    lt_from : (a b : ℕ) → nat_lt a b ≡ true → a < b
-    lt_from a b e = grind (arith, nat_tests)
+number_decimal n h = number_is (decimal n) ∙ numerals.numeral_decimal 9223372036854775808 n (omega arith) h
 
 -- digits that are read as a number are what is printed of it
 pub number_back : (ds : List ℕ) (n : ℕ) → number_of ds ≡ Some n → (ds ≡ decimal n) × (n < 9223372036854775808)
-number_back [] n h = absurd (no_some n h)
-number_back (d ∷ ds) n h =
-    let c = refused (eqb d 48 && nat_lt 0 (length ds)) (decimal_from 0 (d ∷ ds)) n h in
-    let r = decimal_read 0 (d ∷ ds) n c.1 in
-    let low : n < 9223372036854775808 = r.low (omega arith) in
-    let lead : d ≡ 48 → length (d ∷ ds) ≡ 1 = λ e. alone (eqb d 48) (length ds) (eq-eqb d 48 e) c.0 in
-    (sym (decimal-digits_value model (d ∷ ds) r.digits (omega arith) lead (omega (arith, r.value, low))) ∙ ap decimal r.value, low)
-  where
-    alone : (b : Bool) (k : ℕ) → b ≡ true → (b && nat_lt 0 k) ≡ false → suc k ≡ 1
-    alone true k e f = grind (arith, nat_tests)
-    alone false k e f = cc
+number_back ds n h = numerals.numeral_back 9223372036854775808 ds n (omega arith) (omega arith) (sym (number_is ds) ∙ h)
 
-pub decimal_digits : (n : ℕ) → n < 9223372036854775808 → AreDigits (decimal n)
-decimal_digits n h = digits_decimal model n (omega arith)
+pub decimal_digits : (n : ℕ) → n < 9223372036854775808 → list_all is_digit (decimal n) ≡ true
+decimal_digits n h = numerals.decimal_digits n (omega arith)
 
 pub decimal_some : (n : ℕ) → n < 9223372036854775808 → 0 < length (decimal n)
-decimal_some n h = decimal_nonempty n (omega arith)
+decimal_some n h = numerals.decimal_some n (omega arith)

@@ -12,6 +12,7 @@ mod partial;
 mod printing;
 mod reader;
 mod reading;
+mod same;
 mod token;
 mod tree;
 mod within;
@@ -23,6 +24,7 @@ pub use literal::Literal;
 pub use name::Name;
 pub use parsing::{FrontFault, parse};
 pub use printing::print;
+pub use same::is_same;
 pub use token::{Token, TokenAt};
 pub use tree::{
     Block, Comparison, Declaration, Declarations, GlobalObject, Hints, Kind, Locking, Operand,

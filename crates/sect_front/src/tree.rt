@@ -10,7 +10,7 @@ use std::alloc::{AllocError, Global};
 use std::marker::Model;
 
 /// A value that a statement or a test uses.
-#[derive(Clone, Copy)]
+#[derive(Clone, Copy, PartialEq, Eq)]
 pub enum Operand {
     Number(Literal),
     Null,
@@ -18,7 +18,7 @@ pub enum Operand {
 }
 
 /// How a test compares its two operands.
-#[derive(Clone, Copy)]
+#[derive(Clone, Copy, PartialEq, Eq)]
 pub enum Comparison {
     Equal,
     NotEqual,
@@ -27,7 +27,7 @@ pub enum Comparison {
 }
 
 /// How a statement joins two integers.
-#[derive(Clone, Copy)]
+#[derive(Clone, Copy, PartialEq, Eq)]
 pub enum Operator {
     Add,
     Subtract,
@@ -35,7 +35,7 @@ pub enum Operator {
 }
 
 /// The test of an `if` or a `while`.
-#[derive(Clone, Copy)]
+#[derive(Clone, Copy, PartialEq, Eq)]
 pub struct Test {
     pub left: Operand,
     pub comparison: Comparison,
@@ -52,7 +52,7 @@ pub enum Locking {
 }
 
 /// A statement without a block.
-#[derive(Clone, Copy)]
+#[derive(Clone, Copy, PartialEq, Eq)]
 pub enum Primitive {
     /// `x = v`
     Assign(Name, Operand),
@@ -138,7 +138,7 @@ impl Block {
 }
 
 /// The type of a field or a local, as it is written.
-#[derive(Clone, Copy)]
+#[derive(Clone, Copy, PartialEq, Eq)]
 pub enum Kind {
     Int,
     /// A reference to a record of this name.
@@ -146,7 +146,7 @@ pub enum Kind {
 }
 
 /// A field or a local.
-#[derive(Clone, Copy)]
+#[derive(Clone, Copy, PartialEq, Eq)]
 pub struct Declaration {
     pub kind: Kind,
     pub name: Name,
@@ -248,7 +248,7 @@ pub struct Record {
 }
 
 /// A global: one fixed object of a record.
-#[derive(Clone, Copy)]
+#[derive(Clone, Copy, PartialEq, Eq)]
 pub struct GlobalObject {
     pub of: Name,
     pub name: Name,

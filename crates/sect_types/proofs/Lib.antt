@@ -30,3 +30,4 @@ pub mod Changed
 pub mod SameData
 pub mod Places
 pub mod Naming
+pub mod Repeating

@@ -1,5 +1,5 @@
 -- Elements of lists and the places where they stand.
-use Rattle.std.proofs.Common.{◌≡◌, ◌⊎◌, ◌∙◌, ℕ, zero, suc, ◌+◌, ◌<◌, List, [], ◌∷◌, ◌++◌, length, take, get_or, Option, Some, None, refl, sym, ap, subst, inl, inr, arith}
+use Rattle.std.proofs.Common.{◌≡◌, ◌⊎◌, ◌∙◌, ℕ, zero, suc, ◌+◌, ◌<◌, List, [], ◌∷◌, ◌++◌, length, length-append, take, get_or, Option, Some, None, refl, sym, ap, subst, inl, inr, arith}
 use Rattle.std.specs.Prelude.{slice_get, option_map}
 use Rattle.std.specs.List.{AllZip, AllByRecursion}
 use Rattle.std.proofs.lemmas.List.{take_more}
@@ -59,3 +59,18 @@ pub each_at : {A : Type 0} (P : A → Type 0) (xs : List A) → AllByRecursion P
 each_at P [] h i x at = absurd cc
 each_at P (y ∷ xs) h zero x at = let same : y ≡ x = cc in subst P same h.0
 each_at P (y ∷ xs) h (suc i) x at = each_at P xs h.1 i x at
+
+-- where each of so many numbers has something, a list has one for each
+pub chosen : {X : Type 0} (P : ℕ → X → Type 0) (n : ℕ) → ((i : ℕ) → i < n → (x : X) × P i x) → (xs : List X) × (length xs ≡ n) × ((i : ℕ) (x : X) → slice_get xs i ≡ Some x → P i x)
+chosen P zero each = ([], refl, λ i x at. absurd cc)
+chosen P (suc n) each =
+    let before = chosen P n (λ i lt. each i (omega (arith, lt))) in
+    let here = each n (omega arith) in
+    let count = before.1 in (
+      before.0 ++ here.0 ∷ [],
+      omega (arith, count, length-append before.0 (here.0 ∷ [])),
+      λ i x at. elim (pushed_at before.0 here.0 x i at) [
+        | inl e ↦ subst (P i) e.1 (subst (λ m. P m here.0) (sym (e.0 ∙ count)) here.1)
+        | inr h ↦ before.2 i x h
+      ],
+    )

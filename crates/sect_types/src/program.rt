@@ -36,7 +36,7 @@ use crate::spot::Spot;
 use crate::text::Text;
 use crate::types::{Types, field_types, global_records, local_types};
 use crate::walk::walk_block;
-use sect_front::{Locking, Thread, Tree};
+use sect_front::{Locking, Thread, Tree, is_same};
 use std::alloc::{AllocError, Global};
 use std::marker::Model;
 
@@ -235,6 +235,8 @@ impl Model for Program {
 }
 
 impl Program {
+    ghost use Rattle.std.specs.Prelude.{◌↔◌, IsTrue};
+
     /// The tree, which is typed.
     pub fn tree(&self) -> &Tree
         ensures tree { result.now ≡ self.now.source }
@@ -242,6 +244,13 @@ impl Program {
         ensures numbers { IsOfTree self.now }
     {
         &self.tree
+    }
+
+    /// Whether two programs are the same: whether their source texts have the same tree.
+    pub fn is_same(&self, other: &Program) -> bool
+        ensures { IsTrue result ↔ (self.now ≡ other.now) }
+    {
+        is_same(&self.tree, &other.tree)
     }
 
     /// What typing means for the numbers, which the clauses say: each name is the number of something that is there,

@@ -4,3 +4,5 @@ pub mod Rests
 pub mod Emitting
 pub mod Running
 pub mod Graphs
+pub mod Adding
+pub mod Preceding

@@ -2,3 +2,4 @@ pub mod Paths
 pub mod Layout
 pub mod Rests
 pub mod Graphs
+pub mod Predecessors

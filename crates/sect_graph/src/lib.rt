@@ -4,6 +4,8 @@
 mod emit;
 mod flow;
 mod graph;
+mod predecessors;
 
 pub use flow::{Flow, Node, Successors};
 pub use graph::{Graph, graph_of};
+pub use predecessors::{Predecessors, predecessors_of};

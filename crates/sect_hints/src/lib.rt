@@ -7,5 +7,6 @@ mod guarding;
 mod hints;
 
 pub use fault::HintFault;
+pub use globals::names_of;
 pub use guarding::Guards;
 pub use hints::guards;

@@ -34,3 +34,5 @@ pub mod Ends
 pub mod Inserting
 pub mod Alike
 pub mod Ending
+pub mod Climbing
+pub mod Seeking

@@ -66,19 +66,22 @@ climbs s (lock.Class c right.Write) (lock.Class d right.Read) h n = omega arith
 climbs s (lock.Class c right.Write) (lock.Class d right.Make) h n = omega arith
 climbs s (lock.Class c right.Write) (lock.Class d right.Write) h n = absurd (class_climbs c d right.Write right.Write h.0 n refl)
 
-module _ (s : SchemeView) (given kept : List Lock) (told : (x : Lock) → Has given x → Has kept x ⊎ IsOutdone s (Has given) x) where
-  -- above each lock of the list stands one that is kept
-  covered : (n : ℕ) (l : Lock) → 4 ≤ rank l + n → Has given l → CoveredBy s kept l
-  covered zero l high h = elim (told l h) [
+-- above each lock with one property stands one with another, where each of the first has the second or is outdone
+module _ (s : SchemeView) (Given Kept : Lock → Type 0) (told : (x : Lock) → Given x → Kept x ⊎ IsOutdone s Given x) where
+  climb : (n : ℕ) (l : Lock) → 4 ≤ rank l + n → Given l → (big : Lock) × Kept big × Covers s big l
+  climb zero l high h = elim (told l h) [
     | inl k ↦ (l, k, covers_refl s l)
     | inr out ↦ absurd (omega (arith, high, climbs s out.0 l out.2 out.3, rank-most out.0))
   ]
-  covered (suc n) l high h = elim (told l h) [
+  climb (suc n) l high h = elim (told l h) [
     | inl k ↦ (l, k, covers_refl s l)
     | inr out ↦
-        let over = covered n out.0 (omega (arith, high, climbs s out.0 l out.2 out.3)) out.1 in
+        let over = climb n out.0 (omega (arith, high, climbs s out.0 l out.2 out.3)) out.1 in
         (over.0, over.1, covers_trans s over.0 out.0 l over.2 out.2)
   ]
+
+  pub covered : (l : Lock) → Given l → (big : Lock) × Kept big × Covers s big l
+  covered l h = climb 4 l (omega arith) h
 
 pub are_maximal : (s : SchemeView) (given kept : List Lock) → ((x : Lock) → Has given x → Has kept x ⊎ IsOutdone s (Has given) x) → Makes (λ (x y : Lock). (y ≡ x) × (IsOutdone s (Has given) x → ⊥)) given kept → AreInOrder kept → AreMaximal s (Has given) kept
 are_maximal s given kept told made order = record {
@@ -86,7 +89,7 @@ are_maximal s given kept told made order = record {
     λ h. (let m = (made l).0 h in (subst (Has given) (sym m.2.0) m.1, λ out. m.2.1 (subst (IsOutdone s (Has given)) m.2.0 out))),
     λ h. (made l).1 (l, h.0, (refl, h.1)),
   );
-  covering = λ l h. covered s given kept told 4 l (omega arith) h;
+  covering = λ l h. covered s (Has given) (Has kept) told l h;
   in_order = order;
 }
 

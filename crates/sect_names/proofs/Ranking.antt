@@ -1,7 +1,7 @@
 -- The derived order of locks is the canonical one.
 use Rattle.std.proofs.Common.{◌≡◌, ◌↔◌, ◌⊎◌, inl, inr, List, [], ◌∷◌, refl, sym, ap, ◌∙◌, subst, rules, arith, true≢false, Less, Equal, Greater}
 use Rattle.std.specs.declared.cmp.Ordering.{Ordering}
-use Rattle.std.specs.Ordering.{ordering_then, is_eq, is_lt, match_ordering}
+use Rattle.std.specs.Ordering.{ordering_then, is_eq, is_lt}
 use Rattle.std.specs.Cmp.Lexicographic.{slice_cmp}
 use Rattle.std.proofs.lemmas.Map.Keys.{sorted_tail}
 use Rattle.std.proofs.lemmas.Map.Views.{All-after_first}
@@ -27,6 +27,7 @@ use Rattle.sect_names.specs.contracts.lock.LockOrd.TheImpl.Laws.{matches_eq-law 
 use Rattle.sect_names.specs.Comparing.{path_cmp, path_ties}
 use Rattle.sect_names.specs.Order.{VariableBefore, FieldBefore, FieldsBefore, PathBefore, LockBefore, AreInOrder}
 use Rattle.sect_names.proofs.Telling.{variable_tells, field_tells, path_tells, lock_tells}
+use Rattle.sect_names.proofs.Inserting.{put_key}
 
 then_less : (a b : Ordering) → ordering_then a b ≡ Less → (a ≡ Less) ⊎ ((a ≡ Equal) × (b ≡ Less))
 then_less Less b e = inl refl
@@ -102,13 +103,4 @@ in_order (l ∷ locks) s = (λ m h. lock_before l m (all_has (λ y. the_lock_ord
 
 -- a lock that is put into a sorted list is there beside the others
 pub put_has : (locks : List Lock) (l m : Lock) → Has (insert_key the_lock_order.cmp locks l) m ↔ (Has locks m ⊎ (m ≡ l))
-put_has [] l m = (λ h. elim h [ inl e ↦ inr (sym e) | inr k ↦ absurd k ], λ h. elim h [ inl k ↦ absurd k | inr e ↦ inl (sym e) ])
-put_has (x ∷ xs) l m = go (the_lock_order.cmp l x) refl (put_has xs l m)
-  where
-    go : (o : Ordering) → the_lock_order.cmp l x ≡ o → (Has (insert_key the_lock_order.cmp xs l) m ↔ (Has xs m ⊎ (m ≡ l))) → Has (match_ordering o (l ∷ x ∷ xs) (x ∷ xs) (x ∷ insert_key the_lock_order.cmp xs l)) m ↔ (Has (x ∷ xs) m ⊎ (m ≡ l))
-    go Less e rest = (λ h. elim h [ inl a ↦ inr (sym a) | inr k ↦ inl k ], λ h. elim h [ inl k ↦ inr k | inr a ↦ inl (sym a) ])
-    go Equal e rest = (λ h. inl h, λ h. elim h [ inl k ↦ k | inr a ↦ inl (sym (lock_level l x e) ∙ sym a) ])
-    go Greater e rest = (
-      λ h. elim h [ inl a ↦ inl (inl a) | inr k ↦ elim (rest.0 k) [ inl b ↦ inl (inr b) | inr a ↦ inr a ] ],
-      λ h. elim h [ inl k ↦ elim k [ inl a ↦ inl a | inr b ↦ inr (rest.1 (inl b)) ] | inr a ↦ inr (rest.1 (inr a)) ],
-    )
+put_has = put_key the_lock_order.cmp lock_level

@@ -12,3 +12,4 @@ pub mod Walks
 pub mod Along
 pub mod Printing
 pub mod Sources
+pub mod Climbing

@@ -2,6 +2,7 @@
 #![tactic(auto)]
 
 mod carry;
+mod coverers;
 mod covers;
 mod fault;
 mod generate;
@@ -14,6 +15,7 @@ mod printing;
 mod refusal;
 mod scheme;
 mod source;
+mod touching;
 mod variables;
 
 pub use covers::covering_is_an_order;
@@ -32,7 +34,8 @@ pub use laws::{
 pub use link::Link;
 pub use lock::{Effect, Lock, Right, precedes};
 pub use path::Path;
-pub use printing::{field_name, put_lock, put_locks, variable_name};
+pub use printing::{field_name, put_lock, put_locks, put_path, variable_name};
 pub use refusal::Refusal;
 pub use scheme::{MOST_PATH_FIELDS, Scheme, check_k, scheme_of};
 pub use source::{accept, program_of};
+pub use touching::{stays, touches};

@@ -70,8 +70,8 @@ pub fn put_lock(text: &mut String, program: &Program, lock: &Lock) -> Result<(),
     Ok(())
 }
 
-/// Adds a path to a text.
-fn put_path(text: &mut String, program: &Program, path: &Path) -> Result<(), AllocError>
+/// Adds a path of a program to a text, as `head.next`.
+pub fn put_path(text: &mut String, program: &Program, path: &Path) -> Result<(), AllocError>
     requires { IsPathOf program.now path.now }
     ensures { OnOk result (string_bytes text.new ≡ string_bytes text.old ++ path_text program.now.source path.now) }
 {

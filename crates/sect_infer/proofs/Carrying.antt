@@ -1,94 +1,115 @@
--- Needs that the nodes generate, and that are carried back to them.
-use Rattle.std.proofs.Common.{◌≡◌, ◌↔◌, ◌⊎◌, ℕ, ◌+◌, ◌<◌, ◌≤◌, List, [], Option, Some, None, inl, inr, sym, ap, subst, take, length, get_or, arith}
+-- Locks that are found one after another.
+use Rattle.std.proofs.Common.{◌≡◌, ◌↔◌, ◌⊎◌, inl, inr, ℕ, ◌+◌, ◌<◌, ◌≤◌, List, [], ◌++◌, Some, length, get_or, take, refl, sym, ap, ◌∙◌, subst, append_assoc, arith}
 use Rattle.std.specs.Prelude.{slice_get}
-use Rattle.std.proofs.lemmas.Bool.{cases_lt}
-use Rattle.std.proofs.lemmas.List.{take_all}
+use Rattle.std.proofs.lemmas.List.{append-nil, take_all}
 use Rattle.std.proofs.lemmas.Option.{slice_get_within}
 use Rattle.sect_types.specs.Lists.{Has}
-use Rattle.sect_types.proofs.Membership.{Has-get_or}
-use Rattle.sect_types.proofs.Places.{one_at}
-use Rattle.sect_graph.specs.declared.flow.Node.{Node}
+use Rattle.sect_types.proofs.Membership.{Has-left, Has-get_or}
+use Rattle.sect_types.proofs.Places.{at_of, one_at}
+use Rattle.sect_types.specs.declared.action.Label.{Label}
 use Rattle.sect_names.specs.declared.lock.Lock.{Lock}
 use Rattle.sect_names.specs.Schemes.{SchemeView}
-use Rattle.sect_names.specs.Carrying.{Generated, CarriedBack}
-use Rattle.sect_infer.specs.declared.need.Need.{Need}
-use Rattle.sect_infer.specs.steps.Needs.{need, IsSeed, CarriesTo, Grows, AreBefore}
+use Rattle.sect_names.specs.Carrying.{CarriedBack}
 use Rattle.sect_names.proofs.Making.{last_of, so_far}
-use Rattle.sect_infer.proofs.Growing.{grows_none, grows_as, grows_then, same_need}
+use Rattle.sect_infer.specs.Numbers.{with_number}
+use Rattle.sect_infer.specs.Tables.{TableView, HasLock, AreNumbers, IsNumbered, IsFinding, Finds}
+use Rattle.sect_infer.proofs.Apart.{with_has, with_apart, with_behind}
+use Rattle.sect_infer.proofs.Tabling.{extends_none, extends_then, extends_at, extends_lock, extends_back, extends_numbers}
 
-module _ (s : SchemeView) (t : ℕ) (g : List Node) where
-  -- the seeds at the nodes below j
-  abbrev pub SeedsBelow : ℕ → Need → Type 0
-  SeedsBelow j x = (x.node < j) × IsSeed s t g x
+module _ (s : SchemeView) where
+  -- nothing is found
+  pub finds_none : (a : TableView) (ns : List ℕ) (P : Lock → Type 0) → IsFinding s a ns → ((l : Lock) → P l → ⊥) → Finds s a ns a ns P
+  finds_none a ns P f nothing = record {
+    finding = f;
+    longer = extends_none a;
+    behind = ([], sym (append-nil ns));
+    each = λ l p. absurd (nothing l p);
+    only = λ l h. inl h;
+  }
 
-  module _ (j : ℕ) (y : Node) (at : slice_get g j ≡ Some y) (o : Option Lock) (tells : (l : Lock) → (o ≡ Some l) ↔ Generated s t y.label l) where
-    -- what node j generates
-    at_node : (x : Need) → x.node ≡ j → IsSeed s t g x → o ≡ Some x.lock
-    at_node x e (z, f, h) =
-        let here = subst (λ k. slice_get g k ≡ Some z) e f in
-        (tells x.lock).1 (subst (λ w. Generated s t w.label x.lock) (one_at g j z y here at) h)
+  -- the same, said of another property that holds of the same locks
+  pub finds_as : (a b : TableView) (ns ms : List ℕ) (P Q : Lock → Type 0) → ((l : Lock) → Q l ↔ P l) → Finds s a ns b ms P → Finds s a ns b ms Q
+  finds_as a b ns ms P Q same f = record {
+    finding = f.finding;
+    longer = f.longer;
+    behind = f.behind;
+    each = λ l q. f.each l ((same l).0 q);
+    only = λ l h. elim (f.only l h) [ inl k ↦ inl k | inr p ↦ inr ((same l).1 p) ];
+  }
 
-    below : (x : Need) → x.node < j + 1 → (x.node < j) ⊎ (x.node ≡ j)
-    below x h = elim (cases_lt x.node j) [ inl a ↦ inl a | inr b ↦ inr (omega (arith, h, b)) ]
+  -- first some and then others
+  pub finds_then : (a b c : TableView) (ns ms os : List ℕ) (P Q : Lock → Type 0) → Finds s a ns b ms P → Finds s b ms c os Q → Finds s a ns c os (λ l. P l ⊎ Q l)
+  finds_then a b c ns ms os P Q f g = record {
+    finding = g.finding;
+    longer = extends_then a b c f.longer g.longer;
+    behind = (f.behind.0 ++ g.behind.0, g.behind.1 ∙ ap (λ l. l ++ g.behind.0) f.behind.1 ∙ append_assoc ns f.behind.0 g.behind.0);
+    each = λ l h. elim h [ inl p ↦ kept l (f.each l p) | inr q ↦ g.each l q ];
+    only = λ l h. elim (g.only l h) [
+      | inl k ↦ elim (f.only l k) [ inl o ↦ inl o | inr p ↦ inr (inl p) ]
+      | inr q ↦ inr (inr q)
+    ];
+  }
+    where
+      kept : (l : Lock) → HasLock b.keys ms l → HasLock c.keys os l
+      kept l h =
+          let k = extends_lock b c g.longer ms l h in
+          (k.0, subst (λ xs. Has xs k.0) (sym g.behind.1) (Has-left ms g.behind.0 k.0 k.1), k.2)
 
-    pub seeds_skip : (kept : List Need) → o ≡ None → Grows [] kept (SeedsBelow j) → Grows [] kept (SeedsBelow (j + 1))
-    seeds_skip kept none before = grows_as [] kept (SeedsBelow j) (SeedsBelow (j + 1))
-        (λ x h. elim (below x h.0) [ inl a ↦ (a, h.1) | inr e ↦ (let f = at_node x e h.1 in absurd cc) ])
-        (λ x h. (omega (arith, h.0), h.1)) before
+  -- one lock
+  pub finds_one : (a b : TableView) (ns : List ℕ) (l : Lock) (n : ℕ) → IsFinding s a ns → IsNumbered s a b l n → Finds s a ns b (with_number ns n) (λ x. x ≡ l)
+  finds_one a b ns l n f k = record {
+    finding = record {
+      table = k.table;
+      numbers = λ m h. elim ((with_has ns n m).0 h) [
+        | inl old ↦ extends_numbers a b k.longer ns f.numbers m old
+        | inr e ↦ (let w = slice_get_within b.keys n l k.there in omega (arith, w, e))
+      ];
+      apart = with_apart ns n f.apart;
+    };
+    longer = k.longer;
+    behind = with_behind ns n;
+    each = λ x e. (n, (with_has ns n n).1 (inr refl), k.there ∙ ap (λ y. Some y) (sym e));
+    only = λ x h. elim ((with_has ns n h.0).0 h.1) [
+      | inl old ↦ inl (let r = extends_back a b k.longer ns f.numbers x (h.0, old, h.2) in r)
+      | inr e ↦ inr (one_at b.keys n x l (subst (λ m. slice_get b.keys m ≡ Some x) e h.2) k.there)
+    ];
+  }
 
-    pub seeds_next : (mid new : List Need) (l : Lock) → o ≡ Some l → Grows [] mid (SeedsBelow j) → Grows mid new (λ x. x ≡ need j l) → Grows [] new (SeedsBelow (j + 1))
-    seeds_next mid new l is f n = grows_as [] new (λ x. SeedsBelow j x ⊎ (x ≡ need j l)) (SeedsBelow (j + 1))
-        (λ x h. elim (below x h.0) [ inl a ↦ inl (a, h.1) | inr e ↦ (let same : x.lock ≡ l = (let q = at_node x e h.1 in cc) in inr (same_need x j l e same)) ])
-        (λ x h. elim h [
-          | inl a ↦ (omega (arith, a.0), a.1)
-          | inr e ↦ (let node : x.node ≡ j = ap (λ n. n.node) e in
-              (omega (arith, node), (y, subst (λ k. slice_get g k ≡ Some y) (sym node) at, subst (Generated s t y.label) (sym (ap (λ n. n.lock) e)) ((tells l).0 is))))
-        ])
-        (grows_then [] mid new (SeedsBelow j) (λ x. x ≡ need j l) f n)
+  -- the next of these locks
+  pub finds_next : (a b c : TableView) (ns ms os : List ℕ) (locks : List Lock) (i : ℕ) (l : Lock) → i < length locks → l ≡ get_or locks i l
+      → Finds s a ns b ms (Has (take i locks)) → Finds s b ms c os (λ x. x ≡ l) → Finds s a ns c os (Has (take (i + 1) locks))
+  finds_next a b c ns ms os locks i l within is f g =
+      finds_as a c ns os (λ x. Has (take i locks) x ⊎ (x ≡ l)) (Has (take (i + 1) locks))
+      (λ x. (λ h. last_of locks i l x within is h, λ h. so_far locks i l x within is h))
+      (finds_then a b c ns ms os (Has (take i locks)) (λ x. x ≡ l) f g)
 
-  pub seeds_none : (kept : List Need) → kept ≡ [] → Grows [] kept (SeedsBelow 0)
-  seeds_none kept e = subst (λ l. Grows [] l (SeedsBelow 0)) (sym e) (grows_none [] (SeedsBelow 0) (λ x h. absurd (omega (arith, h.0))))
+  -- all of these locks
+  pub finds_done : (a b : TableView) (ns ms : List ℕ) (locks : List Lock) (i : ℕ) → length locks ≤ i → Finds s a ns b ms (Has (take i locks)) → Finds s a ns b ms (Has locks)
+  finds_done a b ns ms locks i past f = subst (λ ls. Finds s a ns b ms (Has ls)) (take_all i locks past) f
 
-  pub seeds_done : (kept : List Need) (j : ℕ) → length g ≤ j → Grows [] kept (SeedsBelow j) → (x : Need) → Has kept x ↔ IsSeed s t g x
-  seeds_done kept j past f x = (
-    λ h. elim (f.only x h) [ inl k ↦ absurd k | inr a ↦ a.1 ],
-    λ h. f.each x (let w = slice_get_within g x.node h.0 h.1 in omega (arith, w, past), h),
-  )
+  module _ (t : ℕ) (label : Label) where
+    -- what is carried back of locks with these numbers
+    abbrev pub CarriedOf : List Lock → List ℕ → Lock → Type 0
+    CarriedOf keys numbers r = (l : Lock) × HasLock keys numbers l × CarriedBack s t label l r
 
-  module _ (n : Need) (nodes : List ℕ) (before : AreBefore g n.node nodes) where
-    -- what is carried back to the first of these nodes
-    abbrev pub CarriesToFirst : ℕ → Need → Type 0
-    CarriesToFirst i x = Has (take i nodes) x.node × CarriesTo s t g n x
+    -- the next number, and all of them
+    pub carried_next : (a b c : TableView) (ns ms os numbers : List ℕ) (i n : ℕ) → i < length numbers → n ≡ get_or numbers i n → AreNumbers a.keys numbers
+        → Finds s a ns b ms (CarriedOf a.keys (take i numbers)) → ((l : Lock) → slice_get b.keys n ≡ Some l → Finds s b ms c os (CarriedBack s t label l))
+        → Finds s a ns c os (CarriedOf a.keys (take (i + 1) numbers))
+    carried_next a b c ns ms os numbers i n within is there f g =
+        let l = at_of a.keys n (there n (subst (Has numbers) (sym is) (Has-get_or numbers i n within))) in
+        finds_as a c ns os (λ r. CarriedOf a.keys (take i numbers) r ⊎ CarriedBack s t label l.0 r) (CarriedOf a.keys (take (i + 1) numbers))
+        (λ r. (
+          λ h. elim (last_of numbers i n h.1.0 within is h.1.1) [
+            | inl old ↦ inl (h.0, (h.1.0, old, h.1.2), h.2)
+            | inr e ↦ inr (subst (λ k. CarriedBack s t label k r) (one_at a.keys n h.0 l.0 (subst (λ m. slice_get a.keys m ≡ Some h.0) e h.1.2) l.1) h.2)
+          ],
+          λ h. elim h [
+            | inl k ↦ (k.0, (k.1.0, so_far numbers i n k.1.0 within is (inl k.1.1), k.1.2), k.2)
+            | inr k ↦ (l.0, (n, so_far numbers i n n within is (inr refl), l.1), k)
+          ],
+        ))
+        (finds_then a b c ns ms os (CarriedOf a.keys (take i numbers)) (CarriedBack s t label l.0) f (g l.0 (extends_at a b f.longer n l.0 l.1)))
 
-    pub carry_none : (kept : List Need) → Grows kept kept (CarriesToFirst 0)
-    carry_none kept = grows_none kept (CarriesToFirst 0) (λ x h. absurd h.0)
-
-    pub node_within : (i : ℕ) → i < length nodes → get_or nodes i 0 < length g
-    node_within i within =
-        let found = (before (get_or nodes i 0)).0 (Has-get_or nodes i 0 within) in
-        slice_get_within g (get_or nodes i 0) found.0 found.1
-
-    pub carry_next : (i j : ℕ) (old mid new : List Need) → i < length nodes → j ≡ get_or nodes i j → Grows old mid (CarriesToFirst i)
-        → ((y : Node) → slice_get g j ≡ Some y → Grows mid new (λ x. (x.node ≡ j) × CarriedBack s t y.label n.lock x.lock))
-        → Grows old new (CarriesToFirst (i + 1))
-    carry_next i j old mid new within is f k =
-        let found = (before j).0 (subst (Has nodes) (sym is) (Has-get_or nodes i j within)) in
-        let y = found.0 in
-        let at = found.1 in
-        let leads = found.2 in
-        grows_as old new (λ x. CarriesToFirst i x ⊎ ((x.node ≡ j) × CarriedBack s t y.label n.lock x.lock)) (CarriesToFirst (i + 1))
-        (λ x h. elim (last_of nodes i j x.node within is h.0) [
-          | inl a ↦ inl (a, h.1)
-          | inr e ↦ (let same = one_at g j h.1.0 y (subst (λ k. slice_get g k ≡ Some h.1.0) e h.1.1) at in
-              inr (e, subst (λ z. CarriedBack s t z.label n.lock x.lock) same h.1.3))
-        ])
-        (λ x h. elim h [
-          | inl a ↦ (so_far nodes i j x.node within is (inl a.0), a.1)
-          | inr b ↦ (so_far nodes i j x.node within is (inr b.0), (y, subst (λ k. slice_get g k ≡ Some y) (sym b.0) at, leads, b.1))
-        ])
-        (grows_then old mid new (CarriesToFirst i) (λ x. (x.node ≡ j) × CarriedBack s t y.label n.lock x.lock) f (k y at))
-
-    pub carry_done : (i : ℕ) (old new : List Need) → length nodes ≤ i → Grows old new (CarriesToFirst i) → Grows old new (CarriesTo s t g n)
-    carry_done i old new past f = grows_as old new (CarriesToFirst i) (CarriesTo s t g n)
-        (λ x h. (subst (λ l. Has l x.node) (sym (take_all i nodes past)) ((before x.node).1 (h.0, h.1, h.2)), h))
-        (λ x h. h.1) f
+    pub carried_done : (a b : TableView) (ns ms numbers : List ℕ) (i : ℕ) → length numbers ≤ i → Finds s a ns b ms (CarriedOf a.keys (take i numbers)) → Finds s a ns b ms (CarriedOf a.keys numbers)
+    carried_done a b ns ms numbers i past f = subst (λ xs. Finds s a ns b ms (CarriedOf a.keys xs)) (take_all i numbers past) f

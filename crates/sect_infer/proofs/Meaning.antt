@@ -11,8 +11,7 @@ use Rattle.sect_names.specs.declared.lock.Lock.{Lock}
 use Rattle.sect_names.specs.Schemes.{SchemeView}
 use Rattle.sect_names.specs.Carrying.{Generated, CarriedBack}
 use Rattle.sect_names.specs.Needed.{CarriedOver, GeneratedFirst, IsNeededOn, IsNeededFrom}
-use Rattle.sect_infer.specs.declared.need.Need.{Need}
-use Rattle.sect_infer.specs.steps.Needs.{need, Derived, IsDerived}
+use Rattle.sect_infer.specs.steps.Needs.{Need, need, Derived, IsDerived}
 
 module _ (s : SchemeView) (t : ℕ) (g : List Node) where
   -- needed along some path from the node to the exit
@@ -20,7 +19,7 @@ module _ (s : SchemeView) (t : ℕ) (g : List Node) where
   IsNeededAlong j l = (steps : List Visit) × IsPath g j steps (length g) × IsNeededOn s t [] steps l
 
   -- a path from a node begins with what the node does
-  path_begins : (j : ℕ) (y : Node) (steps : List Visit) → slice_get g j ≡ Some y → IsPath g j steps (length g) → (post : List Visit) × (steps ≡ visit j y.label ∷ post)
+  pub path_begins : (j : ℕ) (y : Node) (steps : List Visit) → slice_get g j ≡ Some y → IsPath g j steps (length g) → (post : List Visit) × (steps ≡ visit j y.label ∷ post)
   path_begins j y [] at p = absurd (let w = slice_get_within g j y at in omega (arith, w, p))
   path_begins j y (a ∷ steps) at p = let same : p.0 ≡ y = (let e = p.1 in cc) in (steps, ap (λ b. b ∷ steps) (p.2 ∙ ap (λ z. visit j z.label) same))
 

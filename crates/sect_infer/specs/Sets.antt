@@ -1,12 +1,13 @@
--- The locks of a section. `infer` says so of what it gives.
+-- The locks of a section, and of all sections. `infer` and `infer_all` say so of what they give.
 use Rattle.std.specs.Prelude.{◌≡◌, ℕ, ◌+◌, List, Some, slice_get, length}
 use Rattle.sect_types.specs.Lists.{Has}
 use Rattle.sect_types.specs.Statements.{TextView}
-use Rattle.sect_types.specs.Sections.{SectionView}
+use Rattle.sect_types.specs.Sections.{SectionView, sections_of}
 use Rattle.sect_graph.specs.declared.flow.Node.{Node}
 use Rattle.sect_names.specs.declared.lock.Lock.{Lock}
 use Rattle.sect_names.specs.Schemes.{SchemeView}
-use Rattle.sect_names.specs.Needed.{IsNeeded, IsNeededFrom, IsLeast}
+use Rattle.sect_names.specs.Locks.{IsLockOf}
+use Rattle.sect_names.specs.Needed.{IsNeeded, IsNeededFrom, IsLeast, end_of}
 use Rattle.sect_names.specs.Order.{AreInOrder, AreMaximal}
 
 -- the locks at each node of a section's graph, the exit too, and those that are taken at its entry
@@ -31,3 +32,19 @@ pub record AreLocksOf (s : SchemeView) (last : List Lock) (section : SectionView
   pub entry_needed : (l : Lock) → Has locks.entry l → IsNeeded s section.thread last section.body l
   pub least : IsLeast s section.thread last section.body locks.entry
   pub in_order : AreInOrder locks.entry
+
+-- each lock at a node is one that sections of the thread may take
+abbrev pub AreOfProgram : SchemeView → ℕ → LocksView → Type 0
+AreOfProgram s t locks =
+    (j : ℕ) (list : List Lock) → slice_get locks.at j ≡ Some list → (l : Lock) → Has list l → IsLockOf s t l
+
+-- these are the locks of section i, and locks of the program
+abbrev pub AreInferredAt : SchemeView → ℕ → LocksView → Type 0
+AreInferredAt s i locks =
+    (of : SectionView) (g : List Node) → slice_get (sections_of s.program.texts) i ≡ Some of
+    → slice_get s.graphs.sections i ≡ Some g → AreLocksOf s (end_of s i) of g locks × AreOfProgram s of.thread locks
+
+-- those of all sections
+pub record AreAllInferred (s : SchemeView) (all : List LocksView) : Type 0 where
+  pub count : length all ≡ length (sections_of s.program.texts)
+  pub each : (i : ℕ) (locks : LocksView) → slice_get all i ≡ Some locks → AreInferredAt s i locks

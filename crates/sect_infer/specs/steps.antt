@@ -1,3 +1,6 @@
 -- What the contracts of private functions speak of.
 pub mod Needs
+pub mod Working
+pub mod Listing
 pub mod Found
+pub mod Sharing

@@ -1,12 +1,18 @@
 //! Lock inference: which locks a section takes at its entry, by a worklist over its control-flow graph.
 #![tactic(auto)]
 
+mod carry;
 mod lists;
-mod need;
-mod predecessors;
+mod locks;
+mod numbers;
 mod section;
-mod sets;
+mod table;
 mod work;
+mod workers;
 
-pub use lists::Locks;
+pub use carry::carry_one;
+pub use locks::Locks;
+pub use numbers::Numbers;
 pub use section::infer;
+pub use table::Table;
+pub use workers::{InferFault, MOST_WORKERS, Seen, check_workers, infer_all};

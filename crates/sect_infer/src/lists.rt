@@ -1,106 +1,60 @@
-//! The locks of a section, node by node.
+//! The numbers of the locks at each node.
 
-ghost use Rattle.std.specs.Prelude.{◌≡◌, ◌<◌, ◌∷◌, [], map, length, slice_get, Some, IfOk};
-ghost use Rattle.sect_names.specs.declared.lock.Lock.TheVariants as lock;
-ghost use Rattle.sect_infer.specs.steps.Found.{AreAllMaximal, AreAllOnAll};
+ghost use Rattle.std.specs.Prelude.{◌≡◌, ◌<◌, ◌++◌, ◌∷◌, [], ℕ, length, slice_index_or, slice_set, IfOk, OnOk};
 
-use crate::sets::NodeLocks;
-use sect_names::{Lock, Scheme};
 use std::alloc::{AllocError, Global};
 use std::marker::Model;
 
-/// The locks of a section: for each node of its graph, the exit too, the maximal ones of those that are needed from
-/// there on, in canonical order. Those of the first node are taken at the section's entry.
+/// For each node of a graph, the exit too, the numbers of the locks that were found there.
 #[derive(Drop)]
-pub struct Locks {
-    lists: Vec<Vec<Lock>>,
+pub struct Lists {
+    lists: Vec<Vec<usize>>,
 }
 
-impl Model for Locks {
-    ghost use Rattle.std.specs.Prelude.{[], map, slice_index_or, length, ◌<◌};
-    ghost use Rattle.std.specs.Coded.{codes};
-    ghost use Rattle.sect_points.specs.Paths.{path_code};
-    ghost use Rattle.sect_infer.specs.Sets.{LocksView};
+impl Model for Lists {
+    ghost use Rattle.std.specs.Prelude.{List, ℕ, map};
 
-    ghost Value = { LocksView };
+    ghost Value = { List (List ℕ) };
 
-    ghost coded = { Prim.hlevel (codes, path_code) };
-
-    ghost view = { λ l. record {
-      at = map (λ v. v.items) l.lists.items;
-      entry = slice_index_or (map (λ v. v.items) l.lists.items) 0 [];
-    } };
-
-    ghost invariant = { λ l. 0 < length l.lists.items };
+    ghost view = { λ l. map (λ v. v.items) l.lists.items };
 }
 
-impl Locks {
-    ghost use Rattle.std.specs.Prelude.{slice_index_or};
-
-    /// These lists, of which there is one at least.
-    pub(crate) fn of(lists: Vec<Vec<Lock>>) -> Locks
-        requires { 0 < length lists.items }
-        ensures at { result.at ≡ map (λ v. v.items) lists.items }
-        ensures entry { result.entry ≡ slice_index_or (map (λ v. v.items) lists.items) 0 [] }
+impl Lists {
+    /// None, for so many nodes.
+    pub fn new(alloc: Global, count: usize) -> Result<Lists, AllocError>
+        ensures count { IfOk result (λ l. length l ≡ count) }
+        ensures none { IfOk result (λ l. (j : ℕ) → slice_index_or l j [] ≡ []) }
     {
-        Locks { lists }
+        let mut lists = Vec::new(alloc);
+        for _ in 0..count {
+            lists.push(Vec::new(alloc))?;
+        }
+        Ok(Lists { lists })
     }
 
-    /// How many nodes there are, the exit counted.
-    pub fn node_count(&self) -> usize
-        ensures { result ≡ length self.now.at }
+    /// How many nodes there are.
+    pub fn len(&self) -> usize
+        ensures { result ≡ length self.now }
     {
         self.lists.len()
     }
 
-    /// The locks of a node: the maximal ones of those that are needed from it on, in canonical order.
-    pub fn at(&self, node: u16) -> &[Lock]
-        requires { node < length self.now.at }
-        ensures { slice_get self.now.at node ≡ Some result.now }
+    /// The numbers at a node, none where the node isn't there.
+    pub fn of(&self, node: u16) -> &[usize]
+        ensures { result.now ≡ slice_index_or self.now node [] }
     {
-        self.lists[node as usize].as_slice()
+        match self.lists.get(node as usize) {
+            Some(list) => list.as_slice(),
+            None => &[],
+        }
     }
 
-    /// The locks that the section takes at its entry: the least set that protects, in canonical order.
-    pub fn entry(&self) -> &[Lock]
-        ensures { result.now ≡ self.now.entry }
+    /// Puts a number behind those at a node.
+    pub fn push(&mut self, node: u16, number: usize) -> Result<(), AllocError>
+        requires { node < length self.old }
+        ensures { OnOk result (self.new ≡ slice_set self.old node (slice_index_or self.old node [] ++ number ∷ [])) }
     {
-        self.lists[0].as_slice()
+        self.lists[node as usize].push(number)?;
+        Ok(())
     }
-}
-
-/// The maximal locks of each node.
-pub fn maximal_lists(
-    alloc: Global,
-    scheme: &Scheme,
-    nodes: &NodeLocks,
-) -> Result<Vec<Vec<Lock>>, AllocError>
-    ensures { IfOk result (λ lists. AreAllMaximal scheme.now nodes.now (map (λ v. v.items) lists.items)) }
-{
-    let mut lists = Vec::new(alloc);
-    for node in 0..nodes.len() {
-        let kept = scheme.maximal(alloc, nodes.at(node))?;
-        lists.push(kept)?;
-    }
-    Ok(lists)
-}
-
-/// The lock on all alone.
-fn on_all(alloc: Global) -> Result<Vec<Lock>, AllocError>
-    ensures { IfOk result (λ locks. locks.items ≡ lock.All ∷ []) }
-{
-    let mut locks = Vec::new(alloc);
-    locks.push(Lock::All)?;
-    Ok(locks)
-}
-
-/// So many lists, each with the lock on all alone.
-pub fn lists_on_all(alloc: Global, count: usize) -> Result<Vec<Vec<Lock>>, AllocError>
-    ensures { IfOk result (λ lists. AreAllOnAll count (map (λ v. v.items) lists.items)) }
-{
-    let mut lists = Vec::new(alloc);
-    for _ in 0..count {
-        lists.push(on_all(alloc)?)?;
-    }
-    Ok(lists)
 }

@@ -11,12 +11,15 @@ ghost use Rattle.sect_infer.specs.steps.Needs.{AreLawful};
 ghost use Rattle.sect_infer.specs.steps.Found.{IsFound, IsOnAll};
 ghost use Rattle.sect_infer.specs.Sets.{AreLocksOf};
 
-use crate::lists::{Locks, lists_on_all, maximal_lists};
-use crate::sets::by_node;
-use crate::work::needs;
+use crate::lists::Lists;
+use crate::locks::Locks;
+use crate::table::Table;
+use crate::work::settle;
 use sect_front::Locking;
 use sect_graph::Flow;
-use sect_names::{Scheme, locks_stay_the_programs, steps_of_sections};
+use sect_names::{
+    Lock, Scheme, carrying_back_respects_covering, locks_stay_the_programs, steps_of_sections,
+};
 use std::alloc::{AllocError, Global};
 
 /// The locks of a section: at each node of its graph, the exit too, the maximal ones of those that are needed from
@@ -40,7 +43,7 @@ pub fn infer(alloc: Global, scheme: &Scheme, section: u16) -> Result<Locks, Allo
     let flow = scheme.graph().section(section);
     match scheme.program().locking(section) {
         Locking::Inferred => found(alloc, scheme, thread, flow),
-        Locking::All => on_all_of(alloc, flow),
+        Locking::All => on_all_of(alloc, scheme, flow),
     }
 }
 
@@ -52,6 +55,7 @@ fn only_the_programs(scheme: &Scheme, section: u16)
     scheme.rules();
     scheme.program().typing();
     locks_stay_the_programs();
+    carrying_back_respects_covering();
     steps_of_sections();
 }
 
@@ -61,16 +65,21 @@ fn found(alloc: Global, scheme: &Scheme, thread: u16, flow: &Flow) -> Result<Loc
     requires { AreLawful scheme.now thread flow.now }
     ensures { IfOk result (IsFound scheme.now thread flow.now) }
 {
-    let kept = needs(alloc, scheme, thread, flow)?;
-    let nodes = by_node(alloc, flow.exit() + 1, &kept)?;
-    let lists = maximal_lists(alloc, scheme, &nodes)?;
-    Ok(Locks::of(lists))
+    let mut table = Table::new(alloc);
+    let mut lists = Lists::new(alloc, flow.exit() as usize + 1)?;
+    settle(alloc, scheme, thread, flow, &mut table, &mut lists)?;
+    Locks::of(alloc, table, lists)
 }
 
 /// The lock on all at each node of a graph, and at its exit.
-fn on_all_of(alloc: Global, flow: &Flow) -> Result<Locks, AllocError>
-    ensures { IfOk result (IsOnAll (length flow.now + 1)) }
+fn on_all_of(alloc: Global, scheme: &Scheme, flow: &Flow) -> Result<Locks, AllocError>
+    ensures { IfOk result (IsOnAll scheme.now (length flow.now + 1)) }
 {
-    let lists = lists_on_all(alloc, flow.exit() as usize + 1)?;
-    Ok(Locks::of(lists))
+    let mut table = Table::new(alloc);
+    let number = table.number(alloc, scheme, &Lock::All)?;
+    let mut lists = Lists::new(alloc, flow.exit() as usize + 1)?;
+    for node in 0..flow.exit() + 1 {
+        lists.push(node, number)?;
+    }
+    Locks::of(alloc, table, lists)
 }

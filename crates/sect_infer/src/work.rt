@@ -1,116 +1,170 @@
 //! The worklist: what is needed at a node because of what is needed where control may go on (Kildall).
 
-ghost use Rattle.std.specs.Prelude.{◌≡◌, ◌↔◌, ◌≤◌, ◌<◌, ℕ, length, slice_get, Some, map, IfOk, OnOk};
+ghost use Rattle.std.specs.Prelude.{◌≡◌, ◌↔◌, ◌<◌, ◌⊎◌, ◌++◌, ℕ, true, false, [], length, slice_index_or};
+ghost use Rattle.std.specs.Prelude.{slice_set, IfOk, OnOk};
+ghost use Rattle.std.specs.List.Sorted.{IsStrictlySortedBy};
+ghost use Rattle.std.specs.Ordering.{nat_cmp};
 ghost use Rattle.sect_types.specs.Lists.{Has};
-ghost use Rattle.sect_graph.specs.declared.flow.Node.{Node};
-ghost use Rattle.sect_graph.specs.Paths.{LeadsTo};
-ghost use Rattle.sect_names.specs.Carrying.{CarriedBack};
-ghost use Rattle.sect_infer.specs.declared.need.Need.{Need};
-ghost use Rattle.sect_infer.specs.steps.Needs.{IsSeed, CarriesTo, IsDerived, Grows, AreBefore, AreAllBefore, AreLawful};
+ghost use Rattle.sect_infer.specs.steps.Needs.{need, IsSeed, AreLawful};
+ghost use Rattle.sect_infer.specs.Tables.{IsFinding, Finds, fresh_from};
+ghost use Rattle.sect_infer.specs.steps.Working.{AreNumbered, AreLawfulAt, IsCarried, IsVisit, IsBegun, IsSettled};
 
-use crate::need::{Need, keep, keep_all};
-use crate::predecessors::{Predecessors, predecessors_of};
-use indexmap::IndexSet;
-use sect_graph::Flow;
-use sect_names::{Lock, Scheme};
+use crate::carry::{carry, find};
+use crate::lists::Lists;
+use crate::numbers::Numbers;
+use crate::table::Table;
+use sect_graph::{Flow, Successors, predecessors_of};
+use sect_names::Scheme;
 use std::alloc::{AllocError, Global};
+use std::collections::BTreeSet;
 
-/// What the nodes generate.
-fn seeds(
+/// Finds what is needed at a node for what is known where control may go on from it.
+fn find_after(
     alloc: Global,
     scheme: &Scheme,
     thread: u16,
     flow: &Flow,
-) -> Result<IndexSet<Need>, AllocError>
-    ensures { IfOk result (λ kept. (x : Need) → Has kept.keys x ↔ IsSeed scheme.now thread flow.now x) }
+    table: &mut Table,
+    found: &mut Numbers,
+    lists: &Lists,
+    node: u16,
+) -> Result<(), AllocError>
+    requires node { node < length flow.now }
+    requires finding { IsFinding scheme.now table.old found.old }
+    requires numbered { AreNumbered scheme.now flow.now table.old lists.now }
+    requires lawful { AreLawfulAt scheme.now thread table.old.keys lists.now }
+    ensures { OnOk result (Finds scheme.now table.old found.old table.new found.new
+        (IsCarried scheme.now thread flow.now table.old.keys lists.now node)) }
 {
-    let mut kept = IndexSet::new(alloc);
-    for node in 0..flow.exit() {
-        if let Some(lock) = scheme.generate(alloc, thread, flow.action(node)) {
-            keep(&mut kept, node, lock)?;
+    let label = flow.action(node);
+    match flow.succ(node) {
+        Successors::Next(next) => {
+            carry(alloc, scheme, thread, &label, table, found, lists.of(next))
+        }
+        Successors::Branch(holds, fails) => {
+            carry(alloc, scheme, thread, &label, table, found, lists.of(holds))?;
+            carry(alloc, scheme, thread, &label, table, found, lists.of(fails))
         }
     }
-    Ok(kept)
 }
 
-/// Keeps what is needed for one need at the nodes from which control may go on to its own.
-fn carry(
+/// Finds what a node generates.
+fn find_own(
     alloc: Global,
     scheme: &Scheme,
     thread: u16,
     flow: &Flow,
-    predecessors: &[u16],
-    need: &Need,
-    kept: &mut IndexSet<Need>,
+    table: &mut Table,
+    found: &mut Numbers,
+    node: u16,
 ) -> Result<(), AllocError>
-    requires { AreBefore flow.now need.now.node predecessors.now }
-    ensures { OnOk result (Grows kept.old.keys kept.new.keys (CarriesTo scheme.now thread flow.now need.now)) }
+    requires node { node < length flow.now }
+    requires finding { IsFinding scheme.now table.old found.old }
+    ensures { OnOk result (Finds scheme.now table.old found.old table.new found.new
+        (λ l. IsSeed scheme.now thread flow.now (need node l))) }
 {
-    for node in predecessors {
-        carry_to(alloc, scheme, thread, flow, *node, &need.lock, kept)?;
+    match scheme.generate(alloc, thread, flow.action(node)) {
+        None => Ok(()),
+        Some(lock) => find(alloc, scheme, table, found, &lock),
+    }
+}
+
+/// Puts those of the numbers behind a node's that no other that was found is above. Whether there are any.
+fn append(
+    table: &Table,
+    found: &Numbers,
+    numbers: &[usize],
+    lists: &mut Lists,
+    node: u16,
+) -> Result<bool, AllocError>
+    requires node { node < length lists.old }
+    requires numbers { (n : ℕ) → Has numbers.now n → n < length table.now.above }
+    ensures lists { OnOk result (lists.new ≡ slice_set lists.old node
+        (slice_index_or lists.old node [] ++ fresh_from table.now.above found.now numbers.now)) }
+    ensures none { IfOk result (λ any. any ≡ false → fresh_from table.now.above found.now numbers.now ≡ []) }
+    ensures some { IfOk result (λ any. any ≡ true → 0 < length (fresh_from table.now.above found.now numbers.now)) }
+{
+    let mut any = false;
+    for number in numbers {
+        if !table.is_under(found, *number) {
+            lists.push(node, *number)?;
+            any = true;
+        }
+    }
+    Ok(any)
+}
+
+/// Goes over a node: finds what it needs for what is known now. Whether there is more than was known.
+fn visit(
+    alloc: Global,
+    scheme: &Scheme,
+    thread: u16,
+    flow: &Flow,
+    table: &mut Table,
+    found: &mut Numbers,
+    lists: &mut Lists,
+    node: u16,
+) -> Result<bool, AllocError>
+    requires node { node < length flow.now }
+    requires numbered { AreNumbered scheme.now flow.now table.old lists.old }
+    requires lawful { AreLawfulAt scheme.now thread table.old.keys lists.old }
+    ensures { IfOk result (IsVisit scheme.now thread flow.now table.old lists.old table.new lists.new node) }
+{
+    found.clear();
+    found.insert_all(lists.of(node))?;
+    let known = found.members().len();
+    find_after(alloc, scheme, thread, flow, table, found, lists, node)?;
+    find_own(alloc, scheme, thread, flow, table, found, node)?;
+    let more = append(table, found, &found.members()[known..], lists, node)?;
+    Ok(more)
+}
+
+/// The nodes before the exit.
+fn all_nodes(alloc: Global, exit: u16) -> Result<BTreeSet<u16>, AllocError>
+    ensures nodes { IfOk result (λ nodes. (i : ℕ) → Has nodes.keys i ↔ (i < exit)) }
+    ensures ordered { IfOk result (λ nodes. IsStrictlySortedBy nat_cmp nodes.keys) }
+{
+    let mut nodes = BTreeSet::new(alloc);
+    for node in 0..exit {
+        nodes.insert(node)?;
+    }
+    Ok(nodes)
+}
+
+/// These nodes wait too.
+fn wait(waiting: &mut BTreeSet<u16>, nodes: &[u16]) -> Result<(), AllocError>
+    requires { IsStrictlySortedBy nat_cmp waiting.old.keys }
+    ensures nodes { OnOk result ((i : ℕ) → Has waiting.new.keys i ↔ (Has waiting.old.keys i ⊎ Has nodes.now i)) }
+    ensures ordered { OnOk result (IsStrictlySortedBy nat_cmp waiting.new.keys) }
+{
+    for node in nodes {
+        waiting.insert(*node)?;
     }
     Ok(())
 }
 
-/// Keeps what is needed at a node where this lock is needed after it.
-fn carry_to(
+/// Finds the locks that are needed from each node of a section's graph on: those that a node generates, and those that
+/// are carried back to it from where control may go on, but for locks that another covers which was found before.
+pub fn settle(
     alloc: Global,
     scheme: &Scheme,
     thread: u16,
     flow: &Flow,
-    node: u16,
-    lock: &Lock,
-    kept: &mut IndexSet<Need>,
+    table: &mut Table,
+    lists: &mut Lists,
 ) -> Result<(), AllocError>
-    requires { node < length flow.now }
-    ensures { OnOk result ((y : Node) → slice_get flow.now node ≡ Some y
-        → Grows kept.old.keys kept.new.keys
-        (λ x. (x.node ≡ node) × CarriedBack scheme.now thread y.label lock.now x.lock)) }
-{
-    let locks = scheme.rewrite(alloc, thread, flow.action(node), lock)?;
-    keep_all(kept, node, locks.as_slice())?;
-    Ok(())
-}
-
-/// Keeps what is needed for the need at an index.
-fn advance(
-    alloc: Global,
-    scheme: &Scheme,
-    thread: u16,
-    flow: &Flow,
-    predecessors: &Predecessors,
-    kept: &mut IndexSet<Need>,
-    index: usize,
-) -> Result<(), AllocError>
-    requires predecessors { AreAllBefore flow.now predecessors.now }
-    requires there { index < length kept.old.keys }
-    requires node { (n : Need) → slice_get kept.old.keys index ≡ Some n → n.node < length flow.now }
-    ensures { OnOk result ((n : Need) → slice_get kept.old.keys index ≡ Some n
-        → Grows kept.old.keys kept.new.keys (CarriesTo scheme.now thread flow.now n)) }
-{
-    let need = kept[index].try_clone()?;
-    let nodes = predecessors.of(need.node);
-    carry(alloc, scheme, thread, flow, nodes, &need, kept)?;
-    Ok(())
-}
-
-/// The locks that are needed from each node of a section's graph on: those that a node generates, and those that are
-/// carried back to it from where control may go on.
-pub fn needs(
-    alloc: Global,
-    scheme: &Scheme,
-    thread: u16,
-    flow: &Flow,
-) -> Result<IndexSet<Need>, AllocError>
-    requires { AreLawful scheme.now thread flow.now }
-    ensures { IfOk result (λ kept. (x : Need) → Has kept.keys x ↔ IsDerived scheme.now thread flow.now x) }
+    requires lawful { AreLawful scheme.now thread flow.now }
+    requires begun { IsBegun flow.now table.old lists.old }
+    ensures { OnOk result (IsSettled scheme.now thread flow.now table.new lists.new) }
 {
     let predecessors = predecessors_of(alloc, flow)?;
-    let mut kept = seeds(alloc, scheme, thread, flow)?;
-    let mut done = 0;
-    while done < kept.len() {
-        advance(alloc, scheme, thread, flow, &predecessors, &mut kept, done)?;
-        done += 1;
+    let mut found = Numbers::new(alloc);
+    let mut waiting = all_nodes(alloc, flow.exit())?;
+    while let Some(node) = waiting.pop_last() {
+        let any = visit(alloc, scheme, thread, flow, table, &mut found, lists, node)?;
+        if any {
+            wait(&mut waiting, predecessors.of(node))?;
+        }
     }
-    Ok(kept)
+    Ok(())
 }

@@ -54,7 +54,7 @@ returns-in-All-clause-locks c = λ of g section_at graph_at.
     let same_graph : flow ≡ g = cc in
     let graph = c.rules.ensures.graphed.sections i here flow is_here is_flow in
     rw (sym same_section, sym same_graph, end_is s i c.locking.result takes, c.in-All.is)
-    (IfOk-weaker c.on_all_of.result (IsOnAll (length flow + 1)) (AreLocksOf s (lock.All ∷ []) here flow) (on_all_of s here.thread flow here.body graph) c.on_all_of.ensures)
+    (IfOk-weaker c.on_all_of.result (IsOnAll s (length flow + 1)) (AreLocksOf s (lock.All ∷ []) here flow) (on_all_of s here.thread flow here.body graph) c.on_all_of.ensures)
 
 pub returns-in-Inferred-clause-lawful : goal.returns-in-Inferred-clause-lawful
 returns-in-Inferred-clause-lawful c = λ of section_is.
@@ -71,4 +71,4 @@ pub returns-in-All-clause-lawful : goal.returns-in-All-clause-lawful
 returns-in-All-clause-lawful c = λ of section_is.
     let s = c.args.scheme.now in
     let n = length c.section-flow.result.now + 1 in
-    IfOk-weaker c.on_all_of.result (IsOnAll n) (AreLawfulAt s of.thread) (λ sets f. all_lawful s of.thread n sets.at f.all) c.on_all_of.ensures
+    IfOk-weaker c.on_all_of.result (IsOnAll s n) (AreLawfulAt s of.thread) (λ sets f. all_lawful s of.thread n sets.at f.all) c.on_all_of.ensures

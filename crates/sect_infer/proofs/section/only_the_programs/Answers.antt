@@ -3,7 +3,7 @@ use Rattle.std.specs.Prelude.{slice_get}
 use Rattle.sect_types.specs.Programs.{ProgramView}
 use Rattle.sect_types.specs.Sound.{AreSound}
 use Rattle.sect_graph.specs.declared.flow.Node.{Node}
-use Rattle.sect_names.specs.Laws.{IsSoundStep}
+use Rattle.sect_names.specs.Laws.{IsSoundStep, IsProgramStep}
 use Rattle.sect_infer.proofs.section.only_the_programs.Goals as goal
 
 pub returns : goal.returns
@@ -12,7 +12,11 @@ returns c = λ of g section_at graph_at.
     let sound = subst (λ (p : ProgramView). AreSound p.records p.globals p.locals p.texts) c.program.ensures c.typing.ensures.sound in
     let step : (j : ℕ) (y : Node) → slice_get g j ≡ Some y → IsSoundStep s.program of.thread y.label
     = λ j y at. (c.steps_of_sections.ensures.sound s c.rules.ensures sound of y (c.args.section, g, j, section_at, graph_at, at)).0 in
+    let program : (j : ℕ) (y : Node) → slice_get g j ≡ Some y → IsProgramStep s of.thread y.label
+    = λ j y at. c.steps_of_sections.ensures.program s c.rules.ensures of y (c.args.section, g, j, section_at, graph_at, at) in
     record {
+      respects = λ j y at. c.carrying_back_respects_covering.ensures s c.rules.ensures of.thread y.label (program j y at);
       generated = λ j y at. c.locks_stay_the_programs.ensures.generated s c.rules.ensures of.thread y.label (step j y at);
       carried = λ j y at. c.locks_stay_the_programs.ensures.carried s c.rules.ensures of.thread y.label (step j y at);
+      within = (c.rules.ensures.graphed.sections c.args.section of g section_at graph_at).within;
     }

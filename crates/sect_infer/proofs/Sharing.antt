@@ -1,0 +1,92 @@
+-- Locks of sections that workers have found, put in their places.
+use Rattle.std.proofs.Common.{◌≡◌, ◌⊎◌, ℕ, zero, suc, ◌+◌, ◌<◌, List, [], ◌∷◌, ◌++◌, Option, Some, None, length, length-append, slice_get, slice_set, refl, sym, ap, ◌∙◌, subst, arith, inl, inr}
+use Rattle.std.proofs.lemmas.List.{length-set}
+use Rattle.sect_types.specs.Sections.{sections_of}
+use Rattle.sect_types.proofs.Basics.{some_injective, none_or_some}
+use Rattle.sect_types.proofs.Places.{pushed_at}
+use Rattle.sect_names.specs.Schemes.{SchemeView}
+use Rattle.sect_infer.specs.Sets.{LocksView, AreInferredAt}
+use Rattle.sect_infer.specs.declared.workers.SectionLocks.{SectionLocks}
+use Rattle.sect_infer.specs.steps.Sharing.{AreFound, AreInPlace, Handle, AreOf}
+
+-- the locks of so many sections
+pub record AreInferredBelow (s : SchemeView) (n : ℕ) (all : List LocksView) : Type 0 where
+  pub count : length all ≡ n
+  pub each : (i : ℕ) (locks : LocksView) → slice_get all i ≡ Some locks → AreInferredAt s i locks
+
+-- one section more
+pub one_inferred : (s : SchemeView) (n : ℕ) (all : List LocksView) (locks : LocksView) → AreInferredBelow s n all → AreInferredAt s n locks → AreInferredBelow s (n + 1) (all ++ locks ∷ [])
+one_inferred s n all locks before here = record {
+  count = (let e = before.count in omega (arith, e, length-append all (locks ∷ [])));
+  each = λ i x at. elim (pushed_at all locks x i at) [
+    | inl e ↦ subst (AreInferredAt s i) e.1 (subst (λ m. AreInferredAt s m locks) (sym (e.0 ∙ before.count)) here)
+    | inr h ↦ before.each i x h
+  ];
+}
+
+-- one more is found
+pub one_found : (s : SchemeView) (found : List SectionLocks) (x : SectionLocks) → AreFound s found → x.section < length (sections_of s.program.texts) → AreInferredAt s x.section x.locks
+    → AreFound s (found ++ x ∷ [])
+one_found s found x before within is = record {
+  each = λ k y at. elim (pushed_at found x y k at) [
+    | inl e ↦ subst (λ z. (z.section < length (sections_of s.program.texts)) × AreInferredAt s z.section z.locks) e.1 (within, is)
+    | inr h ↦ before.each k y h
+  ];
+}
+
+-- one worker more
+pub one_started : (s : SchemeView) (handles : List Handle) (h : Handle) → AreOf s handles → h.promise.scheme.now ≡ s → AreOf s (handles ++ h ∷ [])
+one_started s handles h before is = record {
+  each = λ k x at. elim (pushed_at handles h x k at) [
+    | inl e ↦ subst (λ (z : Handle). z.promise.scheme.now ≡ s) e.1 is
+    | inr b ↦ before.each k x b
+  ];
+}
+
+-- none so far
+pub none_found : (s : SchemeView) → AreFound s []
+none_found s = record { each = λ k x at. absurd (none_or_some x at) }
+
+pub none_started : (s : SchemeView) → AreOf s []
+none_started s = record { each = λ k h at. absurd (none_or_some h at) }
+
+-- no place is filled
+pub record AreEmpty (n : ℕ) (places : List (Option LocksView)) : Type 0 where
+  pub count : length places ≡ n
+  pub each : (i : ℕ) (locks : LocksView) → slice_get places i ≡ Some (Some locks) → ⊥
+
+pub one_empty : (n : ℕ) (places : List (Option LocksView)) → AreEmpty n places → AreEmpty (n + 1) (places ++ None ∷ [])
+one_empty n places before = record {
+  count = (let e = before.count in omega (arith, e, length-append places (None ∷ [])));
+  each = λ i locks at. elim (pushed_at places None (Some locks) i at) [
+    | inl e ↦ none_or_some locks e.1
+    | inr h ↦ before.each i locks h
+  ];
+}
+
+pub empty_places : (s : SchemeView) (places : List (Option LocksView)) → AreEmpty (length (sections_of s.program.texts)) places → AreInPlace s places
+empty_places s places none = record { count = none.count; each = λ i locks at. absurd (none.each i locks at) }
+
+set_at : {X : Type 0} (xs : List X) (n : ℕ) (x : X) (i : ℕ) (y : X) → slice_get (slice_set xs n x) i ≡ Some y → ((i ≡ n) × (x ≡ y)) ⊎ (slice_get xs i ≡ Some y)
+set_at [] n x i y at = inr at
+set_at (z ∷ zs) zero x zero y at = inl (refl, some_injective x y at)
+set_at (z ∷ zs) zero x (suc i) y at = inr at
+set_at (z ∷ zs) (suc n) x zero y at = inr at
+set_at (z ∷ zs) (suc n) x (suc i) y at = elim (set_at zs n x i y at) [
+  | inl e ↦ inl (ap suc e.0, e.1)
+  | inr h ↦ inr h
+]
+
+-- the locks of a section are put in its place
+pub one_placed : (s : SchemeView) (places : List (Option LocksView)) (n : ℕ) (locks : LocksView) → AreInPlace s places → AreInferredAt s n locks → AreInPlace s (slice_set places n (Some locks))
+one_placed s places n locks before here = record {
+  count = length-set places n (Some locks) ∙ before.count;
+  each = λ i x at. elim (set_at places n (Some locks) i (Some x) at) [
+    | inl e ↦ subst (AreInferredAt s i) (some_injective locks x e.1) (subst (λ m. AreInferredAt s m locks) (sym e.0) here)
+    | inr h ↦ before.each i x h
+  ];
+}
+
+-- a section of the program has a place
+pub has_place : (s : SchemeView) (places : List (Option LocksView)) (n : ℕ) → AreInPlace s places → n < length (sections_of s.program.texts) → n < length places
+has_place s places n placed within = let e = placed.count in omega (arith, e, within)

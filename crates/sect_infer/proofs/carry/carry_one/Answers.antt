@@ -1,0 +1,22 @@
+use Rattle.std.proofs.Common.{◌≡◌, ◌↔◌, sym, subst}
+use Rattle.sect_types.proofs.Places.{one_at}
+use Rattle.sect_names.specs.declared.lock.Lock.{Lock}
+use Rattle.sect_names.specs.Locks.{IsLockOf}
+use Rattle.sect_names.specs.Carrying.{CarriedBack}
+use Rattle.sect_infer.specs.Numbers.{with_number}
+use Rattle.sect_infer.proofs.Tabling.{numbered_there}
+use Rattle.sect_infer.proofs.Carrying.{finds_one, finds_as}
+use Rattle.sect_infer.proofs.carry.carry_one.Goals as goal
+
+pub returns-in_ok-insert : goal.returns-in_ok-insert
+returns-in_ok-insert c = λ l at.
+    let s = c.args.scheme.now in
+    let t = c.args.thread in
+    let label = c.args.label.now in
+    let a = c.args.table.now in
+    let n = c.args.number in
+    let same : c.lock.result.now ≡ l = one_at a.keys n c.lock.result.now l c.lock.ensures at in
+    let stay : (r : Lock) → CarriedBack s t label l r ↔ (r ≡ l) = subst (λ k. (r : Lock) → CarriedBack s t label k r ↔ (r ≡ k)) same
+    (c.stays.ensures c.if-stays.true s (subst (IsLockOf s t) (sym same) (c.requires.lawful l at))) in
+    rw c.in_ok-insert.ensures (finds_as s a a c.args.found.now (with_number c.args.found.now n) (λ r. r ≡ l) (CarriedBack s t label l) stay
+    (finds_one s a a c.args.found.now l n c.requires.finding (numbered_there s a l n c.requires.finding.table at)))

@@ -1,0 +1,10 @@
+use Rattle.std.proofs.Common.{◌≡◌, ◌<◌, ℕ, map, take, length}
+use Rattle.sect_types.specs.Lists.{Has}
+use Rattle.sect_infer.specs.steps.Listing.{lock_at}
+use Rattle.sect_infer.proofs.locks.in_order.Given as goal
+
+abbrev pub invariant-loop-lock : goal.invariant-loop-lock
+invariant-loop-lock l = record {
+  same : map (lock_at l.table.keys) l.order.items ≡ take l.lock-index l.lock-items;
+  numbers : (n : ℕ) → Has l.order.items n → n < length l.table.keys;
+}

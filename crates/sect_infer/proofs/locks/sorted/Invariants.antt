@@ -1,0 +1,7 @@
+use Rattle.std.proofs.Common.{◌↔◌, take}
+use Rattle.sect_types.specs.Lists.{Has}
+use Rattle.sect_names.specs.declared.lock.Lock.{Lock}
+use Rattle.sect_infer.proofs.locks.sorted.Given as goal
+
+abbrev pub invariant-loop-number : goal.invariant-loop-number
+invariant-loop-number l = (x : Lock) → Has l.locks.keys x ↔ Has (take l.number l.table.keys) x

@@ -1,0 +1,14 @@
+use Rattle.std.specs.List.Sorted.{IsStrictlySortedBy}
+use Rattle.std.specs.Ordering.{nat_cmp}
+use Rattle.sect_infer.specs.steps.Working.{IsWorking}
+use Rattle.sect_infer.proofs.Bounding.{measure}
+use Rattle.sect_infer.proofs.work.settle.Given as goal
+
+abbrev pub invariant-loop-node : goal.invariant-loop-node
+invariant-loop-node l = record {
+  work : IsWorking l.scheme l.thread l.flow l.table l.lists l.waiting.keys;
+  ordered : IsStrictlySortedBy nat_cmp l.waiting.keys;
+}
+
+abbrev pub decreases-loop-node : goal.decreases-loop-node
+decreases-loop-node l = measure l.scheme l.flow l.lists l.waiting.keys

@@ -1,0 +1,77 @@
+-- Locks by their numbers in a table.
+use Rattle.std.specs.Prelude.{◌≡◌, ◌<◌, ◌⊎◌, ℕ, Bool, not, List, [], filter, ◌++◌, Some, length}
+use Rattle.std.specs.Prelude.{slice_get, slice_index_or}
+use Rattle.std.specs.List.{list_any}
+use Rattle.sect_types.specs.Lists.{Has}
+use Rattle.sect_names.specs.declared.lock.Lock.{Lock}
+use Rattle.sect_names.specs.Schemes.{SchemeView}
+use Rattle.sect_names.specs.Climbing.{IsAbove}
+use Rattle.sect_infer.specs.Numbers.{has_number, AreApart}
+
+-- a lock's number is its place among the keys; for each, the numbers of those that are above it
+pub record TableView : Type 0 where
+  pub keys : List Lock
+  pub above : List (List ℕ)
+
+-- the lock has one of these numbers
+abbrev pub HasLock : List Lock → List ℕ → Lock → Type 0
+HasLock keys ns l = (n : ℕ) × Has ns n × (slice_get keys n ≡ Some l)
+
+-- a lock has the number
+abbrev pub AreNumbers : List Lock → List ℕ → Type 0
+AreNumbers keys ns = (n : ℕ) → Has ns n → n < length keys
+
+-- the numbers of those of these locks that are among the keys
+pub record AreOf (keys locks : List Lock) (ns : List ℕ) : Type 0 where
+  pub only : (n : ℕ) → Has ns n → (l : Lock) × Has locks l × (slice_get keys n ≡ Some l)
+  pub each : (l : Lock) → Has locks l → Has keys l → HasLock keys ns l
+
+-- these are the numbers of all locks above one
+pub record AreAbove (s : SchemeView) (keys : List Lock) (l : Lock) (ns : List ℕ) : Type 0 where
+  pub cover : (n : ℕ) → Has ns n → (big : Lock) × (slice_get keys n ≡ Some big) × IsAbove s big l
+  pub all : (big : Lock) → IsAbove s big l → HasLock keys ns big
+
+-- each lock has one number, and those of the locks above it are told
+pub record IsTable (s : SchemeView) (t : TableView) : Type 0 where
+  pub count : length t.above ≡ length t.keys
+  pub apart : AreApart t.keys
+  pub told : (n : ℕ) (l : Lock) → slice_get t.keys n ≡ Some l → AreAbove s t.keys l (slice_index_or t.above n [])
+
+-- whether one of the numbers is above this one
+abbrev pub is_under : List (List ℕ) → List ℕ → ℕ → Bool
+is_under above ns n = list_any (has_number ns) (slice_index_or above n [])
+
+-- the table has the locks that it had, by the same numbers, and may have more
+abbrev pub Extends : TableView → TableView → Type 0
+Extends old new = (more : List Lock) × (new.keys ≡ old.keys ++ more)
+
+-- the table has been extended so that the lock has the number
+pub record IsNumbered (s : SchemeView) (old new : TableView) (l : Lock) (n : ℕ) : Type 0 where
+  pub table : IsTable s new
+  pub longer : Extends old new
+  pub there : slice_get new.keys n ≡ Some l
+
+-- the table has been extended so that it has these locks
+pub record AreAllPut (s : SchemeView) (old new : TableView) (locks : List Lock) : Type 0 where
+  pub table : IsTable s new
+  pub longer : Extends old new
+  pub there : (l : Lock) → Has locks l → Has new.keys l
+
+-- numbers of locks that were found: the table tells of each, and none is there twice
+pub record IsFinding (s : SchemeView) (t : TableView) (ns : List ℕ) : Type 0 where
+  pub table : IsTable s t
+  pub numbers : AreNumbers t.keys ns
+  pub apart : AreApart ns
+
+-- locks with this property were found beside those that had been
+pub record Finds (s : SchemeView) (old : TableView) (before : List ℕ) (new : TableView) (after : List ℕ)
+    (P : Lock → Type 0) : Type 0 where
+  pub finding : IsFinding s new after
+  pub longer : Extends old new
+  pub behind : (more : List ℕ) × (after ≡ before ++ more)
+  pub each : (l : Lock) → P l → HasLock new.keys after l
+  pub only : (l : Lock) → HasLock new.keys after l → HasLock old.keys before l ⊎ P l
+
+-- those of the numbers that none of the ones that were found is above
+abbrev pub fresh_from : List (List ℕ) → List ℕ → List ℕ → List ℕ
+fresh_from above found = filter (λ n. not (is_under above found n))

@@ -1,0 +1,31 @@
+-- Locks in canonical order by their numbers.
+use Rattle.std.specs.Prelude.{◌≡◌, ◌<◌, ◌&&◌, ℕ, Bool, not, List, [], map, filter, length, slice_index_or}
+use Rattle.sect_types.specs.Lists.{Has}
+use Rattle.sect_names.specs.declared.lock.Lock.{Lock}
+use Rattle.sect_names.specs.declared.lock.Lock.TheVariants as lock
+use Rattle.sect_names.specs.Order.{AreInOrder}
+use Rattle.sect_infer.specs.Numbers.{has_number, with_numbers}
+use Rattle.sect_infer.specs.Tables.{TableView, is_under}
+
+-- the lock with a number
+abbrev pub lock_at : List Lock → ℕ → Lock
+lock_at keys n = slice_index_or keys n lock.All
+
+-- these are the numbers of all locks, in the canonical order of these
+pub record IsOrder (keys : List Lock) (order : List ℕ) : Type 0 where
+  pub sorted : AreInOrder (map (lock_at keys) order)
+  pub numbers : (n : ℕ) → Has order n → n < length keys
+  pub all : (n : ℕ) → n < length keys → Has order n
+
+-- whether the number is among these, and none of them is above it
+abbrev pub is_kept : List (List ℕ) → List ℕ → ℕ → Bool
+is_kept above ns n = has_number ns n && not (is_under above ns n)
+
+-- those of the locks with these numbers that no other of them is above, in this order
+abbrev pub listed : TableView → List ℕ → List ℕ → List Lock
+listed t order ns = map (lock_at t.keys) (filter (is_kept t.above (with_numbers [] ns)) order)
+
+-- the numbers in the order are those of locks
+pub record IsListable (t : TableView) (order : List ℕ) : Type 0 where
+  pub numbers : (n : ℕ) → Has order n → n < length t.keys
+  pub count : length t.above ≡ length t.keys

@@ -1,0 +1,78 @@
+-- The worklist: the locks that are found at the nodes of a section's graph.
+use Rattle.std.specs.Prelude.{◌≡◌, ◌<◌, ◌+◌, ◌⊎◌, ℕ, Bool, true, false, List, [], ◌++◌, Some, length}
+use Rattle.std.specs.Prelude.{slice_get, slice_index_or, slice_set}
+use Rattle.sect_types.specs.Lists.{Has}
+use Rattle.sect_graph.specs.declared.flow.Node.{Node}
+use Rattle.sect_graph.specs.Paths.{LeadsTo}
+use Rattle.sect_names.specs.declared.lock.Lock.{Lock}
+use Rattle.sect_names.specs.Schemes.{SchemeView}
+use Rattle.sect_names.specs.Locks.{Covers, IsLockOf}
+use Rattle.sect_names.specs.Carrying.{CarriedBack}
+use Rattle.sect_infer.specs.Numbers.{AreApart}
+use Rattle.sect_infer.specs.Tables.{TableView, HasLock, AreNumbers, IsTable, Extends}
+use Rattle.sect_infer.specs.steps.Needs.{need, IsSeed, IsDerived}
+
+-- the lock was found at the node
+abbrev pub IsFoundAt : List Lock → List (List ℕ) → ℕ → Lock → Type 0
+IsFoundAt keys lists j l = HasLock keys (slice_index_or lists j []) l
+
+-- a lock that was found at the node covers it
+abbrev pub IsCoveredAt : SchemeView → List Lock → List (List ℕ) → ℕ → Lock → Type 0
+IsCoveredAt s keys lists j l = (big : Lock) × IsFoundAt keys lists j big × Covers s big l
+
+-- a lock that was found where control may go on from node j is carried back to this one
+abbrev pub IsCarried : SchemeView → ℕ → List Node → List Lock → List (List ℕ) → ℕ → Lock → Type 0
+IsCarried s t g keys lists j r =
+    (y : Node) × (m : ℕ) × (l : Lock) × (slice_get g j ≡ Some y) × LeadsTo y m × IsFoundAt keys lists m l
+    × CarriedBack s t y.label l r
+
+-- node j generates the lock, or it is carried back to it
+abbrev pub IsDue : SchemeView → ℕ → List Node → List Lock → List (List ℕ) → ℕ → Lock → Type 0
+IsDue s t g keys lists j l = IsSeed s t g (need j l) ⊎ IsCarried s t g keys lists j l
+
+-- the locks of a section's nodes, the exit too, by their numbers in a table
+pub record AreNumbered (s : SchemeView) (g : List Node) (a : TableView) (lists : List (List ℕ)) : Type 0 where
+  pub table : IsTable s a
+  pub count : length lists ≡ length g + 1
+  pub numbers : (j : ℕ) → AreNumbers a.keys (slice_index_or lists j [])
+  pub apart : (j : ℕ) → AreApart (slice_index_or lists j [])
+
+-- what was found are locks of the program
+abbrev pub AreLawfulAt : SchemeView → ℕ → List Lock → List (List ℕ) → Type 0
+AreLawfulAt s t keys lists = (j : ℕ) (l : Lock) → IsFoundAt keys lists j l → IsLockOf s t l
+
+-- node j was gone over: behind its list stands more, if there was more, and that covers what was due there
+pub record IsVisit (s : SchemeView) (t : ℕ) (g : List Node) (old : TableView) (before : List (List ℕ)) (new : TableView)
+    (after : List (List ℕ)) (j : ℕ) (any : Bool) : Type 0 where
+  pub numbered : AreNumbered s g new after
+  pub longer : Extends old new
+  pub more : List ℕ
+  pub changed : after ≡ slice_set before j (slice_index_or before j [] ++ more)
+  pub others : (i : ℕ) → (i ≡ j → ⊥) → slice_index_or after i [] ≡ slice_index_or before i []
+  pub here : slice_index_or after j [] ≡ slice_index_or before j [] ++ more
+  pub none : any ≡ false → more ≡ []
+  pub some : any ≡ true → 0 < length more
+  pub only : (l : Lock) → IsFoundAt new.keys after j l → IsFoundAt old.keys before j l ⊎ IsDue s t g old.keys before j l
+  pub put : (l : Lock) → IsDue s t g old.keys before j l → IsCoveredAt s new.keys after j l
+
+-- what was found is derived, and covers what is due at each node that doesn't wait
+pub record IsWorking (s : SchemeView) (t : ℕ) (g : List Node) (table : TableView) (lists : List (List ℕ))
+    (waiting : List ℕ) : Type 0 where
+  pub numbered : AreNumbered s g table lists
+  pub derived : (j : ℕ) (l : Lock) → IsFoundAt table.keys lists j l → IsDerived s t g (need j l)
+  pub closed : (j : ℕ) → j < length g
+      → Has waiting j ⊎ ((l : Lock) → IsDue s t g table.keys lists j l → IsCoveredAt s table.keys lists j l)
+  pub nodes : (j : ℕ) → Has waiting j → j < length g
+
+-- nothing has been found
+pub record IsBegun (g : List Node) (table : TableView) (lists : List (List ℕ)) : Type 0 where
+  pub keys : table.keys ≡ []
+  pub above : table.above ≡ []
+  pub count : length lists ≡ length g + 1
+  pub none : (j : ℕ) → slice_index_or lists j [] ≡ []
+
+-- what was found is derived, and covers what is derived
+pub record IsSettled (s : SchemeView) (t : ℕ) (g : List Node) (table : TableView) (lists : List (List ℕ)) : Type 0 where
+  pub numbered : AreNumbered s g table lists
+  pub derived : (j : ℕ) (l : Lock) → IsFoundAt table.keys lists j l → IsDerived s t g (need j l)
+  pub covered : (j : ℕ) (l : Lock) → IsDerived s t g (need j l) → IsCoveredAt s table.keys lists j l

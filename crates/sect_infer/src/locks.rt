@@ -1,0 +1,148 @@
+//! The locks of a section, node by node.
+
+ghost use Rattle.std.specs.Prelude.{◌≡◌, ◌↔◌, ◌<◌, ℕ, List, map, length, slice_get, Some, IfOk};
+ghost use Rattle.sect_types.specs.Lists.{Has};
+ghost use Rattle.sect_names.specs.declared.lock.Lock.{Lock};
+ghost use Rattle.sect_names.specs.Order.{AreInOrder};
+ghost use Rattle.sect_infer.specs.Numbers.{AreApart};
+ghost use Rattle.sect_infer.specs.steps.Listing.{IsOrder, IsListable, is_kept, listed};
+
+use crate::lists::Lists;
+use crate::numbers::Numbers;
+use crate::table::Table;
+use sect_names::Lock;
+use std::alloc::{AllocError, Global};
+use std::collections::BTreeSet;
+use std::marker::Model;
+
+/// The locks of a section: for each node of its graph, the exit too, the maximal ones of those that are needed from
+/// there on, in canonical order. Those of the first node are taken at the section's entry.
+#[derive(Drop)]
+pub struct Locks {
+    table: Table,
+    order: Vec<usize>,
+    lists: Lists,
+    entry: Vec<Lock>,
+}
+
+impl Model for Locks {
+    ghost use Rattle.std.specs.Prelude.{map};
+    ghost use Rattle.std.specs.Coded.{codes};
+    ghost use Rattle.sect_points.specs.Paths.{path_code};
+    ghost use Rattle.sect_infer.specs.Sets.{LocksView};
+    ghost use Rattle.sect_infer.specs.steps.Listing.{listed, IsListable};
+
+    ghost Value = { LocksView };
+
+    ghost coded = { Prim.hlevel (codes, path_code) };
+
+    ghost view = { λ l. record {
+      at = map (listed l.table l.order.items) l.lists;
+      entry = l.entry.items;
+    } };
+
+    ghost invariant = { λ l. IsListable l.table l.order.items };
+}
+
+/// The locks of a table, in canonical order.
+fn sorted(alloc: Global, table: &Table) -> Result<Vec<Lock>, AllocError>
+    ensures all { IfOk result (λ locks. (l : Lock) → Has locks.items l ↔ Has table.now.keys l) }
+    ensures in_order { IfOk result (λ locks. AreInOrder locks.items) }
+{
+    let mut locks = BTreeSet::new(alloc);
+    for number in 0..table.len() {
+        locks.insert(table.lock(number).try_clone()?)?;
+    }
+    Ok(locks.into_iter().collect(alloc)?)
+}
+
+/// The numbers of the locks of a table, in the canonical order of these.
+fn in_order(alloc: Global, table: &Table) -> Result<Vec<usize>, AllocError>
+    requires { AreApart table.now.keys }
+    ensures { IfOk result (λ order. IsOrder table.now.keys order.items) }
+{
+    let locks = sorted(alloc, table)?;
+    let mut order = Vec::new(alloc);
+    for lock in locks.as_slice() {
+        if let Some(number) = table.find(lock) {
+            order.push(number)?;
+        }
+    }
+    Ok(order)
+}
+
+/// Whether a number is among these, and none of them is that of another lock that covers its lock.
+fn is_kept(table: &Table, numbers: &Numbers, number: usize) -> bool
+    requires { number < length table.now.above }
+    ensures { result ≡ is_kept table.now.above numbers.now number }
+{
+    numbers.has(number) && !table.is_under(numbers, number)
+}
+
+/// Those of the locks with these numbers that no other of them covers, in canonical order.
+fn list(
+    alloc: Global,
+    table: &Table,
+    order: &[usize],
+    numbers: &[usize],
+) -> Result<Vec<Lock>, AllocError>
+    requires { IsListable table.now order.now }
+    ensures { IfOk result (λ locks. locks.items ≡ listed table.now order.now numbers.now) }
+{
+    let mut found = Numbers::new(alloc);
+    found.insert_all(numbers)?;
+    let mut locks = Vec::new(alloc);
+    for number in order {
+        if is_kept(table, &found, *number) {
+            locks.push(table.lock(*number).try_clone()?)?;
+        }
+    }
+    Ok(locks)
+}
+
+impl Locks {
+    /// The locks of which each node has those with its numbers.
+    pub(crate) fn of(alloc: Global, table: Table, lists: Lists) -> Result<Locks, AllocError>
+        requires some { 0 < length lists }
+        requires apart { AreApart table.keys }
+        requires count { length table.above ≡ length table.keys }
+        ensures { IfOk result (λ locks. (order : List ℕ) × IsOrder table.keys order
+            × (locks.at ≡ map (listed table order) lists) × (slice_get locks.at 0 ≡ Some locks.entry)) }
+    {
+        let order = in_order(alloc, &table)?;
+        let entry = list(alloc, &table, order.as_slice(), lists.of(0))?;
+        Ok(Locks {
+            table,
+            order,
+            lists,
+            entry,
+        })
+    }
+
+    /// How many nodes there are, the exit counted.
+    pub fn node_count(&self) -> usize
+        ensures { result ≡ length self.now.at }
+    {
+        self.lists.len()
+    }
+
+    /// The locks of a node: the maximal ones of those that are needed from it on, in canonical order.
+    pub fn at(&self, alloc: Global, node: u16) -> Result<Vec<Lock>, AllocError>
+        requires { node < length self.now.at }
+        ensures { IfOk result (λ locks. slice_get self.now.at node ≡ Some locks.items) }
+    {
+        list(
+            alloc,
+            &self.table,
+            self.order.as_slice(),
+            self.lists.of(node),
+        )
+    }
+
+    /// The locks that the section takes at its entry: the least set that protects, in canonical order.
+    pub fn entry(&self) -> &[Lock]
+        ensures { result.now ≡ self.now.entry }
+    {
+        self.entry.as_slice()
+    }
+}

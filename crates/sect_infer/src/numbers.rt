@@ -1,0 +1,94 @@
+//! Sets of numbers.
+
+ghost use Rattle.std.specs.Prelude.{◌≡◌, ◌++◌, ◌∷◌, [], false, OnOk};
+ghost use Rattle.sect_infer.specs.Numbers.{has_number, with_number, with_numbers};
+
+use std::alloc::{AllocError, Global};
+use std::marker::Model;
+
+/// Numbers, each at most once, in the order in which they came.
+#[derive(Drop)]
+pub struct Numbers {
+    members: Vec<usize>,
+    marks: Vec<bool>,
+}
+
+impl Model for Numbers {
+    ghost use Rattle.std.specs.Prelude.{List, ℕ};
+    ghost use Rattle.sect_infer.specs.Numbers.{AreMarked};
+
+    ghost Value = { List ℕ };
+
+    ghost view = { λ n. n.members.items };
+
+    ghost invariant = { λ n. AreMarked n.members.items n.marks.items };
+}
+
+impl Numbers {
+    /// None.
+    pub fn new(alloc: Global) -> Numbers
+        ensures { result ≡ [] }
+    {
+        Numbers {
+            members: Vec::new(alloc),
+            marks: Vec::new(alloc),
+        }
+    }
+
+    /// Whether a number is there.
+    pub fn has(&self, number: usize) -> bool
+        ensures { result ≡ has_number self.now number }
+    {
+        number < self.marks.len() && self.marks[number]
+    }
+
+    /// Adds a number, unless it is there.
+    pub fn insert(&mut self, number: usize) -> Result<(), AllocError>
+        ensures { OnOk result (self.new ≡ with_number self.old number) }
+    {
+        if !self.has(number) {
+            self.mark(number)?;
+        }
+        Ok(())
+    }
+
+    /// Adds a number that isn't there.
+    fn mark(&mut self, number: usize) -> Result<(), AllocError>
+        requires { has_number self.old number ≡ false }
+        ensures { OnOk result (self.new ≡ self.old ++ number ∷ []) }
+    {
+        while self.marks.len() <= number {
+            self.marks.push(false)?;
+        }
+        self.members.push(number)?;
+        self.marks[number] = true;
+        Ok(())
+    }
+
+    /// Adds numbers, in order, but those that are there.
+    pub fn insert_all(&mut self, numbers: &[usize]) -> Result<(), AllocError>
+        ensures { OnOk result (self.new ≡ with_numbers self.old numbers.now) }
+    {
+        for number in numbers {
+            self.insert(*number)?;
+        }
+        Ok(())
+    }
+
+    /// The numbers.
+    pub fn members(&self) -> &[usize]
+        ensures { result.now ≡ self.now }
+    {
+        self.members.as_slice()
+    }
+
+    /// Takes all numbers out.
+    pub fn clear(&mut self)
+        ensures { self.new ≡ [] }
+    {
+        for number in self.members.as_slice() {
+            self.marks[*number] = false;
+        }
+        self.members.clear();
+    }
+}

@@ -1,125 +1,181 @@
 -- Steps whose locks are generated, and steps that link to others.
-use Rattle.std.proofs.Common.{◌≡◌, ◌↔◌, ◌⊎◌, ℕ, ◌+◌, ◌<◌, ◌≤◌, List, [], Option, Some, None, inl, inr, sym, ap, ◌∙◌, subst, take, length, get_or, arith}
+use Rattle.std.proofs.Common.{◌≡◌, ◌↔◌, ◌⊎◌, ℕ, ◌+◌, ◌<◌, ◌≤◌, List, [], Option, Some, None, inl, inr, refl, sym, ap}
+use Rattle.std.proofs.Common.{◌∙◌, subst, take, length, get_or, arith}
 use Rattle.std.specs.Prelude.{slice_get}
 use Rattle.std.proofs.lemmas.Bool.{cases_lt}
 use Rattle.std.proofs.lemmas.List.{take_all}
 use Rattle.std.proofs.lemmas.Option.{slice_get_within}
 use Rattle.sect_types.specs.Lists.{Has}
-use Rattle.sect_types.proofs.Membership.{Has-get_or, Has-left}
+use Rattle.sect_types.proofs.Membership.{Has-get_or}
 use Rattle.sect_types.proofs.Places.{one_at}
 use Rattle.sect_graph.specs.declared.flow.Node.{Node}
+use Rattle.sect_graph.specs.Paths.{LeadsTo}
 use Rattle.sect_names.specs.declared.link.Link.{Link}
 use Rattle.sect_names.specs.declared.lock.Lock.{Lock}
 use Rattle.sect_names.specs.Schemes.{SchemeView}
 use Rattle.sect_names.specs.Carrying.{Generated, CarriedBack}
 use Rattle.sect_names.specs.Chains.{link, IsGeneratedAt, LinksTo}
 use Rattle.sect_names.proofs.Making.{last_of, so_far}
-use Rattle.sect_chains.specs.steps.Trails.{Grows, AreBefore}
-use Rattle.sect_chains.proofs.Growing.{grows_none, grows_as, grows_then, same_link}
+use Rattle.sect_infer.specs.Tables.{TableView, HasLock, IsNumbered, Finds}
+use Rattle.sect_infer.specs.steps.Listing.{lock_at}
+use Rattle.sect_infer.proofs.Bounding.{named}
+use Rattle.sect_chains.specs.declared.keep.Step.{Step}
+use Rattle.sect_chains.specs.steps.Keeping.{KeptView, step_of, keep_one, keep_each}
+use Rattle.sect_graph.specs.Predecessors.{AreBefore}
+use Rattle.sect_chains.specs.steps.Working.{links_of, IsFoundAt, IsKept, Grows, IsGeneratedBy, IsGeneratedBelow}
+use Rattle.sect_chains.proofs.Growing.{grows_none, grows_as, grows_then, grows_at, grows_extended, grows_one}
+use Rattle.sect_chains.proofs.Growing.{grows_each, same_link}
 
-module _ (s : SchemeView) (t : ℕ) (g : List Node) where
-  -- the node of the step generates its lock
-  abbrev pub IsGeneratedByNode : Link → Type 0
-  IsGeneratedByNode a = (y : Node) × (slice_get g a.node ≡ Some y) × Generated s t y.label a.lock
+module _ (s : SchemeView) (t : ℕ) (last : List Lock) (g : List Node) where
+  -- a lock that is generated is kept
+  pub put_one : (a : TableView) (w : KeptView) (b : TableView) (j : ℕ) (l : Lock) (n : ℕ) → IsKept s t last g a w
+      → IsNumbered s a b l n → IsGeneratedAt s t last g (link j l) → j < length w.found
+      → Grows s t last g a w b (keep_one b.above w (step_of j None n)) (λ x. x ≡ link j l)
+  put_one a w b j l n k numbered generated within =
+      let longer = grows_extended s t last g a w b k numbered.longer numbered.table in
+      let v = keep_one b.above w (step_of j None n) in
+      grows_as s t last g a w b v (λ x. ⊥ ⊎ (x ≡ link j l)) (λ x. x ≡ link j l) (λ x e. inr e)
+      (grows_then s t last g a w b w b v (λ x. ⊥) (λ x. x ≡ link j l) longer
+      (grows_one s t last g b w longer.kept (step_of j None n) l numbered.there within generated))
 
-  -- and that node is below j
-  abbrev pub IsGeneratedBelow : ℕ → Link → Type 0
-  IsGeneratedBelow j a = (a.node < j) × IsGeneratedByNode a
+  -- where a step is kept there is a node or the exit
+  pub generated_within : (a : TableView) (w : KeptView) (x : Link) → IsKept s t last g a w → IsGeneratedAt s t last g x
+      → x.node < length w.found
+  generated_within a w x k h = elim h [
+    | inl y ↦ (let within = slice_get_within g x.node y.0 y.1 in omega (arith, within, k.count))
+    | inr e ↦ (let is = e.0 in omega (arith, is, k.count))
+  ]
 
-  module _ (j : ℕ) (y : Node) (at : slice_get g j ≡ Some y) (o : Option Lock) (tells : (l : Lock) → (o ≡ Some l) ↔ Generated s t y.label l) where
+  module _ (j : ℕ) (y : Node) (at : slice_get g j ≡ Some y) (o : Option Lock)
+      (tells : (l : Lock) → (o ≡ Some l) ↔ Generated s t y.label l) where
     -- what node j generates
-    at_node : (a : Link) → a.node ≡ j → IsGeneratedByNode a → o ≡ Some a.lock
-    at_node a e (z, f, h) =
-        let here = subst (λ k. slice_get g k ≡ Some z) e f in
-        (tells a.lock).1 (subst (λ w. Generated s t w.label a.lock) (one_at g j z y here at) h)
+    at_node : (x : Link) → IsGeneratedBy s t g j x → o ≡ Some x.lock
+    at_node x h =
+        let z = h.1.0 in
+        let here = subst (λ k. slice_get g k ≡ Some z) h.0 h.1.1 in
+        (tells x.lock).1 (subst (λ w. Generated s t w.label x.lock) (one_at g j z y here at) h.1.2)
 
-    -- a node below the next one is below this one or it
-    below : (a : Link) → a.node < j + 1 → (a.node < j) ⊎ (a.node ≡ j)
-    below a h = elim (cases_lt a.node j) [ inl k ↦ inl k | inr k ↦ inr (omega (arith, h, k)) ]
+    -- nothing
+    pub by_node_none : (a : TableView) (w : KeptView) → IsKept s t last g a w → o ≡ None
+        → Grows s t last g a w a w (IsGeneratedBy s t g j)
+    by_node_none a w k none = grows_none s t last g a w (IsGeneratedBy s t g j) k (λ x h. let q = at_node x h in
+        absurd cc)
 
-    -- the node generates nothing
-    pub generated_skip : (kept : List Link) → o ≡ None → Grows [] kept (IsGeneratedBelow j) → Grows [] kept (IsGeneratedBelow (j + 1))
-    generated_skip kept none before = grows_as [] kept (IsGeneratedBelow j) (IsGeneratedBelow (j + 1))
-        (λ a h. elim (below a h.0) [ inl k ↦ (k, h.1) | inr e ↦ (let f = at_node a e h.1 in absurd cc) ])
-        (λ a h. (omega (arith, h.0), h.1)) before
+    -- a lock
+    pub by_node_one : (a : TableView) (w : KeptView) (b : TableView) (v : KeptView) (l : Lock) → o ≡ Some l
+        → Grows s t last g a w b v (λ x. x ≡ link j l) → Grows s t last g a w b v (IsGeneratedBy s t g j)
+    by_node_one a w b v l is f = grows_as s t last g a w b v (λ x. x ≡ link j l) (IsGeneratedBy s t g j)
+        (λ x h. (let same : x.lock ≡ l = (let q = at_node x h in cc) in same_link x j l h.0 same)) f
 
-    -- the node generates a lock
-    pub generated_next : (mid new : List Link) (l : Lock) → o ≡ Some l → Grows [] mid (IsGeneratedBelow j) → Grows mid new (λ a. a ≡ link j l) → Grows [] new (IsGeneratedBelow (j + 1))
-    generated_next mid new l is f n = grows_as [] new (λ a. IsGeneratedBelow j a ⊎ (a ≡ link j l)) (IsGeneratedBelow (j + 1))
-        (λ a h. elim (below a h.0) [ inl k ↦ inl (k, h.1) | inr e ↦ (let same : a.lock ≡ l = (let q = at_node a e h.1 in cc) in inr (same_link a j l e same)) ])
-        (λ a h. elim h [
-          | inl k ↦ (omega (arith, k.0), k.1)
-          | inr e ↦ (let node : a.node ≡ j = ap (λ b. b.node) e in
-              (omega (arith, node), (y, subst (λ k. slice_get g k ≡ Some y) (sym node) at, subst (Generated s t y.label) (sym (ap (λ b. b.lock) e)) ((tells l).0 is))))
-        ])
-        (grows_then [] mid new (IsGeneratedBelow j) (λ a. a ≡ link j l) f n)
+    pub generated_here : (l : Lock) → o ≡ Some l → IsGeneratedAt s t last g (link j l)
+    generated_here l is = inl (y, at, (tells l).0 is)
+
+  -- what one node more generates
+  pub generated_next : (a : TableView) (w : KeptView) (b : TableView) (v : KeptView) (c : TableView) (u : KeptView)
+      (j : ℕ)
+      → Grows s t last g a w b v (IsGeneratedBelow s t g j) → Grows s t last g b v c u (IsGeneratedBy s t g j)
+      → Grows s t last g a w c u (IsGeneratedBelow s t g (j + 1))
+  generated_next a w b v c u j f h =
+      grows_as s t last g a w c u (λ x. IsGeneratedBelow s t g j x ⊎ IsGeneratedBy s t g j x)
+      (IsGeneratedBelow s t g (j + 1))
+      (λ x k. elim (cases_lt x.node j) [ inl lt ↦ inl (lt, k.1) | inr past ↦ inr (omega (arith, k.0, past), k.1) ])
+      (grows_then s t last g a w b v c u (IsGeneratedBelow s t g j) (IsGeneratedBy s t g j) f h)
 
   -- no node is below the first
-  pub generated_none : (kept : List Link) → kept ≡ [] → Grows [] kept (IsGeneratedBelow 0)
-  generated_none kept e = subst (λ l. Grows [] l (IsGeneratedBelow 0)) (sym e) (grows_none [] (IsGeneratedBelow 0) (λ a h. absurd (omega (arith, h.0))))
+  pub generated_none : (a : TableView) (w : KeptView) → IsKept s t last g a w
+      → Grows s t last g a w a w (IsGeneratedBelow s t g 0)
+  generated_none a w k = grows_none s t last g a w (IsGeneratedBelow s t g 0) k (λ x h. omega (arith, h.0))
 
-  -- what all nodes generate
-  pub generated_done : (kept : List Link) (j : ℕ) → length g ≤ j → Grows [] kept (IsGeneratedBelow j) → (a : Link) → Has kept a ↔ IsGeneratedAt s t [] g a
-  generated_done kept j past f a = (
-    λ h. elim (f.only a h) [ inl k ↦ absurd k | inr k ↦ inl k.1 ],
-    λ h. elim h [
-      | inl k ↦ f.each a (let w = slice_get_within g a.node k.0 k.1 in omega (arith, w, past), k)
-      | inr k ↦ absurd k.1
-    ],
-  )
+  -- the locks of the end, one more and all
+  abbrev pub IsOfEnd : List Lock → Link → Type 0
+  IsOfEnd locks x = (x.node ≡ length g) × Has locks x.lock
 
-  -- with what the end of the section generates
-  pub generated_last : (last : List Lock) (mid new : List Link) (j : ℕ) → j ≡ length g → ((a : Link) → Has mid a ↔ IsGeneratedAt s t [] g a) → Grows mid new (λ a. (a.node ≡ j) × Has last a.lock)
-      → (a : Link) → Has new a ↔ IsGeneratedAt s t last g a
-  generated_last last mid new j is nodes f a = (
-    λ h. elim (f.only a h) [
-      | inl k ↦ elim ((nodes a).0 k) [ inl b ↦ inl b | inr b ↦ absurd b.1 ]
-      | inr k ↦ inr (k.0 ∙ is, k.1)
-    ],
-    λ h. elim h [
-      | inl k ↦ subst (λ l. Has l a) (sym f.longer.1) (Has-left mid f.longer.0 a ((nodes a).1 (inl k)))
-      | inr k ↦ f.each a (k.0 ∙ sym is, k.1)
-    ],
-  )
+  pub end_none : (a : TableView) (w : KeptView) → IsKept s t last g a w → Grows s t last g a w a w (IsOfEnd [])
+  end_none a w k = grows_none s t last g a w (IsOfEnd []) k (λ x h. h.1)
+
+  pub end_next : (a : TableView) (w : KeptView) (b : TableView) (v : KeptView) (c : TableView) (u : KeptView)
+      (i j : ℕ) (l : Lock)
+      → i < length last → l ≡ get_or last i l → j ≡ length g → Grows s t last g a w b v (IsOfEnd (take i last))
+      → Grows s t last g b v c u (λ x. x ≡ link j l) → Grows s t last g a w c u (IsOfEnd (take (i + 1) last))
+  end_next a w b v c u i j l within is exit f h =
+      grows_as s t last g a w c u (λ x. IsOfEnd (take i last) x ⊎ (x ≡ link j l)) (IsOfEnd (take (i + 1) last))
+      (λ x k. elim (last_of last i l x.lock within is k.1) [
+        | inl old ↦ inl (k.0, old)
+        | inr e ↦ inr (same_link x j l (k.0 ∙ sym exit) e)
+      ])
+      (grows_then s t last g a w b v c u (IsOfEnd (take i last)) (λ x. x ≡ link j l) f h)
+
+  -- what the nodes generate, and then what the end does, is all
+  pub generated_all : (a : TableView) (w : KeptView) (b : TableView) (v : KeptView)
+      → ((x : Link) → IsGeneratedBelow s t g (length g) x → IsFoundAt a.keys w.found x)
+      → ((x : Link) → IsFoundAt a.keys w.found x → IsFoundAt b.keys v.found x)
+      → Grows s t last g a w b v (IsOfEnd last) → (x : Link) → IsGeneratedAt s t last g x → IsFoundAt b.keys v.found x
+  generated_all a w b v nodes stays f x h = elim h [
+    | inl y ↦ stays x (nodes x (slice_get_within g x.node y.0 y.1, y))
+    | inr e ↦ f.each x e
+  ]
+
+  -- what is carried back over a node of the lock of a kept step
+  pub carried_to : (a : TableView) (w : KeptView) (b : TableView) (j i : ℕ) (y : Node) (x : Link) (ns : List ℕ)
+      → IsKept s t last g a w
+      → slice_get g j ≡ Some y → LeadsTo y x.node → slice_get (links_of a.keys w.steps) i ≡ Some x
+      → Finds s a [] b ns (CarriedBack s t y.label x.lock)
+      → Grows s t last g a w b (keep_each b.above w j (Some i) ns) (λ z. (z.node ≡ j)
+      × CarriedBack s t y.label x.lock z.lock)
+  carried_to a w b j i y x ns k at leads kept finds =
+      let longer = grows_extended s t last g a w b k finds.longer finds.finding.table in
+      let stays = grows_at s t last g a w b w (λ z. ⊥) k longer i x kept in
+      let v = keep_each b.above w j (Some i) ns in
+      let within = slice_get_within g j y at in
+      let of : (n : ℕ) → Has ns n → CarriedBack s t y.label x.lock (lock_at b.keys n)
+      = λ n h. elim (finds.only (lock_at b.keys n) (n, h, named b.keys n (finds.finding.numbers n h))) [
+        | inl old ↦ absurd old.1
+        | inr c ↦ c
+      ] in
+      let each = grows_each s t last g b w longer.kept j (Some i) (omega (arith, within, k.count)) ns
+      (λ n h. (lock_at b.keys n, named b.keys n (finds.finding.numbers n h), (x, stays, (y, at, leads, of n h)))) in
+      grows_as s t last g a w b v (λ z. ⊥ ⊎ ((z.node ≡ j) × HasLock b.keys ns z.lock))
+      (λ z. (z.node ≡ j) × CarriedBack s t y.label x.lock z.lock) (λ z h. inr (h.0, finds.each z.lock h.1))
+      (grows_then s t last g a w b w b v (λ z. ⊥) (λ z. (z.node ≡ j) × HasLock b.keys ns z.lock) longer each)
 
   module _ (b : Link) (nodes : List ℕ) (before : AreBefore g b.node nodes) where
     -- the steps at the first of these nodes that link to this one
     abbrev pub LinksFromFirst : ℕ → Link → Type 0
     LinksFromFirst i a = Has (take i nodes) a.node × LinksTo s t g a b
 
-    -- no node is among the first none
-    pub carry_none : (kept : List Link) → Grows kept kept (LinksFromFirst 0)
-    carry_none kept = grows_none kept (LinksFromFirst 0) (λ a h. absurd h.0)
+    -- each of these nodes is one of the graph, from which control may go on to the step's
+    pub node_leads : (i : ℕ) → i < length nodes
+        → (y : Node) × (slice_get g (get_or nodes i 0) ≡ Some y) × LeadsTo y b.node
+    node_leads i within = (before (get_or nodes i 0)).0 (Has-get_or nodes i 0 within)
 
-    -- each of these nodes is one of the graph
-    pub node_within : (i : ℕ) → i < length nodes → get_or nodes i 0 < length g
-    node_within i within =
-        let found = (before (get_or nodes i 0)).0 (Has-get_or nodes i 0 within) in
-        slice_get_within g (get_or nodes i 0) found.0 found.1
+    -- no node is among the first none
+    pub carry_none : (a : TableView) (w : KeptView) → IsKept s t last g a w
+        → Grows s t last g a w a w (LinksFromFirst 0)
+    carry_none a w k = grows_none s t last g a w (LinksFromFirst 0) k (λ x h. h.0)
 
     -- those at one node more
-    pub carry_next : (i j : ℕ) (old mid new : List Link) → i < length nodes → j ≡ get_or nodes i j → Grows old mid (LinksFromFirst i)
-        → ((y : Node) → slice_get g j ≡ Some y → Grows mid new (λ a. (a.node ≡ j) × CarriedBack s t y.label b.lock a.lock))
-        → Grows old new (LinksFromFirst (i + 1))
-    carry_next i j old mid new within is f k =
+    pub carry_next : (a : TableView) (w : KeptView) (c : TableView) (v : KeptView) (d : TableView) (u : KeptView)
+        (i j : ℕ)
+        → i < length nodes → j ≡ get_or nodes i j → Grows s t last g a w c v (LinksFromFirst i)
+        → ((y : Node) → slice_get g j ≡ Some y → Grows s t last g c v d u (λ x. (x.node ≡ j)
+        × CarriedBack s t y.label b.lock x.lock))
+        → Grows s t last g a w d u (LinksFromFirst (i + 1))
+    carry_next a w c v d u i j within is f k =
         let found = (before j).0 (subst (Has nodes) (sym is) (Has-get_or nodes i j within)) in
         let y = found.0 in
-        let at = found.1 in
-        let leads = found.2 in
-        grows_as old new (λ a. LinksFromFirst i a ⊎ ((a.node ≡ j) × CarriedBack s t y.label b.lock a.lock)) (LinksFromFirst (i + 1))
-        (λ a h. elim (last_of nodes i j a.node within is h.0) [
-          | inl c ↦ inl (c, h.1)
-          | inr e ↦ (let same = one_at g j h.1.0 y (subst (λ k. slice_get g k ≡ Some h.1.0) e h.1.1) at in
-              inr (e, subst (λ z. CarriedBack s t z.label b.lock a.lock) same h.1.3))
+        grows_as s t last g a w d u (λ x. LinksFromFirst i x ⊎ ((x.node ≡ j) × CarriedBack s t y.label b.lock x.lock))
+        (LinksFromFirst (i + 1))
+        (λ x h. elim (last_of nodes i j x.node within is h.0) [
+          | inl old ↦ inl (old, h.1)
+          | inr e ↦ (let same = one_at g j h.1.0 y (subst (λ k. slice_get g k ≡ Some h.1.0) e h.1.1) found.1 in
+              inr (e, subst (λ z. CarriedBack s t z.label b.lock x.lock) same h.1.3))
         ])
-        (λ a h. elim h [
-          | inl c ↦ (so_far nodes i j a.node within is (inl c.0), c.1)
-          | inr c ↦ (so_far nodes i j a.node within is (inr c.0), (y, subst (λ k. slice_get g k ≡ Some y) (sym c.0) at, leads, c.1))
-        ])
-        (grows_then old mid new (LinksFromFirst i) (λ a. (a.node ≡ j) × CarriedBack s t y.label b.lock a.lock) f (k y at))
+        (grows_then s t last g a w c v d u (LinksFromFirst i) (λ x. (x.node ≡ j)
+        × CarriedBack s t y.label b.lock x.lock)
+        f (k y found.1))
 
     -- those at all of them
-    pub carry_done : (i : ℕ) (old new : List Link) → length nodes ≤ i → Grows old new (LinksFromFirst i) → Grows old new (λ a. LinksTo s t g a b)
-    carry_done i old new past f = grows_as old new (LinksFromFirst i) (λ a. LinksTo s t g a b)
-        (λ a h. (subst (λ l. Has l a.node) (sym (take_all i nodes past)) ((before a.node).1 (h.0, h.1, h.2)), h))
-        (λ a h. h.1) f
+    pub carry_done : (a : TableView) (w : KeptView) (c : TableView) (v : KeptView) (i : ℕ) → length nodes ≤ i
+        → Grows s t last g a w c v (LinksFromFirst i) → Grows s t last g a w c v (λ x. LinksTo s t g x b)
+    carry_done a w c v i past f = grows_as s t last g a w c v (LinksFromFirst i) (λ x. LinksTo s t g x b)
+        (λ x h. (subst (λ l. Has l x.node) (sym (take_all i nodes past)) ((before x.node).1 (h.0, h.1, h.2)), h)) f

@@ -1,8 +1,9 @@
 pub mod Places
+pub mod Keeping
 pub mod Growing
 pub mod Carrying
-pub mod Adding
-pub mod Preceding
 pub mod Working
 pub mod Meaning
 pub mod Trails
+pub mod Starting
+pub mod Chaining

@@ -1,25 +1,33 @@
 -- What the traces of a section need at its entry is found along steps of its graph.
-use Rattle.std.proofs.Common.{◌≡◌, ℕ, List, [], ◌∷◌, ◌++◌, length, inl, inr, refl, ap, subst}
+use Rattle.std.proofs.Common.{◌≡◌, ℕ, List, [], ◌∷◌, ◌++◌, length, inl, inr, refl, sym, ap, subst, arith}
 use Rattle.std.specs.Prelude.{slice_index_or}
+use Rattle.std.proofs.lemmas.Option.{slice_get_within}
 use Rattle.sect_front.specs.declared.tree.Locking.{Locking}
 use Rattle.sect_front.specs.declared.tree.Locking.TheVariants as locking
 use Rattle.sect_types.specs.Lists.{Has}
 use Rattle.sect_types.specs.Statements.{TextView}
-use Rattle.sect_types.specs.Traces.{Visit}
+use Rattle.sect_types.specs.Sections.{SectionView}
+use Rattle.sect_types.specs.Traces.{Visit, visit}
 use Rattle.sect_graph.specs.declared.flow.Node.{Node}
-use Rattle.sect_graph.specs.Paths.{IsPath}
+use Rattle.sect_graph.specs.Paths.{IsPath, IsConnected}
 use Rattle.sect_graph.specs.Graphs.{IsGraphOf}
+use Rattle.sect_names.specs.declared.link.Link.{Link}
 use Rattle.sect_names.specs.declared.lock.Lock.{Lock}
 use Rattle.sect_names.specs.Schemes.{SchemeView}
 use Rattle.sect_names.specs.Carrying.{Generated, CarriedBack}
 use Rattle.sect_names.specs.Locks.{IsLockOf}
-use Rattle.sect_names.specs.Needed.{CarriedOver, GeneratedFirst, IsNeeded, end_locks, end_of}
-use Rattle.sect_names.specs.Chains.{link}
-use Rattle.sect_chains.specs.steps.Trails.{HasTrail}
+use Rattle.sect_names.specs.Needed.{CarriedOver, GeneratedFirst, IsNeededOn, IsNeeded, IsNeededFrom, end_locks, end_of}
+use Rattle.sect_names.specs.Chains.{link, AreLinked}
+use Rattle.sect_names.proofs.Telling.{lock_cases}
+use Rattle.sect_infer.specs.Sets.{LocksView, AreLocksOf}
+use Rattle.sect_infer.proofs.Meaning.{path_begins}
+use Rattle.sect_chains.specs.steps.Trails.{HasTrail, AreTops}
 
 module _ (s : SchemeView) (t : ℕ) (last : List Lock) (g : List Node) where
   -- what is needed along a path from a node to the exit has a trail there
-  along_has_trail : (before : List Visit) (j : ℕ) (steps rest : List Visit) (x l : Lock) → IsPath g j steps (length g) → steps ≡ before ++ rest → GeneratedFirst s t last rest x → CarriedOver s t before x l → HasTrail s t last g (link j l)
+  along_has_trail : (before : List Visit) (j : ℕ) (steps rest : List Visit) (x l : Lock) → IsPath g j steps (length g)
+      → steps ≡ before ++ rest → GeneratedFirst s t last rest x → CarriedOver s t before x l
+      → HasTrail s t last g (link j l)
   along_has_trail [] j steps [] x l p e h c =
       let ended : j ≡ length g = subst (λ z. IsPath g j z (length g)) e p in
       ([], inr (ended, subst (Has last) c h))
@@ -34,10 +42,43 @@ module _ (s : SchemeView) (t : ℕ) (last : List Lock) (g : List Node) where
       (link q.3 c.0 ∷ r.0, ((q.0, q.1, q.4, subst (λ a. CarriedBack s t a c.0 l) label c.2), r.1))
 
   -- what is needed at the entry has a trail at the first node
-  pub needed_has_trail : (body : TextView) → IsGraphOf body g → (l : Lock) → IsNeeded s t last body l → HasTrail s t last g (link 0 l)
+  pub needed_has_trail : (body : TextView) → IsGraphOf body g → (l : Lock) → IsNeeded s t last body l
+      → HasTrail s t last g (link 0 l)
   needed_has_trail body graph l n =
       let m = n.2 in
       along_has_trail m.0 0 n.0 m.1 m.2 l ((graph.paths n.0).1 n.1) m.3 m.4 m.5
+
+  -- a lock from which steps lead on is needed along a path from its node to the exit
+  trail_along : IsConnected g → (x : Link) (links : List Link) → AreLinked s t last g x links
+      → (steps : List Visit) × IsPath g x.node steps (length g) × IsNeededOn s t last steps x.lock
+  trail_along con x [] (inl h) =
+      let p = con.exits x.node (slice_get_within g x.node h.0 h.1) in
+      let b = path_begins s t g x.node h.0 p.0 h.1 p.1 in
+      (p.0, p.1, ([], p.0, x.lock, refl, subst (λ st. GeneratedFirst s t last st x.lock) (sym b.1) h.2, refl))
+  trail_along con x [] (inr h) = ([], h.0, ([], [], x.lock, refl, h.1, refl))
+  trail_along con x (b ∷ links) (c, h) =
+      let q = trail_along con b links h in
+      let n = q.2 in
+      let a = visit x.node c.0.label in (
+        a ∷ q.0,
+        (c.0, c.1, refl, b.node, c.2, q.1),
+        (a ∷ n.0, n.1, n.2, ap (λ l. a ∷ l) n.3, n.4, (b.lock, n.5, c.3)),
+      )
+
+-- the locks of a section's entry are the maximal ones of those from which steps lead on at the first node
+pub are_tops : (s : SchemeView) (last : List Lock) (of : SectionView) (g : List Node) → IsGraphOf of.body g
+    → (locks : LocksView) → AreLocksOf s last of g locks → AreTops s of.thread last g locks.entry
+are_tops s last of g graph locks are = record {
+  trails = λ l h. needed_has_trail s of.thread last g of.body graph l (are.entry_needed l h);
+  alone = λ l big h d c.
+      let along = trail_along s of.thread last g graph.connected (link 0 big) d.0 d.1 in
+      let needed : IsNeededFrom s of.thread last of.body g 0 big
+      = (along.0, (graph.rests 0 (omega arith) along.0).0 along.1, along.2) in
+      elim (lock_cases big l) [
+        | inl e ↦ e
+        | inr n ↦ absurd ((((are.needed.each 0 locks.entry are.first).kept_are l).0 h).1 (big, needed, c, n))
+      ];
+}
 
 -- what the end of a section generates is the lock on all, if anything
 pub ended_lawful : (s : SchemeView) (t i : ℕ) (l : Lock) → Has (end_of s i) l → IsLockOf s t l

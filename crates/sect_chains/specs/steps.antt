@@ -1,3 +1,5 @@
 -- What the contracts of private functions speak of.
-pub mod Lists
 pub mod Trails
+pub mod Keeping
+pub mod Working
+pub mod Starting

@@ -3,8 +3,8 @@
 
 mod chain;
 mod keep;
-mod predecessors;
 mod section;
+mod starts;
 mod trail;
 mod work;
 

@@ -9,14 +9,23 @@ ghost use Rattle.sect_names.specs.Needed.{end_locks, end_of};
 ghost use Rattle.sect_names.specs.Chains.{link};
 ghost use Rattle.sect_infer.specs.Sets.{AreLocksOf};
 ghost use Rattle.sect_chains.specs.Chains.{AreChains};
-ghost use Rattle.sect_chains.specs.steps.Trails.{HasTrail, StaysWithin, AreLawful, GoBack, AreFromEntry};
+ghost use Rattle.sect_chains.specs.steps.Trails.{AreLawful, RespectCover, AreTops};
+ghost use Rattle.sect_graph.specs.Predecessors.{StaysWithin};
+ghost use Rattle.sect_chains.specs.steps.Trails.{GoBack, AreFromEntry};
+ghost use Rattle.sect_chains.specs.steps.Starting.{AreStarts};
+ghost use Rattle.sect_chains.specs.steps.Working.{links_of, nexts_of};
+ghost use Rattle.sect_chains.specs.declared.keep.Step.{Step};
+ghost use Rattle.sect_infer.specs.Numbers.{AreApart};
 
 use crate::chain::Chain;
-use crate::trail::{Trail, links_from, trail_of};
+use crate::starts::starts_of;
+use crate::trail::{links_from, trail_of};
+use crate::work::{Searched, Trail};
 use sect_front::Locking;
-use sect_graph::Flow;
 use sect_infer::Locks;
-use sect_names::{Link, Lock, Scheme, locks_stay_the_programs, steps_of_sections};
+use sect_names::{
+    Lock, Scheme, carrying_back_respects_covering, locks_stay_the_programs, steps_of_sections,
+};
 use std::alloc::{AllocError, Global};
 
 /// For each lock that a section takes at its entry, in order, the steps along which it is needed. `AllocError` is
@@ -45,7 +54,13 @@ pub fn chains(
     let thread = scheme.program().section(section).thread;
     let flow = scheme.graph().section(section);
     let last = locks_of_end(alloc, scheme.program().locking(section))?;
-    found(alloc, scheme, thread, flow, last.as_slice(), locks.entry())
+    let searched = Searched {
+        scheme,
+        thread,
+        flow,
+        last: last.as_slice(),
+    };
+    found(alloc, searched, locks.entry())
 }
 
 /// What the end of a section generates.
@@ -60,7 +75,8 @@ fn locks_of_end(alloc: Global, locking: Locking) -> Result<Vec<Lock>, AllocError
 }
 
 /// What the nodes of a section's graph and the section's end generate, and what the nodes carry back, are locks of the
-/// program; and control stays in the graph.
+/// program; where a lock covers another, what it is carried back to covers what the other is; and control stays in the
+/// graph.
 fn only_the_programs(scheme: &Scheme, section: u16)
     ensures lawful { (of : SectionView) (g : List Node)
         → slice_get (sections_of scheme.now.program.texts) section ≡ Some of
@@ -69,14 +85,18 @@ fn only_the_programs(scheme: &Scheme, section: u16)
     ensures within { (of : SectionView) (g : List Node)
         → slice_get (sections_of scheme.now.program.texts) section ≡ Some of
         → slice_get scheme.now.graphs.sections section ≡ Some g → StaysWithin g }
+    ensures respects { (of : SectionView) (g : List Node)
+        → slice_get (sections_of scheme.now.program.texts) section ≡ Some of
+        → slice_get scheme.now.graphs.sections section ≡ Some g → RespectCover scheme.now of.thread g }
 {
     scheme.rules();
     scheme.program().typing();
     locks_stay_the_programs();
+    carrying_back_respects_covering();
     steps_of_sections();
 }
 
-/// Steps lead on from each of the entry's locks at the first node.
+/// Steps lead on from each of the entry's locks at the first node, and from no other lock there that covers it.
 fn needed_locks_have_trails(scheme: &Scheme, locks: &Locks, section: u16)
     requires { (of : SectionView) (g : List Node)
         → slice_get (sections_of scheme.now.program.texts) section ≡ Some of
@@ -85,46 +105,49 @@ fn needed_locks_have_trails(scheme: &Scheme, locks: &Locks, section: u16)
     ensures { (of : SectionView) (g : List Node)
         → slice_get (sections_of scheme.now.program.texts) section ≡ Some of
         → slice_get scheme.now.graphs.sections section ≡ Some g
-        → (l : Lock) → Has locks.now.entry l
-        → HasTrail scheme.now of.thread (end_of scheme.now section) g (link 0 l) }
+        → AreTops scheme.now of.thread (end_of scheme.now section) g locks.now.entry }
 {
     scheme.rules();
     let _ = locks.entry();
 }
 
 /// A chain for each of these locks.
-fn found(
-    alloc: Global,
-    scheme: &Scheme,
-    thread: u16,
-    flow: &Flow,
-    last: &[Lock],
-    locks: &[Lock],
-) -> Result<Vec<Chain>, AllocError>
-    requires within { StaysWithin flow.now }
-    requires lawful { AreLawful scheme.now thread last.now flow.now }
-    requires needed { (l : Lock) → Has locks.now l → HasTrail scheme.now thread last.now flow.now (link 0 l) }
-    ensures { IfOk result (λ chains. AreChains scheme.now thread last.now flow.now locks.now chains.items) }
+fn found(alloc: Global, section: Searched<'_>, locks: &[Lock]) -> Result<Vec<Chain>, AllocError>
+    requires within { StaysWithin section.flow.now }
+    requires lawful { AreLawful section.scheme.now section.thread section.last.now section.flow.now }
+    requires respects { RespectCover section.scheme.now section.thread section.flow.now }
+    requires tops { AreTops section.scheme.now section.thread section.last.now section.flow.now locks.now }
+    ensures { IfOk result (λ chains.
+        AreChains section.entry.scheme.now section.entry.thread section.entry.last.now section.entry.flow.now
+        locks.now chains.items) }
 {
-    let trail = trail_of(alloc, scheme, thread, flow, last)?;
+    let trail = trail_of(alloc, section)?;
+    let starts = starts_of(alloc, &trail)?;
     let mut chains = Vec::new(alloc);
     for lock in locks {
-        chains.push(chain_of(alloc, &trail, lock)?)?;
+        chains.push(chain_of(alloc, &trail, &starts, lock)?)?;
     }
     Ok(chains)
 }
 
 /// The chain of a lock that is needed at the entry.
-fn chain_of(alloc: Global, trail: &Trail, lock: &Lock) -> Result<Chain, AllocError>
-    requires back { GoBack trail.now.kept.keys trail.now.next.items }
-    requires there { Has trail.now.kept.keys (link 0 lock.now) }
-    ensures { IfOk result (AreFromEntry trail.now.kept.keys trail.now.next.items lock.now) }
+fn chain_of(
+    alloc: Global,
+    trail: &Trail,
+    starts: &Vec<Option<usize>>,
+    lock: &Lock,
+) -> Result<Chain, AllocError>
+    requires back { GoBack (links_of trail.now.table.keys trail.now.steps.items) (nexts_of trail.now.steps.items) }
+    requires numbers { (x : Step) → Has trail.now.steps.items x → x.number < length trail.now.table.keys }
+    requires apart { AreApart trail.now.table.keys }
+    requires starts { AreStarts (length trail.now.table.keys) trail.now.steps.items (length trail.now.steps.items)
+        starts.now.items }
+    requires there { Has (links_of trail.now.table.keys trail.now.steps.items) (link 0 lock.now) }
+    ensures { IfOk result (AreFromEntry (links_of trail.now.table.keys trail.now.steps.items)
+        (nexts_of trail.now.steps.items) lock.now) }
 {
-    let step = Link {
-        node: 0,
-        lock: lock.try_clone()?,
-    };
-    let start = trail.index_of(&step).unwrap();
+    let number = trail.table.find(lock).unwrap();
+    let start = starts[number].unwrap();
     let links = links_from(alloc, trail, start)?;
     Ok(Chain::of(links))
 }

@@ -1,111 +1,209 @@
-//! One turn of the worklist: what is needed at a node because of what is needed where control may go on (Kildall).
+//! The search for what is needed at the nodes of a section's graph (Kildall).
 
-ghost use Rattle.std.specs.Prelude.{◌≡◌, ◌↔◌, ◌≤◌, ◌<◌, [], length, slice_get, Some, IfOk, OnOk};
+ghost use Rattle.std.specs.Prelude.{◌≡◌, ◌<◌, ℕ, [], length, slice_get, Some, slice_index_or, IfOk, OnOk};
 ghost use Rattle.sect_types.specs.Lists.{Has};
 ghost use Rattle.sect_graph.specs.declared.flow.Node.{Node};
+ghost use Rattle.sect_graph.specs.Paths.{LeadsTo};
 ghost use Rattle.sect_names.specs.declared.link.Link.{Link};
+ghost use Rattle.sect_names.specs.declared.lock.Lock.{Lock};
 ghost use Rattle.sect_names.specs.Carrying.{CarriedBack};
-ghost use Rattle.sect_names.specs.Chains.{IsGeneratedAt, LinksTo};
-ghost use Rattle.sect_chains.specs.steps.Trails.{Grows, AreBefore, AreAllBefore};
+ghost use Rattle.sect_names.specs.Chains.{link, IsGeneratedAt, LinksTo};
+ghost use Rattle.sect_chains.specs.declared.keep.Step.{Step};
+ghost use Rattle.sect_chains.specs.steps.Trails.{AreLawful};
+ghost use Rattle.sect_graph.specs.Predecessors.{AreBefore};
+ghost use Rattle.sect_chains.specs.steps.Working.{links_of, IsWork, GoesOn, IsGeneratedBy};
+ghost use Rattle.sect_chains.specs.steps.Working.{IsGeneratedBelow, HasAllGenerated};
 
-use crate::keep::{keep, keep_all};
-use crate::predecessors::Predecessors;
-use indexmap::IndexSet;
+use crate::keep::{Step, keep, keep_all};
 use sect_graph::Flow;
+use sect_infer::{Numbers, Table, carry_one};
 use sect_names::{Link, Lock, Scheme};
 use std::alloc::{AllocError, Global};
 
-/// What the nodes generate.
-fn generated_by_nodes(
-    alloc: Global,
-    scheme: &Scheme,
-    thread: u16,
-    flow: &Flow,
-) -> Result<IndexSet<Link>, AllocError>
-    ensures { IfOk result (λ kept. (a : Link) → Has kept.keys a ↔ IsGeneratedAt scheme.now thread [] flow.now a) }
+/// A section whose chains are searched.
+#[derive(Clone, Copy)]
+pub struct Searched<'a> {
+    pub scheme: &'a Scheme,
+    pub thread: u16,
+    pub flow: &'a Flow,
+    /// What the section's end generates.
+    pub last: &'a [Lock],
+}
+
+/// Steps, each once, in the order in which they came; the table of their locks; and for each node of a graph, the exit
+/// too, the numbers of all locks that were found there.
+#[derive(Drop)]
+pub struct Trail {
+    pub table: Table,
+    pub found: Vec<Numbers>,
+    pub steps: Vec<Step>,
+}
+
+/// No numbers, for so many nodes.
+fn none_found(alloc: Global, count: usize) -> Result<Vec<Numbers>, AllocError>
+    ensures count { IfOk result (λ found. length found.items ≡ count) }
+    ensures none { IfOk result (λ found. (j : ℕ) → slice_index_or found.items j [] ≡ []) }
 {
-    let mut kept = IndexSet::new(alloc);
-    for node in 0..flow.exit() {
-        if let Some(lock) = scheme.generate(alloc, thread, flow.action(node)) {
-            keep(&mut kept, node, lock)?;
-        }
+    let mut found = Vec::new(alloc);
+    for _ in 0..count {
+        found.push(Numbers::new(alloc))?;
     }
-    Ok(kept)
+    Ok(found)
 }
 
-/// What the nodes generate, and what the section's end does.
-pub fn generated(
+/// Keeps the step of a lock that a node generates, or the section's end.
+fn put(
     alloc: Global,
-    scheme: &Scheme,
-    thread: u16,
-    flow: &Flow,
-    last: &[Lock],
-) -> Result<IndexSet<Link>, AllocError>
-    ensures { IfOk result (λ kept. (a : Link)
-        → Has kept.keys a ↔ IsGeneratedAt scheme.now thread last.now flow.now a) }
-{
-    let mut kept = generated_by_nodes(alloc, scheme, thread, flow)?;
-    keep_all(&mut kept, flow.exit(), last)?;
-    Ok(kept)
-}
-
-/// Keeps the steps that link to this one, at the nodes from which control may go on to its own.
-fn carry(
-    alloc: Global,
-    scheme: &Scheme,
-    thread: u16,
-    flow: &Flow,
-    predecessors: &[u16],
-    step: &Link,
-    kept: &mut IndexSet<Link>,
-) -> Result<(), AllocError>
-    requires { AreBefore flow.now step.now.node predecessors.now }
-    ensures { OnOk result (Grows kept.old.keys kept.new.keys (λ a. LinksTo scheme.now thread flow.now a step.now)) }
-{
-    for node in predecessors {
-        carry_to(alloc, scheme, thread, flow, *node, &step.lock, kept)?;
-    }
-    Ok(())
-}
-
-/// Keeps what is needed at a node where this lock is needed after it.
-fn carry_to(
-    alloc: Global,
-    scheme: &Scheme,
-    thread: u16,
-    flow: &Flow,
+    section: Searched<'_>,
+    trail: &mut Trail,
     node: u16,
     lock: &Lock,
-    kept: &mut IndexSet<Link>,
 ) -> Result<(), AllocError>
-    requires { node < length flow.now }
-    ensures { OnOk result ((y : Node) → slice_get flow.now node ≡ Some y
-        → Grows kept.old.keys kept.new.keys
-        (λ a. (a.node ≡ node) × CarriedBack scheme.now thread y.label lock.now a.lock)) }
+    requires generated { IsGeneratedAt section.scheme.now section.thread section.last.now section.flow.now
+        (link node lock.now) }
+    requires work { IsWork section.scheme.now section.thread section.last.now section.flow.now trail.old }
+    ensures { OnOk result (GoesOn section.entry.scheme.now section.entry.thread section.entry.last.now
+        section.entry.flow.now trail.old trail.new
+        (λ a. a ≡ link node lock.now)) }
 {
-    let locks = scheme.rewrite(alloc, thread, flow.action(node), lock)?;
-    keep_all(kept, node, locks.as_slice())?;
+    let number = trail.table.number(alloc, section.scheme, lock)?;
+    let step = Step {
+        node,
+        number,
+        next: None,
+    };
+    keep(&trail.table, &mut trail.found, &mut trail.steps, step)
+}
+
+/// Keeps the step of what a node generates.
+fn put_by_node(
+    alloc: Global,
+    section: Searched<'_>,
+    trail: &mut Trail,
+    node: u16,
+) -> Result<(), AllocError>
+    requires node { node < length section.flow.now }
+    requires work { IsWork section.scheme.now section.thread section.last.now section.flow.now trail.old }
+    ensures { OnOk result (GoesOn section.entry.scheme.now section.entry.thread section.entry.last.now
+        section.entry.flow.now trail.old trail.new
+        (IsGeneratedBy section.entry.scheme.now section.entry.thread section.entry.flow.now node)) }
+{
+    let label = section.flow.action(node);
+    match section.scheme.generate(alloc, section.thread, label) {
+        None => Ok(()),
+        Some(lock) => put(alloc, section, trail, node, &lock),
+    }
+}
+
+/// Keeps the steps of what the nodes generate.
+fn put_by_nodes(alloc: Global, section: Searched<'_>, trail: &mut Trail) -> Result<(), AllocError>
+    requires { IsWork section.scheme.now section.thread section.last.now section.flow.now trail.old }
+    ensures { OnOk result (GoesOn section.entry.scheme.now section.entry.thread section.entry.last.now
+        section.entry.flow.now trail.old trail.new
+        (IsGeneratedBelow section.entry.scheme.now section.entry.thread section.entry.flow.now
+        (length section.entry.flow.now))) }
+{
+    for node in 0..section.flow.exit() {
+        put_by_node(alloc, section, trail, node)?;
+    }
     Ok(())
 }
 
-/// Keeps the steps that link to the one at an index.
-pub fn advance(
+/// Keeps the steps of what the section's end generates.
+fn put_at_end(alloc: Global, section: Searched<'_>, trail: &mut Trail) -> Result<(), AllocError>
+    requires work { IsWork section.scheme.now section.thread section.last.now section.flow.now trail.old }
+    ensures { OnOk result (GoesOn section.entry.scheme.now section.entry.thread section.entry.last.now
+        section.entry.flow.now trail.old trail.new
+        (λ a. (a.node ≡ length section.entry.flow.now) × Has section.entry.last.now a.lock)) }
+{
+    for lock in section.last {
+        put(alloc, section, trail, section.flow.exit(), lock)?;
+    }
+    Ok(())
+}
+
+/// The steps of what the nodes generate, and the section's end.
+pub fn generated(alloc: Global, section: Searched<'_>) -> Result<Trail, AllocError>
+    ensures work { IfOk result (λ trail. IsWork section.entry.scheme.now section.entry.thread section.entry.last.now
+        section.entry.flow.now trail) }
+    ensures all { IfOk result (λ trail. HasAllGenerated section.entry.scheme.now section.entry.thread
+        section.entry.last.now section.entry.flow.now trail) }
+{
+    let mut trail = Trail {
+        table: Table::new(alloc),
+        found: none_found(alloc, section.flow.exit() as usize + 1)?,
+        steps: Vec::new(alloc),
+    };
+    put_by_nodes(alloc, section, &mut trail)?;
+    put_at_end(alloc, section, &mut trail)?;
+    Ok(trail)
+}
+
+/// Keeps the steps at a node that link to the one at an index.
+fn carry_to(
     alloc: Global,
-    scheme: &Scheme,
-    thread: u16,
-    flow: &Flow,
-    predecessors: &Predecessors,
-    kept: &mut IndexSet<Link>,
+    section: Searched<'_>,
+    trail: &mut Trail,
+    fresh: &mut Numbers,
+    node: u16,
     index: usize,
 ) -> Result<(), AllocError>
-    requires predecessors { AreAllBefore flow.now predecessors.now }
-    requires there { index < length kept.old.keys }
-    requires node { (a : Link) → slice_get kept.old.keys index ≡ Some a → a.node ≤ length flow.now }
-    ensures { OnOk result ((b : Link) → slice_get kept.old.keys index ≡ Some b
-        → Grows kept.old.keys kept.new.keys (λ a. LinksTo scheme.now thread flow.now a b)) }
+    requires node { node < length section.flow.now }
+    requires index { index < length trail.old.steps.items }
+    requires leads { (y : Node) (x : Step) → slice_get section.flow.now node ≡ Some y
+        → slice_get trail.old.steps.items index ≡ Some x → LeadsTo y x.node }
+    requires lawful { AreLawful section.scheme.now section.thread section.last.now section.flow.now }
+    requires work { IsWork section.scheme.now section.thread section.last.now section.flow.now trail.old }
+    ensures { OnOk result ((y : Node) (b : Link) → slice_get section.entry.flow.now node ≡ Some y
+        → slice_get (links_of trail.old.table.keys trail.old.steps.items) index ≡ Some b
+        → GoesOn section.entry.scheme.now section.entry.thread section.entry.last.now
+        section.entry.flow.now trail.old trail.new
+        (λ a. (a.node ≡ node) × CarriedBack section.entry.scheme.now section.entry.thread y.label b.lock a.lock)) }
 {
-    let step = kept[index].try_clone()?;
-    let nodes = predecessors.of(step.node);
-    carry(alloc, scheme, thread, flow, nodes, &step, kept)?;
+    let label = section.flow.action(node);
+    let number = trail.steps[index].number;
+    fresh.clear();
+    carry_one(
+        alloc,
+        section.scheme,
+        section.thread,
+        &label,
+        &mut trail.table,
+        fresh,
+        number,
+    )?;
+    keep_all(
+        &trail.table,
+        &mut trail.found,
+        &mut trail.steps,
+        node,
+        Some(index),
+        fresh.members(),
+    )
+}
+
+/// Keeps the steps that link to the one at an index, at the nodes from which control may go on to its own.
+pub fn carry(
+    alloc: Global,
+    section: Searched<'_>,
+    predecessors: &[u16],
+    trail: &mut Trail,
+    fresh: &mut Numbers,
+    index: usize,
+) -> Result<(), AllocError>
+    requires index { index < length trail.old.steps.items }
+    requires before { (x : Step) → slice_get trail.old.steps.items index ≡ Some x
+        → AreBefore section.flow.now x.node predecessors.now }
+    requires lawful { AreLawful section.scheme.now section.thread section.last.now section.flow.now }
+    requires work { IsWork section.scheme.now section.thread section.last.now section.flow.now trail.old }
+    ensures { OnOk result ((b : Link)
+        → slice_get (links_of trail.old.table.keys trail.old.steps.items) index ≡ Some b
+        → GoesOn section.entry.scheme.now section.entry.thread section.entry.last.now
+        section.entry.flow.now trail.old trail.new
+        (λ a. LinksTo section.entry.scheme.now section.entry.thread section.entry.flow.now a b)) }
+{
+    for node in predecessors {
+        carry_to(alloc, section, trail, fresh, *node, index)?;
+    }
     Ok(())
 }

@@ -7,17 +7,14 @@ use Rattle.sect_graph.specs.Paths.{LeadsTo}
 use Rattle.sect_names.specs.declared.link.Link.{Link}
 use Rattle.sect_names.specs.declared.lock.Lock.{Lock}
 use Rattle.sect_names.specs.Schemes.{SchemeView}
-use Rattle.sect_names.specs.Locks.{IsLockOf}
+use Rattle.sect_names.specs.Locks.{IsLockOf, Covers}
+use Rattle.sect_names.specs.Laws.{RespectsCover}
 use Rattle.sect_names.specs.Carrying.{Generated, CarriedBack}
 use Rattle.sect_names.specs.Chains.{link, IsGeneratedAt, LinksTo, AreLinked}
 
 -- steps lead on from this one to where a lock is generated
 abbrev pub HasTrail : SchemeView → ℕ → List Lock → List Node → Link → Type 0
 HasTrail s t last g a = (links : List Link) × AreLinked s t last g a links
-
--- control goes on from a node to a node or to the exit
-abbrev pub StaysWithin : List Node → Type 0
-StaysWithin g = (i j : ℕ) (x : Node) → slice_get g i ≡ Some x → LeadsTo x j → j ≤ length g
 
 -- the locks that the nodes and the section's end generate, and those that the nodes carry back, are the program's
 pub record AreLawful (s : SchemeView) (t : ℕ) (last : List Lock) (g : List Node) : Type 0 where
@@ -26,20 +23,14 @@ pub record AreLawful (s : SchemeView) (t : ℕ) (last : List Lock) (g : List Nod
   pub carried : (j : ℕ) (y : Node) → slice_get g j ≡ Some y → (l r : Lock) → IsLockOf s t l
       → CarriedBack s t y.label l r → IsLockOf s t r
 
--- steps with this property are put behind others, where they were not there
-pub record Grows (old new : List Link) (P : Link → Type 0) : Type 0 where
-  pub longer : (more : List Link) × (new ≡ old ++ more)
-  pub each : (a : Link) → P a → Has new a
-  pub only : (a : Link) → Has new a → Has old a ⊎ P a
+-- what is carried back of a lock that covers another covers what is carried back of that
+abbrev pub RespectCover : SchemeView → ℕ → List Node → Type 0
+RespectCover s t g = (j : ℕ) (y : Node) → slice_get g j ≡ Some y → RespectsCover s t y.label
 
--- these are the nodes from which control may go on to node m
-abbrev pub AreBefore : List Node → ℕ → List ℕ → Type 0
-AreBefore g m before = (i : ℕ) → Has before i ↔ ((y : Node) × (slice_get g i ≡ Some y) × LeadsTo y m)
-
--- a list of them for each node, and for the exit
-pub record AreAllBefore (g : List Node) (lists : List (List ℕ)) : Type 0 where
-  pub count : length lists ≡ length g + 1
-  pub each : (m : ℕ) → m ≤ length g → AreBefore g m (slice_index_or lists m [])
+-- steps lead on from each of these locks at the first node, and from no other lock there that covers it
+pub record AreTops (s : SchemeView) (t : ℕ) (last : List Lock) (g : List Node) (locks : List Lock) : Type 0 where
+  pub trails : (l : Lock) → Has locks l → HasTrail s t last g (link 0 l)
+  pub alone : (l big : Lock) → Has locks l → HasTrail s t last g (link 0 big) → Covers s big l → big ≡ l
 
 -- the lock of the step at an index is generated there, or the step links to an earlier one
 abbrev pub LeadsOn : SchemeView → ℕ → List Lock → List Node → List Link → ℕ → Link → Option ℕ → Type 0

@@ -1,13 +1,33 @@
-use Rattle.std.proofs.Common.{◌≡◌, ◌<◌, arith, length, subst}
-use Rattle.sect_names.specs.Chains.{link}
-use Rattle.sect_chains.specs.steps.Trails.{Grows}
-use Rattle.sect_chains.proofs.Growing.{keeps_next}
+use Rattle.std.proofs.Common.{◌≡◌, ◌<◌, length, get_or, take, ap, ◌∙◌, arith}
+use Rattle.std.proofs.lemmas.List.{get_or_default}
+use Rattle.sect_types.proofs.Membership.{Has-get_or}
+use Rattle.sect_chains.specs.steps.Keeping.{KeptView, kept, step_of}
+use Rattle.sect_chains.proofs.Keeping.{each_count, each_next}
 use Rattle.sect_chains.proofs.keep.keep_all.Goals as goal
 
-pub loop-lock-preserved : goal.loop-lock-preserved
-loop-lock-preserved c =
-    let locks = c.args.locks.now in
-    let i = c.loop-lock.lock-index in
-    let l = c.lock-item.result in
-    let within : i < length locks = omega arith in
-    keeps_next c.args.kept.now.keys c.loop-lock.kept.keys c.keep.new.kept.keys c.args.node locks i l within c.lock-item.is c.loop-lock.invariant (subst (λ l. Grows c.loop-lock.kept.keys c.keep.new.kept.keys (λ a. a ≡ link c.args.node l)) c.in_ok-try_clone.ensures c.in_ok-keep.ensures)
+pub keep-requires-clause-node : goal.keep-requires-clause-node
+keep-requires-clause-node c =
+    let old = kept c.args.found.now.items c.args.steps.now.items in
+    let same = ap (λ (w : KeptView). length w.found) c.loop-number.invariant in
+    let count = each_count c.args.table.now.above old c.args.node c.args.next
+    (take c.loop-number.number-index c.args.numbers.now) in
+    omega (arith, same ∙ count, c.requires.node)
+
+pub keep-requires-clause-number : goal.keep-requires-clause-number
+keep-requires-clause-number c =
+    let numbers = c.args.numbers.now in
+    let i = c.loop-number.number-index in
+    c.requires.numbers (get_or numbers i 0) (Has-get_or numbers i 0 (omega (arith, c.loop-number-test.true)))
+
+pub loop-number-preserved : goal.loop-number-preserved
+loop-number-preserved c =
+    let old = kept c.args.found.now.items c.args.steps.now.items in
+    let v = kept c.loop-number.found.items c.loop-number.steps.items in
+    let u = kept c.keep.new.found.items c.keep.new.steps.items in
+    let numbers = c.args.numbers.now in
+    let i = c.loop-number.number-index in
+    let n = get_or numbers i 0 in
+    let within : i < length numbers = omega (arith, c.loop-number-test.true) in
+    each_next c.args.table.now.above old v u c.args.node c.args.next numbers i n within
+    (get_or_default numbers i 0 n within)
+    c.loop-number.invariant c.in_ok-keep.ensures

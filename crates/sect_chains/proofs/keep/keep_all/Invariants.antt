@@ -1,7 +1,7 @@
 use Rattle.std.proofs.Common.{◌≡◌, take}
-use Rattle.sect_types.specs.Lists.{Has}
-use Rattle.sect_chains.specs.steps.Trails.{Grows}
+use Rattle.sect_chains.specs.steps.Keeping.{kept, keep_each}
 use Rattle.sect_chains.proofs.keep.keep_all.Given as goal
 
-abbrev pub invariant-loop-lock : goal.invariant-loop-lock
-invariant-loop-lock l = Grows l.fn.kept.keys l.kept.keys (λ a. (a.node ≡ l.node) × Has (take l.lock-index l.locks) a.lock)
+abbrev pub invariant-loop-number : goal.invariant-loop-number
+invariant-loop-number l = kept l.found.items l.steps.items
+    ≡ keep_each l.table.above (kept l.fn.found.items l.fn.steps.items) l.node l.next (take l.number-index l.numbers)

@@ -3,29 +3,61 @@ use Rattle.sect_types.specs.Lists.{Has}
 use Rattle.sect_types.proofs.Membership.{Has-get_or}
 use Rattle.sect_types.proofs.Places.{zip_more}
 use Rattle.sect_names.specs.Chains.{link, IsChain}
+use Rattle.sect_chains.specs.steps.Trails.{AreFromEntry}
+use Rattle.sect_chains.specs.steps.Working.{links_of, nexts_of, kept_of}
+use Rattle.sect_chains.proofs.Growing.{kept_numbers, kept_trail}
 use Rattle.sect_chains.proofs.Trails.{go_back, entry_chain}
 use Rattle.sect_chains.proofs.section.found.Goals as goal
 
+pub starts_of-requires : goal.starts_of-requires
+starts_of-requires c =
+    let a = c.args.section in
+    let trail = c.in_ok-trail.trail in
+    kept_numbers a.scheme.now a.thread a.last.now a.flow.now trail.table (kept_of trail) c.in_ok-trail.ensures.work
+
 pub chain_of-requires-clause-back : goal.chain_of-requires-clause-back
 chain_of-requires-clause-back c =
-    go_back c.args.scheme.now c.args.thread c.args.last.now c.args.flow.now c.in_ok-trail.trail.kept.keys c.in_ok-trail.trail.next.items c.in_ok-trail.ensures.leads
+    let a = c.args.section in
+    let trail = c.in_ok-trail.trail in
+    go_back a.scheme.now a.thread a.last.now a.flow.now (links_of trail.table.keys trail.steps.items)
+    (nexts_of trail.steps.items)
+    c.in_ok-trail.ensures.work.leads
+
+pub chain_of-requires-clause-numbers : goal.chain_of-requires-clause-numbers
+chain_of-requires-clause-numbers c =
+    let a = c.args.section in
+    let trail = c.in_ok-trail.trail in
+    kept_numbers a.scheme.now a.thread a.last.now a.flow.now trail.table (kept_of trail) c.in_ok-trail.ensures.work
+
+pub chain_of-requires-clause-apart : goal.chain_of-requires-clause-apart
+chain_of-requires-clause-apart c = c.in_ok-trail.ensures.work.table.apart
 
 pub chain_of-requires-clause-there : goal.chain_of-requires-clause-there
 chain_of-requires-clause-there c =
+    let a = c.args.section in
+    let trail = c.in_ok-trail.trail in
     let locks = c.args.locks.now in
     let l = c.lock-item.result in
     let within : c.loop-lock.lock-index < length locks = omega arith in
-    c.in_ok-trail.ensures.all (link 0 l) (c.requires.needed l (subst (Has locks) (sym c.lock-item.is) (Has-get_or locks c.loop-lock.lock-index l within)))
+    let has = subst (Has locks) (sym c.lock-item.is) (Has-get_or locks c.loop-lock.lock-index l within) in
+    let top = c.in_ok-trail.ensures.all (link 0 l) (c.requires.tops.trails l has) in
+    let needed = kept_trail a.scheme.now a.thread a.last.now a.flow.now trail.table
+    (kept_of trail) c.in_ok-trail.ensures.work (link 0 top.0) top.1 in
+    subst (λ big. Has (links_of trail.table.keys trail.steps.items) (link 0 big))
+    (c.requires.tops.alone l top.0 has needed top.2) top.1
 
 pub loop-lock-preserved : goal.loop-lock-preserved
 loop-lock-preserved c =
-    let s = c.args.scheme.now in
-    let t = c.args.thread in
-    let last = c.args.last.now in
-    let g = c.args.flow.now in
+    let a = c.args.section in
+    let s = a.scheme.now in
+    let g = a.flow.now in
     let locks = c.args.locks.now in
     let l = c.lock-item.result in
     let trail = c.in_ok-trail.trail in
     let within : c.loop-lock.lock-index < length locks = omega arith in
-    let chain = entry_chain s t last g trail.kept.keys trail.next.items c.in_ok-trail.ensures.leads l c.in_ok-chain_of.field-0 c.in_ok-chain_of.ensures in
-    rw c.in_ok-push.ensures.items (zip_more (IsChain s t last g) locks c.loop-lock.lock-index l c.loop-lock.chains.items c.in_ok-chain_of.field-0 within c.lock-item.is c.loop-lock.invariant chain)
+    let chain = entry_chain s a.thread a.last.now g (links_of trail.table.keys trail.steps.items)
+    (nexts_of trail.steps.items)
+    c.in_ok-trail.ensures.work.leads l c.in_ok-chain_of.field-0 c.in_ok-chain_of.ensures in
+    rw c.in_ok-push.ensures.items (zip_more (IsChain s a.thread a.last.now g) locks c.loop-lock.lock-index l
+    c.loop-lock.chains.items
+    c.in_ok-chain_of.field-0 within c.lock-item.is c.loop-lock.invariant chain)

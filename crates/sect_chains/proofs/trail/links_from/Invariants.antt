@@ -1,11 +1,13 @@
 use Rattle.std.proofs.Common.{◌<◌, length}
+use Rattle.sect_chains.specs.steps.Working.{links_of, nexts_of}
 use Rattle.sect_chains.proofs.Trails.{LeadTo}
 use Rattle.sect_chains.proofs.trail.links_from.Given as goal
 
 abbrev pub invariant-loop-next : goal.invariant-loop-next
 invariant-loop-next l = record {
-  there : l.at < length l.trail.kept.keys;
-  so_far : LeadTo l.trail.kept.keys l.trail.next.items l.start l.links.items l.at;
+  there : l.at < length l.trail.steps.items;
+  so_far : LeadTo (links_of l.trail.table.keys l.trail.steps.items) (nexts_of l.trail.steps.items) l.start
+      l.links.items l.at;
 }
 
 abbrev pub decreases-loop-next : goal.decreases-loop-next

@@ -1,60 +1,68 @@
-use Rattle.std.proofs.Common.{◌≤◌, ◌<◌, [], None, Some, length, length-append, ap, subst, arith}
+use Rattle.std.proofs.Common.{◌≡◌, ◌<◌, ◌≤◌, [], Some, length, sym, ap, ◌∙◌, subst, arith}
+use Rattle.std.specs.Prelude.{slice_get, slice_index_or}
+use Rattle.std.proofs.lemmas.Option.{slice_get-get_or, get_or_from_slice_get}
 use Rattle.sect_types.proofs.Membership.{Has-slice_get}
-use Rattle.sect_chains.specs.steps.Lists.{IsFilled}
-use Rattle.sect_types.proofs.Places.{at_of}
-use Rattle.sect_chains.proofs.Working.{work_begins, work_next, work_ends, trail_lock, few}
-use Rattle.sect_chains.proofs.Trails.{leads_none, leads_more}
+use Rattle.sect_chains.specs.declared.keep.Step.{Step}
+use Rattle.sect_graph.specs.Predecessors.{AreBefore}
+use Rattle.sect_chains.specs.steps.Working.{links_of, kept_of}
+use Rattle.sect_chains.proofs.Growing.{kept_trail, link_at}
+use Rattle.sect_chains.proofs.Working.{work_next, work_ends, trail_lock, few}
 use Rattle.sect_chains.proofs.trail.trail_of.Goals as goal
 
-pub loop-done-init : goal.loop-done-init
-loop-done-init c =
-    let s = c.args.scheme.now in
-    let t = c.args.thread in
-    let last = c.args.last.now in
-    let g = c.args.flow.now in
-    let kept = c.in_ok-kept.kept.keys in
-    let next = c.fill.new.next.items in
-    let filled : IsFilled [] next (length kept) None = subst (λ n. IsFilled [] next n None) c.len.ensures.len (subst (λ l. IsFilled l next c.len.result None) c.new-next.ensures.items c.in_ok-fill.ensures) in
-    record {
-      work = work_begins s t last g kept c.in_ok-kept.ensures;
-      leads = leads_none s t last g kept next c.in_ok-kept.ensures filled;
-    }
+pub of-nodes-requires : goal.of-nodes-requires
+of-nodes-requires c =
+    let a = c.args.section in
+    let old = c.loop-done.trail in
+    let i = c.loop-done.done in
+    let x = c.index.result.now in
+    let within : i < length old.steps.items = omega (arith, c.len.ensures, c.loop-done-test.true) in
+    let at : slice_get old.steps.items i ≡ Some x = slice_get-get_or old.steps.items i x within
+    ∙ ap (λ z. Some z) (sym c.index.ensures) in
+    let b = link_at old.table.keys old.steps.items i x at in
+    let d = kept_trail a.scheme.now a.thread a.last.now a.flow.now old.table (kept_of old) c.loop-done.invariant.kept
+    b.0 (Has-slice_get (links_of old.table.keys old.steps.items) i b.0 b.1) in
+    let there = (trail_lock a.scheme.now a.thread a.last.now a.flow.now c.requires.lawful b.0 d.0 d.1).0 in
+    omega (arith, there, b.2, c.in_ok-predecessors.ensures.count)
 
-pub advance-requires-clause-node : goal.advance-requires-clause-node
-advance-requires-clause-node c = λ a at.
-    let d = c.loop-done.invariant.work.only a (Has-slice_get c.loop-done.kept.keys c.loop-done.done a at) in
-    (trail_lock c.args.scheme.now c.args.thread c.args.last.now c.args.flow.now c.requires.lawful a d.0 d.1).0
-
-pub fill-requires-in-loop-done : goal.fill-requires-in-loop-done
-fill-requires-in-loop-done c =
-    let old = c.loop-done.kept.keys in
-    let b = at_of old c.loop-done.done (omega (arith, c.len-in-loop-done.ensures.len, c.loop-done-test.true)) in
-    let grows = c.in_ok-advance.ensures b.0 b.1 in
-    omega (arith, c.loop-done.invariant.leads.count, c.len-in-loop-done-2.ensures.len, ap length grows.longer.1, length-append old grows.longer.0)
+pub carry-requires-clause-before : goal.carry-requires-clause-before
+carry-requires-clause-before c = λ x at_x.
+    let a = c.args.section in
+    let g = a.flow.now in
+    let old = c.loop-done.trail in
+    let i = c.loop-done.done in
+    let b = link_at old.table.keys old.steps.items i x at_x in
+    let d = kept_trail a.scheme.now a.thread a.last.now g old.table (kept_of old) c.loop-done.invariant.kept b.0
+    (Has-slice_get (links_of old.table.keys old.steps.items) i b.0 b.1) in
+    let there = (trail_lock a.scheme.now a.thread a.last.now g c.requires.lawful b.0 d.0 d.1).0 in
+    let z = c.index.result.now in
+    let same : z ≡ x = c.index.ensures ∙ get_or_from_slice_get old.steps.items i x z at_x in
+    let are = c.in_ok-predecessors.ensures.each x.node (omega (arith, there, b.2)) in
+    subst (AreBefore g x.node) (ap (λ (y : Step). slice_index_or c.in_ok-predecessors.predecessors y.node [])
+    (sym same) ∙ sym c.of-nodes.ensures) are
 
 pub loop-done-smaller : goal.loop-done-smaller
 loop-done-smaller c =
-    let bound = few c.args.scheme.now c.args.thread c.args.last.now c.args.flow.now c.requires.lawful c.loop-done.kept.keys c.len-in-loop-done.ensures.unique c.loop-done.invariant.work.only in
-    omega (arith, bound, c.len-in-loop-done.ensures.len, c.loop-done-test.true)
+    let a = c.args.section in
+    let bound = few a.scheme.now a.thread a.last.now a.flow.now c.requires.lawful c.loop-done.trail.table
+    (kept_of c.loop-done.trail) c.loop-done.invariant.kept in
+    omega (arith, bound, c.len.ensures, c.loop-done-test.true)
 
 pub loop-done-preserved : goal.loop-done-preserved
 loop-done-preserved c =
-    let s = c.args.scheme.now in
-    let t = c.args.thread in
-    let last = c.args.last.now in
-    let g = c.args.flow.now in
-    let old = c.loop-done.kept.keys in
-    let new = c.advance.new.kept.keys in
-    let done = c.loop-done.done in
-    let lt : done < length old = omega (arith, c.len-in-loop-done.ensures.len, c.loop-done-test.true) in
-    let b = at_of old done lt in
-    let filled = subst (λ k. IsFilled c.loop-done.next.items c.fill-in-loop-done.new.next.items k (Some done)) c.len-in-loop-done-2.ensures.len c.in_ok-fill-2.ensures in
-    record {
-      work = work_next s t last g old new done lt c.loop-done.invariant.work c.in_ok-advance.ensures;
-      leads = leads_more s t last g old new c.loop-done.next.items c.fill-in-loop-done.new.next.items done b.0 b.1 c.len-in-loop-done-2.ensures.unique (c.in_ok-advance.ensures b.0 b.1) filled c.loop-done.invariant.leads;
-    }
+    let a = c.args.section in
+    let old = c.loop-done.trail in
+    let new = c.carry.new.trail in
+    work_next a.scheme.now a.thread a.last.now a.flow.now old.table (kept_of old) new.table
+    (kept_of new) c.loop-done.done (omega (arith, c.len.ensures, c.loop-done-test.true))
+    c.loop-done.invariant c.in_ok-carry.ensures
 
-pub returns-clause-all : goal.returns-clause-all
-returns-clause-all c =
-    let past : length c.loop-done.kept.keys ≤ c.loop-done.done = omega (arith, c.len-in-loop-done.ensures.len, c.loop-done-test.false) in
-    work_ends c.args.scheme.now c.args.thread c.args.last.now c.args.flow.now c.loop-done.kept.keys c.loop-done.done past c.loop-done.invariant.work
+pub returns : goal.returns
+returns c =
+    let a = c.args.section in
+    let old = c.loop-done.trail in
+    let past : length old.steps.items ≤ c.loop-done.done = omega (arith, c.len.ensures, c.loop-done-test.false) in
+    record {
+      work = c.loop-done.invariant.kept;
+      all = λ x h. work_ends a.scheme.now a.thread a.last.now a.flow.now c.requires.respects old.table
+          (kept_of old) c.loop-done.done past c.loop-done.invariant x h.0 h.1;
+    }

@@ -1,13 +1,11 @@
 use Rattle.std.proofs.Common.{◌-◌, length}
-use Rattle.sect_chains.specs.steps.Trails.{LeadOn}
+use Rattle.sect_chains.specs.steps.Working.{kept_of}
 use Rattle.sect_chains.proofs.Working.{IsWorklist, all_steps}
 use Rattle.sect_chains.proofs.trail.trail_of.Given as goal
 
 abbrev pub invariant-loop-done : goal.invariant-loop-done
-invariant-loop-done l = record {
-  work : IsWorklist l.scheme l.thread l.last l.flow l.kept.keys l.done;
-  leads : LeadOn l.scheme l.thread l.last l.flow l.kept.keys l.next.items;
-}
+invariant-loop-done l = IsWorklist l.section.scheme.now l.section.thread l.section.last.now l.section.flow.now
+    l.trail.table (kept_of l.trail) l.done
 
 abbrev pub decreases-loop-done : goal.decreases-loop-done
-decreases-loop-done l = length (all_steps l.scheme l.flow) - l.done
+decreases-loop-done l = length (all_steps l.section.scheme.now l.section.flow.now) - l.done

@@ -1,24 +1,98 @@
-use Rattle.std.proofs.Common.{◌<◌, ◌≤◌, arith, length, get_or}
+use Rattle.std.proofs.Common.{◌≡◌, ◌<◌, ◌≤◌, ℕ, Some, length, length-append, get_or, take, sym, ap, subst, arith}
+use Rattle.std.specs.Prelude.{slice_get}
 use Rattle.std.proofs.lemmas.List.{get_or_default}
-use Rattle.sect_chains.proofs.Carrying.{node_within, carry_none, carry_next, carry_done}
+use Rattle.std.proofs.lemmas.Option.{slice_get_within}
+use Rattle.sect_types.proofs.Membership.{Has-get_or, Has-slice_get}
+use Rattle.sect_types.proofs.Places.{at_of, one_at}
+use Rattle.sect_types.specs.Lists.{Has}
+use Rattle.sect_graph.specs.Paths.{LeadsTo}
+use Rattle.sect_names.specs.Chains.{LinksTo}
+use Rattle.sect_chains.specs.declared.keep.Step.{Step}
+use Rattle.sect_graph.specs.Predecessors.{AreBefore}
+use Rattle.sect_chains.specs.steps.Working.{kept_of}
+use Rattle.sect_chains.proofs.Growing.{kept_numbers, link_at, lock_is, grows_at}
+use Rattle.sect_chains.proofs.Places.{in_front}
+use Rattle.sect_chains.proofs.Carrying.{carry_next, carry_done}
 use Rattle.sect_chains.proofs.work.carry.Goals as goal
 
-pub carry_to-requires : goal.carry_to-requires
-carry_to-requires c =
-    node_within c.args.scheme.now c.args.thread c.args.flow.now c.args.step.now c.args.predecessors.now c.requires c.loop-node.node-index (omega (arith, c.loop-node-test.true))
-
-pub loop-node-init : goal.loop-node-init
-loop-node-init c = carry_none c.args.scheme.now c.args.thread c.args.flow.now c.args.step.now c.args.predecessors.now c.requires c.args.kept.now.keys
-
-pub loop-node-preserved : goal.loop-node-preserved
-loop-node-preserved c =
+pub carry_to-requires-clause-node : goal.carry_to-requires-clause-node
+carry_to-requires-clause-node c =
+    let steps = c.args.trail.now.steps.items in
     let nodes = c.args.predecessors.now in
     let i = c.loop-node.node-index in
-    let j = get_or nodes i 0 in
+    let x = at_of steps c.args.index c.requires.index in
+    let found = (c.requires.before x.0 x.1 (get_or nodes i 0)).0
+    (Has-get_or nodes i 0 (omega (arith, c.loop-node-test.true))) in
+    slice_get_within c.args.section.flow.now (get_or nodes i 0) found.0 found.1
+
+pub carry_to-requires-clause-index : goal.carry_to-requires-clause-index
+carry_to-requires-clause-index c =
+    let old = c.args.trail.now in
+    let x = at_of old.steps.items c.args.index c.requires.index in
+    let b = link_at old.table.keys old.steps.items c.args.index x.0 x.1 in
+    let grown = (c.loop-node.invariant b.0 b.1).steps in
+    omega (arith, c.requires.index, ap length grown.1, length-append old.steps.items grown.0)
+
+pub carry_to-requires-clause-leads : goal.carry_to-requires-clause-leads
+carry_to-requires-clause-leads c = λ y x at_y at_x.
+    let old = c.args.trail.now in
+    let nodes = c.args.predecessors.now in
+    let i = c.loop-node.node-index in
+    let z = at_of old.steps.items c.args.index c.requires.index in
+    let b = link_at old.table.keys old.steps.items c.args.index z.0 z.1 in
+    let grown = (c.loop-node.invariant b.0 b.1).steps in
+    let still : slice_get c.loop-node.trail.steps.items c.args.index ≡ Some z.0
+    = subst (λ ls. slice_get ls c.args.index ≡ Some z.0) (sym grown.1)
+    (in_front old.steps.items grown.0 c.args.index z.0 z.1) in
+    let same : z.0 ≡ x = one_at c.loop-node.trail.steps.items c.args.index z.0 x still at_x in
+    let found = (c.requires.before z.0 z.1 (get_or nodes i 0)).0
+    (Has-get_or nodes i 0 (omega (arith, c.loop-node-test.true))) in
+    let here : found.0 ≡ y = one_at c.args.section.flow.now (get_or nodes i 0) found.0 y found.1 at_y in
+    subst (λ n. LeadsTo n x.node) here (subst (λ (s : Step). LeadsTo found.0 s.node) same found.2)
+
+pub carry_to-requires-clause-work : goal.carry_to-requires-clause-work
+carry_to-requires-clause-work c =
+    let old = c.args.trail.now in
+    let x = at_of old.steps.items c.args.index c.requires.index in
+    let b = link_at old.table.keys old.steps.items c.args.index x.0 x.1 in
+    (c.loop-node.invariant b.0 b.1).kept
+
+pub loop-node-preserved : goal.loop-node-preserved
+loop-node-preserved c = λ b at.
+    let a = c.args.section in
+    let s = a.scheme.now in
+    let g = a.flow.now in
+    let old = c.args.trail.now in
+    let mid = c.loop-node.trail in
+    let new = c.carry_to.new.trail in
+    let nodes = c.args.predecessors.now in
+    let i = c.loop-node.node-index in
     let within : i < length nodes = omega (arith, c.loop-node-test.true) in
-    carry_next c.args.scheme.now c.args.thread c.args.flow.now c.args.step.now nodes c.requires i j c.args.kept.now.keys c.loop-node.kept.keys c.carry_to.new.kept.keys within (get_or_default nodes i 0 j within) c.loop-node.invariant c.in_ok-carry_to.ensures
+    let x = at_of old.steps.items c.args.index c.requires.index in
+    let numbers = kept_numbers s a.thread a.last.now g old.table (kept_of old) c.requires.work x.0
+    (Has-slice_get old.steps.items c.args.index x.0 x.1) in
+    let told = lock_is old.table.keys old.steps.items c.args.index x.0 b numbers x.1 at in
+    let are = subst (λ n. AreBefore g n nodes) told.0 (c.requires.before x.0 x.1) in
+    let before = c.loop-node.invariant b at in
+    let now = grows_at s a.thread a.last.now g old.table (kept_of old) mid.table (kept_of mid)
+    (λ z. Has (take i nodes) z.node × LinksTo s a.thread g z b) c.requires.work before c.args.index b at in
+    carry_next s a.thread a.last.now g b nodes are old.table (kept_of old) mid.table (kept_of mid) new.table
+    (kept_of new) i (get_or nodes i 0)
+    within (get_or_default nodes i 0 (get_or nodes i 0) within) before (λ y at_y. c.in_ok-carry_to.ensures y b at_y now)
 
 pub returns : goal.returns
-returns c =
-    let past : length c.args.predecessors.now ≤ c.loop-node.node-index = omega (arith, c.loop-node-test.false) in
-    carry_done c.args.scheme.now c.args.thread c.args.flow.now c.args.step.now c.args.predecessors.now c.requires c.loop-node.node-index c.args.kept.now.keys c.loop-node.kept.keys past c.loop-node.invariant
+returns c = λ b at.
+    let a = c.args.section in
+    let s = a.scheme.now in
+    let g = a.flow.now in
+    let old = c.args.trail.now in
+    let new = c.loop-node.trail in
+    let nodes = c.args.predecessors.now in
+    let x = at_of old.steps.items c.args.index c.requires.index in
+    let numbers = kept_numbers s a.thread a.last.now g old.table (kept_of old) c.requires.work x.0
+    (Has-slice_get old.steps.items c.args.index x.0 x.1) in
+    let told = lock_is old.table.keys old.steps.items c.args.index x.0 b numbers x.1 at in
+    let are = subst (λ n. AreBefore g n nodes) told.0 (c.requires.before x.0 x.1) in
+    let past : length nodes ≤ c.loop-node.node-index = omega (arith, c.loop-node-test.false) in
+    carry_done s a.thread a.last.now g b nodes are old.table (kept_of old) new.table
+    (kept_of new) c.loop-node.node-index past (c.loop-node.invariant b at)

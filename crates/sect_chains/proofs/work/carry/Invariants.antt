@@ -1,8 +1,13 @@
-use Rattle.sect_chains.specs.steps.Trails.{Grows}
-use Rattle.std.proofs.Common.{take}
+use Rattle.std.proofs.Common.{◌≡◌, Some, take}
+use Rattle.std.specs.Prelude.{slice_get}
 use Rattle.sect_types.specs.Lists.{Has}
+use Rattle.sect_names.specs.declared.link.Link.{Link}
 use Rattle.sect_names.specs.Chains.{LinksTo}
+use Rattle.sect_chains.specs.steps.Working.{links_of, GoesOn}
 use Rattle.sect_chains.proofs.work.carry.Given as goal
 
 abbrev pub invariant-loop-node : goal.invariant-loop-node
-invariant-loop-node l = Grows l.fn.kept.keys l.kept.keys (λ a. Has (take l.node-index l.predecessors) a.node × LinksTo l.scheme l.thread l.flow a l.step)
+invariant-loop-node l = (b : Link) → slice_get (links_of l.fn.trail.table.keys l.fn.trail.steps.items) l.index ≡ Some b
+    → GoesOn l.section.scheme.now l.section.thread l.section.last.now l.section.flow.now l.fn.trail l.trail
+    (λ a. Has (take l.node-index l.predecessors) a.node
+    × LinksTo l.section.scheme.now l.section.thread l.section.flow.now a b)

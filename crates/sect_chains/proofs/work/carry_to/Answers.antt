@@ -1,22 +1,83 @@
-use Rattle.std.proofs.Common.{◌≡◌, ◌∙◌, ap, sym, subst}
+use Rattle.std.proofs.Common.{◌≡◌, ◌<◌, [], Some, length, sym, ap, ◌∙◌, subst, arith}
+use Rattle.std.specs.Prelude.{slice_get}
+use Rattle.std.proofs.lemmas.Option.{slice_get-get_or}
+use Rattle.std.proofs.lemmas.Result.{on_ok_weaker}
 use Rattle.sect_types.specs.Lists.{Has}
+use Rattle.sect_types.proofs.Membership.{Has-slice_get}
+use Rattle.sect_types.proofs.Places.{told_of, at_of}
 use Rattle.sect_graph.specs.declared.flow.Node.{Node}
+use Rattle.sect_graph.specs.Paths.{LeadsTo}
 use Rattle.sect_names.specs.declared.link.Link.{Link}
 use Rattle.sect_names.specs.Carrying.{CarriedBack}
-use Rattle.sect_chains.proofs.Growing.{grows_as}
-use Rattle.sect_types.proofs.Places.{told_at, one_at}
+use Rattle.sect_names.specs.Chains.{link}
+use Rattle.sect_infer.specs.Tables.{Finds}
+use Rattle.sect_chains.specs.steps.Working.{links_of, kept_of, Grows}
+use Rattle.sect_chains.proofs.Growing.{kept_numbers, step_found, lock_is}
+use Rattle.sect_chains.proofs.Working.{trail_lock}
+use Rattle.sect_chains.proofs.Carrying.{carried_to}
 use Rattle.sect_chains.proofs.work.carry_to.Goals as goal
 
+pub carry_one-requires-clause-number : goal.carry_one-requires-clause-number
+carry_one-requires-clause-number c =
+    let a = c.args.section in
+    let old = c.args.trail.now in
+    let x = c.index.result.now in
+    let at : slice_get old.steps.items c.args.index ≡ Some x = slice_get-get_or old.steps.items c.args.index x
+    c.requires.index ∙ ap (λ z. Some z) (sym c.index.ensures) in
+    kept_numbers a.scheme.now a.thread a.last.now a.flow.now old.table (kept_of old) c.requires.work x
+    (Has-slice_get old.steps.items c.args.index x at)
+
+pub carry_one-requires-clause-lawful : goal.carry_one-requires-clause-lawful
+carry_one-requires-clause-lawful c = λ l got.
+    let a = c.args.section in
+    let old = c.args.trail.now in
+    let x = c.index.result.now in
+    let at : slice_get old.steps.items c.args.index ≡ Some x = slice_get-get_or old.steps.items c.args.index x
+    c.requires.index ∙ ap (λ z. Some z) (sym c.index.ensures) in
+    let found = step_found a.scheme.now a.thread a.last.now a.flow.now old.table (kept_of old) c.requires.work x l
+    (Has-slice_get old.steps.items c.args.index x at) got in
+    let d = c.requires.work.trails (link x.node l) found in
+    (trail_lock a.scheme.now a.thread a.last.now a.flow.now c.requires.lawful (link x.node l) d.0 d.1).1
+
+pub keep_all-requires-clause-numbers : goal.keep_all-requires-clause-numbers
+keep_all-requires-clause-numbers c = λ n h.
+    let a = c.args.section in
+    let old = c.args.trail.now in
+    let x = c.index.result.now in
+    let at : slice_get old.steps.items c.args.index ≡ Some x = slice_get-get_or old.steps.items c.args.index x
+    c.requires.index ∙ ap (λ z. Some z) (sym c.index.ensures) in
+    let within = kept_numbers a.scheme.now a.thread a.last.now a.flow.now old.table (kept_of old) c.requires.work x
+    (Has-slice_get old.steps.items c.args.index x at) in
+    let l = at_of old.table.keys x.number within in
+    let finds = c.in_ok-carry_one.ensures l.0 l.1 in
+    let less = finds.finding.numbers n (subst (λ ns. Has ns n) c.members.ensures h) in
+    omega (arith, less, finds.finding.table.count)
+
 pub returns : goal.returns
-returns c = λ y at.
-    let s = c.args.scheme.now in
-    let t = c.args.thread in
+returns c = on_ok_weaker c.keep_all.result (λ is y b at_y at_b.
+    let a = c.args.section in
+    let s = a.scheme.now in
+    let t = a.thread in
+    let g = a.flow.now in
+    let old = c.args.trail.now in
+    let i = c.args.index in
     let j = c.args.node in
-    let l = c.args.lock.now in
-    let node = told_at (λ (y : Node). y.label) c.args.flow.now j c.action.result c.action.ensures in
-    let label : c.action.result ≡ y.label = sym node.2 ∙ ap (λ z. z.label) (one_at c.args.flow.now j node.0 y node.1 at) in
-    let locks = c.as_slice.result.now in
-    grows_as c.args.kept.now.keys c.keep_all.new.kept.keys (λ (a : Link). (a.node ≡ j) × Has locks a.lock) (λ (a : Link). (a.node ≡ j) × CarriedBack s t y.label l a.lock)
-    (λ a h. (h.0, subst (λ ls. Has ls a.lock) (sym c.as_slice.ensures.value) ((c.in_ok-locks.ensures a.lock).1 (subst (λ b. CarriedBack s t b l a.lock) (sym label) h.1))))
-    (λ a h. (h.0, subst (λ b. CarriedBack s t b l a.lock) label ((c.in_ok-locks.ensures a.lock).0 (subst (λ ls. Has ls a.lock) c.as_slice.ensures.value h.1))))
-    c.in_ok-keep_all.ensures
+    let x = c.index.result.now in
+    let at : slice_get old.steps.items i ≡ Some x = slice_get-get_or old.steps.items i x c.requires.index
+    ∙ ap (λ z. Some z) (sym c.index.ensures) in
+    let within = kept_numbers s t a.last.now g old.table (kept_of old) c.requires.work x
+    (Has-slice_get old.steps.items i x at) in
+    let told = lock_is old.table.keys old.steps.items i x b within at at_b in
+    let leads = subst (LeadsTo y) told.0 (c.requires.leads y x at_y at) in
+    let new = c.carry_one.new.table in
+    let ns = c.members.result.now in
+    let label = told_of (λ (z : Node). z.label) g j c.action-label.result c.action-label.ensures y at_y in
+    let finds : Finds s old.table [] new ns (CarriedBack s t y.label b.lock)
+    = subst (λ ms. Finds s old.table [] new ms (CarriedBack s t y.label b.lock)) (sym c.members.ensures)
+    (subst (λ ms. Finds s old.table ms new c.carry_one.new.found (CarriedBack s t y.label b.lock)) c.clear.ensures
+    (subst (λ z. Finds s old.table c.clear.new.self new c.carry_one.new.found (CarriedBack s t z b.lock)) (sym label)
+    (c.in_ok-carry_one.ensures b.lock told.1))) in
+    subst (λ v. Grows s t a.last.now g old.table (kept_of old) new v (λ z. (z.node ≡ j)
+    × CarriedBack s t y.label b.lock z.lock)) (sym is)
+    (carried_to s t a.last.now g old.table (kept_of old) new j i y b ns c.requires.work at_y leads at_b finds))
+    c.keep_all.ensures

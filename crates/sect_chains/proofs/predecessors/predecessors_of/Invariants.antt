@@ -1,5 +1,0 @@
-use Rattle.sect_chains.proofs.Preceding.{AreBeforeSo}
-use Rattle.sect_chains.proofs.predecessors.predecessors_of.Given as goal
-
-abbrev pub invariant-loop-node : goal.invariant-loop-node
-invariant-loop-node l = AreBeforeSo l.flow l.node l.lists

@@ -1,0 +1,73 @@
+use Rattle.std.proofs.Common.{◌≡◌, ◌<◌, ℕ, Some, None, length, get_or, sym, ap, ◌∙◌, subst, arith}
+use Rattle.std.specs.Prelude.{slice_get}
+use Rattle.std.proofs.lemmas.Option.{slice_get_within, slice_get-get_or, get_or_from_slice_get}
+use Rattle.std.specs.Option.{IsSome, is_some}
+use Rattle.sect_types.specs.Lists.{Has}
+use Rattle.sect_chains.specs.steps.Trails.{AreFrom}
+use Rattle.sect_chains.specs.steps.Working.{links_of, nexts_of}
+use Rattle.sect_chains.proofs.Places.{read_at}
+use Rattle.sect_chains.proofs.Chaining.{some_found, found_is, lock_there, start_there, start_is}
+use Rattle.sect_chains.proofs.section.chain_of.Goals as goal
+
+pub unwrap-number-requires : goal.unwrap-number-requires
+unwrap-number-requires c =
+    let trail = c.args.trail.now in
+    let l = c.args.lock.now in
+    some_found (Has trail.table.keys l) c.find.result (λ n. slice_get trail.table.keys n ≡ Some l) c.find.ensures
+    (lock_there trail.table.keys trail.steps.items l c.requires.numbers c.requires.there)
+
+pub index-requires : goal.index-requires
+index-requires c =
+    let keys = c.args.trail.now.table.keys in
+    let at = found_is (Has keys c.args.lock.now) c.find.result c.unwrap-number.result
+    (λ n. slice_get keys n ≡ Some c.args.lock.now) c.unwrap-number.ensures c.find.ensures in
+    let within = slice_get_within keys c.unwrap-number.result c.args.lock.now at in
+    omega (arith, within, c.requires.starts.counted)
+
+pub unwrap-start-requires : goal.unwrap-start-requires
+unwrap-start-requires c =
+    let trail = c.args.trail.now in
+    let keys = trail.table.keys in
+    let l = c.args.lock.now in
+    let n = c.unwrap-number.result in
+    let starts = c.args.starts.now.items in
+    let at = found_is (Has keys l) c.find.result n (λ m. slice_get keys m ≡ Some l) c.unwrap-number.ensures
+    c.find.ensures in
+    let k = start_there keys trail.steps.items l c.requires.numbers c.requires.there starts c.requires.starts
+    c.requires.apart n at in
+    ap is_some (c.index.ensures ∙ get_or_from_slice_get starts n (Some k.0) c.index.result.now k.1)
+
+pub links_from-requires-clause-there : goal.links_from-requires-clause-there
+links_from-requires-clause-there c =
+    let trail = c.args.trail.now in
+    let keys = trail.table.keys in
+    let l = c.args.lock.now in
+    let n = c.unwrap-number.result in
+    let starts = c.args.starts.now.items in
+    let at = found_is (Has keys l) c.find.result n (λ m. slice_get keys m ≡ Some l) c.unwrap-number.ensures
+    c.find.ensures in
+    let within : n < length starts = omega (arith, slice_get_within keys n l at, c.requires.starts.counted) in
+    let got = read_at starts n c.index.result.now (Some c.unwrap-start.result) within c.index.ensures
+    c.unwrap-start.ensures in
+    (start_is keys trail.steps.items l c.requires.numbers c.requires.there starts c.requires.starts c.requires.apart n
+    at c.unwrap-start.result got).0
+
+pub returns : goal.returns
+returns c =
+    let trail = c.args.trail.now in
+    let keys = trail.table.keys in
+    let l = c.args.lock.now in
+    let n = c.unwrap-number.result in
+    let i = c.unwrap-start.result in
+    let starts = c.args.starts.now.items in
+    let at = found_is (Has keys l) c.find.result n (λ m. slice_get keys m ≡ Some l) c.unwrap-number.ensures
+    c.find.ensures in
+    let within : n < length starts = omega (arith, slice_get_within keys n l at, c.requires.starts.counted) in
+    let got = read_at starts n c.index.result.now (Some i) within c.index.ensures c.unwrap-start.ensures in
+    let is = start_is keys trail.steps.items l c.requires.numbers c.requires.there starts c.requires.starts
+    c.requires.apart n at i got in (
+      i,
+      is.1,
+      subst (AreFrom (links_of keys trail.steps.items) (nexts_of trail.steps.items) i) (sym c.of.ensures)
+          c.in_ok-links.ensures,
+    )

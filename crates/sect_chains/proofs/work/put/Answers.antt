@@ -1,0 +1,38 @@
+use Rattle.std.proofs.Common.{◌≡◌, None, length, sym, ap, ◌∙◌, subst, arith}
+use Rattle.std.proofs.lemmas.Option.{slice_get_within}
+use Rattle.std.proofs.lemmas.Result.{on_ok_weaker}
+use Rattle.sect_names.specs.Chains.{link}
+use Rattle.sect_chains.specs.steps.Keeping.{KeptView, kept, step_of, keep_one}
+use Rattle.sect_chains.specs.steps.Working.{kept_of, Grows}
+use Rattle.sect_chains.proofs.Carrying.{put_one, generated_within}
+use Rattle.sect_chains.proofs.work.put.Goals as goal
+
+pub keep-requires-clause-node : goal.keep-requires-clause-node
+keep-requires-clause-node c =
+    let a = c.args.section in
+    let old = c.args.trail.now in
+    generated_within a.scheme.now a.thread a.last.now a.flow.now old.table (kept_of old)
+    (link c.args.node c.args.lock.now) c.requires.work c.requires.generated
+
+pub keep-requires-clause-number : goal.keep-requires-clause-number
+keep-requires-clause-number c =
+    let t = c.number.new.self in
+    let within = slice_get_within t.keys c.in_ok-number.number c.args.lock.now c.in_ok-number.ensures.there in
+    omega (arith, within, c.in_ok-number.ensures.table.count)
+
+pub returns : goal.returns
+returns c =
+    let a = c.args.section in
+    let s = a.scheme.now in
+    let g = a.flow.now in
+    let old = c.args.trail.now in
+    let t = c.number.new.self in
+    let j = c.args.node in
+    let l = c.args.lock.now in
+    let n = c.in_ok-number.number in
+    let grown = put_one s a.thread a.last.now g old.table (kept_of old) t j l n c.requires.work c.in_ok-number.ensures
+    c.requires.generated
+    (generated_within s a.thread a.last.now g old.table (kept_of old) (link j l) c.requires.work
+    c.requires.generated) in
+    on_ok_weaker c.keep.result (λ is. subst (λ v. Grows s a.thread a.last.now g old.table (kept_of old) t v
+    (λ x. x ≡ link j l)) (sym is) grown) c.keep.ensures

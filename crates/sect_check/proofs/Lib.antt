@@ -13,3 +13,5 @@ pub mod Least
 pub mod Either
 pub mod Chaining
 pub mod Answering
+pub mod Calling
+pub mod Denoting

@@ -53,7 +53,7 @@ field_to p f r e =
     in_row p.records f.of f.number (Refers r) (found.1 ∙ ap (λ t. Some t) (refers found.0 r found.2))
 
 -- the field of this number of record r
-abbrev numbered : ℕ → ℕ → Field
+abbrev pub numbered : ℕ → ℕ → Field
 numbered r i = record { of = r; number = i }
 
 -- a field that is found by its name is one of the record

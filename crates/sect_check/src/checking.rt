@@ -1,7 +1,8 @@
 //! The checker.
 
-ghost use Rattle.std.specs.Prelude.{◌<◌, List, length, IfOk, IsOkUnless};
+ghost use Rattle.std.specs.Prelude.{◌≡◌, ◌<◌, List, length, IfOk, IsOkUnless};
 ghost use Rattle.sect_types.specs.Sections.{SectionView, sections_of};
+ghost use Rattle.sect_types.specs.Sight.{names_of_globals};
 ghost use Rattle.sect_graph.specs.declared.flow.Node.{Node};
 ghost use Rattle.sect_cert.specs.Texts.{HasText};
 ghost use Rattle.sect_check.specs.declared.fault.CheckFault.TheVariants.{Memory};
@@ -9,7 +10,7 @@ ghost use Rattle.sect_check.specs.Meaning.{IsSectionAt, DenotesAll};
 ghost use Rattle.sect_check.specs.Valid.{IsValid, AreEntriesLeast};
 ghost use Rattle.sect_check.specs.Verdicts.{IsRead, Judges};
 ghost use Rattle.sect_check.specs.steps.Resolving.{Resolves, DenotesAt};
-ghost use Rattle.sect_check.specs.steps.Shapes.{HaveShape};
+ghost use Rattle.sect_check.specs.steps.Shapes.{HaveShape, AreLawfulLists};
 ghost use Rattle.sect_check.specs.steps.Parts.{JudgesAt, JudgesCert};
 
 use crate::claiming::claims_of;
@@ -17,7 +18,10 @@ use crate::claims::Claims;
 use crate::fault::{CheckFault, of_section};
 use crate::section::judge_section;
 use crate::unresolved::Unresolved;
+use indexmap::IndexSet;
 use sect_cert::{Cert, CertSection, Items, read_cert};
+use sect_front::Name;
+use sect_hints::names_of;
 use sect_names::{Scheme, accept};
 use std::alloc::Global;
 
@@ -25,9 +29,11 @@ use std::alloc::Global;
 fn claims_at(
     alloc: Global,
     scheme: &Scheme,
+    globals: &IndexSet<Name>,
     sections: &[CertSection],
     number: u16,
 ) -> Result<Claims, Unresolved>
+    requires globals { globals.now.keys ≡ names_of_globals scheme.now.program.source.globals }
     requires section { number < length (sections_of scheme.now.program.texts) }
     requires there { number < length sections.now }
     ensures { Resolves result (DenotesAt scheme.now sections.now number) }
@@ -36,7 +42,14 @@ fn claims_at(
     scheme.program().typing();
     let thread = scheme.program().section(number).thread;
     let flow = scheme.graph().section(number);
-    claims_of(alloc, scheme, thread, flow, &sections[number as usize])
+    claims_of(
+        alloc,
+        scheme,
+        globals,
+        thread,
+        flow,
+        &sections[number as usize],
+    )
 }
 
 /// What a certificate claims of each section of a program.
@@ -49,9 +62,11 @@ fn all_claims(alloc: Global, scheme: &Scheme, cert: &Cert) -> Result<Items<Claim
     if cert.k != scheme.k() as u32 || cert.sections.len() != count as usize {
         return Err(Unresolved::Wrong);
     }
+    let tree = scheme.program().tree();
+    let globals = names_of(alloc, tree.globals())?;
     let mut all = Vec::new(alloc);
     for section in 0..count {
-        all.push(claims_at(alloc, scheme, cert.sections.as_slice(), section)?)?;
+        all.push(claims_at(alloc, scheme, &globals, cert.sections.as_slice(), section)?)?;
     }
     Ok(Items::from_vec(all))
 }
@@ -60,6 +75,8 @@ fn all_claims(alloc: Global, scheme: &Scheme, cert: &Cert) -> Result<Items<Claim
 fn judge_at(alloc: Global, scheme: &Scheme, claims: &Claims, number: u16) -> Result<(), CheckFault>
     requires section { number < length (sections_of scheme.now.program.texts) }
     requires shape { (of : SectionView) (g : List Node) → IsSectionAt scheme.now number of g → HaveShape g claims.now }
+    requires lawful { (of : SectionView) (g : List Node) → IsSectionAt scheme.now number of g
+        → AreLawfulLists scheme.now of.thread claims.now }
     ensures { JudgesAt scheme.now number claims.now result }
 {
     scheme.rules();

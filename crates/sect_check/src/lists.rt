@@ -8,14 +8,16 @@ ghost use Rattle.sect_names.specs.Needed.{end_locks};
 ghost use Rattle.sect_names.specs.Chains.{link, IsGeneratedAt};
 ghost use Rattle.sect_check.specs.Valid.{CoversGenerated, AreCarriedInto, CoversCarried};
 ghost use Rattle.sect_check.specs.Faults.{IsFirst, IsFirstPair};
-ghost use Rattle.sect_check.specs.steps.Shapes.{StaysWithin};
+ghost use Rattle.sect_names.specs.Locks.{CoveredBy, IsLockOf};
+ghost use Rattle.sect_names.specs.Carrying.{CarriedBack};
+ghost use Rattle.sect_check.specs.steps.Shapes.{StaysWithin, AreLawfulLists};
 
 use crate::claims::Claims;
 use crate::covering::{are_covered, is_covered, list_at, set_of};
 use indexmap::IndexSet;
 use sect_front::Locking;
 use sect_graph::{Flow, Successors};
-use sect_names::{Lock, Scheme};
+use sect_names::{Lock, Scheme, stays};
 use sect_types::Label;
 use std::alloc::{AllocError, Global};
 
@@ -92,6 +94,26 @@ pub fn first_ungenerated(
     None
 }
 
+/// Whether what a lock is carried back to over a node is covered by locks of the set.
+fn is_carried_into(
+    alloc: Global,
+    scheme: &Scheme,
+    thread: u16,
+    label: &Label,
+    set: &IndexSet<Lock>,
+    lock: &Lock,
+) -> Result<bool, AllocError>
+    requires { IsLockOf scheme.now thread lock.now }
+    ensures { IfOk result (λ it. IsTrue it
+        ↔ ((r : Lock) → CarriedBack scheme.now thread label.now lock.now r → CoveredBy scheme.now set.now.keys r)) }
+{
+    if stays(thread, label, lock) {
+        return scheme.is_covered(set, lock);
+    }
+    let carried = scheme.rewrite(alloc, thread, *label, lock)?;
+    are_covered(scheme, set, carried.as_slice())
+}
+
 /// Whether what these locks are carried back to over a node is covered by locks of the set.
 fn carries_into(
     alloc: Global,
@@ -101,11 +123,11 @@ fn carries_into(
     set: &IndexSet<Lock>,
     locks: &[Lock],
 ) -> Result<bool, AllocError>
+    requires { (l : Lock) → Has locks.now l → IsLockOf scheme.now thread l }
     ensures { IfOk result (λ it. IsTrue it ↔ AreCarriedInto scheme.now thread label set.now.keys locks.now) }
 {
     for lock in locks {
-        let carried = scheme.rewrite(alloc, thread, label, lock)?;
-        if !are_covered(scheme, set, carried.as_slice())? {
+        if !is_carried_into(alloc, scheme, thread, &label, set, lock)? {
             return Ok(false);
         }
     }
@@ -142,6 +164,7 @@ fn first_uncarried_from(
     requires there { from < length flow.now }
     requires count { length claims.now.nodes ≡ length flow.now + 1 }
     requires within { StaysWithin flow.now }
+    requires lawful { AreLawfulLists scheme.now thread claims.now }
     ensures none { IfOk result (λ found. IfNone found ((j : ℕ) →
         CoversCarried scheme.now thread flow.now claims.now from j)) }
     ensures some { IfOk result (λ found. IfSome found
@@ -173,6 +196,7 @@ pub fn first_uncarried(
 ) -> Result<Option<(u16, u16)>, AllocError>
     requires count { length claims.now.nodes ≡ length flow.now + 1 }
     requires within { StaysWithin flow.now }
+    requires lawful { AreLawfulLists scheme.now thread claims.now }
     ensures none { IfOk result (λ found. IfNone found ((i j : ℕ) →
         CoversCarried scheme.now thread flow.now claims.now i j)) }
     ensures some { IfOk result (λ found. IfSome found (λ e.

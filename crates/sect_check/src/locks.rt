@@ -3,6 +3,7 @@
 ghost use Rattle.std.specs.Prelude.{◌≡◌, ◌≤◌, ◌<◌, length, MatchOption, Some, IsTrue, ◌↔◌};
 ghost use Rattle.std.specs.Option.{option_map};
 ghost use Rattle.sect_types.specs.Lists.{Has};
+ghost use Rattle.sect_types.specs.Sight.{names_of_globals};
 ghost use Rattle.sect_names.specs.declared.lock.Lock.TheVariants as lock;
 ghost use Rattle.sect_names.specs.Locks.{depth, IsClassed, IsLockOf};
 ghost use Rattle.sect_check.specs.Names.{base_named as base_by, path_named as path_by, Denotes};
@@ -10,19 +11,27 @@ ghost use Rattle.sect_check.specs.steps.Resolving.{Finds, Resolves};
 
 use crate::names::{field_named, record_of_field, record_of_variable, variable_named};
 use crate::unresolved::Unresolved;
+use indexmap::IndexSet;
 use sect_cert::{CertBase, CertLock, CertPath};
+use sect_front::Name;
 use sect_names::{Effect, Lock, Path, Right, Scheme};
 use sect_points::Variable;
 use sect_types::Program;
 use std::alloc::Global;
 
 /// The variable at which a path begins. A program has no calls, so a local of one is none.
-fn base_named(program: &Program, thread: u16, base: CertBase) -> Option<Variable>
-    requires { thread < length program.now.locals }
+fn base_named(
+    program: &Program,
+    globals: &IndexSet<Name>,
+    thread: u16,
+    base: CertBase,
+) -> Option<Variable>
+    requires globals { globals.now.keys ≡ names_of_globals program.now.source.globals }
+    requires thread { thread < length program.now.locals }
     ensures { result ≡ base_by program.now.source thread base }
 {
     match base {
-        CertBase::Name(name) => variable_named(program, thread, &name),
+        CertBase::Name(name) => variable_named(program, globals, thread, &name),
         CertBase::InCall(_, _) => None,
     }
 }
@@ -31,13 +40,15 @@ fn base_named(program: &Program, thread: u16, base: CertBase) -> Option<Variable
 fn path_named(
     alloc: Global,
     program: &Program,
+    globals: &IndexSet<Name>,
     thread: u16,
     named: &CertPath,
 ) -> Result<Path, Unresolved>
-    requires { thread < length program.now.locals }
+    requires globals { globals.now.keys ≡ names_of_globals program.now.source.globals }
+    requires thread { thread < length program.now.locals }
     ensures { Finds result (path_by program.now thread named.now) }
 {
-    let variable = base_named(program, thread, named.base).ok_or(Unresolved::Wrong)?;
+    let variable = base_named(program, globals, thread, named.base).ok_or(Unresolved::Wrong)?;
     let mut path = Path::new(alloc, variable);
     let mut reached = record_of_variable(program, variable);
     for name in named.fields.as_slice() {
@@ -63,16 +74,18 @@ fn is_offered(scheme: &Scheme, path: &Path) -> bool
 fn path_lock(
     alloc: Global,
     scheme: &Scheme,
+    globals: &IndexSet<Name>,
     thread: u16,
     named: &CertPath,
     effect: Effect,
 ) -> Result<Lock, Unresolved>
-    requires { thread < length scheme.now.program.locals }
+    requires globals { globals.now.keys ≡ names_of_globals scheme.now.program.source.globals }
+    requires thread { thread < length scheme.now.program.locals }
     ensures { Resolves result (λ m.
         (option_map (λ x. lock.Path x effect) (path_by scheme.now.program thread named.now) ≡ Some m)
         × IsLockOf scheme.now thread m) }
 {
-    let path = path_named(alloc, scheme.program(), thread, named)?;
+    let path = path_named(alloc, scheme.program(), globals, thread, named)?;
     if !is_offered(scheme, &path) {
         return Err(Unresolved::Wrong);
     }
@@ -105,16 +118,18 @@ fn class_lock(scheme: &Scheme, thread: u16, number: u32, right: Right) -> Result
 pub fn lock_of(
     alloc: Global,
     scheme: &Scheme,
+    globals: &IndexSet<Name>,
     thread: u16,
     named: &CertLock,
 ) -> Result<Lock, Unresolved>
-    requires { thread < length scheme.now.program.locals }
+    requires globals { globals.now.keys ≡ names_of_globals scheme.now.program.source.globals }
+    requires thread { thread < length scheme.now.program.locals }
     ensures { Resolves result (Denotes scheme.now thread named.now) }
 {
     match named {
         CertLock::WriteAll => Ok(Lock::All),
-        CertLock::ReadPath(path) => path_lock(alloc, scheme, thread, path, Effect::Read),
-        CertLock::WritePath(path) => path_lock(alloc, scheme, thread, path, Effect::Write),
+        CertLock::ReadPath(path) => path_lock(alloc, scheme, globals, thread, path, Effect::Read),
+        CertLock::WritePath(path) => path_lock(alloc, scheme, globals, thread, path, Effect::Write),
         CertLock::ReadClass(number) => class_lock(scheme, thread, *number, Right::Read),
         CertLock::WriteClass(number) => class_lock(scheme, thread, *number, Right::Write),
         CertLock::MakeClass(number) => class_lock(scheme, thread, *number, Right::Make),

@@ -7,26 +7,14 @@ ghost use Rattle.sect_names.specs.Printing.{all_locals};
 ghost use Rattle.sect_check.specs.Names.{variable_named as variable_by, field_named as field_by, referred as refers_to};
 ghost use Rattle.sect_check.specs.Names.{record_of_variable as variable_record, record_of_field as field_record};
 
-use sect_front::{Declaration, GlobalObject, Name};
+use indexmap::IndexSet;
+use sect_front::{Declaration, Name};
 use sect_points::Variable;
 use sect_types::{Field, Program, ValueType};
 
 /// The number of the field or local of this name.
 fn number_in(list: &[Declaration], name: &Name) -> Option<usize>
     ensures place { result ≡ place name.now (names_of_declared list.now) }
-    ensures within { IfSome result (λ number. number < length list.now) }
-{
-    for number in 0..list.len() {
-        if *name == list[number].name {
-            return Some(number);
-        }
-    }
-    None
-}
-
-/// The number of the global of this name.
-fn number_among(list: &[GlobalObject], name: &Name) -> Option<usize>
-    ensures place { result ≡ place name.now (names_of_globals list.now) }
     ensures within { IfSome result (λ number. number < length list.now) }
 {
     for number in 0..list.len() {
@@ -49,23 +37,31 @@ fn local_number(program: &Program, thread: u16, name: &Name) -> Option<u16>
 }
 
 /// The number of the global of this name.
-fn global_number(program: &Program, name: &Name) -> Option<u16>
+fn global_number(program: &Program, globals: &IndexSet<Name>, name: &Name) -> Option<u16>
+    requires { globals.now.keys ≡ names_of_globals program.now.source.globals }
     ensures { result ≡ place name.now (names_of_globals program.now.source.globals) }
 {
     program.typing();
-    let number = number_among(program.tree().globals(), name)?;
+    let _tree = program.tree();
+    let number = globals.get_index_of(name)?;
     Some(number as u16)
 }
 
-/// The variable that a name stands for in a thread: a local, else a global.
-pub fn variable_named(program: &Program, thread: u16, name: &Name) -> Option<Variable>
-    requires { thread < length program.now.locals }
+/// The variable that a name stands for in a thread: a local, else a global, where the globals have these names.
+pub fn variable_named(
+    program: &Program,
+    globals: &IndexSet<Name>,
+    thread: u16,
+    name: &Name,
+) -> Option<Variable>
+    requires globals { globals.now.keys ≡ names_of_globals program.now.source.globals }
+    requires thread { thread < length program.now.locals }
     ensures { result ≡ variable_by program.now.source thread name.now }
 {
     if let Some(number) = local_number(program, thread, name) {
         return Some(Variable::Local(thread, number));
     }
-    let number = global_number(program, name)?;
+    let number = global_number(program, globals, name)?;
     Some(Variable::Global(number))
 }
 

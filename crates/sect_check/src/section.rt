@@ -6,7 +6,7 @@ ghost use Rattle.sect_names.specs.declared.lock.Lock.{Lock};
 ghost use Rattle.sect_names.specs.Needed.{end_locks};
 ghost use Rattle.sect_names.specs.Order.{AreInOrder};
 ghost use Rattle.sect_check.specs.Valid.{AreApart};
-ghost use Rattle.sect_check.specs.steps.Shapes.{HaveShape, StaysWithin};
+ghost use Rattle.sect_check.specs.steps.Shapes.{HaveShape, StaysWithin, AreLawfulLists};
 ghost use Rattle.sect_check.specs.steps.Parts.{JudgesLists, JudgesEntry, JudgesSection};
 
 use crate::chains::judge_chains;
@@ -31,6 +31,7 @@ fn judge_lists(
 ) -> Result<(), SectionFault>
     requires count { length claims.now.nodes ≡ length flow.now + 1 }
     requires within { StaysWithin flow.now }
+    requires lawful { AreLawfulLists scheme.now thread claims.now }
     ensures { JudgesLists scheme.now thread (end_locks locking) flow.now claims.now result }
 {
     if let Some(node) = first_ungenerated(alloc, scheme, thread, locking, flow, claims) {
@@ -87,6 +88,7 @@ pub fn judge_section(
 ) -> Result<(), SectionFault>
     requires shape { HaveShape flow.now claims.now }
     requires within { StaysWithin flow.now }
+    requires lawful { AreLawfulLists scheme.now thread claims.now }
     ensures { JudgesSection scheme.now thread (end_locks locking) flow.now claims.now result }
 {
     judge_lists(alloc, scheme, thread, locking, flow, claims)?;

@@ -1,8 +1,11 @@
 -- What holds of claims before they are judged, and of the graphs of sections.
-use Rattle.std.specs.Prelude.{◌≡◌, ◌≤◌, ◌<◌, ◌+◌, ℕ, List, Some, slice_get, length}
+use Rattle.std.specs.Prelude.{◌≡◌, ◌≤◌, ◌<◌, ◌+◌, ℕ, List, [], Some, slice_get, slice_index_or, length}
 use Rattle.sect_types.specs.Lists.{Has}
 use Rattle.sect_graph.specs.declared.flow.Node.{Node}
 use Rattle.sect_graph.specs.Paths.{LeadsTo}
+use Rattle.sect_names.specs.declared.lock.Lock.{Lock}
+use Rattle.sect_names.specs.Schemes.{SchemeView}
+use Rattle.sect_names.specs.Locks.{IsLockOf}
 use Rattle.sect_check.specs.declared.claims.ChainClaim.{ChainClaim}
 use Rattle.sect_check.specs.declared.claims.Claims.{Claims}
 
@@ -27,3 +30,7 @@ pub record HaveShape (g : List Node) (c : Claims) : Type 0 where
 -- control goes on to nodes of the graph or to its exit
 abbrev pub StaysWithin : List Node → Type 0
 StaysWithin g = (i j : ℕ) (x : Node) → slice_get g i ≡ Some x → LeadsTo x j → j ≤ length g
+
+-- the locks of the lists are ones that sections of the thread may take
+abbrev pub AreLawfulLists : SchemeView → ℕ → Claims → Type 0
+AreLawfulLists s t c = (j : ℕ) (l : Lock) → Has (slice_index_or c.nodes j []) l → IsLockOf s t l

@@ -7,7 +7,16 @@ use Rattle.sect_check.specs.Meaning.{DenotesAll}
 use Rattle.sect_check.specs.steps.Resolving.{DenotesAt}
 use Rattle.sect_check.proofs.Resolving.{passes}
 use Rattle.sect_check.proofs.Judging.{first_more, denotes_all, none_denoted}
+use Rattle.sect_types.specs.Sight.{names_of_globals}
+use Rattle.sect_types.proofs.Repeating.{globals_apart}
+use Rattle.sect_hints.specs.Names.{AreDifferent}
 use Rattle.sect_check.proofs.checking.all_claims.Goals as goal
+
+pub names_of-requires : goal.names_of-requires
+names_of-requires c =
+    let source = c.program-3.result.now.source in
+    let same : source.globals ≡ c.globals.result.now = cc in
+    subst (λ gs. AreDifferent (names_of_globals gs)) same (globals_apart source c.tree-tree.ensures.typed)
 
 pub returns-in_err-claims_at : goal.returns-in_err-claims_at
 returns-in_err-claims_at c =
@@ -15,7 +24,7 @@ returns-in_err-claims_at c =
     let a = c.args.cert.now in
     let n = c.loop-section.section in
     let within : n < length a.sections = omega (arith, c.loop-section-test.true, c.if-len-count.false, c.len.ensures) in
-    passes c.from_residual.result c.in_err-claims_at.field-0.0 (DenotesAt s c.as_slice.result.now n) (DenotesAll s a) c.from_residual.ensures.1 c.in_err-claims_at.ensures
+    passes c.from_residual-in_err-claims_at.result c.in_err-claims_at.field-0.0 (DenotesAt s c.as_slice.result.now n) (DenotesAll s a) c.from_residual-in_err-claims_at.ensures.1 c.in_err-claims_at.ensures
     (λ bad. none_denoted s a n within (subst (λ (l : List CertSection). (d : Claims) → DenotesAt s l n d → ⊥) c.as_slice.ensures bad))
 
 pub loop-section-preserved : goal.loop-section-preserved

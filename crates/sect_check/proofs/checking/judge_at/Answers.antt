@@ -44,3 +44,10 @@ returns-in-Ok c =
     let graph_at = subst (λ (q : GraphView). slice_get q.sections c.args.number ≡ Some c.section-flow.result.now) c.graph.ensures c.section-flow.ensures in
     let right = subst (λ (last : List Lock). IsValidSection s of.thread last c.section-flow.result.now c.args.claims.now) (sym (end_is s c.args.number c.locking-locking.result locking_at)) c.in-Ok.ensures in
     judged_ok s c.args.number of c.section-flow.result.now c.args.claims.now c.in-Ok.field-0 (section_at, graph_at) right
+
+pub judge_section-requires-clause-lawful : goal.judge_section-requires-clause-lawful
+judge_section-requires-clause-lawful c =
+    let of : SectionView = record { thread = c.section-thread.result.thread; body = c.section-thread.result.body.now } in
+    let section_at = subst (λ (p : ProgramView). slice_get (sections_of p.texts) c.args.number ≡ Some of) c.program.ensures c.section-thread.ensures.section in
+    let graph_at = subst (λ (q : GraphView). slice_get q.sections c.args.number ≡ Some c.section-flow.result.now) c.graph.ensures c.section-flow.ensures in
+    c.requires.lawful of c.section-flow.result.now (section_at, graph_at)

@@ -4,6 +4,7 @@ use Rattle.sect_types.specs.Sections.{sections_of}
 use Rattle.sect_check.specs.Meaning.{DenotesAll}
 use Rattle.std.proofs.lemmas.Option.{slice_get_read}
 use Rattle.sect_check.proofs.Judging.{passes_on, valid_more, all_valid}
+use Rattle.sect_check.proofs.Denoting.{all_lawful}
 use Rattle.sect_check.proofs.Numbering.{all_shaped}
 use Rattle.sect_check.proofs.checking.judge_cert.Goals as goal
 
@@ -52,3 +53,15 @@ judge_at-requires-clause-shape c =
     let within : n < length all = omega (arith, c.loop-section-test.true, count, denoted.count, denoted.sections) in
     let claims = c.index-claims-section.result in
     all_shaped s a c.requires all denoted n claims (slice_get_read all (length all) n claims refl within c.index-claims-section.is)
+
+pub judge_at-requires-clause-lawful : goal.judge_at-requires-clause-lawful
+judge_at-requires-clause-lawful c =
+    let s = c.args.scheme.now in
+    let a = c.args.cert.now in
+    let all = c.as_slice-claims.result.now in
+    let n = c.loop-section.section in
+    let denoted = subst (DenotesAll s a) (sym c.as_slice-claims.ensures) c.in-Ok.ensures in
+    let count = c.section_count-section-end.ensures.count ∙ ap (λ (p : ProgramView). length (sections_of p.texts)) c.program.ensures in
+    let within : n < length all = omega (arith, c.loop-section-test.true, count, denoted.count, denoted.sections) in
+    let claims = c.index-claims-section.result in
+    all_lawful s a all denoted n claims (slice_get_read all (length all) n claims refl within c.index-claims-section.is)

@@ -66,3 +66,9 @@ list_at-requires-3 c =
     let second = c.in_order-first.result.1 in
     let to = stays c.args.flow.now c.requires.within c.args.from c.succ.result c.succ.ensures second ((c.in_order-first.ensures.each second).1 (inr refl)) in
     omega (arith, to, c.requires.count)
+
+pub carries_into-requires : goal.carries_into-requires
+carries_into-requires c = λ l h. c.requires.lawful c.in_order-first.result.0 l (subst (λ ls. Has ls l) c.list_at-2.ensures h)
+
+pub carries_into-requires-2 : goal.carries_into-requires-2
+carries_into-requires-2 c = λ l h. c.requires.lawful c.in_order-first.result.1 l (subst (λ ls. Has ls l) c.list_at-3.ensures h)

@@ -1,8 +1,16 @@
 -- The tables of the five modes. Cited by `compatible`, `at_least`, `join`, `intention` and the laws of modes.
-use Rattle.std.specs.Prelude.{◌≡◌, Bool, true, false}
+use Rattle.std.specs.Prelude.{◌≡◌, ℕ, Bool, true, false, List, codes}
 use Rattle.sect_modes.specs.declared.mode.Mode.{Mode}
 use Rattle.sect_modes.specs.declared.mode.Mode.TheVariants.{IntentionShared, IntentionExclusive, Shared}
 use Rattle.sect_modes.specs.declared.mode.Mode.TheVariants.{SharedIntentionExclusive, Exclusive}
+
+-- a mode is called by its letters
+abbrev pub mode_text : Mode → List ℕ
+mode_text IntentionShared = codes "IS"
+mode_text IntentionExclusive = codes "IX"
+mode_text Shared = codes "S"
+mode_text SharedIntentionExclusive = codes "SIX"
+mode_text Exclusive = codes "X"
 
 -- two threads may hold one key in these modes
 abbrev pub are_compatible : Mode → Mode → Bool

@@ -1,9 +1,12 @@
 //! The five modes, and what they allow beside each other.
 
-ghost use Rattle.std.specs.Prelude.{◌≡◌};
+ghost use Rattle.std.specs.Prelude.{◌≡◌, Some};
 ghost use Rattle.sect_modes.specs.Mode.{are_compatible, join_of, is_at_least, intention_of, IsLeastUpperBound};
+ghost use Rattle.sect_modes.specs.Mode.{mode_text};
 
-/// What the holder of a key may do with it and with its parts.
+use std::fmt;
+
+/// What the holder of a key may do with it and with its parts. `Display` is its usual short name.
 #[derive(Clone, Copy, Debug, PartialEq, Eq, Hash)]
 pub enum Mode {
     /// Parts of it are held to be read.
@@ -16,6 +19,20 @@ pub enum Mode {
     SharedIntentionExclusive,
     /// All of it may be read, written and made.
     Exclusive,
+}
+
+impl fmt::Display for Mode {
+    ghost output = { λ m. Some (mode_text m) };
+
+    fn fmt<W: fmt::Write>(&self, f: &mut fmt::Formatter<W>) -> fmt::Result {
+        match self {
+            Mode::IntentionShared => f.write_str("IS"),
+            Mode::IntentionExclusive => f.write_str("IX"),
+            Mode::Shared => f.write_str("S"),
+            Mode::SharedIntentionExclusive => f.write_str("SIX"),
+            Mode::Exclusive => f.write_str("X"),
+        }
+    }
 }
 
 /// Whether two threads may hold one key, one in each of these modes.

@@ -13,6 +13,6 @@ mod work;
 pub use crate::object::Object;
 pub use crate::outcome::Outcome;
 pub use crate::printing::put_outcome;
-pub use crate::statement::act;
+pub use crate::statement::{act, finish_new};
 pub use crate::store::Store;
 pub use crate::work::Work;

@@ -4,6 +4,7 @@ ghost use Rattle.std.specs.Prelude.{◌≡◌, ◌++◌, ◌∷◌, [], map, sli
 ghost use Rattle.std.specs.Prelude.{IfOk, OnOk, OnErr};
 ghost use Rattle.sect_types.specs.Store.{changed_at, with_field};
 ghost use Rattle.sect_types.specs.Meaning.{datum_or_null, first_datum, fresh};
+ghost use Rattle.sect_store.specs.Undoing.{without_end};
 
 use crate::value::first;
 use sect_types::{Datum, Program, ValueType};
@@ -141,6 +142,13 @@ impl Objects {
     {
         self.list.push(object)?;
         Ok(())
+    }
+
+    /// One object less, the last.
+    pub fn pop(&mut self)
+        ensures { self.new ≡ without_end self.old }
+    {
+        self.list.pop();
     }
 
     /// Writes to a field of the object of this number, where there is one.

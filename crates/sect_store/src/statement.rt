@@ -1,11 +1,16 @@
 //! What one statement without a block does.
 
-ghost use Rattle.std.specs.Prelude.{◌≡◌, ◌<◌, ◌+◌, ◌^◌, IfOk, OnErr};
-ghost use Rattle.sect_types.specs.Meaning.{one, done, looked, found_at};
+ghost use Rattle.std.specs.Prelude.{◌≡◌, ◌<◌, ◌+◌, ◌^◌, ℕ, [], Option, slice_index_or, IfOk, OnErr};
+ghost use Rattle.sect_types.specs.declared.action.Action.TheVariants.{New};
+ghost use Rattle.sect_types.specs.declared.store.Datum.TheVariants.{Refers};
+ghost use Rattle.sect_types.specs.declared.store.ObjectName.TheVariants.{Made};
+ghost use Rattle.sect_types.specs.Programs.{ProgramView};
+ghost use Rattle.sect_types.specs.Store.{ObjectView};
+ghost use Rattle.sect_types.specs.Meaning.{one, done, looked, found_at, assigned, fresh, Went, Added};
 ghost use Rattle.sect_types.specs.Whole.{left_by};
 ghost use Rattle.sect_store.specs.Working.{left_with};
+ghost use Rattle.sect_store.specs.steps.Paying.{counted};
 
-use crate::object::Object;
 use crate::store::Store;
 use crate::value::{compute, integer};
 use crate::work::Work;
@@ -66,9 +71,8 @@ fn run_paid(
             work.assign(*target, Datum::Number(number));
         }
         Action::New(target, record, site) => {
-            store.add(thread, Object::of_record(alloc, program, *record, *site)?)?;
-            let number = work.make();
-            work.assign(*target, Datum::Refers(ObjectName::Made { thread, number }));
+            store.make(alloc, program, thread, *record, *site)?;
+            name_made(work, thread, *target);
         }
         Action::Load(target, base, field) => {
             let Datum::Refers(name) = work.base(base) else {
@@ -88,4 +92,25 @@ fn run_paid(
         Action::Print(value) => work.print(integer(work.datum(value)))?,
     }
     Ok(None)
+}
+
+/// Counts an object that a thread makes, whose unit of fuel has been paid, and puts its name into a local.
+fn name_made(work: &mut Work, thread: u16, target: u16)
+    requires { work.old.made + work.old.fuel + 1 < 2 ^ 32 }
+    ensures { work.new ≡ assigned target (Refers (Made thread work.old.made)) (counted work.old) }
+{
+    let number = work.make();
+    work.assign(target, Datum::Refers(ObjectName::Made { thread, number }));
+}
+
+/// What a `new` of a thread does to what it works with, once its object is in the store: a unit of fuel is paid, the
+/// object is counted, and the target refers to it.
+pub fn finish_new(work: &mut Work, thread: u16, target: u16)
+    requires { 0 < work.old.fuel }
+    ensures { (program : ProgramView) (of : ℕ) (site : ℕ) (found : Option ObjectView)
+        → one program thread (New target of site) found work.old
+        ≡ Went work.new (Added (fresh site (slice_index_or program.records of []))) }
+{
+    work.pay();
+    name_made(work, thread, target);
 }

@@ -1,8 +1,10 @@
 //! The store.
 
-ghost use Rattle.std.specs.Prelude.{◌≡◌, option_copied, IfOk, OnOk, OnErr};
+ghost use Rattle.std.specs.Prelude.{◌≡◌, [], slice_index_or, option_copied, IfOk, OnOk, OnErr};
 ghost use Rattle.sect_types.specs.Store.{object_at, write as write_by, add as add_by, row as row_by};
+ghost use Rattle.sect_types.specs.Meaning.{fresh};
 ghost use Rattle.sect_types.specs.Whole.{first_store};
+ghost use Rattle.sect_store.specs.Undoing.{without_last};
 
 use crate::object::{Object, Objects};
 use sect_types::{Datum, ObjectName, Program};
@@ -79,6 +81,33 @@ impl Store {
             row.push(object)?;
         }
         Ok(())
+    }
+
+    /// A fresh object of a record more, which a thread makes at a site, where there is such a thread.
+    pub fn make(
+        &mut self,
+        alloc: Global,
+        program: &Program,
+        thread: u16,
+        of: u16,
+        site: u16,
+    ) -> Result<(), AllocError>
+        ensures ok { OnOk result (self.new
+            ≡ add_by self.old thread (fresh site (slice_index_or program.now.records of []))) }
+        ensures err { OnErr result (self.new ≡ self.old) }
+    {
+        let object = Object::of_record(alloc, program, of, site)?;
+        self.add(thread, object)?;
+        Ok(())
+    }
+
+    /// Takes the object back that a thread made last.
+    pub fn unmake(&mut self, thread: u16)
+        ensures { self.new ≡ without_last self.old thread }
+    {
+        if let Some(row) = self.made.get_mut(thread as usize) {
+            row.pop();
+        }
     }
 
     /// The objects of the globals, by number.

@@ -52,6 +52,20 @@ impl Work {
         })
     }
 
+    /// The units of fuel left.
+    pub fn fuel(&self) -> u32
+        ensures { result ≡ self.now.fuel }
+    {
+        self.fuel
+    }
+
+    /// How many objects the thread has made: the number of the next.
+    pub fn made(&self) -> u32
+        ensures { result ≡ self.now.made }
+    {
+        self.made
+    }
+
     /// What a local holds; null where there is no such local.
     pub fn local(&self, number: u16) -> Datum
         ensures { result ≡ local_datum self.now.locals number }

@@ -15,3 +15,7 @@ pub mod Counting
 pub mod Spelling
 pub mod Chained
 pub mod Validity
+pub mod Denoting
+pub mod Certifying
+pub mod Checked
+pub mod Working

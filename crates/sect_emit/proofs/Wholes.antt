@@ -12,7 +12,7 @@ use Rattle.sect_emit.specs.steps.Spelled.{IsSpelled}
 use Rattle.sect_types.specs.Lists.{Has}
 use Rattle.sect_types.specs.Sections.{SectionView, sections_of}
 use Rattle.sect_types.specs.Programs.{ProgramView, IsWellNumbered, sites_of, total_statements}
-use Rattle.sect_types.proofs.Places.{at_of, pushed_at, Has-index}
+use Rattle.sect_types.proofs.Places.{at_of, one_at, pushed_at, Has-index}
 use Rattle.sect_types.proofs.Membership.{Has-slice_get}
 use Rattle.sect_names.specs.Printing.{AreNamed}
 use Rattle.sect_names.proofs.Named.{named_lock}
@@ -27,28 +27,14 @@ use Rattle.sect_names.specs.Schemes.{SchemeView, IsScheme}
 use Rattle.sect_infer.specs.Sets.{LocksView}
 use Rattle.sect_emit.specs.declared.plan.Grip.{Grip}
 use Rattle.sect_emit.specs.Plan.{IsFixedPart}
-use Rattle.sect_emit.specs.Compiled.{IsCompiled, AreSetsLeast}
-use Rattle.sect_emit.specs.steps.Inferred.{entries_of, AreInferredAt, AreAllInferred, AreFixedParts, IsWhole}
+use Rattle.sect_emit.specs.Compiled.{CompiledView, IsCompiled, AreSetsLeast}
+use Rattle.sect_infer.specs.Sets.{AreInferredAt, AreAllInferred}
+use Rattle.sect_emit.specs.steps.Inferred.{entries_of, AreFixedParts, IsWhole}
 use Rattle.sect_emit.specs.steps.Wishes.{IsClassedLock}
 
 -- the program is well numbered, by its own counts
 abbrev pub IsNumbered : ProgramView → Type 0
 IsNumbered p = IsWellNumbered p (length (sections_of p.texts)) (length (sites_of p.globals p.texts)) (total_statements p.texts)
-
--- the locks of so many sections
-pub record AreInferredBelow (s : SchemeView) (n : ℕ) (all : List LocksView) : Type 0 where
-  pub count : length all ≡ n
-  pub each : (i : ℕ) (locks : LocksView) → slice_get all i ≡ Some locks → AreInferredAt s i locks
-
--- one section more
-pub one_inferred : (s : SchemeView) (n : ℕ) (all : List LocksView) (locks : LocksView) → AreInferredBelow s n all → AreInferredAt s n locks → AreInferredBelow s (n + 1) (all ++ locks ∷ [])
-one_inferred s n all locks before here = record {
-  count = (let e = before.count in omega (arith, e, length-append all (locks ∷ [])));
-  each = λ i x at. elim (pushed_at all locks x i at) [
-    | inl e ↦ subst (AreInferredAt s i) e.1 (subst (λ m. AreInferredAt s m locks) (sym (e.0 ∙ before.count)) here)
-    | inr h ↦ before.each i x h
-  ];
-}
 
 -- one part more
 pub one_part : (s : SchemeView) (sets : List (List Lock)) (parts : List (List Grip)) (locks : List Lock) (part : List Grip) → AreFixedParts s sets parts → IsFixedPart s locks part
@@ -103,6 +89,19 @@ entry_named s scheme i locks within inferred =
     let g = at_of s.graphs.sections i (omega (arith, within, scheme.graphed.section_count)) in
     all_named s scheme i locks within inferred locks.entry (Has-slice_get locks.at 0 locks.entry (inferred of.0 g.0 of.1 g.1).0.first)
 
+-- what is kept of a section that the program has
+pub kept_at : (s : SchemeView) (all : List LocksView) (parts : List (List Grip)) → IsWhole s all parts → (v : CompiledView) → record { scheme = s; sets = entries_of all; parts = parts } ≡ v
+    → (i : ℕ) (locks : LocksView) → i < length (sections_of v.scheme.program.texts) → locks ≡ get_or all i locks → slice_get all i ≡ Some locks
+kept_at s all parts whole v view i locks within is =
+    let section : i < length (sections_of s.program.texts) = subst (λ (w : CompiledView). i < length (sections_of w.scheme.program.texts)) (sym view) within in
+    slice_get-get_or all i locks (omega (arith, section, whole.inferred.count)) ∙ ap (λ x. Some x) (sym is)
+
+-- the set of a section is what is kept of its entry
+pub entry_at : (all : List LocksView) (i : ℕ) (locks : LocksView) (set : List Lock) → slice_get all i ≡ Some locks → slice_get (entries_of all) i ≡ Some set → locks.entry ≡ set
+entry_at all i locks set at has =
+    let kept = slice_get-map (λ (l : LocksView). l.entry) all i set has in
+    ap (λ (l : LocksView). l.entry) (one_at all i locks kept.0 at kept.1) ∙ kept.2
+
 module _ (s : SchemeView) (all : List LocksView) (parts : List (List Grip)) (scheme : IsScheme s) (whole : IsWhole s all parts) where
   set_count : length (entries_of all) ≡ length (sections_of s.program.texts)
   set_count = length-map all (λ (locks : LocksView). locks.entry) ∙ whole.inferred.count
@@ -151,6 +150,12 @@ module _ (s : SchemeView) (all : List LocksView) (parts : List (List Grip)) (sch
     lawful = laws;
     planned = whole.planned.each;
   }
+
+-- what the locks of a section's set name is there
+pub set_named : (c : CompiledView) → IsCompiled c → (i : ℕ) (set : List Lock) → slice_get c.sets i ≡ Some set → AreNamed c.scheme.program set
+set_named c compiled i set at l has =
+    let of = at_of (sections_of c.scheme.program.texts) i (let w = slice_get_within c.sets i set at in omega (arith, w, compiled.set_count)) in
+    named_lock c.scheme of.0.thread l (compiled.lawful i of.0 set l of.1 at has)
 
 -- what is spelled of the locks that are kept is the certificate
 pub is_certificate : (s : SchemeView) (all : List LocksView) (parts : List (List Grip)) → AreAllInferred s all → (a : Cert) → IsSpelled s all a → HasText a

@@ -1,5 +1,6 @@
 -- The certificate of a compiled program.
 use Rattle.std.specs.Prelude.{◌≡◌, ℕ, List, Some, length, map, slice_get}
+use Rattle.std.specs.List.{AllZip}
 use Rattle.sect_types.specs.Sections.{SectionView, sections_of}
 use Rattle.sect_graph.specs.declared.flow.Node.{Node}
 use Rattle.sect_names.specs.declared.link.Link.{Link}
@@ -10,6 +11,7 @@ use Rattle.sect_chains.specs.Chains.{AreChains}
 use Rattle.sect_cert.specs.declared.certificate.CertSection.{CertSection}
 use Rattle.sect_cert.specs.declared.certificate.Cert.{Cert}
 use Rattle.sect_cert.specs.Texts.{HasText}
+use Rattle.sect_check.specs.Names.{Denotes}
 use Rattle.sect_emit.specs.Compiled.{CompiledView}
 use Rattle.sect_emit.specs.Words.{list_words, chains_words}
 
@@ -34,3 +36,10 @@ pub record IsCertificateOf (c : CompiledView) (a : Cert) : Type 0 where
   pub each : (i : ℕ) (of : SectionView) (g : List Node) (x : CertSection)
       → slice_get (sections_of c.scheme.program.texts) i ≡ Some of → slice_get c.scheme.graphs.sections i ≡ Some g
       → slice_get a.sections i ≡ Some x → SaysOf c i of g x
+
+-- the entry list of each section stands for the section's set
+abbrev pub HasTheSets : CompiledView → Cert → Type 0
+HasTheSets c a =
+    (i : ℕ) (of : SectionView) (set : List Lock) → slice_get (sections_of c.scheme.program.texts) i ≡ Some of
+    → slice_get c.sets i ≡ Some set
+    → (x : CertSection) × (slice_get a.sections i ≡ Some x) × AllZip (Denotes c.scheme of.thread) x.entry set

@@ -1,6 +1,7 @@
 pub mod Certificates
 pub mod Claimed
 pub mod Compiled
+pub mod Faults
 pub mod GoesOn
 pub mod ModeTests
 pub mod NeededAccesses

@@ -8,7 +8,7 @@ ghost use Rattle.sect_names.specs.declared.link.Link.{Link};
 ghost use Rattle.sect_names.specs.Needed.{end_of};
 ghost use Rattle.sect_chains.specs.Chains.{AreChains};
 ghost use Rattle.sect_cert.specs.Texts.{IsSection, HasText};
-ghost use Rattle.sect_emit.specs.steps.Inferred.{AreInferredAt, AreAllInferred};
+ghost use Rattle.sect_infer.specs.Sets.{AreInferredAt, AreAllInferred};
 ghost use Rattle.sect_emit.specs.Words.{IsChainNamed};
 ghost use Rattle.sect_emit.specs.steps.Spelled.{IsSectionSpelled, IsSpelled};
 
@@ -20,7 +20,7 @@ use sect_names::{Scheme, locks_stay_the_programs, steps_of_sections};
 use std::alloc::{AllocError, Global};
 
 /// The chains of a section, which are fewer than there are numbers.
-fn found(
+pub fn found(
     alloc: Global,
     scheme: &Scheme,
     locks: &Locks,

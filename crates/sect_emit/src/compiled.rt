@@ -1,13 +1,23 @@
 //! Compiled programs.
 
-ghost use Rattle.std.specs.Prelude.{◌≡◌, ◌<◌, IfOk, Some, length, map, slice_get};
-ghost use Rattle.sect_types.specs.Sections.{sections_of};
+ghost use Rattle.std.specs.Prelude.{◌≡◌, ◌<◌, IfOk, List, Some, length, map, slice_get};
+ghost use Rattle.sect_types.specs.Lists.{Has};
+ghost use Rattle.sect_types.specs.Sections.{SectionView, sections_of};
+ghost use Rattle.sect_graph.specs.declared.flow.Node.{Node};
+ghost use Rattle.sect_names.specs.declared.link.Link.{Link};
+ghost use Rattle.sect_names.specs.declared.lock.Lock.{Lock};
+ghost use Rattle.sect_names.specs.Needed.{end_of};
+ghost use Rattle.sect_chains.specs.Chains.{AreChains};
+ghost use Rattle.sect_check.specs.Valid.{IsValid};
 ghost use Rattle.sect_emit.specs.Compiled.{IsCompiled, AreSetsLeast};
 ghost use Rattle.sect_emit.specs.Certificates.{IsCertificateOf};
+ghost use Rattle.sect_emit.specs.Words.{IsChainNamed};
 
-use crate::certificate::certificate_of;
+use crate::certificate::{certificate_of, found};
+use crate::laws::claims::spelled_locks_are_valid;
 use crate::plan::Grip;
 use sect_cert::Cert;
+use sect_chains::Chain;
 use sect_infer::Locks;
 use sect_names::{Lock, Scheme};
 use std::alloc::{AllocError, Global};
@@ -96,11 +106,32 @@ impl Compiled {
         self.parts[section as usize].as_slice()
     }
 
+    /// For each lock that a section takes at its entry, in order, its chain: the steps from the entry to where the lock
+    /// is generated. The certificate has the same.
+    pub fn chains(&self, alloc: Global, section: u16) -> Result<Vec<Chain>, AllocError>
+        requires { section < length (sections_of self.now.scheme.program.texts) }
+        ensures chains { (of : SectionView) (g : List Node) (set : List Lock)
+            → slice_get (sections_of self.now.scheme.program.texts) section ≡ Some of
+            → slice_get self.now.scheme.graphs.sections section ≡ Some g → slice_get self.now.sets section ≡ Some set
+            → IfOk result (λ chains.
+            AreChains self.now.scheme of.thread (end_of self.now.scheme section) g set chains.items) }
+        ensures named { IfOk result (λ chains. (links : List Link) → Has chains.items links
+            → IsChainNamed self.now.scheme.program links) }
+    {
+        found(alloc, &self.scheme, &self.locks[section as usize], section)
+    }
+
     /// The certificate of the program: by the names of the text which locks are needed at each node and taken at each
     /// entry, and along which steps. It is made when it is asked for, since it may be far larger than all else.
     pub fn certificate(&self, alloc: Global) -> Result<Cert, AllocError>
-        ensures { IfOk result (IsCertificateOf self.now) }
+        ensures certificate { IfOk result (IsCertificateOf self.now) }
+        // The checker accepts it.
+        ensures valid { IfOk result (IsValid self.now.scheme) }
     {
+        spelled_locks_are_valid();
+        self.scheme.rules();
+        self.scheme.program().typing();
+        let _typed = self.scheme.program().tree();
         certificate_of(alloc, &self.scheme, self.locks.as_slice())
     }
 }

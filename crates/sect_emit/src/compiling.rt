@@ -1,18 +1,25 @@
 //! Compilation.
 
-ghost use Rattle.std.specs.Prelude.{◌≡◌, map, IfOk, IfErr, IsOkUnless};
+ghost use Rattle.std.specs.Prelude.{◌≡◌, map, IfOk, IfErr, OnOk, IsOkUnless};
 ghost use Rattle.sect_names.specs.declared.refusal.Refusal.TheVariants.{Memory};
 ghost use Rattle.sect_names.specs.Schemes.{SchemeView};
 ghost use Rattle.sect_names.specs.Sources.{IsAccepted, IsDue};
-ghost use Rattle.sect_emit.specs.Compiled.{IsCompiledFrom};
-ghost use Rattle.sect_emit.specs.steps.Inferred.{entries_of, AreAllInferred, AreFixedParts};
+ghost use Rattle.sect_infer.specs.Sets.{AreAllInferred};
+ghost use Rattle.sect_infer.specs.Workers.{AreOffered};
+ghost use Rattle.sect_emit.specs.declared.fault.CompileFault.TheVariants as fault;
+ghost use Rattle.sect_emit.specs.Compiled.{IsCompiled, AreSetsLeast, IsCompiledFrom};
+ghost use Rattle.sect_emit.specs.Faults.{IsDueBy};
+ghost use Rattle.sect_emit.specs.steps.Inferred.{entries_of, AreFixedParts};
 
 use crate::compiled::Compiled;
+use crate::fault::CompileFault;
 use crate::fixed::fixed_part;
 use crate::plan::Grip;
-use sect_infer::{Locks, infer};
+use sect_infer::{Locks, Seen, check_workers, infer, infer_all};
 use sect_names::{Refusal, Scheme, accept};
 use std::alloc::{AllocError, Global};
+use std::sync::Wait;
+use std::thread::Threads;
 
 /// The compiled program of a source text, for paths of at most `k` fields. How many fields a path may have is judged
 /// before the source; then the first fault of the text, of its types or of its hints is answered. `Memory` is answered
@@ -26,18 +33,52 @@ pub fn compile(alloc: Global, source: &[u8], k: u16) -> Result<Compiled, Refusal
     ensures refuses { IfErr result (IsDue source.now k) }
 {
     let scheme = accept(alloc, source, k)?;
-    let compiled = compiled(alloc, scheme)?;
-    compiled.rules();
-    Ok(compiled)
+    let locks = all_locks(alloc, &scheme)?;
+    Ok(planned(alloc, scheme, locks)?)
 }
 
-/// The compiled program of a scheme.
-fn compiled(alloc: Global, scheme: Scheme) -> Result<Compiled, AllocError>
-    ensures { IfOk result (λ c. c.scheme ≡ scheme) }
+/// The compiled program of a source text, as `compile` gives it, where 1 to 16 workers infer the locks of its sections:
+/// `BadWorkers`, before all else, where their number is another. `Memory` is answered only where a growth was refused.
+pub fn compile_with<R: Threads + Wait + Sync>(
+    rt: &R,
+    alloc: Global,
+    source: &[u8],
+    k: u16,
+    workers: u16,
+) -> Result<Compiled, CompileFault>
+    // The text is accepted, and this is its compiled program, with the least set of each section.
+    ensures compiled { IfOk result (IsCompiledFrom source.now k) }
+    // A text that is accepted is compiled by so many workers as are offered, unless memory runs out.
+    ensures only { (s : SchemeView) → AreOffered workers → IsAccepted source.now k s
+        → IsOkUnless result fault.Memory }
+    // What is answered is by so many workers as are offered.
+    ensures offered { OnOk result (AreOffered workers) }
+    // A refusal is due, and it is the first that is.
+    ensures refuses { IfErr result (IsDueBy workers source.now k) }
 {
-    let locks = all_locks(alloc, &scheme)?;
+    check_workers(workers)?;
+    let scheme = accept(alloc, source, k)?;
+    let shared = infer_all(rt, alloc, &scheme, workers, &Unseen)?;
+    Ok(planned(alloc, scheme, shared)?)
+}
+
+/// Is told of sections and does nothing.
+#[derive(Clone, Copy)]
+struct Unseen;
+
+impl Seen for Unseen {
+    fn at(&self, _section: u16) {}
+}
+
+/// The compiled program of a scheme with the locks of each section.
+fn planned(alloc: Global, scheme: Scheme, locks: Vec<Locks>) -> Result<Compiled, AllocError>
+    requires { AreAllInferred scheme locks.items }
+    ensures { IfOk result (λ c. (c.scheme ≡ scheme) × IsCompiled c × AreSetsLeast c) }
+{
     let parts = all_parts(alloc, &scheme, locks.as_slice())?;
-    Ok(Compiled::of(scheme, locks, parts))
+    let compiled = Compiled::of(scheme, locks, parts);
+    compiled.rules();
+    Ok(compiled)
 }
 
 /// The locks of each section.

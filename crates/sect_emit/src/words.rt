@@ -144,7 +144,8 @@ pub fn lists_of(
 {
     let mut lists = Vec::new(alloc);
     for node in 0..count {
-        lists.push(list_of(alloc, program, locks.at(node))?)?;
+        let needed = locks.at(alloc, node)?;
+        lists.push(list_of(alloc, program, needed.as_slice())?)?;
     }
     Ok(Items::from_vec(lists))
 }

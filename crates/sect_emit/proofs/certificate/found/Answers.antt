@@ -1,16 +1,11 @@
-use Rattle.std.proofs.Common.{◌≡◌, arith, subst}
+use Rattle.std.proofs.Common.{arith, subst}
 use Rattle.sect_types.specs.Sections.{sections_of}
 use Rattle.sect_types.specs.Programs.{ProgramView, IsWithinLimits}
 use Rattle.sect_types.proofs.Places.{at_of}
 use Rattle.sect_names.specs.Needed.{end_of}
 use Rattle.sect_names.specs.Chains.{IsChain}
-use Rattle.std.specs.Prelude.{ℕ, Some, slice_get}
 use Rattle.sect_types.specs.Sound.{AreSound}
-use Rattle.sect_graph.specs.declared.flow.Node.{Node}
-use Rattle.sect_names.specs.Laws.{IsSoundStep}
-use Rattle.sect_chains.specs.steps.Trails.{AreLawful}
-use Rattle.sect_chains.proofs.Meaning.{ended_lawful}
-use Rattle.sect_emit.proofs.Chained.{chains_named}
+use Rattle.sect_emit.proofs.Chained.{chains_named, section_lawful}
 use Rattle.sect_emit.proofs.Counting.{few_locks}
 use Rattle.sect_emit.proofs.Spelling.{zip_length, if_ok}
 use Rattle.sect_emit.proofs.certificate.found.Goals as goal
@@ -39,11 +34,6 @@ returns-clause-named c =
     let of = at_of (sections_of s.program.texts) i within in
     let g = at_of s.graphs.sections i (omega (arith, within, c.rules.ensures.graphed.section_count)) in
     let sound = subst (λ (p : ProgramView). AreSound p.records p.globals p.locals p.texts) c.program.ensures c.typing.ensures.sound in
-    let step : (j : ℕ) (y : Node) → slice_get g.0 j ≡ Some y → IsSoundStep s.program of.0.thread y.label
-    = λ j y at. (c.steps_of_sections.ensures.sound s c.rules.ensures sound of.0 y (i, g.0, j, of.1, g.1, at)).0 in
-    let lawful : AreLawful s of.0.thread (end_of s i) g.0 = record {
-      generated = λ j y at. c.locks_stay_the_programs.ensures.generated s c.rules.ensures of.0.thread y.label (step j y at);
-      ended = ended_lawful s of.0.thread i;
-      carried = λ j y at. c.locks_stay_the_programs.ensures.carried s c.rules.ensures of.0.thread y.label (step j y at);
-    } in
+    let lawful = section_lawful s (c.locks_stay_the_programs.ensures.generated s c.rules.ensures) (c.locks_stay_the_programs.ensures.carried s c.rules.ensures)
+    (λ section x stands. (c.steps_of_sections.ensures.sound s c.rules.ensures sound section x stands).0) i of.0 g.0 of.1 g.1 in
     if_ok c.chains.result (λ chains are. chains_named s of.0.thread (end_of s i) g.0 lawful c.args.locks.now.entry chains.items are) (c.chains.ensures of.0 g.0 of.1 g.1)

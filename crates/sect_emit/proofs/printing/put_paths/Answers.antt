@@ -1,0 +1,11 @@
+use Rattle.std.proofs.Common.{◌<◌, length, arith, sym, subst}
+use Rattle.sect_types.specs.Lists.{Has}
+use Rattle.sect_types.proofs.Membership.{Has-get_or}
+use Rattle.sect_emit.proofs.printing.put_paths.Goals as goal
+
+pub put_path_lock-requires : goal.put_path_lock-requires
+put_path_lock-requires c =
+    let locks = c.args.locks.now in
+    let i = c.loop-lock.lock-index in
+    let within : i < length locks = omega arith in
+    c.requires c.lock-item.result (subst (Has locks) (sym c.lock-item.is) (Has-get_or locks i c.lock-item.result within))

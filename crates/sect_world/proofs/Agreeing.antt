@@ -179,7 +179,7 @@ asks_on t s s' keeps u k m ne a = (a.0, keeps u a.0 ne a.1, a.2, a.3)
 pub others_ask : (t : ℕ) (es : List Entry) (s s' : State) → waits_of t es ≡ 0 → KeepsOthers t s s' → AllWaitersAsk s es → AllWaitersAsk s' es
 others_ask t es s s' none keeps all k w h = asks_on t s s' keeps w.thread k w.mode (not_waiting t es none k w h) (all k w h)
 
-put_asks : (k : Key) (e : Entry) (es : List Entry) (s : State) → e.key ≡ k → AllWaitersAsk s es → ((w : Claim) → Has e.waiters w → Asks s w.thread k w.mode) → AllWaitersAsk s (put e es)
+pub put_asks : (k : Key) (e : Entry) (es : List Entry) (s : State) → e.key ≡ k → AllWaitersAsk s es → ((w : Claim) → Has e.waiters w → Asks s w.thread k w.mode) → AllWaitersAsk s (put e es)
 put_asks k e es s key all own q w h = elim (cases_of (is_same_key q e.key)) [
   | inl same ↦
       let is : q ≡ e.key = same_key q e.key same in

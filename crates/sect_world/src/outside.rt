@@ -1,0 +1,193 @@
+//! Moves of a thread outside sections, into a section and to its beginning.
+
+ghost use Rattle.std.specs.Prelude.{◌≡◌, ◌<◌, ℕ, List, true, false, None, drop, length, slice_get, Some, IfOk, OnOk};
+ghost use Rattle.std.specs.Prelude.{OnErr};
+ghost use Rattle.sect_types.specs.Statements.{TextView, Section};
+ghost use Rattle.sect_types.specs.Programs.{environment_at};
+ghost use Rattle.sect_types.specs.Sections.{sections_of};
+ghost use Rattle.sect_types.specs.Sound.{IsSound};
+ghost use Rattle.sect_types.specs.Meaning.{begins_step};
+ghost use Rattle.sect_types.specs.Whole.{local_step};
+ghost use Rattle.sect_graph.specs.declared.flow.Node.{Node};
+ghost use Rattle.sect_graph.specs.Rests.{rest_at};
+ghost use Rattle.sect_table.specs.Contents.{held_by};
+ghost use Rattle.sect_emit.specs.Plan.{meets as meets_by};
+ghost use Rattle.sect_emit.specs.Compiled.{program_of};
+ghost use Rattle.sect_emit.specs.State.{plan_at};
+ghost use Rattle.sect_world.specs.declared.runner.Stage.TheVariants.{Entered, Running};
+ghost use Rattle.sect_world.specs.steps.Fits.{grips};
+ghost use Rattle.sect_world.specs.steps.Viewing.{text_at, frame_of};
+ghost use Rattle.sect_world.specs.steps.Moves.{StepsLocally};
+
+use crate::moving::{chosen, run_node};
+use crate::plans::plan_of;
+use crate::runner::{Runner, Stage};
+use sect_emit::{Compiled, Grip};
+use sect_modes::at_least;
+use sect_store::{Store, Work};
+use sect_table::Table;
+use sect_types::{End, Fault};
+use std::alloc::{AllocError, Global};
+
+/// Runs the statement or test of a node of a thread's own graph: the node at which control goes on, or the fault that
+/// it comes to. Outside a section a statement leaves the store as it is. Where memory is refused nothing has changed.
+fn run_outside(
+    alloc: Global,
+    compiled: &Compiled,
+    thread: u16,
+    node: u16,
+    work: &mut Work,
+    store: &mut Store,
+) -> Result<Result<u16, Fault>, AllocError>
+    requires thread { thread < length (program_of compiled.now).texts }
+    requires node { (g : List Node) → slice_get compiled.now.scheme.graphs.threads thread ≡ Some g → node < length g }
+    requires step { begins_step (rest_at (text_at compiled.now thread) node) ≡ true }
+    requires sound { IsSound (environment_at (program_of compiled.now) thread) false
+        (rest_at (text_at compiled.now thread) node) }
+    ensures steps { IfOk result (λ went. StepsLocally compiled.now thread (rest_at (text_at compiled.now thread) node)
+        work.old store.old store.new went work.new) }
+    ensures refused { OnErr result ((work.new ≡ work.old) × (store.new ≡ store.old)) }
+{
+    compiled.rules();
+    let program = compiled.scheme().program();
+    let flow = compiled.scheme().graph().thread(thread);
+    run_node(alloc, program, thread, flow, node, work, store)
+}
+
+/// A thread outside sections runs its next statement or test. At the end of its text it has ended. Where memory is
+/// refused nothing has changed.
+pub fn step_outside(
+    alloc: Global,
+    compiled: &Compiled,
+    thread: u16,
+    runner: &mut Runner,
+    store: &mut Store,
+) -> Result<(), AllocError>
+    requires thread { thread < length (program_of compiled.now).texts }
+    requires alive { runner.old.ended ≡ None }
+    requires node { (g : List Node) → slice_get compiled.now.scheme.graphs.threads thread ≡ Some g
+        → runner.old.node < length g }
+    requires step { begins_step (rest_at (text_at compiled.now thread) runner.old.node) ≡ true }
+    requires sound { IsSound (environment_at (program_of compiled.now) thread) false
+        (rest_at (text_at compiled.now thread) runner.old.node) }
+    ensures steps { OnOk result (frame_of (text_at compiled.now thread) runner.new
+        ≡ local_step (program_of compiled.now) thread (frame_of (text_at compiled.now thread) runner.old)) }
+    ensures stage { runner.new.stage ≡ runner.old.stage }
+    ensures wanted { (runner.new.wanted ≡ runner.old.wanted) × (runner.new.taken ≡ runner.old.taken) }
+    ensures store { store.new ≡ store.old }
+    ensures refused { OnErr result (runner.new ≡ runner.old) }
+{
+    compiled.rules();
+    let node = runner.node;
+    match run_outside(alloc, compiled, thread, node, &mut runner.work, store)? {
+        Ok(next) => {
+            runner.node = next;
+            if next >= compiled.scheme().graph().thread(thread).exit() {
+                runner.ended = Some(End::Done);
+            }
+        }
+        Err(fault) => runner.ended = Some(End::Failed(fault)),
+    }
+    Ok(())
+}
+
+/// The plan of a section for a thread in this state.
+fn plan_for(
+    alloc: Global,
+    compiled: &Compiled,
+    section: u16,
+    runner: &Runner,
+    store: &Store,
+) -> Result<Vec<Grip>, AllocError>
+    requires { section < length (sections_of (program_of compiled.now).texts) }
+    ensures { IfOk result (λ plan. plan.items
+        ≡ plan_at compiled.now section store.now runner.now.work.locals) }
+{
+    compiled.rules();
+    let plan = plan_of(
+        alloc,
+        compiled.part(section),
+        compiled.set(section),
+        store,
+        &runner.work,
+    )?;
+    Ok(plan)
+}
+
+/// A thread that comes to a section wants what the section's plan asks for in this state. Where memory is refused
+/// nothing has changed.
+pub fn enter(
+    alloc: Global,
+    compiled: &Compiled,
+    section: u16,
+    runner: &mut Runner,
+    store: &Store,
+) -> Result<(), AllocError>
+    requires { section < length (sections_of (program_of compiled.now).texts) }
+    ensures stage { OnOk result (runner.new.stage ≡ Entered) }
+    ensures wanted { OnOk result (drop runner.new.taken runner.new.wanted.items
+        ≡ plan_at compiled.now section store.now runner.old.work.locals) }
+    ensures frame { OnOk result ((text : TextView) → frame_of text runner.new ≡ frame_of text runner.old) }
+    ensures refused { OnErr result (runner.new ≡ runner.old) }
+{
+    let plan = plan_for(alloc, compiled, section, runner, store)?;
+    runner.wanted = plan;
+    runner.taken = 0;
+    runner.stage = Stage::Entered;
+    Ok(())
+}
+
+/// Whether a thread holds each key of a plan at least as strongly.
+fn meets(table: &Table, thread: u16, plan: &[Grip]) -> bool
+    requires { thread < length table.now.held }
+    ensures { result ≡ meets_by (grips (held_by table.now thread)) plan.now }
+{
+    for grip in plan {
+        match table.held(thread, grip.key) {
+            None => return false,
+            Some(mode) => {
+                if !at_least(mode, grip.mode) {
+                    return false;
+                }
+            }
+        }
+    }
+    true
+}
+
+/// Whether the plan of a section for a thread in this state is met by what it holds.
+pub fn is_met(
+    alloc: Global,
+    compiled: &Compiled,
+    thread: u16,
+    section: u16,
+    runner: &Runner,
+    store: &Store,
+    table: &Table,
+) -> Result<bool, AllocError>
+    requires section { section < length (sections_of (program_of compiled.now).texts) }
+    requires thread { thread < length table.now.held }
+    ensures { IfOk result (λ met. met ≡ meets_by (grips (held_by table.now thread))
+        (plan_at compiled.now section store.now runner.now.work.locals)) }
+{
+    let plan = plan_for(alloc, compiled, section, runner, store)?;
+    Ok(meets(table, thread, plan.as_slice()))
+}
+
+/// A thread whose plan is met begins its section; after it the thread goes on where its own graph leads.
+pub fn begin(compiled: &Compiled, thread: u16, section: u16, runner: &mut Runner)
+    requires thread { thread < length (program_of compiled.now).texts }
+    requires node { (g : List Node) → slice_get compiled.now.scheme.graphs.threads thread ≡ Some g
+        → runner.old.node < length g }
+    ensures stage { runner.new.stage ≡ Running section 0 }
+    ensures text { (i : ℕ) (body rest : TextView)
+        → rest_at (text_at compiled.now thread) runner.old.node ≡ Section i body rest
+        → rest_at (text_at compiled.now thread) runner.new.node ≡ rest }
+    ensures wanted { (runner.new.wanted ≡ runner.old.wanted) × (runner.new.taken ≡ runner.old.taken) }
+    ensures work { (runner.new.work ≡ runner.old.work) × (runner.new.ended ≡ runner.old.ended) }
+{
+    compiled.rules();
+    let flow = compiled.scheme().graph().thread(thread);
+    runner.stage = Stage::Running(section, 0);
+    runner.node = chosen(flow.succ(runner.node), true);
+}

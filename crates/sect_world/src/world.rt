@@ -1,0 +1,571 @@
+//! A moment of a run, with the events that led to it.
+
+ghost use Rattle.std.specs.Prelude.{◌≡◌, ◌≤◌, ◌↔◌, true, IsTrue, length, ◌<◌, IfOk, OnOk, IfErr, OnErr, false, []};
+ghost use Rattle.sect_types.specs.Statements.{TextView, Section};
+ghost use Rattle.sect_types.specs.Sections.{sections_of};
+ghost use Rattle.sect_types.specs.Meaning.{begins_step};
+ghost use Rattle.sect_graph.specs.Rests.{rest_at};
+ghost use Rattle.sect_types.specs.Whole.{SerialEndView, RunsWhole, has_ended};
+ghost use Rattle.sect_modes.specs.declared.key.Key.{Key};
+ghost use Rattle.sect_modes.specs.declared.mode.Mode.{Mode};
+ghost use Rattle.sect_emit.specs.Compiled.{IsCompiled, program_of};
+ghost use Rattle.sect_emit.specs.Plan.{meets};
+ghost use Rattle.sect_emit.specs.State.{State, Outside, Entered, Running, ThreadState, IsThread, plan_at};
+ghost use Rattle.sect_world.specs.Events.{Happens, IsFree, IsReady, IsOver};
+ghost use Rattle.sect_world.specs.Runs.{IsRun, IsComplete, order_of};
+ghost use Rattle.sect_world.specs.Blocked.{IsStuck};
+ghost use Rattle.sect_world.specs.declared.event.Deed.TheVariants.{Again};
+ghost use Rattle.sect_world.specs.Moments.{IsMoment, world_at};
+ghost use Rattle.sect_world.specs.Worlds.{IsTurned, IsRefused, IsRunOf, AllEnded, first_world, outcome_at};
+ghost use Rattle.sect_world.specs.steps.Fits.{Asks};
+ghost use Rattle.sect_world.specs.steps.Moves.{IsNext};
+ghost use Rattle.sect_world.specs.steps.Viewing.{body_at, position_of, IsSited};
+
+use crate::asking::{ask, turned_by};
+use crate::event::{Deed, Event};
+use crate::giving::{come_out, give_back};
+use crate::inside::step_inside;
+use crate::labels::next_label;
+use crate::outside::{begin, enter, is_met, step_outside};
+use crate::runner::{Runner, Stage, first_runners, have_ended, put_ends};
+use crate::turned::{Kind, Turned, WorldFault};
+use sect_emit::Compiled;
+use sect_store::{Outcome, Store};
+use sect_table::{Grants, Table};
+use sect_types::{End, Fault, Label};
+use std::alloc::{AllocError, Global};
+use std::marker::Model;
+
+/// A run: its events, and what it has come to.
+#[derive(Drop)]
+pub struct Run {
+    pub events: Vec<Event>,
+    pub outcome: Outcome,
+}
+
+/// A moment of a run, with the events that led to it: the compiled program, the fuel with which each thread began, the
+/// events, the threads of the `leave` events in order, the store, what was delivered, the threads, who holds and waits
+/// for which key, whom the last turn has let in, and room for how the threads end.
+#[derive(Drop)]
+pub struct World<'a> {
+    compiled: &'a Compiled,
+    fuel: u32,
+    trace: Vec<Event>,
+    order: Vec<u16>,
+    store: Store,
+    output: Vec<i64>,
+    runners: Vec<Runner>,
+    table: Table,
+    grants: Grants,
+    granted: Vec<u16>,
+    ends: Vec<Option<End>>,
+}
+
+/// A world that is put aside between two turns: all of it but the compiled program.
+#[derive(Drop)]
+pub struct Moment {
+    fuel: u32,
+    trace: Vec<Event>,
+    order: Vec<u16>,
+    store: Store,
+    output: Vec<i64>,
+    runners: Vec<Runner>,
+    table: Table,
+    grants: Grants,
+    granted: Vec<u16>,
+    ends: Vec<Option<End>>,
+}
+
+impl Moment {
+    /// The world that was put aside, with its compiled program.
+    pub fn resume(self, compiled: &Compiled) -> World<'_>
+        requires { IsMoment compiled.now self }
+        ensures { result ≡ world_at compiled.now self }
+    {
+        let Moment {
+            fuel,
+            trace,
+            order,
+            store,
+            output,
+            runners,
+            table,
+            grants,
+            granted,
+            ends,
+        } = self;
+        World {
+            compiled,
+            fuel,
+            trace,
+            order,
+            store,
+            output,
+            runners,
+            table,
+            grants,
+            granted,
+            ends,
+        }
+    }
+}
+
+impl<'a> Model for World<'a> {
+    ghost use Rattle.std.specs.Prelude.{length, vec_capacity, ◌≡◌, ◌≤◌, []};
+    ghost use Rattle.std.specs.Coded.{codes};
+    ghost use Rattle.sect_front.specs.Coding.{block_code};
+    ghost use Rattle.sect_types.specs.Coding.{statements_code};
+    ghost use Rattle.sect_points.specs.Paths.{path_code};
+    ghost use Rattle.sect_world.specs.Worlds.{WorldView};
+    ghost use Rattle.sect_world.specs.steps.Viewing.{IsWorld, HasRoom, shown};
+
+    ghost Value = { WorldView };
+
+    ghost coded = { Prim.hlevel (codes, block_code, statements_code, path_code) };
+
+    ghost view = { λ w. shown w.compiled.now w.fuel w.trace.items w.order.items w.store w.output.items w.runners.items
+        w.table.held w.granted.items };
+
+    ghost invariant = { λ w. IsWorld w.compiled.now w.fuel w.trace.items w.order.items w.store w.output.items
+        w.runners.items w.table × HasRoom (length w.table.held) w.grants.threads (vec_capacity w.granted)
+        (vec_capacity w.ends) × (w.ends.items ≡ []) };
+}
+
+impl<'a> World<'a> {
+    /// The world at the start of a compiled program, with so much fuel for each thread.
+    pub fn start(alloc: Global, compiled: &'a Compiled, fuel: u32) -> Result<World<'a>, AllocError>
+        ensures { IfOk result (λ world. world ≡ first_world compiled.now fuel) }
+    {
+        compiled.rules();
+        let program = compiled.scheme().program();
+        let threads = program.thread_count() as usize;
+        Ok(World {
+            compiled,
+            fuel,
+            trace: Vec::new(alloc),
+            order: Vec::new(alloc),
+            store: Store::first(alloc, program)?,
+            output: Vec::new(alloc),
+            runners: first_runners(alloc, compiled, fuel)?,
+            table: Table::with_threads(alloc, threads)?,
+            grants: Grants::with_threads(alloc, threads)?,
+            granted: Vec::with_capacity(alloc, threads)?,
+            ends: Vec::with_capacity(alloc, threads)?,
+        })
+    }
+
+    /// What each world keeps: its events are a run of its compiled program, which leads from the start to its state.
+    pub fn rules(&self)
+        ensures compiled { IsCompiled self.now.compiled }
+        ensures run { IsRun self.now.compiled self.now.fuel self.now.trace self.now.state }
+        ensures order { self.now.order ≡ order_of self.now.trace }
+        ensures going { IsStuck self.now.state → ⊥ }
+    {
+        let _ = &self.trace;
+    }
+
+    /// The events, in order.
+    pub fn trace(&self) -> &[Event]
+        ensures { result.now ≡ self.now.trace }
+    {
+        self.trace.as_slice()
+    }
+
+    /// The threads of the `leave` events, in order.
+    pub fn order(&self) -> &[u16]
+        ensures { result.now ≡ self.now.order }
+    {
+        self.order.as_slice()
+    }
+
+    /// The objects.
+    pub fn store(&self) -> &Store
+        ensures { result.now ≡ self.now.state.store }
+    {
+        &self.store
+    }
+
+    /// The numbers that sections have delivered, in order.
+    pub fn output(&self) -> &[i64]
+        ensures { result.now ≡ self.now.state.output }
+    {
+        self.output.as_slice()
+    }
+
+    /// The threads that the last turn has let in: those of its `take` events after its first event, in order.
+    pub fn granted(&self) -> &[u16]
+        ensures { result.now ≡ self.now.granted }
+    {
+        self.granted.as_slice()
+    }
+
+    /// The number of threads.
+    pub fn threads(&self) -> usize
+        ensures { result ≡ length self.now.state.threads }
+    {
+        self.runners.len()
+    }
+
+    /// Whether all threads have ended.
+    pub fn all_ended(&self) -> bool
+        ensures { IsTrue result ↔ AllEnded self.now.state }
+    {
+        have_ended(self.runners.as_slice())
+    }
+
+    /// Whether this is a world of that program, compiled for paths of as many fields, with so much fuel.
+    pub fn is_of(&self, compiled: &Compiled, fuel: u32) -> bool
+        ensures { IsTrue result ↔ IsRunOf self.now compiled.now fuel }
+    {
+        let (own, other) = (self.compiled.scheme(), compiled.scheme());
+        own.program().is_same(other.program()) && own.k() == other.k() && self.fuel == fuel
+    }
+
+    /// The run so far. Where all threads have ended it is what whole sections come to, one after another in the order
+    /// of the `leave` events.
+    pub fn finish(self) -> Run
+        ensures events { result.events.items ≡ self.entry.trace }
+        ensures outcome { result.outcome ≡ outcome_at self.entry.state self.entry.order }
+        ensures serial { AllEnded self.entry.state → (e : SerialEndView) × IsComplete self.entry.state e
+            × RunsWhole (program_of self.entry.compiled) self.entry.fuel self.entry.order e }
+    {
+        let World {
+            trace,
+            order,
+            store,
+            output,
+            runners,
+            mut ends,
+            ..
+        } = self;
+        put_ends(runners.as_slice(), &mut ends);
+        Run {
+            events: trace,
+            outcome: Outcome::new(ends, order, output, store),
+        }
+    }
+
+    /// Puts the world aside.
+    pub fn suspend(self) -> Moment
+        ensures moment { IsMoment self.entry.compiled result }
+        ensures same { world_at self.entry.compiled result ≡ self.entry }
+    {
+        let World {
+            compiled: _,
+            fuel,
+            trace,
+            order,
+            store,
+            output,
+            runners,
+            table,
+            grants,
+            granted,
+            ends,
+        } = self;
+        Moment {
+            fuel,
+            trace,
+            order,
+            store,
+            output,
+            runners,
+            table,
+            grants,
+            granted,
+            ends,
+        }
+    }
+
+    /// The turn of a thread outside sections that runs its next statement or test.
+    fn local(&mut self, thread: u16) -> Result<Turned, AllocError>
+        requires { (th : ThreadState) × IsThread self.old.state thread th × IsFree th
+            × (begins_step th.frame.text ≡ true) }
+        ensures ok { IfOk result (λ turned. IsTurned thread turned self.old self.new) }
+        ensures err { OnErr result (self.new ≡ self.old) }
+    {
+        let alloc = *self.trace.allocator();
+        self.trace.reserve(1)?;
+        step_outside(
+            alloc,
+            self.compiled,
+            thread,
+            &mut self.runners[thread as usize],
+            &mut self.store,
+        )?;
+        self.granted.clear();
+        let deed = Deed::Local;
+        self.trace.push_reserved(Event { thread, deed });
+        Ok(Turned::Moved(Kind::Local))
+    }
+
+    /// The turn of a thread that comes to a section: it wants what the section's plan asks for.
+    fn enter(&mut self, thread: u16, section: u16) -> Result<Turned, AllocError>
+        requires { (th : ThreadState) × IsThread self.old.state thread th × IsFree th
+            × ((body : TextView) × (rest : TextView) × (th.frame.text ≡ Section section body rest)) }
+        ensures ok { IfOk result (λ turned. IsTurned thread turned self.old self.new) }
+        ensures err { OnErr result (self.new ≡ self.old) }
+    {
+        let alloc = *self.trace.allocator();
+        self.trace.reserve(1)?;
+        enter(
+            alloc,
+            self.compiled,
+            section,
+            &mut self.runners[thread as usize],
+            &self.store,
+        )?;
+        self.granted.clear();
+        let deed = Deed::Enter;
+        self.trace.push_reserved(Event { thread, deed });
+        Ok(Turned::Moved(Kind::Enter))
+    }
+
+    /// The turn of a thread that begins its section, since its plan is met.
+    fn begin(&mut self, thread: u16, section: u16) -> Result<Turned, AllocError>
+        requires { (th : ThreadState) × IsThread self.old.state thread th
+            × ((body : TextView) × (rest : TextView) × IsReady th section body rest × (meets th.held
+            (plan_at self.old.compiled section self.old.state.store th.frame.work.locals) ≡ true)) }
+        ensures ok { IfOk result (λ turned. IsTurned thread turned self.old self.new) }
+        ensures err { OnErr result (self.new ≡ self.old) }
+    {
+        self.trace.reserve(1)?;
+        begin(
+            self.compiled,
+            thread,
+            section,
+            &mut self.runners[thread as usize],
+        );
+        self.granted.clear();
+        let deed = Deed::Begin;
+        self.trace.push_reserved(Event { thread, deed });
+        Ok(Turned::Moved(Kind::Begin))
+    }
+
+    /// The turn of a thread in a section, at this node of it, that runs its next statement or test.
+    fn act(&mut self, thread: u16, section: u16, node: u16) -> Result<Turned, AllocError>
+        requires { (th : ThreadState) × IsThread self.old.state thread th
+            × (th.position ≡ Running section (rest_at (body_at self.old.compiled section) node))
+            × (begins_step (rest_at (body_at self.old.compiled section) node) ≡ true) }
+        ensures ok { IfOk result (λ turned. IsTurned thread turned self.old self.new) }
+        ensures err { OnErr result (self.new ≡ self.old) }
+    {
+        let alloc = *self.trace.allocator();
+        self.trace.reserve(1)?;
+        step_inside(
+            alloc,
+            self.compiled,
+            thread,
+            section,
+            node,
+            &mut self.runners[thread as usize],
+            &mut self.store,
+            &mut self.table,
+        )?;
+        self.granted.clear();
+        let deed = Deed::Act;
+        self.trace.push_reserved(Event { thread, deed });
+        Ok(Turned::Moved(Kind::Act))
+    }
+
+    /// The turn of a thread that wants a key: it comes to hold the key, or waits for it.
+    fn ask(&mut self, thread: u16) -> Result<Turned, AllocError>
+        requires { (k : Key) × (m : Mode) × Asks self.old.state thread k m }
+        ensures ok { IfOk result (λ turned. IsTurned thread turned self.old self.new) }
+        ensures err { OnErr result (self.new ≡ self.old) }
+    {
+        let answer = ask(&mut self.trace, &mut self.runners, &mut self.table, thread)?;
+        self.granted.clear();
+        Ok(turned_by(answer))
+    }
+
+    /// The turn of a thread that gives all back, to enter its section anew.
+    fn again(&mut self, thread: u16) -> Result<Turned, AllocError>
+        requires { (after : State) × Happens self.old.compiled self.old.state
+            (record { thread = thread; deed = Again }) after }
+        ensures ok { IfOk result (λ turned. IsTurned thread turned self.old self.new) }
+        ensures err { OnErr result (self.new ≡ self.old) }
+    {
+        self.trace.reserve(1 + self.runners.len())?;
+        self.runners[thread as usize].stage = Stage::Outside;
+        let deed = Deed::Again;
+        give_back(
+            &mut self.trace,
+            &mut self.runners,
+            &mut self.table,
+            &mut self.grants,
+            &mut self.granted,
+            Event { thread, deed },
+        );
+        Ok(Turned::Moved(Kind::Again))
+    }
+
+    /// The turn of a thread that leaves its section, at its end or by a fault.
+    fn leave(&mut self, thread: u16, how: Option<Fault>) -> Result<Turned, AllocError>
+        requires { (th : ThreadState) × IsThread self.old.state thread th × IsOver th.position how }
+        ensures ok { IfOk result (λ turned. IsTurned thread turned self.old self.new) }
+        ensures err { OnErr result (self.new ≡ self.old) }
+    {
+        self.trace.reserve(1 + self.runners.len())?;
+        self.order.reserve(1)?;
+        come_out(
+            self.compiled,
+            thread,
+            how,
+            &mut self.runners[thread as usize],
+            &mut self.output,
+        )?;
+        self.order.push_reserved(thread);
+        let deed = Deed::Leave;
+        give_back(
+            &mut self.trace,
+            &mut self.runners,
+            &mut self.table,
+            &mut self.grants,
+            &mut self.granted,
+            Event { thread, deed },
+        );
+        Ok(Turned::Moved(Kind::Leave))
+    }
+
+    /// The turn of a thread outside sections.
+    fn turn_outside(&mut self, thread: u16) -> Result<Turned, AllocError>
+        requires { (th : ThreadState) × IsThread self.old.state thread th × (th.position ≡ Outside) }
+        ensures ok { IfOk result (λ turned. IsTurned thread turned self.old self.new) }
+        ensures err { OnErr result (self.new ≡ self.old) }
+    {
+        if self.has_ended(thread) {
+            self.granted.clear();
+            return Ok(Turned::Ended);
+        }
+        match self.label_of(thread) {
+            Label::Act(_) => self.local(thread),
+            Label::Test(_) => self.local(thread),
+            Label::Section(section) => self.enter(thread, section),
+        }
+    }
+
+    /// The turn of a thread that has entered a section: it asks for a key, or looks whether its plan is still met.
+    fn turn_entered(&mut self, thread: u16) -> Result<Turned, AllocError>
+        requires { (th : ThreadState) × IsThread self.old.state thread th × (th.position ≡ Entered) }
+        ensures ok { IfOk result (λ turned. IsTurned thread turned self.old self.new) }
+        ensures err { OnErr result (self.new ≡ self.old) }
+    {
+        if self.wants_more(thread) {
+            return self.ask(thread);
+        }
+        let section = self.section_of(thread);
+        if self.meets_plan(thread, section)? {
+            self.begin(thread, section)
+        } else {
+            self.again(thread)
+        }
+    }
+
+    /// The turn of a thread in a section, at this node of it.
+    fn turn_inside(&mut self, thread: u16, section: u16, node: u16) -> Result<Turned, AllocError>
+        requires section { section < length (sections_of (program_of self.old.compiled).texts) }
+        requires thread { (th : ThreadState) × IsThread self.old.state thread th
+            × (th.position ≡ Running section (rest_at (body_at self.old.compiled section) node)) }
+        ensures ok { IfOk result (λ turned. IsTurned thread turned self.old self.new) }
+        ensures err { OnErr result (self.new ≡ self.old) }
+    {
+        let exit = self.compiled.scheme().graph().section(section).exit();
+        if node < exit {
+            self.act(thread, section, node)
+        } else {
+            self.leave(thread, None)
+        }
+    }
+
+    /// Whether a thread has ended.
+    fn has_ended(&self, thread: u16) -> bool
+        requires { (th : ThreadState) × IsThread self.now.state thread th }
+        ensures { (th : ThreadState) → IsThread self.now.state thread th → result ≡ has_ended th.frame.ended }
+    {
+        self.runners[thread as usize].ended.is_some()
+    }
+
+    /// What a thread outside sections that hasn't ended comes to next.
+    fn label_of(&self, thread: u16) -> Label
+        requires { (th : ThreadState) × IsThread self.now.state thread th × IsFree th }
+        ensures { (th : ThreadState) → IsThread self.now.state thread th → IsNext result th.frame.text }
+    {
+        next_label(self.compiled, thread, self.runners[thread as usize].node)
+    }
+
+    /// Whether a thread that has entered a section wants a key more.
+    fn wants_more(&self, thread: u16) -> bool
+        requires { (th : ThreadState) × IsThread self.now.state thread th × (th.position ≡ Entered) }
+        ensures asks { result ≡ true → (k : Key) × (m : Mode) × Asks self.now.state thread k m }
+        ensures none { result ≡ false → (th : ThreadState) → IsThread self.now.state thread th → th.wanted ≡ [] }
+    {
+        let runner = &self.runners[thread as usize];
+        runner.taken < runner.wanted.len()
+    }
+
+    /// The section that a thread has entered.
+    fn section_of(&self, thread: u16) -> u16
+        requires { (th : ThreadState) × IsThread self.now.state thread th × (th.position ≡ Entered) }
+        ensures { (th : ThreadState) → IsThread self.now.state thread th
+            → (body : TextView) × (rest : TextView) × (th.frame.text ≡ Section result body rest) }
+    {
+        match next_label(self.compiled, thread, self.runners[thread as usize].node) {
+            Label::Act(_) => unreachable!(),
+            Label::Test(_) => unreachable!(),
+            Label::Section(section) => section,
+        }
+    }
+
+    /// Whether the plan of the section that a thread has entered is met by what the thread holds.
+    fn meets_plan(&self, thread: u16, section: u16) -> Result<bool, AllocError>
+        requires { (th : ThreadState) × IsThread self.now.state thread th
+            × ((body : TextView) × (rest : TextView) × (th.frame.text ≡ Section section body rest)) }
+        ensures { IfOk result (λ met. (th : ThreadState) → IsThread self.now.state thread th
+            → met ≡ meets th.held (plan_at self.now.compiled section self.now.state.store th.frame.work.locals)) }
+    {
+        is_met(
+            *self.trace.allocator(),
+            self.compiled,
+            thread,
+            section,
+            &self.runners[thread as usize],
+            &self.store,
+            &self.table,
+        )
+    }
+
+    /// Where a thread is.
+    fn stage_of(&self, thread: u16) -> Stage
+        requires { thread < length self.now.state.threads }
+        ensures place { (th : ThreadState) × IsThread self.now.state thread th
+            × (th.position ≡ position_of self.now.compiled result) }
+        ensures sited { IsSited self.now.compiled result }
+    {
+        self.runners[thread as usize].stage
+    }
+
+    /// Makes the one event that a thread's place allows, and the `take` events that it lets through; or none, where the
+    /// thread waits or has ended. Refused where there is no such thread, and for want of memory; nothing has changed
+    /// then.
+    pub fn turn(&mut self, thread: u16) -> Result<Turned, WorldFault>
+        ensures ok { IfOk result (λ turned. IsTurned thread turned self.old self.new) }
+        ensures there { OnOk result (thread < length self.old.state.threads) }
+        ensures refused { IfErr result (λ fault. IsRefused fault thread (length self.old.state.threads)) }
+        ensures err { OnErr result (self.new ≡ self.old) }
+        ensures going { IsStuck self.new.state → ⊥ }
+    {
+        self.rules();
+        if thread as usize >= self.threads() {
+            return Err(WorldFault::NoSuchThread(thread));
+        }
+        let turned = match self.stage_of(thread) {
+            Stage::Outside => self.turn_outside(thread)?,
+            Stage::Entered => self.turn_entered(thread)?,
+            Stage::Running(section, node) => self.turn_inside(thread, section, node)?,
+            Stage::Faulted(_, why) => self.leave(thread, Some(why))?,
+        };
+        self.rules();
+        Ok(turned)
+    }
+}

@@ -1,0 +1,4 @@
+pub mod Completing
+pub mod Crossing
+pub mod Keeping
+pub mod Threads

@@ -1,0 +1,16 @@
+use Rattle.std.proofs.Common.{rules}
+use denote.Param.{param}
+use denote.Param.Send.{IsSend, IsSync, sendable}
+use Rattle.sect_run.proofs.Crossing.{compiled_sync}
+use Rattle.sect_run.specs.contracts.share.Post as Post
+use Rattle.sect_run.specs.contracts.worker.Shared as Shared
+use Rattle.sect_run.proofs.share.Post.TheSendSync as PostSend
+use Rattle.sect_run.proofs.worker.Shared.TheSendSync as SharedSend
+use Rattle.sect_run.proofs.worker.fn.start_workers.scope.Goals as goal
+
+pub spawn-requires-send-F : goal.spawn-requires-send-F
+spawn-requires-send-F g c κs within =
+    let compiled = compiled_sync in
+    let rt : IsSync g.row.R = search (rules, sendable) depth 30 in
+    let gate : IsSync g.row.G = search (rules, sendable) depth 30 in
+    search (sendable, PostSend.the_send, SharedSend.the_sync) depth 30

@@ -1,0 +1,18 @@
+//! Where threads pass after each event of their own turns.
+
+use sect_world::Kind;
+
+/// Is told of each event of a thread's own turns, by whoever made the turn and without the run's lock: the other
+/// threads may go on meanwhile. A gate may keep the thread for a while; it has to let it go.
+pub trait Gate: Sync {
+    /// This thread has made an event of this kind.
+    fn at(&self, thread: u16, kind: Kind);
+}
+
+/// A gate that keeps nobody.
+#[derive(Clone, Copy, Debug)]
+pub struct OpenGate;
+
+impl Gate for OpenGate {
+    fn at(&self, _thread: u16, _kind: Kind) {}
+}

@@ -1,0 +1,37 @@
+//! Turns of threads that are there.
+
+ghost use Rattle.std.specs.Prelude.{◌<◌, OnOk};
+ghost use Rattle.sect_run.specs.steps.Shares.{AreBelow, IsSameRun, threads_in};
+
+use crate::fault::RunFault;
+use sect_world::{Turned, World, WorldFault};
+
+/// The turn of a thread. Those whom it lets in are threads of the program too.
+pub fn turn_of(world: &mut World<'_>, thread: u16) -> Result<Turned, RunFault>
+    requires { thread < threads_in world.old.compiled }
+    ensures same { IsSameRun world.old world.new }
+    ensures granted { OnOk result (AreBelow (threads_in world.old.compiled) world.new.granted) }
+{
+    world.rules();
+    match world.turn(thread) {
+        Ok(turned) => Ok(turned),
+        Err(WorldFault::NoSuchThread(_)) => unreachable!(),
+        Err(WorldFault::Memory) => Err(RunFault::Memory),
+    }
+}
+
+/// The turn of a thread, and whom it lets in. Their numbers take the place of those that stood in `woken`.
+pub fn waking_turn_of(
+    world: &mut World<'_>,
+    thread: u16,
+    woken: &mut Vec<u16>,
+) -> Result<Turned, RunFault>
+    requires { thread < threads_in world.old.compiled }
+    ensures same { IsSameRun world.old world.new }
+    ensures woken { OnOk result (AreBelow (threads_in world.old.compiled) woken.new.items) }
+{
+    let turned = turn_of(world, thread)?;
+    woken.clear();
+    woken.extend_from_slice(world.granted())?;
+    Ok(turned)
+}

@@ -25,5 +25,7 @@ of_source why = refusal.Source why
 abbrev pub IsDue : List ℕ → ℕ → Refusal → Type 0
 IsDue bytes k refusal.Memory = k ≤ 3
 IsDue bytes k (refusal.Source why) = (why ≢ source_refusal.Memory) × sources.IsDue bytes k why
+IsDue bytes k (refusal.Workers why) = ⊥
 IsDue bytes k (refusal.Serial why) = ⊥
 IsDue bytes k (refusal.Check why) = ⊥
+IsDue bytes k (refusal.Schedule why) = ⊥

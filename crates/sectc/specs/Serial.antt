@@ -30,4 +30,6 @@ IsSerialDue bytes fuel order refusal.Memory = ⊤
 IsSerialDue bytes fuel order (refusal.Source why) = (why ≢ source_refusal.Memory) × IsRefused bytes why
 IsSerialDue bytes fuel order (refusal.Serial why) =
     (why ≢ fault.Memory) × ((p : ProgramView) × IsTypedText bytes p × Judges p fuel order (Err why))
+IsSerialDue bytes fuel order (refusal.Workers why) = ⊥
 IsSerialDue bytes fuel order (refusal.Check why) = ⊥
+IsSerialDue bytes fuel order (refusal.Schedule why) = ⊥

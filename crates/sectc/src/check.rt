@@ -10,8 +10,8 @@ use crate::splitting::split;
 use sect_check::check;
 use std::alloc::Global;
 
-/// The word `valid` for a certificate that is valid for the source text that stands behind it in one input, and for paths
-/// of at most `k` fields.
+/// The word `valid` for a certificate that is valid for the source text that stands behind it in one input, and for
+/// paths of at most `k` fields.
 pub fn verdict(alloc: Global, input: &[u8], k: u16) -> Result<String, Refusal>
     // The certificate is valid for the source, and the word is the answer.
     ensures answers { IfOk result (λ text. IsValidInput input.now k × (string_bytes text ≡ codes "valid\n")) }

@@ -1,13 +1,20 @@
 //! One run of the program, over any reader and writer.
 
 use crate::check::verdict;
+use crate::compile::{program_certificate, program_listing};
+use crate::explain::program_explanation;
 use crate::locks::locks;
-use crate::options::{Request, UsageFault, request_of};
+use crate::options::{Form, Request, UsageFault, request_of};
 use crate::refusal::Refusal;
+use crate::run::run_outcome;
+use crate::schedule::schedule_outcome;
 use crate::serial::serial_outcome;
+use sect_run::OpenGate;
 use std::alloc::{AllocError, Global};
 use std::io;
 use std::io::{ErrorKind, Read, Write};
+use std::sync::Wait;
+use std::thread::Threads;
 use thiserror::Error;
 
 /// The status of a run that did what was asked.
@@ -29,7 +36,7 @@ pub const OUT_OF_MEMORY: &[u8] = b"out of memory\n";
 #[derive(Debug, Drop)]
 struct Answer {
     status: u8,
-    text: String,
+    text: Vec<u8>,
 }
 
 /// Why a run has no answer.
@@ -59,7 +66,7 @@ impl From<io::Error> for Failure {
 
 /// Judges the words (the program's name first), reads the whole input, works, and writes the answer. It gives the
 /// exit status: 0 done, 1 refused, 2 the words are wrong, 3 want of memory, or the input or the output failed.
-pub fn command<R: AllocGlobal, I: Read, O: Write>(
+pub fn command<R: Threads + Wait + Sync + AllocGlobal, I: Read, O: Write>(
     rt: &R,
     words: &[String],
     input: I,
@@ -69,9 +76,8 @@ where
     I: Drop,
     O: Drop,
 {
-    let alloc = rt.alloc();
-    match answer_to(alloc, words, input) {
-        Ok(answer) => told(output, answer.status, answer.text.as_bytes()),
+    match answer_to(rt, words, input) {
+        Ok(answer) => told(output, answer.status, answer.text.as_slice()),
         Err(Failure::Memory) => told(output, FAILED, OUT_OF_MEMORY),
         Err(Failure::Streams) => told(output, FAILED, b"input or output failed\n"),
     }
@@ -89,51 +95,102 @@ pub fn told<O: Write + Drop>(mut output: O, status: u8, text: &[u8]) -> u8 {
 }
 
 /// What the words ask of the input. Words that are wrong are answered before the input is read.
-fn answer_to<I: Read + Drop>(
-    alloc: Global,
+fn answer_to<R: Threads + Wait + Sync + AllocGlobal, I: Read + Drop>(
+    rt: &R,
     words: &[String],
     mut input: I,
 ) -> Result<Answer, Failure> {
+    let alloc = rt.alloc();
     let request = match request_of(alloc, words) {
         Ok(request) => request,
         Err(UsageFault::Memory) => return Err(Failure::Memory),
         Err(fault) => {
-            let text = format!(in alloc; "{fault}")?;
             return Ok(Answer {
                 status: WRONG_WORDS,
-                text,
+                text: format!(in alloc; "{fault}")?.into_bytes(),
             });
         }
     };
     let mut source = Vec::new(alloc);
     input.read_to_end(&mut source)?;
-    worked(alloc, request, source.as_slice())
+    worked(rt, alloc, request, source.as_slice())
 }
 
 /// What a command answers to its input.
-fn worked(alloc: Global, request: Request, source: &[u8]) -> Result<Answer, Failure> {
-    let done = match request {
-        Request::Locks { k } => locks(alloc, source, k),
-        Request::Serial { fuel, order } => serial_outcome(alloc, source, fuel, order),
-        Request::Check { k } => verdict(alloc, source, k),
-    };
-    match done {
+fn worked<R: Threads + Wait + Sync>(
+    rt: &R,
+    alloc: Global,
+    request: Request,
+    source: &[u8],
+) -> Result<Answer, Failure> {
+    match printed(rt, alloc, request, source) {
         Ok(text) => Ok(Answer { status: DONE, text }),
         Err(Refusal::Memory) => Err(Failure::Memory),
         Err(refusal) => Ok(Answer {
             status: REFUSED,
-            text: format!(in alloc; "{refusal}\n")?,
+            text: format!(in alloc; "{refusal}\n")?.into_bytes(),
         }),
     }
 }
 
+/// What is printed for a request that is not refused.
+fn printed<R: Threads + Wait + Sync>(
+    rt: &R,
+    alloc: Global,
+    request: Request,
+    source: &[u8],
+) -> Result<Vec<u8>, Refusal> {
+    match request {
+        Request::Locks { k } => Ok(locks(alloc, source, k)?.into_bytes()),
+        Request::Compile {
+            k,
+            workers,
+            form: Form::Listing,
+        } => program_listing(rt, alloc, source, k, workers),
+        Request::Compile {
+            k,
+            workers,
+            form: Form::Certificate,
+        } => program_certificate(rt, alloc, source, k, workers),
+        Request::Explain { k } => program_explanation(alloc, source, k),
+        Request::Serial { fuel, order } => {
+            Ok(serial_outcome(alloc, source, fuel, order)?.into_bytes())
+        }
+        Request::Schedule { k, fuel, schedule } => {
+            Ok(schedule_outcome(alloc, source, k, fuel, schedule)?.into_bytes())
+        }
+        Request::Run { k, fuel } => {
+            Ok(run_outcome(rt, alloc, source, k, fuel, &OpenGate)?.into_bytes())
+        }
+        Request::Check { k } => Ok(verdict(alloc, source, k)?.into_bytes()),
+    }
+}
+
+#[cfg(test)]
+mod changed_tests;
 #[cfg(test)]
 mod check_tests;
 #[cfg(test)]
+mod compile_tests;
+#[cfg(test)]
 mod example_tests;
+#[cfg(test)]
+mod explain_tests;
+#[cfg(test)]
+mod hostile_tests;
 #[cfg(test)]
 mod lock_tests;
 #[cfg(test)]
+mod run_tests;
+#[cfg(test)]
+mod schedule_tests;
+#[cfg(test)]
 mod serial_tests;
 #[cfg(test)]
+mod stream_tests;
+#[cfg(test)]
+mod stretch_tests;
+#[cfg(test)]
 mod tests;
+#[cfg(test)]
+mod worker_tests;

@@ -12,8 +12,8 @@ ghost use Rattle.sectc.specs.Listing.{IsLeastInOrder, IsListing, section_line};
 ghost use Rattle.sectc.specs.Answers.{IsAnswer, IsDue};
 
 use crate::refusal::Refusal;
-use sect_infer::infer;
-use sect_names::{Scheme, accept, put_locks};
+use sect_emit::{Compiled, compile};
+use sect_names::put_locks;
 use std::alloc::{AllocError, Global};
 use std::fmt::Write;
 
@@ -27,38 +27,33 @@ pub fn locks(alloc: Global, source: &[u8], k: u16) -> Result<String, Refusal>
     // A refusal is due, and it is the first that is.
     ensures refuses { IfErr result (IsDue source.now k) }
 {
-    let scheme = accept(alloc, source, k)?;
-    Ok(lines(alloc, &scheme)?)
+    let compiled = compile(alloc, source, k)?;
+    Ok(lines(alloc, &compiled)?)
 }
 
 /// A line for each section of the program.
-fn lines(alloc: Global, scheme: &Scheme) -> Result<String, AllocError>
-    ensures { IfOk result (λ text.
-        IsListing scheme.now (length (sections_of scheme.now.program.texts)) (string_bytes text)) }
+fn lines(alloc: Global, compiled: &Compiled) -> Result<String, AllocError>
+    ensures { IfOk result (λ text. IsListing compiled.now.scheme
+        (length (sections_of compiled.now.scheme.program.texts)) (string_bytes text)) }
 {
     let mut text = String::new(alloc);
-    for section in 0..scheme.program().section_count() {
-        put_section(alloc, &mut text, scheme, section)?;
+    for section in 0..compiled.scheme().program().section_count() {
+        put_section(&mut text, compiled, section)?;
     }
     Ok(text)
 }
 
 /// Adds the line of a section.
-fn put_section(
-    alloc: Global,
-    text: &mut String,
-    scheme: &Scheme,
-    section: u16,
-) -> Result<(), AllocError>
-    requires { section < length (sections_of scheme.now.program.texts) }
-    ensures { OnOk result ((of : SectionView) → slice_get (sections_of scheme.now.program.texts) section ≡ Some of
-        → (locks : List Lock) × IsLeastInOrder scheme.now section of locks
-        × (string_bytes text.new ≡ string_bytes text.old ++ section_line scheme.now.program.source section locks)) }
+fn put_section(text: &mut String, compiled: &Compiled, section: u16) -> Result<(), AllocError>
+    requires { section < length (sections_of compiled.now.scheme.program.texts) }
+    ensures { OnOk result ((of : SectionView)
+        → slice_get (sections_of compiled.now.scheme.program.texts) section ≡ Some of
+        → (locks : List Lock) × IsLeastInOrder compiled.now.scheme section of locks × (string_bytes text.new
+        ≡ string_bytes text.old ++ section_line compiled.now.scheme.program.source section locks)) }
 {
-    scheme.rules();
-    let sets = infer(alloc, scheme, section)?;
+    compiled.rules();
     write!(text, "section {section}: ")?;
-    put_locks(text, scheme.program(), sets.entry())?;
+    put_locks(text, compiled.scheme().program(), compiled.set(section))?;
     text.push_str("\n")?;
     Ok(())
 }

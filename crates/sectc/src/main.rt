@@ -3,12 +3,17 @@
 
 mod check;
 mod command;
+mod compile;
+mod explain;
 mod locks;
 mod options;
 mod refusal;
+mod run;
 mod running;
+mod schedule;
 mod serial;
 mod splitting;
+mod turns;
 
 use command::{FAILED, OUT_OF_MEMORY, WRONG_WORDS, command, told};
 use std::process::ExitCode;

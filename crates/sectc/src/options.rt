@@ -3,7 +3,7 @@
 ghost use Rattle.std.specs.Prelude.{◌≡◌, ◌≤◌, true, false, IfOk, IfSome};
 ghost use Rattle.clap.specs.declared.builder.command.Command.TheViews.{out-Command as fields_of};
 
-use crate::running::{fuel_of, serial_command, threads_of};
+use crate::running::{fuel_of, run_command, schedule_command, serial_command, threads_of};
 use clap::error::ErrorKind;
 use clap::{Arg, ArgAction, ArgMatches, Command};
 use std::alloc::{AllocError, AllocFailed, Global};
@@ -15,15 +15,54 @@ pub const MOST: u32 = 65535;
 /// The most fields of a path where the command line doesn't say.
 pub const DEFAULT_K: u16 = 2;
 
+/// The workers that infer locks where the command line doesn't say.
+pub const DEFAULT_WORKERS: u16 = 1;
+
 /// What a command line asks for.
 #[derive(Debug, Drop)]
 pub enum Request {
     /// The lock set of each section, whose paths have at most k fields.
-    Locks { k: u16 },
+    Locks {
+        k: u16,
+    },
+    /// The compiled program, in this form, with paths of at most k fields, by so many workers.
+    Compile {
+        k: u16,
+        workers: u16,
+        form: Form,
+    },
+    /// Why each section takes its locks, whose paths have at most k fields.
+    Explain {
+        k: u16,
+    },
     /// The outcome of a run by whole sections of these threads, each thread with this much fuel.
-    Serial { fuel: u32, order: Vec<u16> },
+    Serial {
+        fuel: u32,
+        order: Vec<u16>,
+    },
+    /// A run by the turns of these threads, each thread with this much fuel, of the program that is compiled with paths
+    /// of at most k fields.
+    Schedule {
+        k: u16,
+        fuel: u32,
+        schedule: Vec<u16>,
+    },
+    /// A run by threads, each with this much fuel, of the program that is compiled with paths of at most k fields.
+    Run {
+        k: u16,
+        fuel: u32,
+    },
     /// Whether a certificate is valid for the source behind it, with paths of at most k fields.
-    Check { k: u16 },
+    Check {
+        k: u16,
+    },
+}
+
+/// How a compiled program is printed.
+#[derive(Clone, Copy, Debug)]
+pub enum Form {
+    Listing,
+    Certificate,
 }
 
 /// Why a command line is wrong. `Display` is what the program prints of it.
@@ -82,7 +121,7 @@ pub fn numeral<'a>(alloc: Global, name: &'a str, help: &'a str) -> Arg<'a>
 }
 
 /// The option `--k N`.
-fn k_option<'a>(alloc: Global) -> Arg<'a>
+pub fn k_option<'a>(alloc: Global) -> Arg<'a>
     ensures { result.global ≡ false }
 {
     numeral(
@@ -90,6 +129,27 @@ fn k_option<'a>(alloc: Global) -> Arg<'a>
         "k",
         "the most fields of a path in a lock, 0 to 3 (default 2)",
     )
+}
+
+/// The command `compile` and what it takes.
+fn compile_command<'a>(alloc: Global) -> Result<Command<'a>, AllocError>
+    ensures { IfOk result (λ c. (fields_of c).has_globals ≡ false) }
+{
+    let workers = numeral(
+        alloc,
+        "workers",
+        "the workers that infer locks side by side, 1 to 16 (default 1)",
+    );
+    let cert = Arg::new(alloc, "cert")
+        .long("cert")
+        .help("prints the certificate of the program in place of its listing")
+        .action(ArgAction::SetTrue);
+    let command = Command::new(alloc, "compile")
+        .about("prints the compiled program of the source text")
+        .arg(k_option(alloc))?
+        .arg(workers)?
+        .arg(cert)?;
+    Ok(command)
 }
 
 /// The commands and what each takes.
@@ -100,6 +160,9 @@ fn grammar<'a>(alloc: Global) -> Result<Command<'a>, AllocError>
     let locks = Command::new(alloc, "locks")
         .about("prints the lock set of each section of the source text")
         .arg(k_option(alloc))?;
+    let explain = Command::new(alloc, "explain")
+        .about("prints why each section of the source text takes each of its locks")
+        .arg(k_option(alloc))?;
     let check = Command::new(alloc, "check")
         .about(
             "tests a certificate: the input is the certificate, and the source text behind its line `end`",
@@ -108,7 +171,11 @@ fn grammar<'a>(alloc: Global) -> Result<Command<'a>, AllocError>
     let sectc = Command::new(alloc, "sectc")
         .about("infers the locks of atomic sections; reads a source text on standard input")
         .subcommand(locks)?
+        .subcommand(compile_command(alloc)?)?
+        .subcommand(explain)?
         .subcommand(serial_command(alloc)?)?
+        .subcommand(schedule_command(alloc)?)?
+        .subcommand(run_command(alloc)?)?
         .subcommand(check)?;
     Ok(sectc.subcommand_required(true))
 }
@@ -145,6 +212,15 @@ fn number_of(
     }
 }
 
+/// How the words of `compile` want the program printed.
+fn form_of(options: &ArgMatches<'_>) -> Form {
+    if options.get_flag("cert") {
+        Form::Certificate
+    } else {
+        Form::Listing
+    }
+}
+
 /// What the words ask for, the program's name first.
 pub fn request_of(alloc: Global, words: &[String]) -> Result<Request, UsageFault> {
     let matches = grammar(alloc)?.try_get_matches_from(words)?;
@@ -152,6 +228,23 @@ pub fn request_of(alloc: Global, words: &[String]) -> Result<Request, UsageFault
         Some(("serial", options)) => Ok(Request::Serial {
             fuel: fuel_of(alloc, options)?,
             order: threads_of(alloc, options)?,
+        }),
+        Some(("schedule", options)) => Ok(Request::Schedule {
+            k: number_of(alloc, options, "k", DEFAULT_K)?,
+            fuel: fuel_of(alloc, options)?,
+            schedule: threads_of(alloc, options)?,
+        }),
+        Some(("run", options)) => Ok(Request::Run {
+            k: number_of(alloc, options, "k", DEFAULT_K)?,
+            fuel: fuel_of(alloc, options)?,
+        }),
+        Some(("compile", options)) => Ok(Request::Compile {
+            k: number_of(alloc, options, "k", DEFAULT_K)?,
+            workers: number_of(alloc, options, "workers", DEFAULT_WORKERS)?,
+            form: form_of(options),
+        }),
+        Some(("explain", options)) => Ok(Request::Explain {
+            k: number_of(alloc, options, "k", DEFAULT_K)?,
         }),
         Some(("check", options)) => Ok(Request::Check {
             k: number_of(alloc, options, "k", DEFAULT_K)?,

@@ -4,11 +4,17 @@ ghost use Rattle.std.specs.Prelude.{◌≡◌};
 ghost use Rattle.sectc.specs.declared.refusal.Refusal.TheVariants.{Memory};
 ghost use Rattle.sectc.specs.Answers.{of_source};
 ghost use Rattle.sectc.specs.Serial.{of_serial};
+ghost use Rattle.sectc.specs.Compiling.{of_compile};
 ghost use Rattle.sectc.specs.Checking.{of_check};
+ghost use Rattle.sectc.specs.Scheduling.{of_world};
 
 use sect_check::CheckFault;
+use sect_emit::CompileFault;
+use sect_infer::InferFault;
 use sect_names::Refusal as SourceRefusal;
+use sect_run::RunFault;
 use sect_serial::SerialFault;
+use sect_world::WorldFault;
 use std::alloc::AllocError;
 use thiserror::Error;
 
@@ -21,12 +27,18 @@ pub enum Refusal {
     /// The source text is refused.
     #[error("refused {0}")]
     Source(SourceRefusal),
+    /// The number of workers is refused.
+    #[error("refused {0}")]
+    Workers(InferFault),
     /// The order of the threads is refused.
     #[error("refused {0}")]
     Serial(SerialFault),
     /// The certificate is refused, or the source behind it.
     #[error("refused {0}")]
     Check(CheckFault),
+    /// The schedule is refused.
+    #[error("refused {0}")]
+    Schedule(WorldFault),
 }
 
 impl From<AllocError> for Refusal {
@@ -37,6 +49,16 @@ impl From<AllocError> for Refusal {
     }
 }
 
+impl From<RunFault> for Refusal {
+    ghost from_gives = { λ _ r. r ≡ Memory };
+
+    fn from(fault: RunFault) -> Refusal {
+        match fault {
+            RunFault::Memory => Refusal::Memory,
+        }
+    }
+}
+
 impl From<SourceRefusal> for Refusal {
     ghost from_gives = { λ why r. r ≡ of_source why };
 
@@ -44,6 +66,18 @@ impl From<SourceRefusal> for Refusal {
         match why {
             SourceRefusal::Memory => Refusal::Memory,
             other => Refusal::Source(other),
+        }
+    }
+}
+
+impl From<CompileFault> for Refusal {
+    ghost from_gives = { λ fault r. r ≡ of_compile fault };
+
+    fn from(fault: CompileFault) -> Refusal {
+        match fault {
+            CompileFault::Memory => Refusal::Memory,
+            CompileFault::Workers(why) => Refusal::Workers(why),
+            CompileFault::Source(why) => Refusal::from(why),
         }
     }
 }
@@ -66,6 +100,17 @@ impl From<CheckFault> for Refusal {
         match fault {
             CheckFault::Memory => Refusal::Memory,
             other => Refusal::Check(other),
+        }
+    }
+}
+
+impl From<WorldFault> for Refusal {
+    ghost from_gives = { λ fault r. r ≡ of_world fault };
+
+    fn from(fault: WorldFault) -> Refusal {
+        match fault {
+            WorldFault::Memory => Refusal::Memory,
+            other => Refusal::Schedule(other),
         }
     }
 }

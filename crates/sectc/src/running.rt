@@ -3,7 +3,7 @@
 ghost use Rattle.std.specs.Prelude.{◌≡◌, ◌≤◌, false, IfOk};
 ghost use Rattle.clap.specs.declared.builder.command.Command.TheViews.{out-Command as fields_of};
 
-use crate::options::{MOST, UsageFault, number, numeral};
+use crate::options::{MOST, UsageFault, k_option, number, numeral};
 use clap::{Arg, ArgAction, ArgMatches, Command};
 use std::alloc::{AllocError, Global};
 
@@ -46,6 +46,35 @@ pub fn serial_command<'a>(alloc: Global) -> Result<Command<'a>, AllocError>
         )
         .arg(fuel_option(alloc))?
         .arg(threads)?;
+    Ok(command)
+}
+
+/// The command `schedule` and what it takes.
+pub fn schedule_command<'a>(alloc: Global) -> Result<Command<'a>, AllocError>
+    ensures { IfOk result (λ c. (fields_of c).has_globals ≡ false) }
+{
+    let threads = thread_words(
+        alloc,
+        "the threads whose turn it is, one turn after another",
+    );
+    let command = Command::new(alloc, "schedule")
+        .about(
+            "runs the compiled program of the source text turn by turn, and prints the events and the outcome so far",
+        )
+        .arg(k_option(alloc))?
+        .arg(fuel_option(alloc))?
+        .arg(threads)?;
+    Ok(command)
+}
+
+/// The command `run` and what it takes.
+pub fn run_command<'a>(alloc: Global) -> Result<Command<'a>, AllocError>
+    ensures { IfOk result (λ c. (fields_of c).has_globals ≡ false) }
+{
+    let command = Command::new(alloc, "run")
+        .about("runs the compiled program of the source text by threads, and prints the outcome")
+        .arg(k_option(alloc))?
+        .arg(fuel_option(alloc))?;
     Ok(command)
 }
 

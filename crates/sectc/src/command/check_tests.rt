@@ -1,7 +1,6 @@
 //! The command `check` over memory.
 
-use super::tests::{answer_of, expect_bytes};
-use std::process::Abort;
+use super::tests::{answer_of, expect_bytes, expect_rows};
 use std::test::Fail;
 
 /// A program whose section adds one to a field of a global.
@@ -103,17 +102,6 @@ fn certificates_of_one_section(rt: HostRuntime) -> Result<(), Fail> {
     for (lines, status, text) in LINES {
         let input = format!(in rt.alloc(); "{FRONT}{lines}{ADDING}")?;
         expect_bytes(&rt, "check", input.as_bytes(), *status, text)?;
-    }
-    Ok(())
-}
-
-/// A command line, an input, the status, and what is printed.
-type Row<'a> = (&'a str, &'a str, u8, &'a str);
-
-/// Runs each row.
-fn expect_rows(rt: &(impl AllocGlobal + Abort), rows: &[Row<'_>]) -> Result<(), Fail> {
-    for (line, input, status, text) in rows {
-        expect_bytes(rt, line, input.as_bytes(), *status, text)?;
     }
     Ok(())
 }

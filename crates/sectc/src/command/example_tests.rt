@@ -151,7 +151,7 @@ thread q { atomic { a.bal = 2; } }
 ";
 
 /// The text of each example, and the lines that are printed of it.
-const EXAMPLES: [(&str, &str); 14] = [
+pub(super) const EXAMPLES: [(&str, &str); 14] = [
     (EMPTY_SECTION, "section 0: none\n"),
     (ACCOUNT, "section 0: W a\n"),
     (TWO_THREADS, "section 0: W a\nsection 1: W a\n"),

@@ -1,7 +1,6 @@
 //! The command `serial` over memory.
 
-use super::tests::expect_bytes;
-use std::process::Abort;
+use super::tests::expect_rows;
 use std::test::Fail;
 
 const TWO_ADD: &str = "record Acct { int bal; }
@@ -34,17 +33,6 @@ thread t { int v; atomic { c.val = 1; v = c.val; print v; } }
 ";
 
 const OVER: &str = "thread f { int x; x = 9223372036854775807 + 1; }";
-
-/// A command line, a source, the status, and what is printed.
-type Row<'a> = (&'a str, &'a str, u8, &'a str);
-
-/// Runs each row.
-fn expect_rows(rt: &(impl AllocGlobal + Abort), rows: &[Row<'_>]) -> Result<(), Fail> {
-    for (line, source, status, text) in rows {
-        expect_bytes(rt, line, source.as_bytes(), *status, text)?;
-    }
-    Ok(())
-}
 
 #[test]
 fn runs_whole_sections(rt: HostRuntime) -> Result<(), Fail> {

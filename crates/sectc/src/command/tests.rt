@@ -3,13 +3,13 @@
 use super::command;
 use super::example_tests::ACCOUNT;
 use std::alloc::{AllocError, Global};
-use std::io;
-use std::io::{ErrorKind, Read, Write};
 use std::process::Abort;
+use std::sync::Wait;
 use std::test::Fail;
+use std::thread::Threads;
 
 /// The words of a line, the program's name first.
-fn words_of(alloc: Global, line: &str) -> Result<Vec<String>, AllocError> {
+pub(super) fn words_of(alloc: Global, line: &str) -> Result<Vec<String>, AllocError> {
     let mut words = Vec::new(alloc);
     words.push(String::from_str(alloc, "sectc")?)?;
     for word in line.split_whitespace() {
@@ -20,7 +20,7 @@ fn words_of(alloc: Global, line: &str) -> Result<Vec<String>, AllocError> {
 
 /// What a command line prints of an input, and the status.
 pub(super) fn answer_of(
-    rt: &(impl AllocGlobal + Abort),
+    rt: &(impl Threads + Wait + Sync + AllocGlobal + Abort),
     line: &str,
     input: &[u8],
 ) -> Result<(u8, String), Fail> {
@@ -33,7 +33,7 @@ pub(super) fn answer_of(
 
 /// Runs a command line on a source, and compares the status and the text.
 pub(super) fn expect_bytes(
-    rt: &(impl AllocGlobal + Abort),
+    rt: &(impl Threads + Wait + Sync + AllocGlobal + Abort),
     line: &str,
     source: &[u8],
     status: u8,
@@ -42,6 +42,20 @@ pub(super) fn expect_bytes(
     let (got, shown) = answer_of(rt, line, source)?;
     assert_eq!(rt; got, status, "{line}: {shown}");
     assert_eq!(rt; shown.as_str(), text, "{line}");
+    Ok(())
+}
+
+/// A command line, an input, the status, and what is printed.
+pub(super) type Row<'a> = (&'a str, &'a str, u8, &'a str);
+
+/// Runs each row.
+pub(super) fn expect_rows(
+    rt: &(impl Threads + Wait + Sync + AllocGlobal + Abort),
+    rows: &[Row<'_>],
+) -> Result<(), Fail> {
+    for (line, input, status, text) in rows {
+        expect_bytes(rt, line, input.as_bytes(), *status, text)?;
+    }
     Ok(())
 }
 
@@ -215,7 +229,7 @@ fn k_is_judged_before_the_source(rt: HostRuntime) -> Result<(), Fail> {
 }
 
 /// Wrong command lines and calls for help, and what their answer says beside the rest.
-const WRONG_LINES: [(&str, &str); 32] = [
+const WRONG_LINES: [(&str, &str); 47] = [
     ("", "standard input"),
     ("help", "standard input"),
     ("--help", "standard input"),
@@ -236,6 +250,16 @@ const WRONG_LINES: [(&str, &str); 32] = [
     ("locks --workers 1", "standard input"),
     ("locks --cert", "standard input"),
     ("locks 0", "sectc locks < FILE"),
+    ("compile --cert --cert", "standard input"),
+    ("compile --cert=1", "standard input"),
+    ("compile --k x", "a number from 0 to 65535"),
+    ("compile --workers x", "a number from 0 to 65535"),
+    ("compile --workers 65536", "a number from 0 to 65535"),
+    ("compile --workers 2 --workers 2", "standard input"),
+    ("compile --help", "1 to 16"),
+    ("explain --workers 1", "standard input"),
+    ("explain --cert", "standard input"),
+    ("explain --k 65536", "a number from 0 to 65535"),
     ("check --help", "standard input"),
     ("check --k", "standard input"),
     ("check --k x", "a number from 0 to 65535"),
@@ -248,6 +272,11 @@ const WRONG_LINES: [(&str, &str); 32] = [
     ("serial --fuel 0", "a number from 1 to 1000000"),
     ("serial --fuel +1", "a number from 1 to 1000000"),
     ("serial --fuel 1000001", "a number from 1 to 1000000"),
+    ("run 0", "sectc locks < FILE"),
+    ("run --cert", "standard input"),
+    ("run --k x", "a number from 0 to 65535"),
+    ("run --fuel 0", "a number from 1 to 1000000"),
+    ("run --fuel 1000001", "a number from 1 to 1000000"),
 ];
 
 #[test]
@@ -259,72 +288,6 @@ fn wrong_words_are_told_what_is_wanted(rt: HostRuntime) -> Result<(), Fail> {
         let shown = String::from_utf8_lossy(rt.alloc(), out.as_slice())?;
         assert_eq!(rt; got, 2, "{line}");
         assert!(rt; shown.as_str().contains(wanted), "{line}: {shown}");
-    }
-    Ok(())
-}
-
-/// Gives a text a byte at a time, and then fails.
-#[derive(Drop)]
-struct FailingReader<'a> {
-    left: &'a [u8],
-}
-
-impl<'a> Read for FailingReader<'a> {
-    fn read(&mut self, buf: &mut [u8]) -> io::Result<usize> {
-        let Some((first, rest)) = self.left.split_first() else {
-            return Err(io::Error::from(ErrorKind::TimedOut));
-        };
-        if buf.is_empty() {
-            return Ok(0);
-        }
-        buf[0] = *first;
-        self.left = rest;
-        Ok(1)
-    }
-}
-
-/// Takes some bytes, one at a time, and then fails.
-#[derive(Drop)]
-struct FailingWriter {
-    room: usize,
-}
-
-impl Write for FailingWriter {
-    fn write(&mut self, buf: &[u8]) -> io::Result<usize> {
-        if self.room == 0 {
-            return Err(io::Error::from(ErrorKind::BrokenPipe));
-        }
-        if buf.is_empty() {
-            return Ok(0);
-        }
-        self.room -= 1;
-        Ok(1)
-    }
-
-    fn flush(&mut self) -> io::Result<()> {
-        Ok(())
-    }
-}
-
-#[test]
-fn a_reader_fails_in_the_middle(rt: HostRuntime) -> Result<(), Fail> {
-    let words = words_of(rt.alloc(), "locks")?;
-    let mut out: Vec<u8> = Vec::new(rt.alloc());
-    let reader = FailingReader {
-        left: b"thread e { atomic { } }",
-    };
-    assert_eq!(rt; command(&rt, words.as_slice(), reader, &mut out), 3);
-    assert!(rt; out.as_slice() == b"input or output failed\n".as_slice());
-    Ok(())
-}
-
-#[test]
-fn a_writer_fails_in_the_middle(rt: HostRuntime) -> Result<(), Fail> {
-    let words = words_of(rt.alloc(), "locks")?;
-    for room in 0..17usize {
-        let source = b"thread e { atomic { } }".as_slice();
-        let got = command(&rt, words.as_slice(), source, FailingWriter { room });
-        assert_eq!(rt; got, if room < 16 { 3 } else { 0 }, "{room}");
     }
     Ok(())
 }

@@ -3,4 +3,4 @@ use Rattle.sectc.specs.Listing.{IsListing}
 use Rattle.sectc.proofs.locks.lines.Given as goal
 
 abbrev pub invariant-loop-section : goal.invariant-loop-section
-invariant-loop-section l = IsListing l.scheme l.section (string_bytes l.text)
+invariant-loop-section l = IsListing l.compiled.scheme l.section (string_bytes l.text)

@@ -6,6 +6,7 @@ use sect_front::FrontFault;
 use sect_names::Refusal;
 use sect_table::TableFault;
 use sect_types::TypeFault;
+use sect_world::WorldFault;
 use std::alloc::AllocError;
 use std::io;
 use thiserror::Error;
@@ -14,7 +15,7 @@ use thiserror::Error;
 #[derive(Clone, Copy, Debug, Error)]
 pub enum Failure {
     /// The words of the command line aren't those of a measurement.
-    #[error("wanted: nothing, or sets, classes or certified TIMES, table KEYS ROUNDS or cert SECTIONS LOCKS")]
+    #[error("wanted: nothing, or sets, classes, certified TIMES, turns ROUNDS, table KEYS ROUNDS, cert SECTIONS LOCKS")]
     Usage,
     /// The source text was refused.
     #[error("the text on standard input is no program")]
@@ -65,6 +66,12 @@ impl From<CertFault> for Failure {
 
 impl From<TableFault> for Failure {
     fn from(_fault: TableFault) -> Failure {
+        Failure::Work
+    }
+}
+
+impl From<WorldFault> for Failure {
+    fn from(_fault: WorldFault) -> Failure {
         Failure::Work
     }
 }

@@ -7,6 +7,7 @@ mod failure;
 mod long_texts;
 mod rounds;
 mod sets;
+mod turns;
 mod work;
 
 use crate::certified::certified;
@@ -14,6 +15,7 @@ use crate::failure::Failure;
 use crate::long_texts::written_twice;
 use crate::rounds::{THREADS, granted};
 use crate::sets::{classes_found, program_of, sites_found};
+use crate::turns::run_rounds;
 use crate::work::{Work, works};
 use std::alloc::Global;
 use std::io::{Read, Write};
@@ -64,6 +66,13 @@ fn line(alloc: Global, work: Work, source: &[u8]) -> Result<String, Failure> {
         Work::Certified { times } => {
             let bytes = certified(alloc, source, times)?;
             format!(in alloc; "{bytes} bytes, checked {times} times\n")?
+        }
+        Work::Turns { rounds } => {
+            let r = run_rounds(alloc, source, rounds)?;
+            format!(in alloc;
+                "{} events, {} sections, {} numbers\n",
+                r.events, r.sections, r.numbers
+            )?
         }
         Work::Table { keys, rounds } => {
             let granted = granted(alloc, keys, rounds)?;

@@ -12,6 +12,8 @@ pub enum Work {
     Classes { times: u32 },
     /// The certificate of the program on standard input, made, and checked so many times.
     Certified { times: u32 },
+    /// The program on standard input, compiled, and so many rounds of turns of its threads.
+    Turns { rounds: u32 },
     /// So many rounds, in each of which 64 threads ask the lock table for a key, in turn over so many keys.
     Table { keys: u32, rounds: u32 },
     /// A certificate of so many sections and so many locks in each list, written, read and written again.
@@ -19,10 +21,11 @@ pub enum Work {
 }
 
 /// What is done where the command line asks for nothing.
-const EACH_IN_TURN: [Work; 5] = [
+const EACH_IN_TURN: [Work; 6] = [
     Work::Sets { times: 2 },
     Work::Classes { times: 2 },
     Work::Certified { times: 1 },
+    Work::Turns { rounds: 20 },
     Work::Table {
         keys: 10000,
         rounds: 10,
@@ -38,7 +41,7 @@ impl Work {
     pub fn reads(&self) -> bool {
         matches!(
             self,
-            Work::Sets { .. } | Work::Classes { .. } | Work::Certified { .. }
+            Work::Sets { .. } | Work::Classes { .. } | Work::Certified { .. } | Work::Turns { .. }
         )
     }
 }
@@ -72,6 +75,7 @@ fn repeated(what: &str, times: u32) -> Result<Work, Failure> {
         "sets" => Ok(Work::Sets { times }),
         "classes" => Ok(Work::Classes { times }),
         "certified" => Ok(Work::Certified { times }),
+        "turns" => Ok(Work::Turns { rounds: times }),
         _ => Err(Failure::Usage),
     }
 }

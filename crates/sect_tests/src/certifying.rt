@@ -98,7 +98,8 @@ fn section_of(
     assert!(rt; locks.node_count() < 65536);
     let mut nodes = Items::new(alloc);
     for node in 0..locks.node_count() {
-        nodes.push(list_of(alloc, program, locks.at(node as u16))?)?;
+        let needed = locks.at(alloc, node as u16)?;
+        nodes.push(list_of(alloc, program, needed.as_slice())?)?;
     }
     let mut made = Items::new(alloc);
     let mut lock = 0;

@@ -42,7 +42,8 @@ fn needs(
 ) -> Result<(), Fail> {
     assert!(rt; (node as usize) < sets.node_count());
     let wanted = scheme.maximal(rt.alloc(), &set(rt, wanted)?)?;
-    assert!(rt; sets.at(node) == wanted.as_slice(), "node {node}");
+    let found = sets.at(rt.alloc(), node)?;
+    assert!(rt; found.as_slice() == wanted.as_slice(), "node {node}");
     Ok(())
 }
 

@@ -42,3 +42,5 @@ mod requests;
 mod typing;
 #[cfg(test)]
 mod wanted;
+#[cfg(test)]
+mod workers;

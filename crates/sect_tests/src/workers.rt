@@ -1,0 +1,114 @@
+//! Sections whose locks several workers infer.
+
+use crate::programs::{LIST, TWO_ADDING, scheme};
+use sect_infer::{InferFault, Seen, infer, infer_all};
+use sect_names::Scheme;
+use std::process::Abort;
+use std::sync::Wait;
+use std::sync::atomic::{AtomicBool, Ordering};
+use std::test::Fail;
+use std::thread;
+use std::thread::Threads;
+use std::time::{Clock, Duration};
+
+/// How often a worker waits for the other one, a millisecond each time.
+const MOST_WAITS: u32 = 10_000;
+
+/// Keeps the worker of each of two sections until the other section was seen, or it has waited too often.
+#[derive(Drop)]
+struct Keeper<'a> {
+    clock: &'a HostRuntime,
+    first: AtomicBool,
+    second: AtomicBool,
+    gave_up: AtomicBool,
+}
+
+/// Says that one section is there, waits for another, and says whether that was seen.
+fn have_met(clock: &impl Clock, own: &AtomicBool, other: &AtomicBool) -> bool {
+    own.store(true, Ordering::SeqCst);
+    for _ in 0..MOST_WAITS {
+        if other.load(Ordering::SeqCst) {
+            return true;
+        }
+        thread::sleep(clock, Duration::from_millis(1));
+    }
+    false
+}
+
+impl<'a> Seen for Keeper<'a> {
+    fn at(&self, section: u16) {
+        let met = if section == 0 {
+            have_met(self.clock, &self.first, &self.second)
+        } else {
+            have_met(self.clock, &self.second, &self.first)
+        };
+        if !met {
+            self.gave_up.store(true, Ordering::SeqCst);
+        }
+    }
+}
+
+#[test]
+fn two_workers_were_seen(rt: HostRuntime) -> Result<(), Fail> {
+    let scheme = scheme(rt.alloc(), TWO_ADDING, 2)?;
+    let keeper = Keeper {
+        clock: &rt,
+        first: AtomicBool::new(false),
+        second: AtomicBool::new(false),
+        gave_up: AtomicBool::new(false),
+    };
+    let all = infer_all(&rt, rt.alloc(), &scheme, 2, &keeper)?;
+    assert_eq!(rt; all.len(), 2);
+    assert!(rt; keeper.first.load(Ordering::SeqCst) && keeper.second.load(Ordering::SeqCst));
+    assert!(rt; !keeper.gave_up.load(Ordering::SeqCst));
+    Ok(())
+}
+
+/// Is told of sections and does nothing.
+#[derive(Clone, Copy)]
+struct Unseen;
+
+impl Seen for Unseen {
+    fn at(&self, _section: u16) {}
+}
+
+/// So many workers find what one call after another finds.
+fn agree(
+    rt: &(impl Threads + Wait + Sync + AllocGlobal + Abort),
+    scheme: &Scheme,
+    workers: u16,
+) -> Result<(), Fail> {
+    let all = infer_all(rt, rt.alloc(), scheme, workers, &Unseen)?;
+    assert_eq!(rt; all.len(), usize::from(scheme.program().section_count()));
+    for (section, found) in all.iter().enumerate() {
+        assert!(rt; section < usize::from(scheme.program().section_count()));
+        let alone = infer(rt.alloc(), scheme, section as u16)?;
+        assert!(rt;
+            found.entry() == alone.entry(),
+            "{workers} workers, section {section}"
+        );
+        assert_eq!(rt; found.node_count(), alone.node_count());
+    }
+    Ok(())
+}
+
+#[test]
+fn any_number_of_workers_finds_the_same(rt: HostRuntime) -> Result<(), Fail> {
+    let list = scheme(rt.alloc(), LIST, 2)?;
+    for workers in 1..17u16 {
+        agree(&rt, &list, workers)?;
+    }
+    Ok(())
+}
+
+#[test]
+fn other_numbers_of_workers_are_refused(rt: HostRuntime) -> Result<(), Fail> {
+    let list = scheme(rt.alloc(), LIST, 2)?;
+    for workers in [0u16, 17, 65535] {
+        match infer_all(&rt, rt.alloc(), &list, workers, &Unseen) {
+            Ok(_) => assert!(rt; false, "{workers} workers"),
+            Err(fault) => assert_eq!(rt; fault, InferFault::BadWorkers),
+        }
+    }
+    Ok(())
+}

@@ -1,0 +1,169 @@
+"""Programs that `run` measures, each made for a size."""
+import random
+
+
+def declared(kind, names):
+    return " ".join("%s %s;" % (kind, name) for name in names)
+
+
+def named(letter, count):
+    return ["%s%d" % (letter, i) for i in range(count)]
+
+
+def record(name, fields, first=""):
+    return "record %s { %s%s }\n" % (name, first, declared(name, fields))
+
+
+def comments(size):
+    """One line of 64 bytes after another."""
+    return ("//" + "c" * 61 + "\n") * (size // 64)
+
+
+def assignments(count):
+    """One section of sums over two locals: nothing is locked."""
+    return "thread t { int a; int b; atomic { %s } }" % ("a = b; b = a + 1; " * (count // 2))
+
+
+def straight(count):
+    """One section without a branch: loads, sums and stores over 30 globals."""
+    chance = random.Random(1)
+    names = named("g", 30)
+    body = ["a = %s.bal; b = a + %d; c = b * 0; %s.cnt = c;"
+            % (chance.choice(names), chance.randrange(100), chance.choice(names)) for _ in range((count - 1) // 4)]
+    return ("record Acct { int bal; int cnt; }\n%s thread t { int a; int b; int c; atomic { %s } }"
+            % (declared("global Acct", names), " ".join(body)))
+
+
+def paths(count):
+    """A loop in a loop over chains of three objects behind each of many globals."""
+    names = named("g", count // 4)
+    made, used = [], []
+    for i, name in enumerate(names):
+        x, y, z = ("%s%d" % (letter, i % 6) for letter in "xyz")
+        made.append("%s = new B; %s = new C; %s = new D; %s.a = %s; %s.b = %s; %s.c = %s;"
+                    % (x, y, z, name, x, x, y, y, z))
+        used.append("x = %s.a; y = x.b; z = y.c; v = z.val; v = v + 1; z.val = v;" % name)
+    locals_ = " ".join("B x%d; C y%d; D z%d;" % (i, i, i) for i in range(6))
+    return ("record D { int val; } record C { D c; int k; } record B { C b; int k; } record A { B a; int k; }\n%s "
+            "thread make { %s atomic { %s } } thread use { B x; C y; D z; int i; int j; int v; "
+            "atomic { while (i < 10) { while (j < 10) { %s j = j + 1; } i = i + 1; } } }"
+            % (declared("global A", names), locals_, " ".join(made), " ".join(used)))
+
+
+def forest(count):
+    """So many objects of 12 fields; each is walked by three fields that tests choose, so that paths are many."""
+    fields, roots = named("f", 12), named("g", count)
+    linked = ["%s.%s = x;" % (name, field) for name in ["x"] + roots for field in fields]
+    step = " ".join("if (c == %d) { q = p.%s; }" % (i, field) for i, field in enumerate(fields))
+    walked = " ".join("p = %s; q = null; %s q = p.f0;" % (root, (step + " p = q; ") * 3) for root in roots)
+    return ("%s%s thread m { N x; atomic { x = new N; %s } } thread t { N p; N q; int c; atomic { %s } }"
+            % (record("N", fields), declared("global N", roots), " ".join(linked), walked))
+
+
+def alias(count):
+    """A loop of stores and loads through 60 locals, any of which may refer to the object of any other."""
+    chance = random.Random(1)
+    names, roots = named("x", 60), named("g", 8)
+    begun = " ".join("%s = %s;" % (name, roots[i % 8]) for i, name in enumerate(names))
+    body = ["%s.%s = %s; v = %s.val; %s.val = v;"
+            % (chance.choice(names), chance.choice(["next", "prev", "up"]), *(chance.choice(names) for _ in range(3)))
+            for _ in range(count)]
+    return ("%s%s thread t { %s int i; int v; %s atomic { while (i < 3) { %s i = i + 1; } } }"
+            % (record("Node", ["next", "prev", "up"], "int val; "), declared("global Node", roots),
+               declared("Node", names), begun, " ".join(body)))
+
+
+def points(count):
+    """Copies, loads, stores and new objects of eight records, among the locals of four threads."""
+    chance = random.Random(1)
+    records = " ".join("record R%d { int v; R%d a; R%d b; R%d c; }" % (i, i, (i + 1) % 8, i) for i in range(8))
+    globals_ = named("g", 128)
+    threads = []
+    for thread in range(4):
+        body = [one_of_eight(chance, globals_) for _ in range(count // 4)]
+        locals_ = " ".join("R%d x%d;" % (i % 8, i) for i in range(56))
+        threads.append("thread t%d { %s atomic { %s } }" % (thread, locals_, " ".join(body)))
+    return "%s %s %s" % (records, " ".join("global R%d %s;" % (i % 8, g) for i, g in enumerate(globals_)),
+                         " ".join(threads))
+
+
+def one_of_eight(chance, globals_):
+    """A statement whose sides are of one record: local i, and global i, refer to the record i modulo 8."""
+    of = chance.randrange(8)
+
+    def local(record_):
+        return "x%d" % (record_ % 8 + 8 * chance.randrange(7))
+
+    return chance.choice([
+        lambda: "%s = new R%d;" % (local(of), of),
+        lambda: "%s = %s;" % (local(of), local(of)),
+        lambda: "%s = %s;" % (local(of), chance.choice(globals_[of::8])),
+        lambda: "%s = %s.a;" % (local(of), local(of)),
+        lambda: "%s = %s.b;" % (local(of + 1), local(of)),
+        lambda: "%s.a = %s;" % (local(of), local(of)),
+        lambda: "%s.b = %s;" % (local(of), local(of + 1)),
+        lambda: "%s.c = %s;" % (local(of), local(of)),
+    ])()
+
+
+def sites(count):
+    """One site for each four statements; the others are copies, loads and stores among 64 locals of one record."""
+    chance = random.Random(1)
+    names, fields = named("p", 64), named("n", 15)
+    globals_ = named("g", count // 16)
+    made = count // 4 - len(globals_)
+    body = ["%s = %s;" % (names[i % 64], name) for i, name in enumerate(globals_)]
+    body += ["%s = new N;" % names[i % 64] for i in range(made)]
+    for _ in range((count - len(body) - 1) // 3):
+        one, other, field = chance.choice(names), chance.choice(names), chance.choice(fields)
+        body.append("%s = %s; %s = %s.%s; %s.%s = %s;" % (one, other, other, one, field, one, field, other))
+    return ("%s%s thread t { %s atomic { %s } }"
+            % (record("N", fields, "int val; "), declared("global N", globals_), declared("N", names), " ".join(body)))
+
+
+def waves(count):
+    """What a field refers to moves along 240 globals against the order of the text, and is read again and again."""
+    globals_, others, threads = named("g", 240), named("s", 11), []
+    for thread in range(4):
+        body = ["x%d = %s.f; %s.f = x%d;" % (i, globals_[238 - 60 * thread - i], globals_[239 - 60 * thread - i], i)
+                for i in range(60) if 60 * thread + i < 239]
+        threads.append("thread c%d { %s atomic { %s } }" % (thread, declared("N", named("x", 60)), " ".join(body)))
+    chain = " ".join("s%d.h = s%d;" % (i, i + 1) for i in range(10))
+    body = "p = new N; " * 700 + "y = p.f; " * count + "g0.f = r; r = q.h; q = g239.f; %s g0.f = s0;" % chain
+    return ("record N { N f; N h; }\n%s %s thread last { N p; N q; N r; N y; atomic { %s } }"
+            % (declared("global N", globals_ + others), " ".join(threads), body))
+
+
+def sections(count):
+    """Sections of 13 statements with a loop and a branch, in two threads."""
+    section = ("atomic { q = p; while (q != null) { v = q.val; q = q.n0; } p.n0 = q; p = q.n1; q.n1 = p; p.val = v; "
+               "v = q.val; if (v < 9) { q = p.n0; r = q.n1; r.val = v; } } ")
+    threads = " ".join("thread t%d { N p; N q; N r; int v; p = a; q = b; r = b; %s }" % (i, section * (count // 2))
+                       for i in range(2))
+    return "%sglobal N a; global N b; %s" % (record("N", ["n0", "n1"], "int val; "), threads)
+
+
+def long_sections(count):
+    """Sections that take as long as each other: in a loop each goes on by any of five fields, three times, from any of
+    fourteen locals. The records of the three fields differ, so that no path becomes the lock on a class."""
+    fields, names = range(5), ["a%d" % i for i in range(14)]
+    records = " ".join("record %s { %s }" % (kind, " ".join("%s %s%d;" % (of, field, i) for i in fields))
+                       for kind, of, field in (("C", "D", "h"), ("B", "C", "g"), ("A", "B", "f")))
+    filled = " ".join("%s.%s%d = %s;" % (one, field, i, other)
+                      for one, field, other in (("c", "h", "d"), ("b", "g", "c"), ("root", "f", "b")) for i in fields)
+    begun = " ".join("%s = root;" % name for name in names)
+    turned = " ".join("%s = %s;" % (name, other) for name, other in zip(names, names[1:] + names[:1]))
+    gone = " ".join("if (v == %d) { %s = %s.%s%d; }" % (i, one, other, field, i)
+                    for one, other, field in (("b", "a0", "f"), ("c", "b", "g"), ("d", "c", "h")) for i in fields)
+    section = "atomic { %s while (v < 9) { %s %s v = d.val; } }" % (begun, turned, gone)
+    threads = ["thread t%d { %s B b; C c; D d; int v; %s }" % (i, declared("A", names), section * (count // 4))
+               for i in range(4)]
+    return ("record D { int val; } %s global A root; thread m { B b; C c; D d; "
+            "atomic { d = new D; c = new C; b = new B; %s } } %s" % (records, filled, " ".join(threads)))
+
+
+def contention(count):
+    """So many threads that add to the object of one global, each in four sections."""
+    section = "atomic { t = a.bal; t = t + 1; a.bal = t; } " * 4
+    threads = " ".join("thread t%d { int t; %s}" % (i, section) for i in range(count))
+    return "record Acct { int bal; } global Acct a; %s" % threads

@@ -1,5 +1,6 @@
 -- A text has one fault at most, line by line.
-use Rattle.std.proofs.Common.{◌≡◌, ◌≢◌, ℕ, ◌+◌, List, [], ◌∷◌, ◌++◌, length, refl, sym, ◌∙◌, ap, subst, append_assoc, inl, inr}
+use Rattle.std.proofs.Common.{◌≡◌, ◌≢◌, ℕ, ◌+◌, List, [], ◌∷◌, ◌++◌, length, refl, sym, ◌∙◌, ap, subst, append_assoc}
+use Rattle.std.proofs.Common.{inl, inr}
 use Rattle.std.specs.Prelude.{◌⊎◌, Err}
 use Rattle.sect_cert.specs.Parts.{parts}
 use Rattle.sect_cert.specs.Verdicts.{IsViable, IsWhole, HasForm, HasNoForm, IsEndAt, IsFaultAt, IsMoreAt}
@@ -33,8 +34,24 @@ fronts (s ∷ f) (t ∷ g) u v h = let e : s ≡ t = cc in let k : f ++ u ≡ g 
     more e k = elim k [
       | inl a ↦ inl (record { front = ap (λ x. x ∷ f) e ∙ ap (λ x. t ∷ x) a.front; rest = a.rest })
       | inr b ↦ elim b [
-        | inl l ↦ inr (inl (record { next = l.next; between = l.between; front = ap (λ x. x ∷ g) (sym e) ∙ ap (λ x. s ∷ x) l.front; rest = l.rest }))
-        | inr l ↦ inr (inr (record { next = l.next; between = l.between; front = ap (λ x. x ∷ f) e ∙ ap (λ x. t ∷ x) l.front; rest = l.rest }))
+        | inl l ↦
+            inr
+            (inl (record {
+              next = l.next;
+              between = l.between;
+              front = ap (λ x. x ∷ g) (sym e)
+                  ∙ ap (λ x. s ∷ x) l.front;
+              rest = l.rest;
+            }))
+        | inr l ↦
+            inr
+            (inr (record {
+              next = l.next;
+              between = l.between;
+              front =
+                  ap (λ x. x ∷ f) e ∙ ap (λ x. t ∷ x) l.front;
+              rest = l.rest;
+            }))
       ]
     ]
 
@@ -51,8 +68,10 @@ record Stop (all : List (List ℕ)) (number : ℕ) : Type 0 where
 begins : (f w : List (List ℕ)) (t : List ℕ) → IsViable (f ++ t ∷ w) → IsViable (f ++ t ∷ [])
 begins f w t v = (v.0, w ++ v.1, v.2, v.3 ∙ (append_assoc f (t ∷ w) v.1 ∙ sym (append_assoc f (t ∷ []) (w ++ v.1))))
 
-not_longer : (all : List (List ℕ)) (n m : ℕ) (a : Stop all n) (b : Stop all m) → IsLonger a.front b.front a.rest b.rest → ⊥
-not_longer all n m a b l = a.stops l.next l.between b.rest l.rest b.some (begins a.front l.between l.next (subst IsViable l.front b.before))
+not_longer : (all : List (List ℕ)) (n m : ℕ) (a : Stop all n) (b : Stop all m) → IsLonger a.front b.front a.rest b.rest
+    → ⊥
+not_longer all n m a b l = a.stops l.next l.between b.rest l.rest b.some
+    (begins a.front l.between l.next (subst IsViable l.front b.before))
 
 same_stop : (all : List (List ℕ)) (n m : ℕ) (a : Stop all n) (b : Stop all m) → AreSame a.front b.front a.rest b.rest
 same_stop all n m a b = elim (fronts a.front b.front a.rest b.rest (sym a.split ∙ b.split)) [
@@ -105,9 +124,11 @@ more_stop all n e = record {
     end (t ∷ f) = ap (λ x. t ∷ x) (end f)
 
 -- two kinds of faults exclude each other
-no_end : (Kind : List (List ℕ) → List ℕ → Type 0) (all : List (List ℕ)) (n m : ℕ) → IsEndAt all n → IsFaultAt Kind all m → ⊥
+no_end : (Kind : List (List ℕ) → List ℕ → Type 0) (all : List (List ℕ)) (n m : ℕ) → IsEndAt all n → IsFaultAt Kind all m
+    → ⊥
 unfolding end_stop fault_stop
-no_end Kind all n m a b = let s = same_stop all n m (end_stop all n a) (fault_stop Kind all m b) in let h = s.rest in let none : b.more ≡ [] = cc in b.fed none
+no_end Kind all n m a b = let s = same_stop all n m (end_stop all n a) (fault_stop Kind all m b) in let h = s.rest in
+    let none : b.more ≡ [] = cc in b.fed none
 
 not_both : (all : List (List ℕ)) (n m : ℕ) → IsFaultAt HasNoForm all n → IsFaultAt HasForm all m → ⊥
 unfolding fault_stop
@@ -118,29 +139,58 @@ not_both all n m a b =
 
 end_not_more : (all : List (List ℕ)) (n m : ℕ) → IsEndAt all n → IsMoreAt all m → ⊥
 unfolding more_stop end_stop
-end_not_more all n m a b = a.due (subst IsWhole (sym (same_stop all n m (end_stop all n a) (more_stop all m b)).front) b.whole)
+end_not_more all n m a b = a.due
+    (subst IsWhole (sym (same_stop all n m (end_stop all n a) (more_stop all m b)).front) b.whole)
 
-fault_not_more : (Kind : List (List ℕ) → List ℕ → Type 0) (all : List (List ℕ)) (n m : ℕ) → IsFaultAt Kind all n → IsMoreAt all m → ⊥
+fault_not_more : (Kind : List (List ℕ) → List ℕ → Type 0) (all : List (List ℕ)) (n m : ℕ) → IsFaultAt Kind all n
+    → IsMoreAt all m → ⊥
 unfolding more_stop fault_stop
-fault_not_more Kind all n m a b = a.due (subst IsWhole (sym (same_stop all n m (fault_stop Kind all n a) (more_stop all m b)).front) b.whole)
+fault_not_more Kind all n m a b =
+    a.due (subst IsWhole (sym (same_stop all n m (fault_stop Kind all n a) (more_stop all m b)).front) b.whole)
 
 odd_stop : (all : List (List ℕ)) (n : ℕ) → IsFaultAt HasForm all n ⊎ IsMoreAt all n → Stop all n
 odd_stop all n e = elim e [ inl a ↦ fault_stop HasForm all n a | inr a ↦ more_stop all n a ]
 
 -- a fault of a text is its only one
-pub alone : (bytes : List ℕ) (f g : CertFault) → f ≢ fault.Memory → g ≢ fault.Memory → JudgesLines bytes (Err f) → JudgesLines bytes (Err g) → g ≡ f
+pub alone : (bytes : List ℕ) (f g : CertFault) → f ≢ fault.Memory → g ≢ fault.Memory → JudgesLines bytes (Err f)
+    → JudgesLines bytes (Err g) → g ≡ f
 alone bytes fault.Memory g a b j k = absurd (a refl)
 alone bytes fault.OldVersion g a b j k = absurd j
 alone bytes f fault.OldVersion a b j k = absurd k
 alone bytes (fault.CertEnd n) fault.Memory a b j k = absurd (b refl)
 alone bytes (fault.BadCertLine n) fault.Memory a b j k = absurd (b refl)
 alone bytes (fault.NotCanonical n) fault.Memory a b j k = absurd (b refl)
-alone bytes (fault.CertEnd n) (fault.CertEnd m) a b j k = ap fault.CertEnd (same_line (parts 10 bytes) m n (end_stop (parts 10 bytes) m k) (end_stop (parts 10 bytes) n j))
+alone bytes (fault.CertEnd n) (fault.CertEnd m) a b j k =
+    ap fault.CertEnd (same_line (parts 10 bytes) m n (end_stop (parts 10 bytes) m k) (end_stop (parts 10 bytes) n j))
 alone bytes (fault.CertEnd n) (fault.BadCertLine m) a b j k = absurd (no_end HasNoForm (parts 10 bytes) n m j k)
-alone bytes (fault.CertEnd n) (fault.NotCanonical m) a b j k = elim k [ inl o ↦ absurd (no_end HasForm (parts 10 bytes) n m j o) | inr o ↦ absurd (end_not_more (parts 10 bytes) n m j o) ]
+alone bytes (fault.CertEnd n) (fault.NotCanonical m) a b j k =
+    elim k [
+      | inl o ↦ absurd (no_end HasForm (parts 10 bytes) n m j o)
+      | inr o ↦
+          absurd (end_not_more (parts 10 bytes) n m j o)
+    ]
 alone bytes (fault.BadCertLine n) (fault.CertEnd m) a b j k = absurd (no_end HasNoForm (parts 10 bytes) m n k j)
-alone bytes (fault.BadCertLine n) (fault.BadCertLine m) a b j k = ap fault.BadCertLine (same_line (parts 10 bytes) m n (fault_stop HasNoForm (parts 10 bytes) m k) (fault_stop HasNoForm (parts 10 bytes) n j))
-alone bytes (fault.BadCertLine n) (fault.NotCanonical m) a b j k = elim k [ inl o ↦ absurd (not_both (parts 10 bytes) n m j o) | inr o ↦ absurd (fault_not_more HasNoForm (parts 10 bytes) n m j o) ]
-alone bytes (fault.NotCanonical n) (fault.CertEnd m) a b j k = elim j [ inl o ↦ absurd (no_end HasForm (parts 10 bytes) m n k o) | inr o ↦ absurd (end_not_more (parts 10 bytes) m n k o) ]
-alone bytes (fault.NotCanonical n) (fault.BadCertLine m) a b j k = elim j [ inl o ↦ absurd (not_both (parts 10 bytes) m n k o) | inr o ↦ absurd (fault_not_more HasNoForm (parts 10 bytes) m n k o) ]
-alone bytes (fault.NotCanonical n) (fault.NotCanonical m) a b j k = ap fault.NotCanonical (same_line (parts 10 bytes) m n (odd_stop (parts 10 bytes) m k) (odd_stop (parts 10 bytes) n j))
+alone bytes (fault.BadCertLine n) (fault.BadCertLine m) a b j k =
+    ap fault.BadCertLine (same_line (parts 10 bytes) m n (fault_stop HasNoForm (parts 10 bytes) m k)
+    (fault_stop HasNoForm (parts 10 bytes) n j))
+alone bytes (fault.BadCertLine n) (fault.NotCanonical m) a b j k =
+    elim k [
+      | inl o ↦ absurd (not_both (parts 10 bytes) n m j o)
+      | inr o ↦
+          absurd (fault_not_more HasNoForm (parts 10 bytes) n m j o)
+    ]
+alone bytes (fault.NotCanonical n) (fault.CertEnd m) a b j k =
+    elim j [
+      | inl o ↦ absurd (no_end HasForm (parts 10 bytes) m n k o)
+      | inr o ↦
+          absurd (end_not_more (parts 10 bytes) m n k o)
+    ]
+alone bytes (fault.NotCanonical n) (fault.BadCertLine m) a b j k =
+    elim j [
+      | inl o ↦ absurd (not_both (parts 10 bytes) m n k o)
+      | inr o ↦
+          absurd (fault_not_more HasNoForm (parts 10 bytes) m n k o)
+    ]
+alone bytes (fault.NotCanonical n) (fault.NotCanonical m) a b j k =
+    ap fault.NotCanonical (same_line (parts 10 bytes) m n (odd_stop (parts 10 bytes) m k)
+    (odd_stop (parts 10 bytes) n j))

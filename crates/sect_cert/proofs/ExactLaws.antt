@@ -1,6 +1,7 @@
 -- No zero leads a number in what a line spells.
 use Rattle.sect_cert.proofs.Counts.{and_false}
-use Rattle.std.proofs.Common.{◌≡◌, ℕ, Bool, true, false, not, cond, eqb, ◌&&◌, List, [], ◌∷◌, ◌++◌, Some, None, length, refl, sym, ◌∙◌, ap, arith, nat_lt}
+use Rattle.std.proofs.Common.{◌≡◌, ℕ, Bool, true, false, not, cond, eqb, ◌&&◌, List, [], ◌∷◌, ◌++◌, Some, None, length}
+use Rattle.std.proofs.Common.{refl, sym, ◌∙◌, ap, arith, nat_lt}
 use Rattle.std.proofs.lemmas.Bool.{eqb-true}
 use Rattle.std.proofs.lemmas.Bool.Decides.{nat_tests}
 use Rattle.std.specs.Prelude.{◌==◌, ◌||◌, nat_le}
@@ -43,13 +44,16 @@ no_lead true c bs h = refl
 no_lead false c bs h = rw h refl
 
 -- what stands on both sides of such a byte is judged alone
-pub exact_mark : (c : ℕ) → IsMark c → (inside : Bool) (w rest : List ℕ) → is_exact_from inside w ≡ true → is_exact_from false rest ≡ true → is_exact_from inside (w ++ c ∷ rest) ≡ true
+pub exact_mark : (c : ℕ) → IsMark c → (inside : Bool) (w rest : List ℕ) → is_exact_from inside w ≡ true
+    → is_exact_from false rest ≡ true → is_exact_from inside (w ++ c ∷ rest) ≡ true
 exact_mark c m inside [] rest h g = rw (no_lead inside c rest m.zero, m.name) g
 exact_mark c m inside (b ∷ w) rest h g =
-    ap (λ d. cond (not inside && b == 48 && d) false (is_exact_from (is_name_byte b) (w ++ c ∷ rest))) (begins_before c m w rest)
+    ap (λ d. cond (not inside && b == 48 && d) false (is_exact_from (is_name_byte b) (w ++ c ∷ rest)))
+    (begins_before c m w rest)
     ∙ go (leads inside b w) h (λ k. exact_mark c m (is_name_byte b) w rest k g)
   where
-    go : (t : Bool) → cond t false (is_exact_from (is_name_byte b) w) ≡ true → (is_exact_from (is_name_byte b) w ≡ true → is_exact_from (is_name_byte b) (w ++ c ∷ rest) ≡ true) →
+    go : (t : Bool) → cond t false (is_exact_from (is_name_byte b) w) ≡ true
+        → (is_exact_from (is_name_byte b) w ≡ true → is_exact_from (is_name_byte b) (w ++ c ∷ rest) ≡ true) →
         cond t false (is_exact_from (is_name_byte b) (w ++ c ∷ rest)) ≡ true
     go true h k = cc
     go false h k = k h
@@ -59,7 +63,8 @@ exact_inside : (w : List ℕ) → list_all is_name_byte w ≡ true → is_exact_
 exact_inside [] h = refl
 exact_inside (b ∷ w) h = go (is_name_byte b) h (λ k. exact_inside w k)
   where
-    go : (t : Bool) → (t && list_all is_name_byte w) ≡ true → (list_all is_name_byte w ≡ true → is_exact_from true w ≡ true) → is_exact_from t w ≡ true
+    go : (t : Bool) → (t && list_all is_name_byte w) ≡ true
+        → (list_all is_name_byte w ≡ true → is_exact_from true w ≡ true) → is_exact_from t w ≡ true
     go true h k = k h
     go false h k = cc
 
@@ -77,7 +82,9 @@ pub digits_are : (ds : List ℕ) → list_all is_digit ds ≡ true → list_all 
 digits_are [] h = refl
 digits_are (d ∷ ds) h = go (is_digit d) refl h (λ k. digits_are ds k)
   where
-    go : (t : Bool) → is_digit d ≡ t → (t && list_all is_digit ds) ≡ true → (list_all is_digit ds ≡ true → list_all is_name_byte ds ≡ true) → (is_name_byte d && list_all is_name_byte ds) ≡ true
+    go : (t : Bool) → is_digit d ≡ t → (t && list_all is_digit ds) ≡ true
+        → (list_all is_digit ds ≡ true → list_all is_name_byte ds ≡ true)
+        → (is_name_byte d && list_all is_name_byte ds) ≡ true
     go true e h k = rw (digit_is d e) (k h)
     go false e h k = cc
 
@@ -89,7 +96,8 @@ number_leads d (c ∷ ds) n h = go (d == 48) h
     more : nat_lt 0 (length (c ∷ ds)) ≡ true
     more = grind (arith, nat_tests)
 
-    go : (b : Bool) → cond (b && nat_lt 0 (length (c ∷ ds))) None (decimal_from 0 (d ∷ c ∷ ds)) ≡ Some n → (b && is_digit c) ≡ false
+    go : (b : Bool) → cond (b && nat_lt 0 (length (c ∷ ds))) None (decimal_from 0 (d ∷ c ∷ ds)) ≡ Some n
+        → (b && is_digit c) ≡ false
     go true k = let bad : None ≡ Some n = ap (λ t. cond t None (decimal_from 0 (d ∷ c ∷ ds))) (sym more) ∙ k in cc
     go false k = refl
 
@@ -131,16 +139,19 @@ pub exact_name : (w : List ℕ) → is_name w ≡ true → is_exact w ≡ true
 exact_name w h = exact_word w (letter_first w h) (has_name_bytes w h)
 
 -- nor a number in parts joined by points
-pub exact_joined : (ws : List (List ℕ)) → AllByRecursion (λ w. is_exact w ≡ true) ws → is_exact (join_with_byte 46 ws) ≡ true
+pub exact_joined : (ws : List (List ℕ)) → AllByRecursion (λ w. is_exact w ≡ true) ws
+    → is_exact (join_with_byte 46 ws) ≡ true
 exact_joined [] h = refl
 exact_joined (w ∷ []) h = h.0
 exact_joined (w ∷ v ∷ ws) h = exact_mark 46 point false w (join_with_byte 46 (v ∷ ws)) h.0 (exact_joined (v ∷ ws) h.1)
 
-pub exact_names : (names : List (List ℕ)) → list_all is_name names ≡ true → AllByRecursion (λ w. is_exact w ≡ true) names
+pub exact_names : (names : List (List ℕ)) → list_all is_name names ≡ true
+    → AllByRecursion (λ w. is_exact w ≡ true) names
 exact_names [] h = tt
 exact_names (w ∷ names) h = go (is_name w) refl h (λ k. exact_names names k)
   where
-    go : (t : Bool) → is_name w ≡ t → (t && list_all is_name names) ≡ true → (list_all is_name names ≡ true → AllByRecursion (λ x. is_exact x ≡ true) names) →
+    go : (t : Bool) → is_name w ≡ t → (t && list_all is_name names) ≡ true
+        → (list_all is_name names ≡ true → AllByRecursion (λ x. is_exact x ≡ true) names) →
         (is_exact w ≡ true) × AllByRecursion (λ x. is_exact x ≡ true) names
     go true e h k = (exact_name w e, k h)
     go false e h k = cc

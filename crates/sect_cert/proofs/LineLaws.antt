@@ -1,5 +1,6 @@
 -- A line is read as what it spells.
-use Rattle.std.proofs.Common.{◌≡◌, ◌≢◌, ℕ, ◌-◌, ◌<◌, Bool, true, false, cond, List, [], ◌∷◌, ◌++◌, Option, Some, None, option_and_then, IfSome, take, length, refl, sym, ◌∙◌, ap, subst, append-nil}
+use Rattle.std.proofs.Common.{◌≡◌, ◌≢◌, ℕ, ◌-◌, ◌<◌, Bool, true, false, cond, List, [], ◌∷◌, ◌++◌, Option, Some, None}
+use Rattle.std.proofs.Common.{option_and_then, IfSome, take, length, refl, sym, ◌∙◌, ap, subst, append-nil}
 use Rattle.std.specs.Prelude.{codes}
 use Rattle.std.specs.Option.{option_map}
 use Rattle.std.specs.Fmt.{decimal}
@@ -11,7 +12,8 @@ use Rattle.sect_cert.specs.steps.Numbers.{number_of, ends_with}
 use Rattle.sect_cert.specs.Spelling.{lock_words, list_words, some_words, chain_words}
 use Rattle.sect_cert.specs.steps.Lists.{list_of, list_state, ListState, after, whole_of, whole_at}
 use Rattle.sect_cert.specs.steps.Chains.{steps_of}
-use Rattle.sect_cert.specs.steps.Reading.{line_of, only_number, section_line, colon_number, node_line, chain_line, end_line}
+use Rattle.sect_cert.specs.steps.Reading.{line_of, only_number, section_line, colon_number, node_line, chain_line}
+use Rattle.sect_cert.specs.steps.Reading.{end_line}
 use Rattle.sect_cert.specs.Lines.{line_text, line_words}
 use Rattle.sect_cert.specs.Texts.{IsLine, IsLock, IsStep, IsNumber}
 use Rattle.sect_cert.specs.declared.lock.CertLock.{CertLock}
@@ -37,24 +39,33 @@ whole_list : (l : CertLock) (ls : List CertLock) → whole_words (l ∷ ls) [] �
 whole_list l [] = refl
 whole_list l (k ∷ ls) = ap (λ x. lock_words l (codes ",") x) (whole_list k ls)
 
-whole_take : (w v : List ℕ) (ws : List (List ℕ)) (ls : List CertLock) → whole_words ls [] ≡ (w ∷ v ∷ ws) ++ [] → (w ∷ v ∷ ws) ≡ list_words ls
+whole_take : (w v : List ℕ) (ws : List (List ℕ)) (ls : List CertLock) → whole_words ls [] ≡ (w ∷ v ∷ ws) ++ []
+    → (w ∷ v ∷ ws) ≡ list_words ls
 whole_take w v ws [] h = cc
 whole_take w v ws (l ∷ ls) h = sym (append-nil (w ∷ v ∷ ws)) ∙ (sym h ∙ whole_list l ls)
 
-list_take : (ws : List (List ℕ)) (ls : List CertLock) → list_of ws ≡ Some ls → (ws ≡ list_words ls) × AllByRecursion IsLock ls
+list_take : (ws : List (List ℕ)) (ls : List CertLock) → list_of ws ≡ Some ls
+    → (ws ≡ list_words ls) × AllByRecursion IsLock ls
 list_take [] ls h = cc
 list_take (w ∷ []) ls h = go (bytes_eq w (codes "none")) refl h
   where
-    go : (b : Bool) → bytes_eq w (codes "none") ≡ b → cond b (Some []) None ≡ Some ls → ((w ∷ []) ≡ list_words ls) × AllByRecursion IsLock ls
-    go true e g = let is : [] ≡ ls = cc in subst (λ y. ((w ∷ []) ≡ list_words y) × AllByRecursion IsLock y) is (ap (λ y. y ∷ []) (same_bytes w (codes "none") e), tt)
+    go : (b : Bool) → bytes_eq w (codes "none") ≡ b → cond b (Some []) None ≡ Some ls
+        → ((w ∷ []) ≡ list_words ls) × AllByRecursion IsLock ls
+    go true e g = let is : [] ≡ ls = cc in
+        subst (λ y. ((w ∷ []) ≡ list_words y) × AllByRecursion IsLock y) is
+        (ap (λ y. y ∷ []) (same_bytes w (codes "none") e), tt)
     go false e g = cc
 list_take (w ∷ v ∷ ws) ls h = go (after (list_state [] due.Mode) (w ∷ v ∷ ws)) (after_law [] due.Mode (w ∷ v ∷ ws)) h
   where
-    at : (ks : List CertLock) (p : ListWord) → TakesAll [] due.Mode (w ∷ v ∷ ws) (list_state ks p) → whole_at ks p ≡ Some ls → ((w ∷ v ∷ ws) ≡ list_words ls) × AllByRecursion IsLock ls
-    at ks due.Whole k g = let is : ks ≡ ls = cc in subst (λ y. ((w ∷ v ∷ ws) ≡ list_words y) × AllByRecursion IsLock y) is (whole_take w v ws ks (k.words []), k.good tt)
+    at : (ks : List CertLock) (p : ListWord) → TakesAll [] due.Mode (w ∷ v ∷ ws) (list_state ks p)
+        → whole_at ks p ≡ Some ls → ((w ∷ v ∷ ws) ≡ list_words ls) × AllByRecursion IsLock ls
+    at ks due.Whole k g = let is : ks ≡ ls = cc in
+        subst (λ y. ((w ∷ v ∷ ws) ≡ list_words y) × AllByRecursion IsLock y) is
+        (whole_take w v ws ks (k.words []), k.good tt)
     at ks _ k g = cc
 
-    go : (o : Option ListState) → IfSome o (λ s. TakesAll [] due.Mode (w ∷ v ∷ ws) s) → option_and_then whole_of o ≡ Some ls → ((w ∷ v ∷ ws) ≡ list_words ls) × AllByRecursion IsLock ls
+    go : (o : Option ListState) → IfSome o (λ s. TakesAll [] due.Mode (w ∷ v ∷ ws) s)
+        → option_and_then whole_of o ≡ Some ls → ((w ∷ v ∷ ws) ≡ list_words ls) × AllByRecursion IsLock ls
     go None k g = cc
     go (Some s) k g = at s.locks s.at k g
 
@@ -65,8 +76,10 @@ colon_again n h = rw (ends_end 58 (decimal n), take_end 58 (decimal n)) (number_
 colon_take : (w : List ℕ) (n : ℕ) → colon_number w ≡ Some n → (w ≡ decimal n ++ codes ":") × IsNumber n
 colon_take w n h = go (ends_with 58 w) refl h
   where
-    go : (b : Bool) → ends_with 58 w ≡ b → cond b (number_of (cond b (take (length w - 1) w) w)) None ≡ Some n → (w ≡ decimal n ++ codes ":") × IsNumber n
-    go true e g = let t : (take (length w - 1) w ≡ decimal n) × (n < 4294967296) = decimal_number (take (length w - 1) w) n g in
+    go : (b : Bool) → ends_with 58 w ≡ b → cond b (number_of (cond b (take (length w - 1) w) w)) None ≡ Some n
+        → (w ≡ decimal n ++ codes ":") × IsNumber n
+    go true e g = let t : (take (length w - 1) w ≡ decimal n) × (n < 4294967296) =
+        decimal_number (take (length w - 1) w) n g in
         (last_split 58 w e ∙ ap (λ y. y ++ codes ":") t.0, t.1)
     go false e g = cc
 
@@ -99,21 +112,27 @@ pub record Spells (ws : List (List ℕ)) (x : CertLine) : Type 0 where
 
 only_take : (ws : List (List ℕ)) (n : ℕ) → only_number ws ≡ Some n → (ws ≡ decimal n ∷ []) × IsNumber n
 only_take [] n h = cc
-only_take (w ∷ []) n h = let t : (w ≡ decimal n) × (n < 4294967296) = decimal_number w n h in (ap (λ y. y ∷ []) t.0, t.1)
+only_take (w ∷ []) n h = let t : (w ≡ decimal n) × (n < 4294967296) = decimal_number w n h in
+    (ap (λ y. y ∷ []) t.0, t.1)
 only_take (w ∷ v ∷ ws) n h = cc
 
-section_take : (h : List ℕ) (ws : List (List ℕ)) (x : CertLine) → h ≡ codes "section" → section_line ws ≡ Some x → Spells (h ∷ ws) x
+section_take : (h : List ℕ) (ws : List (List ℕ)) (x : CertLine) → h ≡ codes "section" → section_line ws ≡ Some x
+    → Spells (h ∷ ws) x
 section_take h (i ∷ s ∷ m ∷ []) x e g = go (bytes_eq s (codes "nodes")) refl g
   where
-    both : (a : Option ℕ) → number_of i ≡ a → (b : Option ℕ) → number_of m ≡ b → s ≡ codes "nodes" → section_of a b ≡ Some x → Spells (h ∷ i ∷ s ∷ m ∷ []) x
-    both (Some a) p (Some b) q r k = let t : (i ≡ decimal a) × (a < 4294967296) = decimal_number i a p in let u : (m ≡ decimal b) × (b < 4294967296) = decimal_number m b q in
+    both : (a : Option ℕ) → number_of i ≡ a → (b : Option ℕ) → number_of m ≡ b → s ≡ codes "nodes"
+        → section_of a b ≡ Some x → Spells (h ∷ i ∷ s ∷ m ∷ []) x
+    both (Some a) p (Some b) q r k = let t : (i ≡ decimal a) × (a < 4294967296) = decimal_number i a p in
+        let u : (m ≡ decimal b) × (b < 4294967296) = decimal_number m b q in
         let is : line.Section a b ≡ x = cc in
-        subst (Spells (h ∷ i ∷ s ∷ m ∷ [])) is (record { words = let at : i ≡ decimal a = t.0 in let to : m ≡ decimal b = u.0 in cc; good = (t.1, u.1) })
+        subst (Spells (h ∷ i ∷ s ∷ m ∷ [])) is
+        (record { words = let at : i ≡ decimal a = t.0 in let to : m ≡ decimal b = u.0 in cc; good = (t.1, u.1) })
     both (Some a) p None q r k = cc
     both None p (Some b) q r k = cc
     both None p None q r k = cc
 
-    go : (b : Bool) → bytes_eq s (codes "nodes") ≡ b → cond b (section_of (number_of i) (number_of m)) None ≡ Some x → Spells (h ∷ i ∷ s ∷ m ∷ []) x
+    go : (b : Bool) → bytes_eq s (codes "nodes") ≡ b → cond b (section_of (number_of i) (number_of m)) None ≡ Some x
+        → Spells (h ∷ i ∷ s ∷ m ∷ []) x
     go true f k = both (number_of i) refl (number_of m) refl (same_bytes s (codes "nodes") f) k
     go false f k = cc
 section_take h [] x e g = cc
@@ -121,52 +140,94 @@ section_take h (i ∷ []) x e g = cc
 section_take h (i ∷ s ∷ []) x e g = cc
 section_take h (i ∷ s ∷ m ∷ y ∷ ws) x e g = cc
 
-node_take : (h : List ℕ) (ws : List (List ℕ)) (x : CertLine) → h ≡ codes "node" → node_line ws ≡ Some x → Spells (h ∷ ws) x
+node_take : (h : List ℕ) (ws : List (List ℕ)) (x : CertLine) → h ≡ codes "node" → node_line ws ≡ Some x
+    → Spells (h ∷ ws) x
 node_take h [] x e g = cc
 node_take h (w ∷ ws) x e g = go (colon_number w) refl (list_of ws) refl g
   where
-    go : (a : Option ℕ) → colon_number w ≡ a → (b : Option (List CertLock)) → list_of ws ≡ b → option_and_then (λ j. option_map (λ ls. line.Node j ls) b) a ≡ Some x → Spells (h ∷ w ∷ ws) x
-    go (Some j) p (Some ls) q k = let t : (w ≡ decimal j ++ codes ":") × IsNumber j = colon_take w j p in let u : (ws ≡ list_words ls) × AllByRecursion IsLock ls = list_take ws ls q in
+    go : (a : Option ℕ) → colon_number w ≡ a → (b : Option (List CertLock)) → list_of ws ≡ b
+        → option_and_then (λ j. option_map (λ ls. line.Node j ls) b) a ≡ Some x → Spells (h ∷ w ∷ ws) x
+    go (Some j) p (Some ls) q k = let t : (w ≡ decimal j ++ codes ":") × IsNumber j = colon_take w j p in
+        let u : (ws ≡ list_words ls) × AllByRecursion IsLock ls = list_take ws ls q in
         let is : line.Node j ls ≡ x = cc in
-        subst (Spells (h ∷ w ∷ ws)) is (record { words = ap (λ y. y ∷ w ∷ ws) e ∙ (ap (λ y. codes "node" ∷ y ∷ ws) t.0 ∙ ap (λ y. codes "node" ∷ (decimal j ++ codes ":") ∷ y) u.0); good = (t.1, u.1) })
+        subst (Spells (h ∷ w ∷ ws)) is
+        (record {
+          words = ap (λ y. y ∷ w ∷ ws) e
+              ∙ (ap (λ y. codes "node" ∷ y ∷ ws) t.0 ∙ ap (λ y. codes "node" ∷ (decimal j ++ codes ":") ∷ y) u.0);
+          good =
+              (t.1, u.1);
+        })
     go (Some j) p None q k = cc
     go None p b q k = cc
 
-chain_take : (h : List ℕ) (ws : List (List ℕ)) (x : CertLine) → h ≡ codes "chain" → chain_line ws ≡ Some x → Spells (h ∷ ws) x
+chain_take : (h : List ℕ) (ws : List (List ℕ)) (x : CertLine) → h ≡ codes "chain" → chain_line ws ≡ Some x
+    → Spells (h ∷ ws) x
 chain_take h [] x e g = cc
 chain_take h (w ∷ ws) x e g = go (colon_number w) refl (steps_of ws) refl g
   where
-    go : (a : Option ℕ) → colon_number w ≡ a → (b : Option (List CertStep)) → steps_of ws ≡ b → option_and_then (λ l. option_map (λ ss. line.Chain (chain_with l ss)) b) a ≡ Some x → Spells (h ∷ w ∷ ws) x
-    go (Some j) p (Some ss) q k = let t : (w ≡ decimal j ++ codes ":") × IsNumber j = colon_take w j p in let u : (ws ≡ chain_words ss) × (ss ≢ []) × AllByRecursion IsStep ss = steps_take ws ss q in
+    go : (a : Option ℕ) → colon_number w ≡ a → (b : Option (List CertStep)) → steps_of ws ≡ b
+        → option_and_then (λ l. option_map (λ ss. line.Chain (chain_with l ss)) b) a ≡ Some x → Spells (h ∷ w ∷ ws) x
+    go (Some j) p (Some ss) q k = let t : (w ≡ decimal j ++ codes ":") × IsNumber j = colon_take w j p in
+        let u : (ws ≡ chain_words ss) × (ss ≢ []) × AllByRecursion IsStep ss = steps_take ws ss q in
         let is : line.Chain (chain_with j ss) ≡ x = cc in
-        subst (Spells (h ∷ w ∷ ws)) is (record { words = ap (λ y. y ∷ w ∷ ws) e ∙ (ap (λ y. codes "chain" ∷ y ∷ ws) t.0 ∙ ap (λ y. codes "chain" ∷ (decimal j ++ codes ":") ∷ y) u.0); good = (t.1, u.1, u.2) })
+        subst (Spells (h ∷ w ∷ ws)) is
+        (record {
+          words = ap (λ y. y ∷ w ∷ ws) e
+              ∙ (ap (λ y. codes "chain" ∷ y ∷ ws) t.0 ∙ ap (λ y. codes "chain" ∷ (decimal j ++ codes ":") ∷ y) u.0);
+          good = (t.1, u.1, u.2);
+        })
     go (Some j) p None q k = cc
     go None p b q k = cc
 
 -- words that are read as a line are its words
 pub line_spells : (ws : List (List ℕ)) (x : CertLine) → line_of ws ≡ Some x → Spells ws x
 line_spells [] x h = cc
-line_spells (w ∷ ws) x h = go (bytes_eq w (codes "k")) refl (bytes_eq w (codes "sections")) refl (bytes_eq w (codes "section")) refl (bytes_eq w (codes "node")) refl (bytes_eq w (codes "entry:")) refl (bytes_eq w (codes "chain")) refl (bytes_eq w (codes "end")) refl h
+line_spells (w ∷ ws) x h = go (bytes_eq w (codes "k")) refl (bytes_eq w (codes "sections")) refl
+    (bytes_eq w (codes "section")) refl (bytes_eq w (codes "node")) refl (bytes_eq w (codes "entry:")) refl
+    (bytes_eq w (codes "chain")) refl (bytes_eq w (codes "end")) refl h
   where
-    one : (head : List ℕ) (f : ℕ → CertLine) → w ≡ head → ((n : ℕ) → line_words (f n) ≡ head ∷ decimal n ∷ []) → ((n : ℕ) → IsNumber n → IsLine (f n)) → (o : Option ℕ) → only_number ws ≡ o → option_map f o ≡ Some x → Spells (w ∷ ws) x
+    one : (head : List ℕ) (f : ℕ → CertLine) → w ≡ head → ((n : ℕ) → line_words (f n) ≡ head ∷ decimal n ∷ [])
+        → ((n : ℕ) → IsNumber n → IsLine (f n)) → (o : Option ℕ) → only_number ws ≡ o → option_map f o ≡ Some x
+        → Spells (w ∷ ws) x
     one head f e s p None q g = cc
-    one head f e s p (Some n) q g = let t : (ws ≡ decimal n ∷ []) × IsNumber n = only_take ws n q in let is : f n ≡ x = cc in
-        subst (Spells (w ∷ ws)) is (record { words = ap (λ y. y ∷ ws) e ∙ (ap (λ y. head ∷ y) t.0 ∙ sym (s n)); good = p n t.1 })
+    one head f e s p (Some n) q g = let t : (ws ≡ decimal n ∷ []) × IsNumber n = only_take ws n q in
+        let is : f n ≡ x = cc in
+        subst (Spells (w ∷ ws)) is (record {
+          words = ap (λ y. y ∷ ws) e ∙ (ap (λ y. head ∷ y) t.0 ∙ sym (s n));
+          good =
+              p n t.1;
+        })
 
-    entry : w ≡ codes "entry:" → (o : Option (List CertLock)) → list_of ws ≡ o → option_map (λ ls. line.Entry ls) o ≡ Some x → Spells (w ∷ ws) x
+    entry : w ≡ codes "entry:" → (o : Option (List CertLock)) → list_of ws ≡ o
+        → option_map (λ ls. line.Entry ls) o ≡ Some x → Spells (w ∷ ws) x
     entry e None q g = cc
-    entry e (Some ls) q g = let u : (ws ≡ list_words ls) × AllByRecursion IsLock ls = list_take ws ls q in let is : line.Entry ls ≡ x = cc in
-        subst (Spells (w ∷ ws)) is (record { words = ap (λ y. y ∷ ws) e ∙ ap (λ y. codes "entry:" ∷ y) u.0; good = u.1 })
+    entry e (Some ls) q g = let u : (ws ≡ list_words ls) × AllByRecursion IsLock ls = list_take ws ls q in
+        let is : line.Entry ls ≡ x = cc in
+        subst (Spells (w ∷ ws)) is (record {
+          words = ap (λ y. y ∷ ws) e ∙ ap (λ y. codes "entry:" ∷ y) u.0;
+          good =
+              u.1;
+        })
 
     last : w ≡ codes "end" → (vs : List (List ℕ)) → ws ≡ vs → end_line vs ≡ Some x → Spells (w ∷ ws) x
-    last e [] q g = let is : line.End ≡ x = cc in subst (Spells (w ∷ ws)) is (record { words = ap (λ y. y ∷ ws) e ∙ ap (λ y. codes "end" ∷ y) q; good = tt })
+    last e [] q g = let is : line.End ≡ x = cc in
+        subst (Spells (w ∷ ws)) is (record { words = ap (λ y. y ∷ ws) e ∙ ap (λ y. codes "end" ∷ y) q; good = tt })
     last e (v ∷ vs) q g = cc
 
-    go : (a : Bool) → bytes_eq w (codes "k") ≡ a → (b : Bool) → bytes_eq w (codes "sections") ≡ b → (c : Bool) → bytes_eq w (codes "section") ≡ c → (d : Bool) → bytes_eq w (codes "node") ≡ d →
-        (e : Bool) → bytes_eq w (codes "entry:") ≡ e → (f : Bool) → bytes_eq w (codes "chain") ≡ f → (g : Bool) → bytes_eq w (codes "end") ≡ g →
-        cond a (option_map (λ n. line.K n) (only_number ws)) (cond b (option_map (λ n. line.Sections n) (only_number ws)) (cond c (section_line ws) (cond d (node_line ws) (cond e (option_map (λ ls. line.Entry ls) (list_of ws)) (cond f (chain_line ws) (cond g (end_line ws) None)))))) ≡ Some x → Spells (w ∷ ws) x
-    go true p b q c r d s e t f u g v k = one (codes "k") (λ n. line.K n) (same_bytes w (codes "k") p) (λ n. refl) (λ n m. m) (only_number ws) refl k
-    go false p true q c r d s e t f u g v k = one (codes "sections") (λ n. line.Sections n) (same_bytes w (codes "sections") q) (λ n. refl) (λ n m. m) (only_number ws) refl k
+    go : (a : Bool) → bytes_eq w (codes "k") ≡ a → (b : Bool) → bytes_eq w (codes "sections") ≡ b → (c : Bool)
+        → bytes_eq w (codes "section") ≡ c → (d : Bool) → bytes_eq w (codes "node") ≡ d →
+        (e : Bool) → bytes_eq w (codes "entry:") ≡ e → (f : Bool) → bytes_eq w (codes "chain") ≡ f → (g : Bool)
+        → bytes_eq w (codes "end") ≡ g →
+        cond a (option_map (λ n. line.K n) (only_number ws))
+        (cond b (option_map (λ n. line.Sections n) (only_number ws))
+        (cond c (section_line ws) (cond d (node_line ws)
+        (cond e (option_map (λ ls. line.Entry ls) (list_of ws))
+        (cond f (chain_line ws) (cond g (end_line ws) None)))))) ≡ Some x → Spells (w ∷ ws) x
+    go true p b q c r d s e t f u g v k =
+        one (codes "k") (λ n. line.K n) (same_bytes w (codes "k") p) (λ n. refl) (λ n m. m) (only_number ws) refl k
+    go false p true q c r d s e t f u g v k =
+        one (codes "sections") (λ n. line.Sections n) (same_bytes w (codes "sections") q) (λ n. refl) (λ n m. m)
+        (only_number ws) refl k
     go false p false q true r d s e t f u g v k = section_take w ws x (same_bytes w (codes "section") r) k
     go false p false q false r true s e t f u g v k = node_take w ws x (same_bytes w (codes "node") s) k
     go false p false q false r false s true t f u g v k = entry (same_bytes w (codes "entry:") t) (list_of ws) refl k
@@ -186,4 +247,5 @@ form_takes t x h =
 
 -- without leading zeros it is its text
 pub line_takes : (t : List ℕ) (x : CertLine) → line_of (parts 32 (plain t)) ≡ Some x → is_exact t ≡ true → IsTaken t x
-line_takes t x h e = let f : IsOfForm t x = form_takes t x h in record { text = sym (plain_exact t e) ∙ f.spells; good = f.good }
+line_takes t x h e = let f : IsOfForm t x = form_takes t x h in
+    record { text = sym (plain_exact t e) ∙ f.spells; good = f.good }

@@ -1,6 +1,7 @@
 -- The lines of a certificate are taken.
 use Rattle.sect_cert.proofs.Counts.{same, less, not_less, one_more}
-use Rattle.std.proofs.Common.{◌≡◌, ℕ, ◌+◌, ◌≤◌, List, [], ◌∷◌, ◌++◌, Option, Some, None, length, refl, sym, ◌∙◌, ap, arith, append_assoc, append-nil}
+use Rattle.std.proofs.Common.{◌≡◌, ℕ, ◌+◌, ◌≤◌, List, [], ◌∷◌, ◌++◌, Option, Some, None, length, refl, sym, ◌∙◌, ap}
+use Rattle.std.proofs.Common.{arith, append_assoc, append-nil}
 use Rattle.sect_cert.proofs.TextLaws.{RiseAfter, RisingAll}
 use Rattle.sect_cert.specs.declared.certificate.CertSection.{CertSection}
 use Rattle.sect_cert.specs.steps.Certificates.{section_with, cert_with}
@@ -34,11 +35,14 @@ nodes_pass o m (ls ∷ ns) done w h =
     ∙ (nodes_pass o m ns (done ++ ls ∷ []) w (omega (arith, h, one_more done ls))
     ∙ ap (λ d. run (stage.Nodes o m d) w) (append_assoc done (ls ∷ []) ns)))
 
-chains_pass : (o : Open) (ns : List (List CertLock)) (e : List CertLock) (cs done : List Chain) (w : List CertLine) → RiseAfter done cs →
-    run (stage.Chains o (section_with ns e done)) (chains_lines cs w) ≡ run (stage.Chains o (section_with ns e (done ++ cs))) w
+chains_pass : (o : Open) (ns : List (List CertLock)) (e : List CertLock) (cs done : List Chain) (w : List CertLine)
+    → RiseAfter done cs →
+    run (stage.Chains o (section_with ns e done)) (chains_lines cs w) ≡ run
+    (stage.Chains o (section_with ns e (done ++ cs))) w
 chains_pass o ns e [] done w h = ap (λ d. run (stage.Chains o (section_with ns e d)) w) (sym (append-nil done))
 chains_pass o ns e (c ∷ cs) done w h =
-    rw h.0 (chains_pass o ns e cs (done ++ c ∷ []) w h.1 ∙ ap (λ d. run (stage.Chains o (section_with ns e d)) w) (append_assoc done (c ∷ []) cs))
+    rw h.0 (chains_pass o ns e cs (done ++ c ∷ []) w h.1
+    ∙ ap (λ d. run (stage.Chains o (section_with ns e d)) w) (append_assoc done (c ∷ []) cs))
 
 -- the lines of one section, after its first
 section_pass : (o : Open) (s : CertSection) (w : List CertLine) → RiseAfter [] s.chains →
@@ -49,12 +53,14 @@ section_pass o s w h =
 
 -- after a section, and where none has begun, the next is read in one way
 settled : (o : Open) (s : CertSection) (i : ℕ) (ss : List CertSection) →
-    run (stage.Chains o s) (sections_lines i ss (line.End ∷ [])) ≡ run (stage.Between (close_of o s)) (sections_lines i ss (line.End ∷ []))
+    run (stage.Chains o s) (sections_lines i ss (line.End ∷ [])) ≡ run (stage.Between (close_of o s))
+    (sections_lines i ss (line.End ∷ []))
 settled o s i [] = refl
 settled o s i (t ∷ ss) = refl
 
 sections_pass : (ss : List CertSection) (o : Open) → o.count ≡ length o.done + length ss → RisingAll ss →
-    run (stage.Between o) (sections_lines (length o.done) ss (line.End ∷ [])) ≡ Some (stage.Finished (cert_with o.k (o.done ++ ss)))
+    run (stage.Between o) (sections_lines (length o.done) ss (line.End ∷ [])) ≡ Some
+    (stage.Finished (cert_with o.k (o.done ++ ss)))
 sections_pass [] o h r = rw (not_less (length o.done) o.count (omega (arith, h)), append-nil o.done) refl
 sections_pass (s ∷ ss) o h r =
     rw (less (length o.done) o.count (omega (arith, h)), same (length o.done))

@@ -1,5 +1,6 @@
 -- What a reading says of the text.
-use Rattle.std.proofs.Common.{◌≡◌, ◌≢◌, ℕ, ◌+◌, Bool, true, false, cond, List, [], ◌∷◌, ◌++◌, Option, Some, None, length, refl, sym, ◌∙◌, ap, subst, arith, append_assoc, length-append, inl, inr}
+use Rattle.std.proofs.Common.{◌≡◌, ◌≢◌, ℕ, ◌+◌, Bool, true, false, cond, List, [], ◌∷◌, ◌++◌, Option, Some, None}
+use Rattle.std.proofs.Common.{length, refl, sym, ◌∙◌, ap, subst, arith, append_assoc, length-append, inl, inr}
 use Rattle.std.specs.Prelude.{Result, Ok, Err, ◌⊎◌}
 use Rattle.std.specs.Str.{bytes_eq}
 use Rattle.std.specs.List.{join_with_byte}
@@ -44,7 +45,12 @@ state_run front s h = elim h [ inl g ↦ ap (read_all stage.Header) g.0 ∙ ap S
 
 -- every certificate's text begins with no line
 pub nothing_viable : IsViable []
-nothing_viable = (cert_with 0 [], cert_lines (cert_with 0 []), record { k = omega arith; count = omega arith; sections = tt }, refl)
+nothing_viable = (
+  cert_with 0 [],
+  cert_lines (cert_with 0 []),
+  record { k = omega arith; count = omega arith; sections = tt },
+  refl,
+)
 
 state_viable : (front : List (List ℕ)) (s : CertStage) → IsState front s → IsViable front
 state_viable front s h = elim h [
@@ -58,10 +64,18 @@ header_taken t m e = go (bytes_eq t header_text) refl e
     go : (b : Bool) → bytes_eq t header_text ≡ b → cond b (Goes stage.K) Bad ≡ Goes m → Reads (t ∷ []) m
     go true f g = let is : t ≡ header_text = same_bytes t header_text f in
         let at : stage.K ≡ m = cc in
-        subst (Reads (t ∷ [])) at (record { run = ap (λ y. read_all stage.Header (y ∷ [])) is; begun = tt; sound = tt; good = tt; lines = ap (λ y. y ∷ []) is })
+        subst (Reads (t ∷ [])) at (record {
+          run = ap (λ y. read_all stage.Header (y ∷ [])) is;
+          begun = tt;
+          sound =
+              tt;
+          good = tt;
+          lines = ap (λ y. y ∷ []) is;
+        })
     go false f g = cc
 
-state_taken : (front : List (List ℕ)) (s : CertStage) (t : List ℕ) (m : CertStage) → IsState front s → read_of s t ≡ Goes m → Reads (front ++ t ∷ []) m
+state_taken : (front : List (List ℕ)) (s : CertStage) (t : List ℕ) (m : CertStage) → IsState front s
+    → read_of s t ≡ Goes m → Reads (front ++ t ∷ []) m
 state_taken front s t m h e = elim h [
   | inl g ↦ subst (λ y. Reads (y ++ t ∷ []) m) (sym g.0) (header_taken t m (ap (λ y. read_of y t) (sym g.1) ∙ e))
   | inr r ↦ taken_text front s t m r e
@@ -72,7 +86,8 @@ pub reading_begins : (all left : List (List ℕ)) → all ≡ left → IsReading
 reading_begins all left e = record { front = []; split = e; count = refl; state = inl (refl, refl) }
 
 -- one more line has been read
-pub reading_more : (all others : List (List ℕ)) (s m : CertStage) (n : ℕ) (t : List ℕ) → IsReading all (t ∷ others) s n → read_of s t ≡ Goes m → IsReading all others m (n + 1)
+pub reading_more : (all others : List (List ℕ)) (s m : CertStage) (n : ℕ) (t : List ℕ) → IsReading all (t ∷ others) s n
+    → read_of s t ≡ Goes m → IsReading all others m (n + 1)
 reading_more all others s m n t h g = record {
   front = h.front ++ t ∷ [];
   split = h.split ∙ sym (append_assoc h.front (t ∷ []) others);
@@ -80,14 +95,16 @@ reading_more all others s m n t h g = record {
   state = inr (state_taken h.front s t m h.state g);
 }
 
-not_whole : (front : List (List ℕ)) (s : CertStage) → read_all stage.Header front ≡ Some s → is_finished_of s ≡ false → IsWhole front → ⊥
+not_whole : (front : List (List ℕ)) (s : CertStage) → read_all stage.Header front ≡ Some s → is_finished_of s ≡ false
+    → IsWhole front → ⊥
 not_whole front s h f w =
     let all : Some s ≡ Some (stage.Finished w.0) = sym h ∙ (ap (read_all stage.Header) (sym w.2) ∙ cert_read w.0 w.1) in
     let same : s ≡ stage.Finished w.0 = cc in
     let no : true ≡ false = ap is_finished_of (sym same) ∙ f in cc
 
 -- what stands behind the last line feed, where a line is due
-ends : (all : List (List ℕ)) (s : CertStage) (n : ℕ) (t : List ℕ) → IsReading all (t ∷ []) s n → is_finished_of s ≡ false → IsEndAt all n
+ends : (all : List (List ℕ)) (s : CertStage) (n : ℕ) (t : List ℕ) → IsReading all (t ∷ []) s n
+    → is_finished_of s ≡ false → IsEndAt all n
 ends all s n t h f = record {
   front = h.front;
   rest = t;
@@ -98,8 +115,10 @@ ends all s n t h f = record {
 }
 
 -- a text after the first line, as it is read
-later : (front : List (List ℕ)) (s : CertStage) (t : List ℕ) → Reads front s → read_of s t ≡ read_words s (line_of (parts 32 (plain t))) (is_exact t)
-later front s t r = ap (λ b. cond b (header_of t) (read_words s (line_of (parts 32 (plain t))) (is_exact t))) (begun s r.begun)
+later : (front : List (List ℕ)) (s : CertStage) (t : List ℕ) → Reads front s
+    → read_of s t ≡ read_words s (line_of (parts 32 (plain t))) (is_exact t)
+later front s t r = ap (λ b. cond b (header_of t) (read_words s (line_of (parts 32 (plain t))) (is_exact t)))
+    (begun s r.begun)
 
 judged_bad : (e : Bool) (n : Next) → judged e n ≡ Bad → n ≡ Bad
 judged_bad true (Goes m) h = cc
@@ -111,7 +130,8 @@ judged_bad e Odd h = cc
 bad_is : (front : List (List ℕ)) (s : CertStage) (t : List ℕ) → IsState front s → read_of s t ≡ Bad → HasNoForm front t
 bad_is front s t h e f = elim h [
   | inl g ↦ not_first (form_of f.of) (subst (λ y. IsAllowed y (form_of f.of)) g.0 f.allowed)
-  | inr r ↦ (let words : read_words s (Some f.of) (is_exact t) ≡ Bad = ap (λ o. read_words s o (is_exact t)) (sym (form_again t f.of f.form)) ∙ (sym (later front s t r) ∙ e) in
+  | inr r ↦ (let words : read_words s (Some f.of) (is_exact t) ≡ Bad =
+      ap (λ o. read_words s o (is_exact t)) (sym (form_again t f.of f.form)) ∙ (sym (later front s t r) ∙ e) in
       go (is_due s (form_of f.of)) refl r (judged_bad (is_exact t) (stage_of s f.of) words))
 ]
   where
@@ -135,15 +155,18 @@ odd_is front s t h e = elim h [
     not_bad b (Goes m) k g = cc
     not_bad b Odd k g = cc
 
-    of_form : Reads front s → (x : CertLine) → line_of (parts 32 (plain t)) ≡ Some x → (stage_of s x ≡ Bad → ⊥) → (b : Bool) → is_due s (form_of x) ≡ b → HasForm front t
+    of_form : Reads front s → (x : CertLine) → line_of (parts 32 (plain t)) ≡ Some x → (stage_of s x ≡ Bad → ⊥)
+        → (b : Bool) → is_due s (form_of x) ≡ b → HasForm front t
     of_form r x f n true d = record { of = x; form = form_takes t x f; allowed = allowed front s r (form_of x) d }
     of_form r x f n false d = absurd (n (not_due s x d))
 
-    go : Reads front s → (o : Option CertLine) → line_of (parts 32 (plain t)) ≡ o → read_words s o (is_exact t) ≡ Odd → HasForm front t
+    go : Reads front s → (o : Option CertLine) → line_of (parts 32 (plain t)) ≡ o → read_words s o (is_exact t) ≡ Odd
+        → HasForm front t
     go r None f k = cc
     go r (Some x) f k = of_form r x f (not_bad (is_exact t) (stage_of s x) k) (is_due s (form_of x)) refl
 
-fault_is : (Kind : List (List ℕ) → List ℕ → Type 0) (all others : List (List ℕ)) (s : CertStage) (n : ℕ) (t : List ℕ) (h : IsReading all (t ∷ others) s n) → others ≢ [] → is_finished_of s ≡ false →
+fault_is : (Kind : List (List ℕ) → List ℕ → Type 0) (all others : List (List ℕ)) (s : CertStage) (n : ℕ) (t : List ℕ)
+    (h : IsReading all (t ∷ others) s n) → others ≢ [] → is_finished_of s ≡ false →
     ((y : List (List ℕ)) → goes (read_of s t) (λ m. read_all m y) ≡ None) → Kind h.front t → IsFaultAt Kind all n
 fault_is Kind all others s n t h some f none kind = record {
   front = h.front;
@@ -159,16 +182,20 @@ fault_is Kind all others s n t h some f none kind = record {
 }
 
 -- a line was refused
-pub reading_fails : (bytes : List ℕ) (others : List (List ℕ)) (s : CertStage) (n : ℕ) (t : List ℕ) (e : LineFault) (f : CertFault) → IsReading (parts 10 bytes) (t ∷ others) s n → others ≢ [] →
+pub reading_fails : (bytes : List ℕ) (others : List (List ℕ)) (s : CertStage) (n : ℕ) (t : List ℕ) (e : LineFault)
+    (f : CertFault) → IsReading (parts 10 bytes) (t ∷ others) s n → others ≢ [] →
     is_finished_of s ≡ false → GoesTo (Err e) (read_of s t) → IsFaultOn e n f → JudgesLines bytes (Err f)
 reading_fails bytes others s n t lines.Memory f h some d g k = subst (λ y. JudgesLines bytes (Err y)) (sym k) tt
 reading_fails bytes others s n t lines.Bad f h some d g k = subst (λ y. JudgesLines bytes (Err y)) (sym k)
-    (fault_is HasNoForm (parts 10 bytes) others s n t h some d (λ y. ap (λ k. goes k (λ m. read_all m y)) g) (bad_is h.front s t h.state g))
+    (fault_is HasNoForm (parts 10 bytes) others s n t h some d (λ y. ap (λ k. goes k (λ m. read_all m y)) g)
+    (bad_is h.front s t h.state g))
 reading_fails bytes others s n t lines.Odd f h some d g k = subst (λ y. JudgesLines bytes (Err y)) (sym k)
-    (inl (fault_is HasForm (parts 10 bytes) others s n t h some d (λ y. ap (λ k. goes k (λ m. read_all m y)) g) (odd_is h.front s t h.state g)))
+    (inl (fault_is HasForm (parts 10 bytes) others s n t h some d (λ y. ap (λ k. goes k (λ m. read_all m y)) g)
+    (odd_is h.front s t h.state g)))
 
 -- a certificate has been read
-finished_state : (front : List (List ℕ)) (c : Cert) → IsState front (stage.Finished c) → HasText c × (cert_lines c ≡ front)
+finished_state : (front : List (List ℕ)) (c : Cert) → IsState front (stage.Finished c)
+    → HasText c × (cert_lines c ≡ front)
 finished_state front c h = elim h [
   | inl g ↦ absurd (let no : true ≡ false = ap is_finished_of g.1 in cc)
   | inr r ↦ (text_of c (record { lines = r.good; rising = r.sound }), sym r.lines)
@@ -185,23 +212,38 @@ is_finished (stage.Nodes o m ns) h = cc
 is_finished (stage.Chains o s) h = cc
 
 -- a line stands behind a certificate
-pub reading_goes_on : (all others : List (List ℕ)) (s : CertStage) (n : ℕ) (t : List ℕ) → IsReading all (t ∷ others) s n → is_finished_of s ≡ true → t ∷ others ≢ [] ∷ [] → IsMoreAt all n
+pub reading_goes_on : (all others : List (List ℕ)) (s : CertStage) (n : ℕ) (t : List ℕ) → IsReading all (t ∷ others) s n
+    → is_finished_of s ≡ true → t ∷ others ≢ [] ∷ [] → IsMoreAt all n
 reading_goes_on all others s n t h f some =
     let c : (c : Cert) × (s ≡ stage.Finished c) = is_finished s f in
-    let got : HasText c.0 × (cert_lines c.0 ≡ h.front) = finished_state h.front c.0 (subst (IsState h.front) c.1 h.state) in
-    record { front = h.front; text = t; more = others; split = h.split; some = some; line = h.count; whole = (c.0, got.0, got.1) }
+    let got : HasText c.0 × (cert_lines c.0 ≡ h.front) =
+    finished_state h.front c.0 (subst (IsState h.front) c.1 h.state) in
+    record {
+      front = h.front;
+      text = t;
+      more = others;
+      split = h.split;
+      some = some;
+      line = h.count;
+      whole =
+          (c.0, got.0, got.1);
+    }
 
 -- no line feed is left
-pub reading_closes : (bytes : List ℕ) (s : CertStage) (n : ℕ) (t : List ℕ) (r : Result Cert CertFault) → IsReading (parts 10 bytes) (t ∷ []) s n → Closes s t n r → JudgesLines bytes r
+pub reading_closes : (bytes : List ℕ) (s : CertStage) (n : ℕ) (t : List ℕ) (r : Result Cert CertFault)
+    → IsReading (parts 10 bytes) (t ∷ []) s n → Closes s t n r → JudgesLines bytes r
 reading_closes bytes s n t (Ok c) h k =
     let got : HasText c × (cert_lines c ≡ h.front) = finished_state h.front c (subst (IsState h.front) k.0 h.state) in (
       got.0,
       sym (join_with_byte-slice_split 10 bytes)
-          ∙ (ap (join_with_byte 10) (h.split ∙ (ap (λ y. h.front ++ y ∷ []) k.1 ∙ ap (λ y. y ++ [] ∷ []) (sym got.1))) ∙ fed_join (cert_lines c)),
+          ∙ (ap (join_with_byte 10) (h.split ∙ (ap (λ y. h.front ++ y ∷ []) k.1 ∙ ap (λ y. y ++ [] ∷ []) (sym got.1)))
+          ∙ fed_join (cert_lines c)),
     )
-reading_closes bytes s n t (Err (fault.CertEnd line)) h k = subst (IsEndAt (parts 10 bytes)) (sym k.0) (ends (parts 10 bytes) s n t h k.1)
+reading_closes bytes s n t (Err (fault.CertEnd line)) h k =
+    subst (IsEndAt (parts 10 bytes)) (sym k.0) (ends (parts 10 bytes) s n t h k.1)
 reading_closes bytes s n t (Err (fault.NotCanonical line)) h k =
-    inr (subst (IsMoreAt (parts 10 bytes)) (sym k.0) (reading_goes_on (parts 10 bytes) [] s n t h k.1 (λ g. let blank : t ≡ [] = cc in k.2 blank)))
+    inr (subst (IsMoreAt (parts 10 bytes)) (sym k.0)
+    (reading_goes_on (parts 10 bytes) [] s n t h k.1 (λ g. let blank : t ≡ [] = cc in k.2 blank)))
 reading_closes bytes s n t (Err fault.Memory) h k = absurd k
 reading_closes bytes s n t (Err fault.OldVersion) h k = absurd k
 reading_closes bytes s n t (Err (fault.BadCertLine line)) h k = absurd k

@@ -35,7 +35,8 @@ not_old e = let both : true ≡ false = ap (λ t. bytes_eq t header_text) e in c
 old_is_bad : (bytes : List ℕ) → is_old bytes ≡ true → IsFaultAt HasNoForm (parts 10 bytes) 1
 old_is_bad bytes h =
     let rest : List ℕ = drop 12 bytes in
-    let whole : bytes ≡ codes "sect-cert 1" ++ 10 ∷ rest = (starts_is Decides-eqb bytes (codes "sect-cert 1\n") true (sym h)).0 refl in record {
+    let whole : bytes ≡ codes "sect-cert 1" ++ 10 ∷ rest =
+    (starts_is Decides-eqb bytes (codes "sect-cert 1\n") true (sym h)).0 refl in record {
       front = [];
       text = codes "sect-cert 1";
       more = parts 10 rest;
@@ -77,12 +78,14 @@ given c (fault.BadCertLine n) g = g
 given c (fault.NotCanonical n) g = g
 
 -- the text of a certificate is answered with it
-pub only : (bytes : List ℕ) (r : Result Cert CertFault) → Judges bytes r → (c : Cert) → HasText c → bytes ≡ certificate_text c → Gives c r
+pub only : (bytes : List ℕ) (r : Result Cert CertFault) → Judges bytes r → (c : Cert) → HasText c
+    → bytes ≡ certificate_text c → Gives c r
 only bytes (Ok d) j c h e = lines.only bytes (Ok d) j c h e
 only bytes (Err f) j c h e = given c f (lines.only bytes (Err (line_fault f)) (by_lines bytes f j) c h e)
 
 -- two faults of a text that are one line by line are one
-same_fault : (bytes : List ℕ) (f g : CertFault) → Judges bytes (Err f) → Judges bytes (Err g) → line_fault g ≡ line_fault f → g ≡ f
+same_fault : (bytes : List ℕ) (f g : CertFault) → Judges bytes (Err f) → Judges bytes (Err g)
+    → line_fault g ≡ line_fault f → g ≡ f
 same_fault bytes fault.OldVersion fault.OldVersion j k e = refl
 same_fault bytes fault.OldVersion fault.Memory j k e = cc
 same_fault bytes fault.OldVersion (fault.CertEnd n) j k e = cc
@@ -101,11 +104,15 @@ not_memory (fault.CertEnd n) h e = h e
 not_memory (fault.BadCertLine n) h e = h e
 not_memory (fault.NotCanonical n) h e = h e
 
-one_fault : (bytes : List ℕ) (f g : CertFault) → f ≢ fault.Memory → g ≢ fault.Memory → Judges bytes (Err f) → Judges bytes (Err g) → g ≡ f
-one_fault bytes f g a b j k = same_fault bytes f g j k (alone bytes (line_fault f) (line_fault g) (not_memory f a) (not_memory g b) (by_lines bytes f j) (by_lines bytes g k))
+one_fault : (bytes : List ℕ) (f g : CertFault) → f ≢ fault.Memory → g ≢ fault.Memory → Judges bytes (Err f)
+    → Judges bytes (Err g) → g ≡ f
+one_fault bytes f g a b j k = same_fault bytes f g j k
+    (alone bytes (line_fault f) (line_fault g) (not_memory f a) (not_memory g b) (by_lines bytes f j)
+    (by_lines bytes g k))
 
 -- a fault that a text has is the one that it is answered with
-pub refuses : (bytes : List ℕ) (r : Result Cert CertFault) → Judges bytes r → (f : CertFault) → f ≢ fault.Memory → Judges bytes (Err f) → Refuses f r
+pub refuses : (bytes : List ℕ) (r : Result Cert CertFault) → Judges bytes r → (f : CertFault) → f ≢ fault.Memory
+    → Judges bytes (Err f) → Refuses f r
 refuses bytes (Ok c) j f a k = go f a k (only bytes (Err f) k c j.0 j.1)
   where
     go : (f : CertFault) → f ≢ fault.Memory → Judges bytes (Err f) → Gives c (Err f) → ⊥

@@ -70,13 +70,17 @@ AreWords ws = AllByRecursion IsWord ws
 fixed : (w : List ℕ) → lacks 32 w ≡ true → lacks 10 w ≡ true → is_exact w ≡ true → IsWord w
 fixed w a b c = record { blank = a; feed = b; exact = c }
 
-lock_are : (l : CertLock) (e : List ℕ) (ws : List (List ℕ)) → IsLock l → IsEnd e → AreWords ws → AreWords (lock_words l e ws)
+lock_are : (l : CertLock) (e : List ℕ) (ws : List (List ℕ)) → IsLock l → IsEnd e → AreWords ws
+    → AreWords (lock_words l e ws)
 lock_are lock.WriteAll e ws h k g = (fixed (codes "W") refl refl refl, (all_word e k, g))
 lock_are (lock.ReadPath p) e ws h k g = (fixed (codes "R") refl refl refl, (path_word p e h k, g))
 lock_are (lock.WritePath p) e ws h k g = (fixed (codes "W") refl refl refl, (path_word p e h k, g))
-lock_are (lock.ReadClass n) e ws h k g = (fixed (codes "R") refl refl refl, (fixed (codes "class") refl refl refl, (number_word n e h k, g)))
-lock_are (lock.WriteClass n) e ws h k g = (fixed (codes "W") refl refl refl, (fixed (codes "class") refl refl refl, (number_word n e h k, g)))
-lock_are (lock.MakeClass n) e ws h k g = (fixed (codes "M") refl refl refl, (fixed (codes "class") refl refl refl, (number_word n e h k, g)))
+lock_are (lock.ReadClass n) e ws h k g =
+    (fixed (codes "R") refl refl refl, (fixed (codes "class") refl refl refl, (number_word n e h k, g)))
+lock_are (lock.WriteClass n) e ws h k g =
+    (fixed (codes "W") refl refl refl, (fixed (codes "class") refl refl refl, (number_word n e h k, g)))
+lock_are (lock.MakeClass n) e ws h k g =
+    (fixed (codes "M") refl refl refl, (fixed (codes "class") refl refl refl, (number_word n e h k, g)))
 
 some_are : (l : CertLock) (ls : List CertLock) → AllByRecursion IsLock (l ∷ ls) → AreWords (some_words l ls)
 some_are l [] h = lock_are l [] [] h.0 no_end tt
@@ -88,7 +92,11 @@ list_are (l ∷ ls) h = some_are l ls h
 
 steps_are : (s : CertStep) (ss : List CertStep) → AllByRecursion IsStep (s ∷ ss) → AreWords (steps_words s ss)
 steps_are s [] h = (bare_number s.node h.0.0, lock_are s.lock [] [] h.0.1 no_end tt)
-steps_are s (t ∷ ss) h = (bare_number s.node h.0.0, lock_are s.lock [] (codes ">" ∷ steps_words t ss) h.0.1 no_end (fixed (codes ">") refl refl refl, steps_are t ss h.1))
+steps_are s (t ∷ ss) h = (
+  bare_number s.node h.0.0,
+  lock_are s.lock [] (codes ">" ∷ steps_words t ss) h.0.1 no_end
+      (fixed (codes ">") refl refl refl, steps_are t ss h.1),
+)
 
 chain_are : (ss : List CertStep) → AllByRecursion IsStep ss → AreWords (chain_words ss)
 chain_are [] h = tt
@@ -97,16 +105,26 @@ chain_are (s ∷ ss) h = steps_are s ss h
 line_are : (x : CertLine) → IsLine x → AreWords (line_words x)
 line_are (line.K n) h = (fixed (codes "k") refl refl refl, (bare_number n h, tt))
 line_are (line.Sections n) h = (fixed (codes "sections") refl refl refl, (bare_number n h, tt))
-line_are (line.Section i m) h = (fixed (codes "section") refl refl refl, (bare_number i h.0, (fixed (codes "nodes") refl refl refl, (bare_number m h.1, tt))))
-line_are (line.Node j ls) h = (fixed (codes "node") refl refl refl, (number_word j (codes ":") h.0 colon_end, list_are ls h.1))
+line_are (line.Section i m) h = (
+  fixed (codes "section") refl refl refl,
+  (bare_number i h.0, (fixed (codes "nodes") refl refl refl, (bare_number m h.1, tt))),
+)
+line_are (line.Node j ls) h = (
+  fixed (codes "node") refl refl refl,
+  (number_word j (codes ":") h.0 colon_end, list_are ls h.1),
+)
 line_are (line.Entry ls) h = (fixed (codes "entry:") refl refl refl, list_are ls h)
-line_are (line.Chain c) h = (fixed (codes "chain") refl refl refl, (number_word c.lock (codes ":") h.0 colon_end, chain_are c.steps h.2))
+line_are (line.Chain c) h = (
+  fixed (codes "chain") refl refl refl,
+  (number_word c.lock (codes ":") h.0 colon_end, chain_are c.steps h.2),
+)
 line_are line.End h = (fixed (codes "end") refl refl refl, tt)
 
 exact_words : (ws : List (List ℕ)) → AreWords ws → is_exact (join_with_byte 32 ws) ≡ true
 exact_words [] h = refl
 exact_words (w ∷ []) h = h.0.exact
-exact_words (w ∷ v ∷ ws) h = exact_mark 32 blank false w (join_with_byte 32 (v ∷ ws)) h.0.exact (exact_words (v ∷ ws) h.1)
+exact_words (w ∷ v ∷ ws) h = exact_mark 32 blank false w (join_with_byte 32 (v ∷ ws)) h.0.exact
+    (exact_words (v ∷ ws) h.1)
 
 blanks : (ws : List (List ℕ)) → AreWords ws → AllByRecursion (λ x. lacks 32 x ≡ true) ws
 blanks [] h = tt

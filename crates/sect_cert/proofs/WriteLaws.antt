@@ -1,13 +1,17 @@
 -- What is written piece by piece is the text of a certificate.
-use Rattle.std.proofs.Common.{◌≡◌, ℕ, ◌+◌, List, [], ◌∷◌, ◌++◌, map, length, refl, sym, ◌∙◌, ap, append-nil, append_assoc, drop, ◌≤◌}
+use Rattle.std.proofs.Common.{◌≡◌, ℕ, ◌+◌, List, [], ◌∷◌, ◌++◌, map, length, refl, sym, ◌∙◌, ap, append-nil}
+use Rattle.std.proofs.Common.{append_assoc, drop, ◌≤◌}
 use Rattle.std.proofs.lemmas.List.{at_drop_all}
 use Rattle.std.specs.Prelude.{codes}
 use Rattle.std.specs.Fmt.{decimal}
 use Rattle.std.specs.List.{join_with_byte, flat_map}
-use Rattle.sect_cert.specs.Spelling.{base_text, path_text, lock_words, some_words, list_words, step_words, steps_words, chain_words}
+use Rattle.sect_cert.specs.Spelling.{base_text, path_text, lock_words, some_words, list_words, step_words, steps_words}
+use Rattle.sect_cert.specs.Spelling.{chain_words}
 use Rattle.sect_cert.specs.Lines.{line_text}
-use Rattle.sect_cert.specs.Texts.{nodes_lines, chains_lines, section_lines, sections_lines, header_text, fed, certificate_text}
-use Rattle.sect_cert.specs.steps.Writes.{spaced, field_text, lock_text, next_lock, step_text, next_step, fed_line, nodes_text, chain_text, section_text, sections_text}
+use Rattle.sect_cert.specs.Texts.{nodes_lines, chains_lines, section_lines, sections_lines, header_text, fed}
+use Rattle.sect_cert.specs.Texts.{certificate_text}
+use Rattle.sect_cert.specs.steps.Writes.{spaced, field_text, lock_text, next_lock, step_text, next_step, fed_line}
+use Rattle.sect_cert.specs.steps.Writes.{nodes_text, chain_text, section_text, sections_text}
 use Rattle.sect_cert.specs.declared.lock.CertPath.{CertPath}
 use Rattle.sect_cert.specs.declared.lock.CertLock.{CertLock}
 use Rattle.sect_cert.specs.declared.lock.CertLock.TheVariants as lock
@@ -18,7 +22,8 @@ use Rattle.sect_cert.specs.declared.certificate.Cert.{Cert}
 use Rattle.sect_cert.specs.declared.line.CertLine.{CertLine}
 use Rattle.sect_cert.specs.declared.line.CertLine.TheVariants as line
 
-path_joined : (base : List ℕ) (fields : List (List ℕ)) → join_with_byte 46 (base ∷ fields) ≡ base ++ flat_map field_text fields
+path_joined : (base : List ℕ) (fields : List (List ℕ)) → join_with_byte 46 (base ∷ fields) ≡ base
+    ++ flat_map field_text fields
 path_joined base [] = sym (append-nil base)
 path_joined base (f ∷ fs) = ap (λ x. base ++ 46 ∷ x) (path_joined f fs)
 
@@ -27,7 +32,8 @@ line_joined head [] = sym (append-nil head)
 line_joined head (w ∷ ws) = ap (λ x. head ++ 32 ∷ x) (line_joined w ws)
 
 -- a lock, and what ends and follows it
-lock_spaced : (l : CertLock) (end : List ℕ) (ws : List (List ℕ)) → spaced (lock_words l end ws) ≡ lock_text l ++ (end ++ spaced ws)
+lock_spaced : (l : CertLock) (end : List ℕ) (ws : List (List ℕ)) → spaced (lock_words l end ws) ≡ lock_text l
+    ++ (end ++ spaced ws)
 lock_spaced l end ws = go l
   where
     last : (w : List ℕ) → (w ++ end) ++ spaced ws ≡ (w ++ []) ++ (end ++ spaced ws)
@@ -46,7 +52,8 @@ lock_spaced l end ws = go l
 
 some_spaced : (l : CertLock) (ls : List CertLock) → spaced (some_words l ls) ≡ lock_text l ++ flat_map next_lock ls
 some_spaced l [] = sym (append-nil (lock_text l))
-some_spaced l (k ∷ ls) = lock_spaced l (codes ",") (some_words k ls) ∙ ap (λ x. lock_text l ++ 44 ∷ x) (some_spaced k ls)
+some_spaced l (k ∷ ls) = lock_spaced l (codes ",") (some_words k ls)
+    ∙ ap (λ x. lock_text l ++ 44 ∷ x) (some_spaced k ls)
 
 step_spaced : (s : CertStep) (ws : List (List ℕ)) → spaced (step_words s ws) ≡ step_text s ++ spaced ws
 step_spaced s ws =
@@ -55,10 +62,12 @@ step_spaced s ws =
 
 steps_spaced : (s : CertStep) (ss : List CertStep) → spaced (steps_words s ss) ≡ step_text s ++ flat_map next_step ss
 steps_spaced s [] = sym (append-nil (step_text s))
-steps_spaced s (t ∷ ss) = step_spaced s (codes ">" ∷ steps_words t ss) ∙ ap (λ x. step_text s ++ 32 ∷ 62 ∷ x) (steps_spaced t ss)
+steps_spaced s (t ∷ ss) = step_spaced s (codes ">" ∷ steps_words t ss)
+    ∙ ap (λ x. step_text s ++ 32 ∷ 62 ∷ x) (steps_spaced t ss)
 
 -- a first piece, and the others by a loop that has come to its end
-behind_first : {A : Type 0} (f : A → List ℕ) (xs : List A) (i : ℕ) (old first whole front text : List ℕ) → front ≡ old ++ first → length xs ≤ i →
+behind_first : {A : Type 0} (f : A → List ℕ) (xs : List A) (i : ℕ) (old first whole front text : List ℕ)
+    → front ≡ old ++ first → length xs ≤ i →
     whole ++ flat_map f (drop i xs) ≡ front ++ flat_map f xs → text ≡ first ++ flat_map f xs → whole ≡ old ++ text
 behind_first f xs i old first whole front text h low g e =
     sym (append-nil whole)
@@ -66,37 +75,54 @@ behind_first f xs i old first whole front text h low g e =
     ∙ (g ∙ (ap (λ x. x ++ flat_map f xs) h ∙ (append_assoc old first (flat_map f xs) ∙ ap (λ x. old ++ x) (sym e)))))
 
 -- what is written of paths, lists and chains, a first element and then the others
-pub path_written : (p : CertPath) (i : ℕ) (old whole front : List ℕ) → front ≡ old ++ 32 ∷ base_text p.base → length p.fields ≤ i →
-    whole ++ flat_map field_text (drop i p.fields) ≡ front ++ flat_map field_text p.fields → whole ≡ old ++ 32 ∷ path_text p
+pub path_written : (p : CertPath) (i : ℕ) (old whole front : List ℕ) → front ≡ old ++ 32 ∷ base_text p.base
+    → length p.fields ≤ i →
+    whole ++ flat_map field_text (drop i p.fields) ≡ front ++ flat_map field_text p.fields
+    → whole ≡ old ++ 32 ∷ path_text p
 path_written p i old whole front h low g =
-    behind_first field_text p.fields i old (32 ∷ base_text p.base) whole front (32 ∷ path_text p) h low g (ap (λ x. 32 ∷ x) (path_joined (base_text p.base) p.fields))
+    behind_first field_text p.fields i old (32 ∷ base_text p.base) whole front (32 ∷ path_text p) h low g
+    (ap (λ x. 32 ∷ x) (path_joined (base_text p.base) p.fields))
 
-pub list_written : (l : CertLock) (ls : List CertLock) (i : ℕ) (old whole front : List ℕ) → front ≡ old ++ lock_text l → length ls ≤ i →
-    whole ++ flat_map next_lock (drop i ls) ≡ front ++ flat_map next_lock ls → whole ≡ old ++ spaced (list_words (l ∷ ls))
-list_written l ls i old whole front h low g = behind_first next_lock ls i old (lock_text l) whole front (spaced (list_words (l ∷ ls))) h low g (some_spaced l ls)
+pub list_written : (l : CertLock) (ls : List CertLock) (i : ℕ) (old whole front : List ℕ) → front ≡ old ++ lock_text l
+    → length ls ≤ i →
+    whole ++ flat_map next_lock (drop i ls) ≡ front ++ flat_map next_lock ls
+    → whole ≡ old ++ spaced (list_words (l ∷ ls))
+list_written l ls i old whole front h low g =
+    behind_first next_lock ls i old (lock_text l) whole front (spaced (list_words (l ∷ ls))) h low g (some_spaced l ls)
 
-pub steps_written : (s : CertStep) (ss : List CertStep) (i : ℕ) (old whole front : List ℕ) → front ≡ old ++ step_text s → length ss ≤ i →
-    whole ++ flat_map next_step (drop i ss) ≡ front ++ flat_map next_step ss → whole ≡ old ++ spaced (chain_words (s ∷ ss))
-steps_written s ss i old whole front h low g = behind_first next_step ss i old (step_text s) whole front (spaced (chain_words (s ∷ ss))) h low g (steps_spaced s ss)
+pub steps_written : (s : CertStep) (ss : List CertStep) (i : ℕ) (old whole front : List ℕ) → front ≡ old ++ step_text s
+    → length ss ≤ i →
+    whole ++ flat_map next_step (drop i ss) ≡ front ++ flat_map next_step ss
+    → whole ≡ old ++ spaced (chain_words (s ∷ ss))
+steps_written s ss i old whole front h low g =
+    behind_first next_step ss i old (step_text s) whole front (spaced (chain_words (s ∷ ss))) h low g
+    (steps_spaced s ss)
 
 -- a line: its first word, a number before a colon, and the words behind it
 numbered : (old head digits : List ℕ) (ws : List (List ℕ)) →
-    ((((old ++ head) ++ 32 ∷ digits) ++ 58 ∷ []) ++ spaced ws) ++ 10 ∷ [] ≡ old ++ ((head ++ 32 ∷ join_with_byte 32 ((digits ++ 58 ∷ []) ∷ ws)) ++ 10 ∷ [])
+    ((((old ++ head) ++ 32 ∷ digits) ++ 58 ∷ []) ++ spaced ws) ++ 10 ∷ [] ≡ old
+    ++ ((head ++ 32 ∷ join_with_byte 32 ((digits ++ 58 ∷ []) ∷ ws)) ++ 10 ∷ [])
 numbered old head digits ws =
     let number : List ℕ = 32 ∷ (digits ++ 58 ∷ []) in
     ap (λ x. (x ++ spaced ws) ++ 10 ∷ []) (append_assoc (old ++ head) (32 ∷ digits) (58 ∷ []))
-    ∙ (ap (λ x. x ++ 10 ∷ []) (append_assoc (old ++ head) number (spaced ws) ∙ append_assoc old head (number ++ spaced ws))
-    ∙ (append_assoc old (head ++ (number ++ spaced ws)) (10 ∷ []) ∙ ap (λ x. old ++ ((head ++ 32 ∷ x) ++ 10 ∷ [])) (sym (line_joined (digits ++ 58 ∷ []) ws))))
+    ∙ (ap (λ x. x ++ 10 ∷ []) (append_assoc (old ++ head) number (spaced ws)
+    ∙ append_assoc old head (number ++ spaced ws))
+    ∙ (append_assoc old (head ++ (number ++ spaced ws)) (10 ∷ [])
+    ∙ ap (λ x. old ++ ((head ++ 32 ∷ x) ++ 10 ∷ [])) (sym (line_joined (digits ++ 58 ∷ []) ws))))
 
 -- what is written of lines
-pub node_written : (old : List ℕ) (j : ℕ) (ls : List CertLock) → ((((old ++ codes "node") ++ 32 ∷ decimal j) ++ 58 ∷ []) ++ spaced (list_words ls)) ++ 10 ∷ [] ≡ old ++ fed_line (line.Node j ls)
+pub node_written : (old : List ℕ) (j : ℕ) (ls : List CertLock)
+    → ((((old ++ codes "node") ++ 32 ∷ decimal j) ++ 58 ∷ []) ++ spaced (list_words ls)) ++ 10 ∷ [] ≡ old
+    ++ fed_line (line.Node j ls)
 node_written old j ls = numbered old (codes "node") (decimal j) (list_words ls)
 
 pub chain_written : (old : List ℕ) (c : Chain) →
-    ((((old ++ codes "chain") ++ 32 ∷ decimal c.lock) ++ 58 ∷ []) ++ spaced (chain_words c.steps)) ++ 10 ∷ [] ≡ old ++ chain_text c
+    ((((old ++ codes "chain") ++ 32 ∷ decimal c.lock) ++ 58 ∷ []) ++ spaced (chain_words c.steps)) ++ 10 ∷ [] ≡ old
+    ++ chain_text c
 chain_written old c = numbered old (codes "chain") (decimal c.lock) (chain_words c.steps)
 
-pub entry_written : (old : List ℕ) (ls : List CertLock) → ((old ++ codes "entry:") ++ spaced (list_words ls)) ++ 10 ∷ [] ≡ old ++ fed_line (line.Entry ls)
+pub entry_written : (old : List ℕ) (ls : List CertLock) → ((old ++ codes "entry:") ++ spaced (list_words ls))
+    ++ 10 ∷ [] ≡ old ++ fed_line (line.Entry ls)
 entry_written old ls =
     ap (λ x. x ++ 10 ∷ []) (append_assoc old (codes "entry:") (spaced (list_words ls)))
     ∙ (append_assoc old (codes "entry:" ++ spaced (list_words ls)) (10 ∷ [])
@@ -106,20 +132,25 @@ entry_written old ls =
 fed_one : (x : CertLine) (xs : List CertLine) → fed (map line_text (x ∷ xs)) ≡ fed_line x ++ fed (map line_text xs)
 fed_one x xs = sym (append_assoc (line_text x) (10 ∷ []) (fed (map line_text xs)))
 
-nodes_written : (ns : List (List CertLock)) (j : ℕ) (w : List CertLine) → fed (map line_text (nodes_lines j ns w)) ≡ nodes_text j ns ++ fed (map line_text w)
+nodes_written : (ns : List (List CertLock)) (j : ℕ) (w : List CertLine)
+    → fed (map line_text (nodes_lines j ns w)) ≡ nodes_text j ns ++ fed (map line_text w)
 nodes_written [] j w = refl
 nodes_written (ls ∷ ns) j w =
     fed_one (line.Node j ls) (nodes_lines (j + 1) ns w)
     ∙ (ap (λ x. fed_line (line.Node j ls) ++ x) (nodes_written ns (j + 1) w)
     ∙ sym (append_assoc (fed_line (line.Node j ls)) (nodes_text (j + 1) ns) (fed (map line_text w))))
 
-chains_written : (cs : List Chain) (w : List CertLine) → fed (map line_text (chains_lines cs w)) ≡ flat_map chain_text cs ++ fed (map line_text w)
+chains_written : (cs : List Chain) (w : List CertLine)
+    → fed (map line_text (chains_lines cs w)) ≡ flat_map chain_text cs ++ fed (map line_text w)
 chains_written [] w = refl
 chains_written (c ∷ cs) w =
     fed_one (line.Chain c) (chains_lines cs w)
-    ∙ (ap (λ x. chain_text c ++ x) (chains_written cs w) ∙ sym (append_assoc (chain_text c) (flat_map chain_text cs) (fed (map line_text w))))
+    ∙ (ap (λ x. chain_text c ++ x) (chains_written cs w)
+    ∙ sym (append_assoc (chain_text c) (flat_map chain_text cs) (fed (map line_text w))))
 
-section_written : (i : ℕ) (s : CertSection) (w : List CertLine) → fed (map line_text (line.Section i (length s.nodes) ∷ section_lines s w)) ≡ section_text i s ++ fed (map line_text w)
+section_written : (i : ℕ) (s : CertSection) (w : List CertLine)
+    → fed (map line_text (line.Section i (length s.nodes) ∷ section_lines s w)) ≡ section_text i s
+    ++ fed (map line_text w)
 section_written i s w =
     let head : List ℕ = fed_line (line.Section i (length s.nodes)) in
     let nodes : List ℕ = nodes_text 0 s.nodes in
@@ -128,15 +159,18 @@ section_written i s w =
     let rest : List ℕ = fed (map line_text w) in
     fed_one (line.Section i (length s.nodes)) (section_lines s w)
     ∙ (ap (λ x. head ++ x) (nodes_written s.nodes 0 (line.Entry s.entry ∷ chains_lines s.chains w)
-    ∙ (ap (λ x. nodes ++ x) (fed_one (line.Entry s.entry) (chains_lines s.chains w) ∙ (ap (λ x. entry ++ x) (chains_written s.chains w) ∙ sym (append_assoc entry chains rest)))
+    ∙ (ap (λ x. nodes ++ x) (fed_one (line.Entry s.entry) (chains_lines s.chains w)
+    ∙ (ap (λ x. entry ++ x) (chains_written s.chains w) ∙ sym (append_assoc entry chains rest)))
     ∙ sym (append_assoc nodes (entry ++ chains) rest)))
     ∙ sym (append_assoc head (nodes ++ (entry ++ chains)) rest))
 
-sections_written : (ss : List CertSection) (i : ℕ) (w : List CertLine) → fed (map line_text (sections_lines i ss w)) ≡ sections_text i ss ++ fed (map line_text w)
+sections_written : (ss : List CertSection) (i : ℕ) (w : List CertLine)
+    → fed (map line_text (sections_lines i ss w)) ≡ sections_text i ss ++ fed (map line_text w)
 sections_written [] i w = refl
 sections_written (s ∷ ss) i w =
     section_written i s (sections_lines (i + 1) ss w)
-    ∙ (ap (λ x. section_text i s ++ x) (sections_written ss (i + 1) w) ∙ sym (append_assoc (section_text i s) (sections_text (i + 1) ss) (fed (map line_text w))))
+    ∙ (ap (λ x. section_text i s ++ x) (sections_written ss (i + 1) w)
+    ∙ sym (append_assoc (section_text i s) (sections_text (i + 1) ss) (fed (map line_text w))))
 
 pub front_written : (old : List ℕ) (k n : ℕ) →
     ((((old ++ codes "sect-cert 2\nk") ++ 32 ∷ decimal k) ++ codes "\nsections") ++ 32 ∷ decimal n) ++ 10 ∷ []
@@ -149,10 +183,13 @@ front_written old k n =
     append_assoc (((old ++ begun) ++ first) ++ codes "\nsections") (32 ∷ decimal n) (10 ∷ [])
     ∙ (append_assoc ((old ++ begun) ++ first) (codes "\nsections") last
     ∙ (append_assoc (old ++ begun) first (10 ∷ rest)
-    ∙ (append_assoc old begun (first ++ 10 ∷ rest) ∙ ap (λ x. old ++ (begun ++ x)) (sym (append_assoc first (10 ∷ []) rest)))))
+    ∙ (append_assoc old begun (first ++ 10 ∷ rest)
+    ∙ ap (λ x. old ++ (begun ++ x)) (sym (append_assoc first (10 ∷ []) rest)))))
 
 -- what is written in all is the text
-pub cert_written : (c : Cert) → ((header_text ++ 10 ∷ (fed_line (line.K c.k) ++ fed_line (line.Sections (length c.sections)))) ++ sections_text 0 c.sections) ++ codes "end\n" ≡ certificate_text c
+pub cert_written : (c : Cert)
+    → ((header_text ++ 10 ∷ (fed_line (line.K c.k) ++ fed_line (line.Sections (length c.sections))))
+    ++ sections_text 0 c.sections) ++ codes "end\n" ≡ certificate_text c
 cert_written c =
     let first : List ℕ = fed_line (line.K c.k) in
     let second : List ℕ = fed_line (line.Sections (length c.sections)) in
@@ -162,4 +199,5 @@ cert_written c =
     ∙ ap (λ x. header_text ++ 10 ∷ x)
     (append_assoc first second (sections ++ codes "end\n")
     ∙ sym (fed_one (line.K c.k) (line.Sections (length c.sections) ∷ rest)
-    ∙ ap (λ x. first ++ x) (fed_one (line.Sections (length c.sections)) rest ∙ ap (λ x. second ++ x) (sections_written c.sections 0 (line.End ∷ [])))))
+    ∙ ap (λ x. first ++ x) (fed_one (line.Sections (length c.sections)) rest
+    ∙ ap (λ x. second ++ x) (sections_written c.sections 0 (line.End ∷ [])))))

@@ -24,11 +24,13 @@ use Rattle.sect_check.proofs.Either.{valid_either}
 
 -- a text has one program
 same_program : (bytes : List ℕ) (p q : ProgramView) → IsTypedText bytes p → IsTypedText bytes q → q ≡ p
-same_program bytes p q of_p of_q = one_program p q of_p.numbers of_q.numbers (only bytes p.source of_p.spelled (Ok q.source) of_q.spelled)
+same_program bytes p q of_p of_q =
+    one_program p q of_p.numbers of_q.numbers (only bytes p.source of_p.spelled (Ok q.source) of_q.spelled)
 
 module _ (A : Type 0) (source : List ℕ) (k : ℕ) (bytes : List ℕ) where
   -- an answer that passes on a fault that is judged is judged
-  passed : (r : Result A CheckFault) (f : CheckFault) → IsErrAnd r (λ x. x ≡ f) → Judges {A = A} source k bytes (Err f) → Judges source k bytes r
+  passed : (r : Result A CheckFault) (f : CheckFault) → IsErrAnd r (λ x. x ≡ f) → Judges {A = A} source k bytes (Err f)
+      → Judges source k bytes r
   passed (Ok x) f is h = absurd is
   passed (Err x) f is h = subst (λ z. Judges {A = A} source k bytes (Err z)) (sym is) h
 
@@ -40,7 +42,8 @@ module _ (A : Type 0) (source : List ℕ) (k : ℕ) (bytes : List ℕ) where
   source_judged (refusal.Scheme x) h = (λ e. cc, h)
 
   -- so is the answer that passes it on
-  pub source_refused : (r : Result A CheckFault) (f : Refusal) → IsErrAnd r (λ x. x ≡ of_source f) → IsDue source k f → Judges source k bytes r
+  pub source_refused : (r : Result A CheckFault) (f : Refusal) → IsErrAnd r (λ x. x ≡ of_source f) → IsDue source k f
+      → Judges source k bytes r
   source_refused r f is h = passed r (of_source f) is (source_judged f h)
 
   module _ (s : SchemeView) (accepted : IsAccepted source k s) where
@@ -53,7 +56,8 @@ module _ (A : Type 0) (source : List ℕ) (k : ℕ) (bytes : List ℕ) where
     text_judged text.OldVersion h = ((s, accepted), λ e. cc, h)
 
     -- so is the answer that passes it on
-    pub text_refused : (r : Result A CheckFault) (f : CertFault) → IsErrAnd r (λ x. x ≡ of_text f) → texts.Judges bytes (Err f) → Judges source k bytes r
+    pub text_refused : (r : Result A CheckFault) (f : CertFault) → IsErrAnd r (λ x. x ≡ of_text f)
+        → texts.Judges bytes (Err f) → Judges source k bytes r
     text_refused r f is h = passed r (of_text f) is (text_judged f h)
 
     module _ (c : Cert) (has : HasText c) (is : bytes ≡ certificate_text c) where
@@ -67,21 +71,30 @@ module _ (A : Type 0) (source : List ℕ) (k : ℕ) (bytes : List ℕ) where
       cert_judged (Err fault.Memory) h = tt
       cert_judged (Err (fault.Source x)) h = absurd h
       cert_judged (Err (fault.Text x)) h = absurd h
-      cert_judged (Err fault.WrongProgram) h = record { s = s; accepted = accepted; cert = c; text = has; spelled = is; holds = h }
-      cert_judged (Err (fault.NotGenerated i j)) h = record { s = s; accepted = accepted; cert = c; text = has; spelled = is; holds = h }
-      cert_judged (Err (fault.NotCarried i j l)) h = record { s = s; accepted = accepted; cert = c; text = has; spelled = is; holds = h }
-      cert_judged (Err (fault.EntryNotCovered i)) h = record { s = s; accepted = accepted; cert = c; text = has; spelled = is; holds = h }
-      cert_judged (Err (fault.NotMaximal i)) h = record { s = s; accepted = accepted; cert = c; text = has; spelled = is; holds = h }
-      cert_judged (Err (fault.NoChain i n)) h = record { s = s; accepted = accepted; cert = c; text = has; spelled = is; holds = h }
-      cert_judged (Err (fault.BrokenChain i n j)) h = record { s = s; accepted = accepted; cert = c; text = has; spelled = is; holds = h }
+      cert_judged (Err fault.WrongProgram) h =
+          record { s = s; accepted = accepted; cert = c; text = has; spelled = is; holds = h }
+      cert_judged (Err (fault.NotGenerated i j)) h =
+          record { s = s; accepted = accepted; cert = c; text = has; spelled = is; holds = h }
+      cert_judged (Err (fault.NotCarried i j l)) h =
+          record { s = s; accepted = accepted; cert = c; text = has; spelled = is; holds = h }
+      cert_judged (Err (fault.EntryNotCovered i)) h =
+          record { s = s; accepted = accepted; cert = c; text = has; spelled = is; holds = h }
+      cert_judged (Err (fault.NotMaximal i)) h =
+          record { s = s; accepted = accepted; cert = c; text = has; spelled = is; holds = h }
+      cert_judged (Err (fault.NoChain i n)) h =
+          record { s = s; accepted = accepted; cert = c; text = has; spelled = is; holds = h }
+      cert_judged (Err (fault.BrokenChain i n j)) h =
+          record { s = s; accepted = accepted; cert = c; text = has; spelled = is; holds = h }
 
       -- the entry lists of a certificate that isn't refused are least
-      pub cert_least : (r : Result A CheckFault) → JudgesCert s c r → IfOk r (λ _. IsRead source k bytes AreEntriesLeast)
+      pub cert_least : (r : Result A CheckFault) → JudgesCert s c r
+          → IfOk r (λ _. IsRead source k bytes AreEntriesLeast)
       cert_least (Ok x) h = read_so AreEntriesLeast (entries_least s accepted.scheme c h)
       cert_least (Err f) h = tt
 
 -- a refusal for want of memory alone is the answer's
-pub only_memory : {A : Type 0} (r : Result A CheckFault) (f : CheckFault) → IsErrAnd r (λ x. x ≡ f) → f ≡ fault.Memory → IsOkUnless r fault.Memory
+pub only_memory : {A : Type 0} (r : Result A CheckFault) (f : CheckFault) → IsErrAnd r (λ x. x ≡ f) → f ≡ fault.Memory
+    → IsOkUnless r fault.Memory
 only_memory (Ok x) f is memory = tt
 only_memory (Err x) f is memory = is ∙ memory
 
@@ -94,7 +107,8 @@ text_given c (text.NotCanonical n) g = absurd g
 text_given c text.OldVersion g = absurd g
 
 -- a certificate that is valid for a text is valid for the scheme that the text was given
-pub valid_for : (source : List ℕ) (k : ℕ) (bytes : List ℕ) (s : SchemeView) → IsAccepted source k s → (c : Cert) → (v : IsRead source k bytes IsValid) → c ≡ v.cert → IsValid s c
+pub valid_for : (source : List ℕ) (k : ℕ) (bytes : List ℕ) (s : SchemeView) → IsAccepted source k s → (c : Cert)
+    → (v : IsRead source k bytes IsValid) → c ≡ v.cert → IsValid s c
 valid_for source k bytes s accepted c v same =
     let program = same_program source s.program v.s.program accepted.text v.accepted.text in
     let one = one_scheme v.s s v.accepted.scheme accepted.scheme program in

@@ -1,5 +1,6 @@
 -- A variable, a field and a path of a program are what their names stand for.
-use Rattle.std.proofs.Common.{◌≡◌, ℕ, zero, suc, List, [], ◌∷◌, ◌++◌, map, Option, Some, None, refl, sym, ap, ◌∙◌, subst, append_assoc}
+use Rattle.std.proofs.Common.{◌≡◌, ℕ, zero, suc, List, [], ◌∷◌, ◌++◌, map, Option, Some, None, refl, sym, ap, ◌∙◌}
+use Rattle.std.proofs.Common.{subst, append_assoc}
 use Rattle.std.specs.Prelude.{slice_get, slice_index_or, option_and_then}
 use Rattle.std.specs.Option.{option_map}
 use Rattle.std.proofs.lemmas.List.{append-nil, map-append}
@@ -24,113 +25,141 @@ use Rattle.sect_points.specs.Paths.{PathView, var, dot, base_of, fields_of}
 use Rattle.sect_names.specs.Locks.{IsOwn, VariableTo, FieldTo, PathTo}
 use Rattle.sect_names.specs.Printing.{all_locals, variable_name, field_name}
 use Rattle.sect_cert.specs.declared.lock.CertBase.TheVariants as base
-use Rattle.sect_check.specs.Names.{local_named, global_named, or_variable, variable_named, field_named, referred, record_of_variable, record_of_field, path_from, path_named}
+use Rattle.sect_check.specs.Names.{local_named, global_named, or_variable, variable_named, field_named, referred}
+use Rattle.sect_check.specs.Names.{record_of_variable, record_of_field, path_from, path_named}
 use Rattle.sect_check.proofs.Standing.{numbered}
 
 -- the row of a table and what stands there in it
-row_there : {X : Type 0} (rows : List (List X)) (i n : ℕ) (v : X) → slice_get (slice_index_or rows i []) n ≡ Some v → (row : List X) × (slice_get rows i ≡ Some row) × (slice_get row n ≡ Some v)
+row_there : {X : Type 0} (rows : List (List X)) (i n : ℕ) (v : X) → slice_get (slice_index_or rows i []) n ≡ Some v
+    → (row : List X) × (slice_get rows i ≡ Some row) × (slice_get row n ≡ Some v)
 row_there [] i n v e = absurd cc
 row_there (row ∷ rows) zero n v e = (row, refl, e)
 row_there (row ∷ rows) (suc i) n v e = row_there rows i n v e
 
 -- the row of a mapped table
-row_of : {X Y : Type 0} (f : X → List Y) (xs : List X) (i : ℕ) (x : X) → slice_get xs i ≡ Some x → slice_index_or (map f xs) i [] ≡ f x
+row_of : {X Y : Type 0} (f : X → List Y) (xs : List X) (i : ℕ) (x : X) → slice_get xs i ≡ Some x
+    → slice_index_or (map f xs) i [] ≡ f x
 row_of f [] i x e = absurd cc
 row_of f (y ∷ xs) zero x e = let same : y ≡ x = cc in ap f same
 row_of f (y ∷ xs) (suc i) x e = row_of f xs i x e
 
-no_row : {X Y : Type 0} (f : X → List Y) (xs : List X) (i : ℕ) → slice_get xs i ≡ None → slice_index_or (map f xs) i [] ≡ []
+no_row : {X Y : Type 0} (f : X → List Y) (xs : List X) (i : ℕ) → slice_get xs i ≡ None
+    → slice_index_or (map f xs) i [] ≡ []
 no_row f [] i e = refl
 no_row f (y ∷ xs) zero e = absurd cc
 no_row f (y ∷ xs) (suc i) e = no_row f xs i e
 
 -- a type that stands in a row
-typed_in_row : (rows : List (List ValueType)) (i n : ℕ) (v : ValueType) → type_in (slice_get rows i) n ≡ Some v → slice_get (slice_index_or rows i []) n ≡ Some v
+typed_in_row : (rows : List (List ValueType)) (i n : ℕ) (v : ValueType) → type_in (slice_get rows i) n ≡ Some v
+    → slice_get (slice_index_or rows i []) n ≡ Some v
 typed_in_row [] i n v e = absurd cc
 typed_in_row (row ∷ rows) zero n v e = e
 typed_in_row (row ∷ rows) (suc i) n v e = typed_in_row rows i n v e
 
 -- the name of what stands at a place
-name_at : {X : Type 0} (f : X → List ℕ) (xs : List X) (i : ℕ) (x : X) → slice_get xs i ≡ Some x → slice_get (map f xs) i ≡ Some (f x)
+name_at : {X : Type 0} (f : X → List ℕ) (xs : List X) (i : ℕ) (x : X) → slice_get xs i ≡ Some x
+    → slice_get (map f xs) i ≡ Some (f x)
 name_at f xs i x e = slice_get-map f xs i ∙ ap (option_map f) e
 
 module _ (p : ProgramView) (typed : IsTyped p.source) (tree : IsOfTree p) where
   -- a local that has a type is declared
   local_declared : (t x : ℕ) (v : ValueType) → slice_get (slice_index_or p.locals t []) x ≡ Some v
-      → (th : Thread) × (slice_get p.source.threads t ≡ Some th) × ((d : Declaration) × (slice_get th.locals x ≡ Some d))
+      → (th : Thread) × (slice_get p.source.threads t ≡ Some th)
+      × ((d : Declaration) × (slice_get th.locals x ≡ Some d))
   local_declared t x v e =
       let names = names_of_records p.source.records in
       let row = row_there p.locals t x v e in
-      let th = mapped_at (λ (z : Thread). types_of names z.locals) p.source.threads t row.0 (subst (λ (l : List (List ValueType)). slice_get l t ≡ Some row.0) tree.locals_are row.1) in
-      let d = mapped_at (λ (z : Declaration). type_of names z.kind) th.0.locals x v (subst (λ (l : List ValueType). slice_get l x ≡ Some v) (sym th.2) row.2) in
+      let th = mapped_at (λ (z : Thread). types_of names z.locals) p.source.threads t row.0
+      (subst (λ (l : List (List ValueType)). slice_get l t ≡ Some row.0) tree.locals_are row.1) in
+      let d = mapped_at (λ (z : Declaration). type_of names z.kind) th.0.locals x v
+      (subst (λ (l : List ValueType). slice_get l x ≡ Some v) (sym th.2) row.2) in
       (th.0, th.1, (d.0, d.1))
 
   -- so is a field
   field_declared : (r n : ℕ) (v : ValueType) → slice_get (slice_index_or p.records r []) n ≡ Some v
-      → (shape : Record) × (slice_get p.source.records r ≡ Some shape) × ((d : Declaration) × (slice_get shape.fields n ≡ Some d))
+      → (shape : Record) × (slice_get p.source.records r ≡ Some shape)
+      × ((d : Declaration) × (slice_get shape.fields n ≡ Some d))
   field_declared r n v e =
       let names = names_of_records p.source.records in
       let row = row_there p.records r n v e in
-      let shape = mapped_at (λ (z : Record). types_of names z.fields) p.source.records r row.0 (subst (λ (l : List (List ValueType)). slice_get l r ≡ Some row.0) tree.records_are row.1) in
-      let d = mapped_at (λ (z : Declaration). type_of names z.kind) shape.0.fields n v (subst (λ (l : List ValueType). slice_get l n ≡ Some v) (sym shape.2) row.2) in
+      let shape = mapped_at (λ (z : Record). types_of names z.fields) p.source.records r row.0
+      (subst (λ (l : List (List ValueType)). slice_get l r ≡ Some row.0) tree.records_are row.1) in
+      let d = mapped_at (λ (z : Declaration). type_of names z.kind) shape.0.fields n v
+      (subst (λ (l : List ValueType). slice_get l n ≡ Some v) (sym shape.2) row.2) in
       (shape.0, shape.1, (d.0, d.1))
 
-  local_called : (t x r : ℕ) → VariableTo p (Local t x) r → local_named p.source t (variable_name p.source (Local t x)) ≡ Some (Local t x)
+  local_called : (t x r : ℕ) → VariableTo p (Local t x) r
+      → local_named p.source t (variable_name p.source (Local t x)) ≡ Some (Local t x)
   local_called t x r to =
       let found = local_declared t x (Refers r) to in
       let th = found.0 in
       let d = found.2.0 in
       let names = names_of_declared th.locals in
-      let rows : slice_index_or (all_locals p.source.threads) t [] ≡ names = row_of (λ (z : Thread). names_of_declared z.locals) p.source.threads t th found.1 in
+      let rows : slice_index_or (all_locals p.source.threads) t [] ≡ names =
+      row_of (λ (z : Thread). names_of_declared z.locals) p.source.threads t th found.1 in
       let at : slice_get names x ≡ Some d.name = name_at (λ (z : Declaration). z.name) th.locals x d found.2.1 in
-      let called : variable_name p.source (Local t x) ≡ d.name = ap (λ ns. slice_index_or ns x []) rows ∙ get_or_from_slice_get names x d.name [] at in
+      let called : variable_name p.source (Local t x) ≡ d.name = ap (λ ns. slice_index_or ns x []) rows
+      ∙ get_or_from_slice_get names x d.name [] at in
       ap (λ n. option_map (λ i. Local t i) (place n (slice_index_or (all_locals p.source.threads) t []))) called
       ∙ ap (λ ns. option_map (λ i. Local t i) (place d.name ns)) rows
-      ∙ ap (option_map (λ i. Local t i)) (own_place names x d.name at (locals_apart p.source typed t th found.1 x d.name at).0)
+      ∙ ap (option_map (λ i. Local t i))
+      (own_place names x d.name at (locals_apart p.source typed t th found.1 x d.name at).0)
 
   -- in no thread a local has the name of a global
-  no_local_called : (t g : ℕ) (name : List ℕ) → slice_get (names_of_globals p.source.globals) g ≡ Some name → local_named p.source t name ≡ None
+  no_local_called : (t g : ℕ) (name : List ℕ) → slice_get (names_of_globals p.source.globals) g ≡ Some name
+      → local_named p.source t name ≡ None
   no_local_called t g name at = go (slice_get p.source.threads t) refl
     where
       go : (o : Option Thread) → slice_get p.source.threads t ≡ o → local_named p.source t name ≡ None
       go None e =
-          ap (λ ns. option_map (λ i. Local t i) (place name ns)) (no_row (λ (z : Thread). names_of_declared z.locals) p.source.threads t e)
+          ap (λ ns. option_map (λ i. Local t i) (place name ns))
+          (no_row (λ (z : Thread). names_of_declared z.locals) p.source.threads t e)
           ∙ ap (option_map (λ i. Local t i)) (no_place [] name refl)
       go (Some th) e =
-          ap (λ ns. option_map (λ i. Local t i) (place name ns)) (row_of (λ (z : Thread). names_of_declared z.locals) p.source.threads t th e)
+          ap (λ ns. option_map (λ i. Local t i) (place name ns))
+          (row_of (λ (z : Thread). names_of_declared z.locals) p.source.threads t th e)
           ∙ ap (option_map (λ i. Local t i)) (no_local p.source typed t th e g name at)
 
-  global_called : (t g r : ℕ) → VariableTo p (Global g) r → variable_named p.source t (variable_name p.source (Global g)) ≡ Some (Global g)
+  global_called : (t g r : ℕ) → VariableTo p (Global g) r
+      → variable_named p.source t (variable_name p.source (Global g)) ≡ Some (Global g)
   global_called t g r to =
       let names = names_of_globals p.source.globals in
-      let found = mapped_at (λ (z : GlobalObject). record_number (names_of_records p.source.records) z.of) p.source.globals g r (subst (λ (l : List ℕ). slice_get l g ≡ Some r) tree.globals_are to) in
+      let found = mapped_at (λ (z : GlobalObject). record_number (names_of_records p.source.records) z.of)
+      p.source.globals g r (subst (λ (l : List ℕ). slice_get l g ≡ Some r) tree.globals_are to) in
       let name = found.0.name in
-      let at : slice_get names g ≡ Some name = name_at (λ (z : GlobalObject). z.name) p.source.globals g found.0 found.1 in
+      let at : slice_get names g ≡ Some name =
+      name_at (λ (z : GlobalObject). z.name) p.source.globals g found.0 found.1 in
       let called : variable_name p.source (Global g) ≡ name = get_or_from_slice_get names g name [] at in
       ap (variable_named p.source t) called
       ∙ ap (λ o. or_variable o (global_named p.source name)) (no_local_called t g name at)
       ∙ ap (option_map (λ i. Global i)) (own_place names g name at (globals_apart p.source typed g name at))
 
   -- a variable of a thread is what its name stands for there
-  variable_called : (t : ℕ) (v : Variable) (r : ℕ) → IsOwn t (var v) → VariableTo p v r → variable_named p.source t (variable_name p.source v) ≡ Some v
+  variable_called : (t : ℕ) (v : Variable) (r : ℕ) → IsOwn t (var v) → VariableTo p v r
+      → variable_named p.source t (variable_name p.source v) ≡ Some v
   variable_called t (Global g) r own to = global_called t g r to
   variable_called t (Local u x) r own to =
       subst (λ n. variable_named p.source n (variable_name p.source (Local u x)) ≡ Some (Local u x)) own
       (ap (λ o. or_variable o (global_named p.source (variable_name p.source (Local u x)))) (local_called u x r to))
 
   -- a reference field is what its name stands for
-  field_called : (f : Field) (r : ℕ) → FieldTo p f.of f.number r → field_named p.source f.of (field_name p.source f) ≡ Some f
+  field_called : (f : Field) (r : ℕ) → FieldTo p f.of f.number r
+      → field_named p.source f.of (field_name p.source f) ≡ Some f
   field_called f r to =
       let found = field_declared f.of f.number (Refers r) (typed_in_row p.records f.of f.number (Refers r) to) in
       let shape = found.0 in
       let d = found.2.0 in
       let names = names_of_declared shape.fields in
-      let rows : slice_index_or (all_fields p.source.records) f.of [] ≡ names = row_of (λ (z : Record). names_of_declared z.fields) p.source.records f.of shape found.1 in
-      let at : slice_get names f.number ≡ Some d.name = name_at (λ (z : Declaration). z.name) shape.fields f.number d found.2.1 in
-      let called : field_name p.source f ≡ d.name = ap (λ ns. slice_index_or ns f.number []) rows ∙ get_or_from_slice_get names f.number d.name [] at in
+      let rows : slice_index_or (all_fields p.source.records) f.of [] ≡ names =
+      row_of (λ (z : Record). names_of_declared z.fields) p.source.records f.of shape found.1 in
+      let at : slice_get names f.number ≡ Some d.name =
+      name_at (λ (z : Declaration). z.name) shape.fields f.number d found.2.1 in
+      let called : field_name p.source f ≡ d.name = ap (λ ns. slice_index_or ns f.number []) rows
+      ∙ get_or_from_slice_get names f.number d.name [] at in
       ap (λ n. option_map (numbered f.of) (place n (slice_index_or (all_fields p.source.records) f.of []))) called
       ∙ ap (λ ns. option_map (numbered f.of) (place d.name ns)) rows
-      ∙ ap (option_map (numbered f.of)) (own_place names f.number d.name at (fields_apart p.source typed f.of shape found.1 f.number d.name at))
+      ∙ ap (option_map (numbered f.of))
+      (own_place names f.number d.name at (fields_apart p.source typed f.of shape found.1 f.number d.name at))
 
   -- the record to whose objects a field or a variable refers
   field_record : (f : Field) (r : ℕ) → FieldTo p f.of f.number r → record_of_field p f ≡ Some r
@@ -142,27 +171,36 @@ module _ (p : ProgramView) (typed : IsTyped p.source) (tree : IsOfTree p) where
 
   -- the names of the fields of a path lead along it, whatever follows
   goes_along : (q : PathView) (r : ℕ) (xs : List (List ℕ)) → PathTo p q r
-      → path_from p (var (base_of q)) (record_of_variable p (base_of q)) (map (field_name p.source) (fields_of q) ++ xs) ≡ path_from p q (Some r) xs
+      → path_from p (var (base_of q)) (record_of_variable p (base_of q)) (map (field_name p.source) (fields_of q) ++ xs)
+      ≡ path_from p q (Some r) xs
   goes_along (var v) r xs to = ap (λ o. path_from p (var v) o xs) (variable_record v r to)
   goes_along (dot q f) r xs to =
       let name = field_name p.source in
       let from = path_from p (var (base_of q)) (record_of_variable p (base_of q)) in
       let lists : map name (fields_of q ++ f ∷ []) ++ xs ≡ map name (fields_of q) ++ name f ∷ xs
-      = ap (λ l. l ++ xs) (map-append name (fields_of q) (f ∷ [])) ∙ append_assoc (map name (fields_of q)) (name f ∷ []) xs in
+      = ap (λ l. l ++ xs) (map-append name (fields_of q) (f ∷ []))
+      ∙ append_assoc (map name (fields_of q)) (name f ∷ []) xs in
       ap from lists ∙ goes_along q f.of (name f ∷ xs) to.0
       ∙ ap (option_and_then (λ g. path_from p (dot q g) (record_of_field p g) xs)) (field_called f r to.1)
       ∙ ap (λ o. path_from p (dot q f) o xs) (field_record f r to.1)
 
   -- a path begins with a variable of the thread that refers to objects
-  begins : (t : ℕ) (q : PathView) (r : ℕ) → IsOwn t q → PathTo p q r → IsOwn t (var (base_of q)) × ((n : ℕ) × VariableTo p (base_of q) n)
+  begins : (t : ℕ) (q : PathView) (r : ℕ) → IsOwn t q → PathTo p q r
+      → IsOwn t (var (base_of q)) × ((n : ℕ) × VariableTo p (base_of q) n)
   begins t (var v) r own to = (own, (r, to))
   begins t (dot q f) r own to = begins t q f.of own to.0
 
   -- a path of a thread is what its names stand for there
   pub path_called : (t : ℕ) (q : PathView) (r : ℕ) → IsOwn t q → PathTo p q r
-      → path_named p t (record { base = base.Name (variable_name p.source (base_of q)); fields = map (field_name p.source) (fields_of q) }) ≡ Some q
+      → path_named p t (record {
+        base = base.Name (variable_name p.source (base_of q));
+        fields =
+            map (field_name p.source) (fields_of q);
+      }) ≡ Some q
   path_called t q r own to =
       let start = begins t q r own to in
       let fields = map (field_name p.source) (fields_of q) in
-      ap (option_and_then (λ v. path_from p (var v) (record_of_variable p v) fields)) (variable_called t (base_of q) start.1.0 start.0 start.1.1)
-      ∙ ap (path_from p (var (base_of q)) (record_of_variable p (base_of q))) (sym (append-nil fields)) ∙ goes_along q r [] to
+      ap (option_and_then (λ v. path_from p (var v) (record_of_variable p v) fields))
+      (variable_called t (base_of q) start.1.0 start.0 start.1.1)
+      ∙ ap (path_from p (var (base_of q)) (record_of_variable p (base_of q))) (sym (append-nil fields))
+      ∙ goes_along q r [] to

@@ -1,5 +1,6 @@
 -- What the verdicts on single chains say of all of a section's.
-use Rattle.std.proofs.Common.{◌≡◌, ℕ, ◌+◌, ◌<◌, ◌≤◌, List, Option, Some, None, Result, Ok, Err, IsErrAnd, length, refl, sym, subst, inl, inr, arith}
+use Rattle.std.proofs.Common.{◌≡◌, ℕ, ◌+◌, ◌<◌, ◌≤◌, List, Option, Some, None, Result, Ok, Err, IsErrAnd, length, refl}
+use Rattle.std.proofs.Common.{sym, subst, inl, inr, arith}
 use Rattle.std.specs.Prelude.{slice_get, MatchOption}
 use Rattle.std.proofs.lemmas.Option.{slice_get_within}
 use Rattle.sect_types.specs.Lists.{Has}
@@ -22,12 +23,18 @@ use Rattle.sect_check.proofs.Scanning.{below_next}
 
 module _ (s : SchemeView) (t : ℕ) (last : List Lock) (g : List Node) (c : Claims) where
   -- a claimed chain is first wrong at this step
-  pub broken_at : (n : ℕ) (l : Lock) (x : ChainClaim) → IsClaimed c n x → (links : List Link) → links ≡ x.links → (o : Option ℕ) (i : ℕ) → o ≡ Some i
-      → MatchOption o (IsChain s t last g l links) (IsFirst (IsStepRight s t last g l links)) → IsBroken s t last g c n l i
+  pub broken_at : (n : ℕ) (l : Lock) (x : ChainClaim) → IsClaimed c n x → (links : List Link) → links ≡ x.links
+      → (o : Option ℕ) (i : ℕ) → o ≡ Some i
+      → MatchOption o (IsChain s t last g l links) (IsFirst (IsStepRight s t last g l links))
+      → IsBroken s t last g c n l i
   broken_at n l x claimed links same None i is h = absurd cc
   broken_at n l x claimed links same (Some j) i is h =
-      let e : j ≡ i = cc in
-      (x, claimed, subst (λ ls. IsFirst (IsStepRight s t last g l ls) i) same (subst (IsFirst (IsStepRight s t last g l links)) e h))
+      let e : j ≡ i = cc in (
+        x,
+        claimed,
+        subst (λ ls. IsFirst (IsStepRight s t last g l ls) i) same
+            (subst (IsFirst (IsStepRight s t last g l links)) e h),
+      )
 
   -- the locks before this one have chains of their numbers
   pub numbers_below : (n : ℕ) → n ≤ length c.entry → HaveChainsBefore s t last g c n → HaveNumbersBelow c.chains n
@@ -38,23 +45,30 @@ module _ (s : SchemeView) (t : ℕ) (last : List Lock) (g : List Node) (c : Clai
 
   module _ (n : ℕ) (l : Lock) (at : slice_get c.entry n ≡ Some l) (have : HaveChainsBefore s t last g c n) where
     -- the fault of a chain is one of all chains
-    chain_err : (A B : Type 0) (f : SectionFault) → JudgesChain {A = A} s t last g c n l (Err f) → JudgesChains {A = B} s t last g c (Err f)
+    chain_err : (A B : Type 0) (f : SectionFault) → JudgesChain {A = A} s t last g c n l (Err f)
+        → JudgesChains {A = B} s t last g c (Err f)
     chain_err A B fault.Memory h = tt
     chain_err A B (fault.NotGenerated j) h = absurd h
     chain_err A B (fault.NotCarried i j) h = absurd h
     chain_err A B fault.EntryNotCovered h = absurd h
     chain_err A B fault.NotMaximal h = absurd h
-    chain_err A B (fault.NoChain m) h = subst (λ k. JudgesChains {A = B} s t last g c (Err (fault.NoChain k))) (sym h.0) (slice_get_within c.entry n l at, have, h.1)
-    chain_err A B (fault.BrokenChain m i) h = subst (λ k. JudgesChains {A = B} s t last g c (Err (fault.BrokenChain k i))) (sym h.0) (have, inl (l, at, h.1))
+    chain_err A B (fault.NoChain m) h =
+        subst (λ k. JudgesChains {A = B} s t last g c (Err (fault.NoChain k))) (sym h.0)
+        (slice_get_within c.entry n l at, have, h.1)
+    chain_err A B (fault.BrokenChain m i) h =
+        subst (λ k. JudgesChains {A = B} s t last g c (Err (fault.BrokenChain k i))) (sym h.0) (have, inl (l, at, h.1))
 
     -- the answer that passes the fault of a chain on
-    pub chain_passed : (A : Type 0) {B : Type 0} (r : Result B SectionFault) (f : SectionFault) → IsErrAnd r (λ x. x ≡ f) → JudgesChain {A = A} s t last g c n l (Err f) → JudgesChains s t last g c r
+    pub chain_passed : (A : Type 0) {B : Type 0} (r : Result B SectionFault) (f : SectionFault)
+        → IsErrAnd r (λ x. x ≡ f) → JudgesChain {A = A} s t last g c n l (Err f) → JudgesChains s t last g c r
     chain_passed A (Ok x) f is h = absurd is
-    chain_passed A {B} (Err x) f is h = subst (λ z. JudgesChains {A = B} s t last g c (Err z)) (sym is) (chain_err A B f h)
+    chain_passed A {B} (Err x) f is h =
+        subst (λ z. JudgesChains {A = B} s t last g c (Err z)) (sym is) (chain_err A B f h)
 
     -- one lock more has its chain
     pub chains_more : HasChain s t last g c n l → HaveChainsBefore s t last g c (n + 1)
-    chains_more h = below_next (HasItsChain s t last g c) n have (λ m at_m. subst (HasChain s t last g c n) (one_at c.entry n l m at at_m) h)
+    chains_more h = below_next (HasItsChain s t last g c) n have
+        (λ m at_m. subst (HasChain s t last g c n) (one_at c.entry n l m at at_m) h)
 
   module _ (n : ℕ) (past : length c.entry ≤ n) (have : HaveChainsBefore s t last g c n) where
     -- each lock has its chain
@@ -66,9 +80,11 @@ module _ (s : SchemeView) (t : ℕ) (last : List Lock) (g : List Node) (c : Clai
     all_below = numbers_below (length c.entry) (omega arith) (λ m lt. chains_done m)
 
     -- where no chain stands behind those, there is no other
-    pub no_others : DoRise c.chains → length c.chains ≤ length c.entry → (x : ChainClaim) → Has c.chains x → x.lock < length c.entry
+    pub no_others : DoRise c.chains → length c.chains ≤ length c.entry → (x : ChainClaim) → Has c.chains x
+        → x.lock < length c.entry
     no_others rise all x h = no_more c.chains rise (length c.entry) all_below all x h
 
     -- the chain that stands behind those is of no lock
-    pub stray_breaks : DoRise c.chains → (x : ChainClaim) → slice_get c.chains (length c.entry) ≡ Some x → BreaksChain s t last g c x.lock 0
+    pub stray_breaks : DoRise c.chains → (x : ChainClaim) → slice_get c.chains (length c.entry) ≡ Some x
+        → BreaksChain s t last g c x.lock 0
     stray_breaks rise x at = ((λ m lt. chains_done m), inr (stray c x rise all_below at, refl))

@@ -26,7 +26,8 @@ has_listed (list ∷ lists) (suc j) x h = has_listed lists j x h
 
 -- each lock of a node's list is one that sections of the thread may take
 pub all_lawful : (s : SchemeView) (a : Cert) (all : List Claims) → DenotesAll s a all → (i : ℕ) (c : Claims)
-    → slice_get all i ≡ Some c → (of : SectionView) (g : List Node) → IsSectionAt s i of g → AreLawfulLists s of.thread c
+    → slice_get all i ≡ Some c → (of : SectionView) (g : List Node) → IsSectionAt s i of g
+    → AreLawfulLists s of.thread c
 all_lawful s a all denoted i c at of g section j l h =
     let x = at_of a.sections i (omega (arith, slice_get_within all i c at, denoted.count)) in
     let d = denoted.each i of g x.0 c section x.1 at in

@@ -17,41 +17,50 @@ use Rattle.sect_check.specs.steps.Shapes.{StaysWithin}
 use Rattle.sect_types.proofs.Places.{told_at, told_of}
 
 -- control goes on from a node to one of the graph, or to its exit
-pub stays : (g : List Node) → StaysWithin g → (i : ℕ) (next : Successors) → option_map (λ (x : Node). x.next) (slice_get g i) ≡ Some next → (j : ℕ) → IsSuccessor next j → j ≤ length g
+pub stays : (g : List Node) → StaysWithin g → (i : ℕ) (next : Successors)
+    → option_map (λ (x : Node). x.next) (slice_get g i) ≡ Some next → (j : ℕ) → IsSuccessor next j → j ≤ length g
 stays g within i next at j succ =
     let n = told_at (λ (x : Node). x.next) g i next at in
     within i j n.0 n.1 (subst (λ z. IsSuccessor z j) (sym n.2) succ)
 
 module _ (s : SchemeView) (t : ℕ) (g : List Node) (c : Claims) (i : ℕ) (label : Label) (next : Successors)
-    (label_at : option_map (λ (x : Node). x.label) (slice_get g i) ≡ Some label) (next_at : option_map (λ (x : Node). x.next) (slice_get g i) ≡ Some next)
+    (label_at : option_map (λ (x : Node). x.label) (slice_get g i) ≡ Some label)
+    (next_at : option_map (λ (x : Node). x.next) (slice_get g i) ≡ Some next)
     (keys : List Lock) (same : (l : Lock) → Has keys l ↔ Has (list_at c i) l) where
   -- what a set with the locks of node i covers, the list of node i does
   holds : (j : ℕ) → AreCarriedInto s t label keys (list_at c j) → CoversCarried s t g c i j
   holds j h = λ x at leads l r has back.
-      let k = h l r has (subst (λ a. CarriedBack s t a l r) (told_of (λ (x : Node). x.label) g i label label_at x at) back) in
+      let k = h l r has (subst (λ a. CarriedBack s t a l r) (told_of (λ (x : Node). x.label) g i label label_at x at)
+      back) in
       (k.0, (same k.0).0 k.1, k.2)
 
   -- what the set doesn't cover, the list of node i doesn't
-  fails : (j : ℕ) → IsSuccessor next j → (AreCarriedInto s t label keys (list_at c j) → ⊥) → CoversCarried s t g c i j → ⊥
+  fails : (j : ℕ) → IsSuccessor next j → (AreCarriedInto s t label keys (list_at c j) → ⊥) → CoversCarried s t g c i j
+      → ⊥
   fails j succ bad all =
       let n = told_at (λ (x : Node). x.label) g i label label_at in
       let to = subst (λ z. IsSuccessor z j) (sym (told_of (λ (x : Node). x.next) g i next next_at n.0 n.1)) succ in
-      bad (λ l r has back. let k = all n.0 n.1 to l r has (subst (λ a. CarriedBack s t a l r) (sym n.2) back) in (k.0, (same k.0).1 k.1, k.2))
+      bad (λ l r has back. let k = all n.0 n.1 to l r has (subst (λ a. CarriedBack s t a l r) (sym n.2) back) in
+      (k.0, (same k.0).1 k.1, k.2))
 
   -- where control doesn't go on, nothing is asked
   no_edge : (j : ℕ) → (IsSuccessor next j → ⊥) → CoversCarried s t g c i j
-  no_edge j bad = λ x at leads. absurd (bad (subst (λ z. IsSuccessor z j) (told_of (λ (x : Node). x.next) g i next next_at x at) leads))
+  no_edge j bad = λ x at leads. absurd
+      (bad (subst (λ z. IsSuccessor z j) (told_of (λ (x : Node). x.next) g i next next_at x at) leads))
 
-  module _ (first second : ℕ) (each : (j : ℕ) → IsSuccessor next j ↔ ((j ≡ first) ⊎ (j ≡ second))) (order : first ≤ second) where
+  module _ (first second : ℕ) (each : (j : ℕ) → IsSuccessor next j ↔ ((j ≡ first) ⊎ (j ≡ second)))
+      (order : first ≤ second) where
     -- the lesser node is the first that fails
     pub first_is : (AreCarriedInto s t label keys (list_at c first) → ⊥) → IsFirst (CoversCarried s t g c i) first
     first_is bad = (
       fails first ((each first).1 (inl refl)) bad,
-      λ m lt. no_edge m (λ h. elim ((each m).0 h) [ inl e ↦ omega (arith, lt, e) | inr e ↦ omega (arith, lt, e, order) ]),
+      λ m lt. no_edge m (λ h. elim ((each m).0 h)
+          [ inl e ↦ omega (arith, lt, e) | inr e ↦ omega (arith, lt, e, order) ]),
     )
 
     -- the greater one is, where the lesser holds
-    pub second_is : AreCarriedInto s t label keys (list_at c first) → (AreCarriedInto s t label keys (list_at c second) → ⊥) → IsFirst (CoversCarried s t g c i) second
+    pub second_is : AreCarriedInto s t label keys (list_at c first)
+        → (AreCarriedInto s t label keys (list_at c second) → ⊥) → IsFirst (CoversCarried s t g c i) second
     second_is good bad = (
       fails second ((each second).1 (inr refl)) bad,
       λ m lt. elim (cases_eq m first) [
@@ -61,7 +70,8 @@ module _ (s : SchemeView) (t : ℕ) (g : List Node) (c : Claims) (i : ℕ) (labe
     )
 
     -- where both hold, all do
-    pub all_hold : AreCarriedInto s t label keys (list_at c first) → AreCarriedInto s t label keys (list_at c second) → (j : ℕ) → CoversCarried s t g c i j
+    pub all_hold : AreCarriedInto s t label keys (list_at c first) → AreCarriedInto s t label keys (list_at c second)
+        → (j : ℕ) → CoversCarried s t g c i j
     all_hold good also j = elim (cases_eq j first) [
       | inl e ↦ holds j (subst (λ k. AreCarriedInto s t label keys (list_at c k)) (sym e) good)
       | inr n ↦ elim (cases_eq j second) [
@@ -71,5 +81,6 @@ module _ (s : SchemeView) (t : ℕ) (g : List Node) (c : Claims) (i : ℕ) (labe
     ]
 
     -- so they do where both are one that holds
-    pub one_holds : second ≡ first → AreCarriedInto s t label keys (list_at c first) → (j : ℕ) → CoversCarried s t g c i j
+    pub one_holds : second ≡ first → AreCarriedInto s t label keys (list_at c first) → (j : ℕ)
+        → CoversCarried s t g c i j
     one_holds same good = all_hold good (subst (λ k. AreCarriedInto s t label keys (list_at c k)) (sym same) good)

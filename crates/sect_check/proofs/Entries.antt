@@ -8,7 +8,8 @@ use Rattle.sect_names.proofs.Telling.{lock_cases}
 use Rattle.sect_names.proofs.Uniqueness.{same_lists}
 use Rattle.sect_check.specs.Valid.{AreApart}
 
-module _ (s : SchemeView) (keys kept locks : List Lock) (maximal : AreMaximal s (Has keys) kept) (same : (l : Lock) → Has keys l ↔ Has locks l) where
+module _ (s : SchemeView) (keys kept locks : List Lock) (maximal : AreMaximal s (Has keys) kept)
+    (same : (l : Lock) → Has keys l ↔ Has locks l) where
   -- the maximal locks lie apart
   apart_kept : AreApart s kept
   apart_kept l big h k covers = elim (lock_cases big l) [

@@ -14,7 +14,8 @@ use Rattle.sect_types.proofs.Places.{at_of}
 use Rattle.sect_check.proofs.Numbering.{one_number}
 use Rattle.sect_check.proofs.Stepping.{steps_right}
 
-module _ (s : SchemeView) (t : ℕ) (last : List Lock) (g : List Node) (c : Claims) (v : IsValidSection s t last g c) (rise : DoRise c.chains) where
+module _ (s : SchemeView) (t : ℕ) (last : List Lock) (g : List Node) (c : Claims) (v : IsValidSection s t last g c)
+    (rise : DoRise c.chains) where
   -- none of its faults is there
   pub no_fault : (f : SectionFault) → f ≢ fault.Memory → IsFaultOf s t last g c f → ⊥
   no_fault fault.Memory some h = some refl
@@ -31,6 +32,7 @@ module _ (s : SchemeView) (t : ℕ) (last : List Lock) (g : List Node) (c : Clai
         let has = v.chains n b.0 b.1 in
         let broken = b.2 in
         let same = one_number c.chains rise has.0 broken.0 has.1.0 broken.1.0 (has.1.1 ∙ sym broken.1.1) in
-        broken.2.0 (subst (λ (x : ChainClaim). (m : ℕ) → IsStepRight s t last g b.0 x.links m) same (steps_right s t last g b.0 has.0.links has.2) i)
+        broken.2.0 (subst (λ (x : ChainClaim). (m : ℕ) → IsStepRight s t last g b.0 x.links m) same
+        (steps_right s t last g b.0 has.0.links has.2) i)
     | inr b ↦ (let x = b.0.claimed in let low = v.no_others x.0 x.1.0 in omega (arith, low, b.0.past, x.1.1))
   ]

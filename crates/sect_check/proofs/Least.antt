@@ -26,12 +26,15 @@ use Rattle.sect_types.proofs.Places.{Has-index, at_of}
 
 module _ (s : SchemeView) (t : ℕ) (last : List Lock) (g : List Node) where
   -- a path from a node begins with what the node does
-  path_begins : (j : ℕ) (y : Node) (steps : List Visit) → slice_get g j ≡ Some y → IsPath g j steps (length g) → (post : List Visit) × (steps ≡ visit j y.label ∷ post)
+  path_begins : (j : ℕ) (y : Node) (steps : List Visit) → slice_get g j ≡ Some y → IsPath g j steps (length g)
+      → (post : List Visit) × (steps ≡ visit j y.label ∷ post)
   path_begins j y [] at p = absurd (let w = slice_get_within g j y at in omega (arith, w, p))
-  path_begins j y (a ∷ steps) at p = let same : p.0 ≡ y = (let e = p.1 in cc) in (steps, ap (λ b. b ∷ steps) (p.2 ∙ ap (λ z. visit j z.label) same))
+  path_begins j y (a ∷ steps) at p = let same : p.0 ≡ y = (let e = p.1 in cc) in
+      (steps, ap (λ b. b ∷ steps) (p.2 ∙ ap (λ z. visit j z.label) same))
 
   -- the first lock of linked steps is needed along some path from the first node to the exit
-  linked_needed : IsConnected g → (a : Link) (links : List Link) → AreLinked s t last g a links → (steps : List Visit) × IsPath g a.node steps (length g) × IsNeededOn s t last steps a.lock
+  linked_needed : IsConnected g → (a : Link) (links : List Link) → AreLinked s t last g a links
+      → (steps : List Visit) × IsPath g a.node steps (length g) × IsNeededOn s t last steps a.lock
   linked_needed con a [] h = elim h [
     | inl n ↦
         let p = con.exits a.node (slice_get_within g a.node n.0 n.1) in
@@ -43,19 +46,28 @@ module _ (s : SchemeView) (t : ℕ) (last : List Lock) (g : List Node) where
       let c = h.0 in
       let q = linked_needed con b links h.1 in
       let n = q.2 in
-      let first = visit a.node c.0.label in
-      (first ∷ q.0, (c.0, c.1, refl, b.node, c.2, q.1), (first ∷ n.0, n.1, n.2, ap (λ l. first ∷ l) n.3, n.4, (b.lock, n.5, c.3)))
+      let first = visit a.node c.0.label in (
+        first ∷ q.0,
+        (c.0, c.1, refl, b.node, c.2, q.1),
+        (first ∷ n.0, n.1, n.2, ap (λ l. first ∷ l) n.3, n.4, (b.lock, n.5, c.3)),
+      )
 
   -- a lock that has a chain is needed along a path from the entry to the exit
-  chain_needed : IsConnected g → (l : Lock) (links : List Link) → IsChain s t last g l links → (steps : List Visit) × IsPath g 0 steps (length g) × IsNeededOn s t last steps l
+  chain_needed : IsConnected g → (l : Lock) (links : List Link) → IsChain s t last g l links
+      → (steps : List Visit) × IsPath g 0 steps (length g) × IsNeededOn s t last steps l
   chain_needed con l [] h = absurd h
   chain_needed con l (a ∷ links) h =
-      let n = linked_needed con a links h.1 in
-      (n.0, subst (λ k. IsPath g k n.0 (length g)) (ap (λ z. z.node) h.0) n.1, subst (IsNeededOn s t last n.0) (ap (λ z. z.lock) h.0) n.2)
+      let n = linked_needed con a links h.1 in (
+        n.0,
+        subst (λ k. IsPath g k n.0 (length g)) (ap (λ z. z.node) h.0) n.1,
+        subst (IsNeededOn s t last n.0) (ap (λ z. z.lock) h.0) n.2,
+      )
 
-  module _ (respects : (j : ℕ) (x : Node) → slice_get g j ≡ Some x → RespectsCover s t x.label) (c : Claims) (v : IsValidSection s t last g c) where
+  module _ (respects : (j : ℕ) (x : Node) → slice_get g j ≡ Some x → RespectsCover s t x.label) (c : Claims)
+      (v : IsValidSection s t last g c) where
     -- what is needed along a path from a node to the exit is covered by the list of the node
-    covered : (before : List Visit) (j : ℕ) (steps rest : List Visit) (x l : Lock) → IsPath g j steps (length g) → steps ≡ before ++ rest
+    covered : (before : List Visit) (j : ℕ) (steps rest : List Visit) (x l : Lock) → IsPath g j steps (length g)
+        → steps ≡ before ++ rest
         → GeneratedFirst s t last rest x → CarriedOver s t before x l → CoveredBy s (list_at c j) l
     covered [] j steps [] x l p e h k =
         let q = subst (λ z. IsPath g j z (length g)) e p in
@@ -73,7 +85,8 @@ module _ (s : SchemeView) (t : ℕ) (last : List Lock) (g : List Node) where
         (w.0, w.1, covers_trans s w.0 up.0 l w.2 up.2)
 
 -- the entry list of a valid section is least
-section_least : (s : SchemeView) → IsScheme s → (i : ℕ) (of : SectionView) (g : List Node) (c : Claims) → IsSectionAt s i of g → IsValidSection s of.thread (end_of s i) g c
+section_least : (s : SchemeView) → IsScheme s → (i : ℕ) (of : SectionView) (g : List Node) (c : Claims)
+    → IsSectionAt s i of g → IsValidSection s of.thread (end_of s i) g c
     → IsLeast s of.thread (end_of s i) of.body c.entry
 section_least s scheme i of g c at v =
     let last = end_of s i in
@@ -103,5 +116,13 @@ entries_least s scheme a v i of at_of_section =
     let c = at_of v.claims i (omega (arith, w, v.denoted.sections, v.denoted.count)) in
     let g = at_of s.graphs.sections i (omega (arith, w, scheme.graphed.section_count)) in
     let at : IsSectionAt s i of g.0 = (at_of_section, g.1) in
-    let right = v.each i of g.0 c.0 at c.1 in
-    (x.0, x.1, (c.0.entry, (v.denoted.each i of g.0 x.0 c.0 at x.1 c.1).entry, section_least s scheme i of g.0 c.0 at right, right.in_order))
+    let right = v.each i of g.0 c.0 at c.1 in (
+      x.0,
+      x.1,
+      (
+        c.0.entry,
+        (v.denoted.each i of g.0 x.0 c.0 at x.1 c.1).entry,
+        section_least s scheme i of g.0 c.0 at right,
+        right.in_order,
+      ),
+    )

@@ -1,5 +1,6 @@
 -- Names that stand for nothing.
-use Rattle.std.proofs.Common.{◌≡◌, ◌↔◌, ◌≤◌, ℕ, zero, suc, ◌<◌, List, [], ◌∷◌, Option, Some, None, true, Result, Ok, Err, IsErrAnd, length, get_or, refl, sym, ap, subst, arith, true≢false}
+use Rattle.std.proofs.Common.{◌≡◌, ◌↔◌, ◌≤◌, ℕ, zero, suc, ◌<◌, List, [], ◌∷◌, Option, Some, None, true, Result, Ok}
+use Rattle.std.proofs.Common.{Err, IsErrAnd, length, get_or, refl, sym, ap, subst, arith, true≢false}
 use Rattle.std.specs.Prelude.{slice_get, slice_index, is_some}
 use Rattle.std.specs.Option.{option_map}
 use Rattle.std.specs.List.{AllZip}
@@ -22,14 +23,16 @@ use Rattle.sect_types.proofs.Places.{Has-index}
 use Rattle.sect_check.proofs.Standing.{path_stands}
 
 -- where one element is related to nothing, so is the list
-pub zip_none : {A B : Type 0} (R : A → B → Type 0) (xs : List A) (i : ℕ) (x : A) → i < length xs → x ≡ get_or xs i x → ((y : B) → R x y → ⊥) → (ys : List B) → AllZip R xs ys → ⊥
+pub zip_none : {A B : Type 0} (R : A → B → Type 0) (xs : List A) (i : ℕ) (x : A) → i < length xs → x ≡ get_or xs i x
+    → ((y : B) → R x y → ⊥) → (ys : List B) → AllZip R xs ys → ⊥
 zip_none R [] i x within is bad ys h = omega (arith, within)
 zip_none R (z ∷ xs) i x within is bad [] h = h
 zip_none R (z ∷ xs) zero x within is bad (y ∷ ys) h = bad y (subst (λ w. R w y) (sym is) h.0)
 zip_none R (z ∷ xs) (suc i) x within is bad (y ∷ ys) h = zip_none R xs i x (omega (arith, within)) is bad ys h.1
 
 -- a refusal is passed on: where what was sought first isn't there, nothing is
-pub passes : {A B : Type 0} (r : Result A Unresolved) (e : Unresolved) (R : B → Type 0) (S : A → Type 0) → IsErrAnd r (λ x. x ≡ e) → Resolves {A = B} (Err e) R
+pub passes : {A B : Type 0} (r : Result A Unresolved) (e : Unresolved) (R : B → Type 0) (S : A → Type 0)
+    → IsErrAnd r (λ x. x ≡ e) → Resolves {A = B} (Err e) R
     → (((y : B) → R y → ⊥) → (z : A) → S z → ⊥) → Resolves r S
 passes (Ok x) e R S is given turns = absurd is
 passes {A} {B} (Err x) e R S is given turns = subst (λ z. Resolves {A = A} (Err z) S) (sym is) (go e given)
@@ -39,16 +42,20 @@ passes {A} {B} (Err x) e R S is given turns = subst (λ z. Resolves {A = A} (Err
     go Memory g = tt
 
 -- a path has a class where one is found
-pub classed : (s : SchemeView) (p : PathView) (o : Option ℕ) → ((n : ℕ) → (o ≡ Some n) ↔ HasClass s.classes p n) → (is_some o ≡ true) ↔ IsClassed s p
+pub classed : (s : SchemeView) (p : PathView) (o : Option ℕ) → ((n : ℕ) → (o ≡ Some n) ↔ HasClass s.classes p n)
+    → (is_some o ≡ true) ↔ IsClassed s p
 classed s p None tells = (λ t. absurd (true≢false (sym t)), λ h. (let e = (tells h.0).1 h.1 in absurd cc))
 classed s p (Some n) tells = (λ t. (n, (tells n).0 refl), λ h. refl)
 
 -- the classes are those below their count
-pub class_there : (numbers : List ℕ) (count : ℕ) → ((class : ℕ) → class < count → (site : ℕ) × (slice_get numbers site ≡ Some class)) → (n : ℕ) → n < count → Has numbers n
+pub class_there : (numbers : List ℕ) (count : ℕ)
+    → ((class : ℕ) → class < count → (site : ℕ) × (slice_get numbers site ≡ Some class)) → (n : ℕ) → n < count
+    → Has numbers n
 class_there numbers count each n lt = let at = each n lt in Has-slice_get numbers at.0 n at.1
 
 -- a class is below the count
-pub class_below : (numbers : List ℕ) (count : ℕ) → ((site : ℕ) → site < length numbers → slice_index numbers site < count) → (n : ℕ) → Has numbers n → n < count
+pub class_below : (numbers : List ℕ) (count : ℕ)
+    → ((site : ℕ) → site < length numbers → slice_index numbers site < count) → (n : ℕ) → Has numbers n → n < count
 class_below numbers count below n h =
     let at = Has-index numbers n h in
     let lt = below at.0 (slice_get_within numbers at.0 n at.1) in
@@ -61,7 +68,10 @@ module _ (s : SchemeView) (t : ℕ) (named : CertPath) (e : Effect) where
   IsLockNamed m = (option_map (λ x. lock.Path x e) (path_named s.program t named) ≡ Some m) × IsLockOf s t m
 
   -- the path that the names stand for, where it is short and has a class, is locked
-  pub lock_there : (p : PathView) → path_named s.program t named ≡ Some p → (depth p ≤ s.most) × IsClassed s p → IsLockNamed (lock.Path p e)
+  pub lock_there : (p : PathView) → path_named s.program t named ≡ Some p → (depth p ≤ s.most) × IsClassed s p
+      → IsLockNamed (lock.Path p e)
   lock_there p is fits =
-      let own = path_stands s.program t named p is in
-      (ap (option_map (λ x. lock.Path x e)) is, record { own = own.0; of = own.1.0; refers = own.1.1; short = fits.0; classed = fits.1 })
+      let own = path_stands s.program t named p is in (
+        ap (option_map (λ x. lock.Path x e)) is,
+        record { own = own.0; of = own.1.0; refers = own.1.1; short = fits.0; classed = fits.1 },
+      )

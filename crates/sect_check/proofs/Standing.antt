@@ -17,15 +17,18 @@ use Rattle.sect_names.specs.Printing.{all_locals}
 use Rattle.sect_cert.specs.declared.lock.CertBase.{CertBase}
 use Rattle.sect_cert.specs.declared.lock.CertBase.TheVariants as base
 use Rattle.sect_cert.specs.declared.lock.CertPath.{CertPath}
-use Rattle.sect_check.specs.Names.{or_variable, variable_named, field_named, referred, record_of_variable, record_of_field, path_from, base_named, path_named}
+use Rattle.sect_check.specs.Names.{or_variable, variable_named, field_named, referred, record_of_variable}
+use Rattle.sect_check.specs.Names.{record_of_field, path_from, base_named, path_named}
 
 -- what is given after something was found
-and_then : {A B : Type 0} (f : A → Option B) (o : Option A) (y : B) → option_and_then f o ≡ Some y → (x : A) × (o ≡ Some x) × (f x ≡ Some y)
+and_then : {A B : Type 0} (f : A → Option B) (o : Option A) (y : B) → option_and_then f o ≡ Some y
+    → (x : A) × (o ≡ Some x) × (f x ≡ Some y)
 and_then f None y e = absurd cc
 and_then f (Some x) y e = (x, refl, e)
 
 -- what was mapped was found
-mapped : {A B : Type 0} (f : A → B) (o : Option A) (y : B) → option_map f o ≡ Some y → (x : A) × (o ≡ Some x) × (f x ≡ y)
+mapped : {A B : Type 0} (f : A → B) (o : Option A) (y : B) → option_map f o ≡ Some y
+    → (x : A) × (o ≡ Some x) × (f x ≡ y)
 mapped f None y e = absurd cc
 mapped f (Some x) y e = (x, refl, let q : f x ≡ y = cc in q)
 
@@ -42,7 +45,8 @@ variable_to p (Local t x) r e =
     found.1 ∙ ap (λ t. Some t) (refers found.0 r found.2)
 
 -- what stands in the list at an index, where that may be past the end
-in_row : (rows : List (List ValueType)) (i n : ℕ) (v : ValueType) → slice_get (slice_index_or rows i []) n ≡ Some v → type_in (slice_get rows i) n ≡ Some v
+in_row : (rows : List (List ValueType)) (i n : ℕ) (v : ValueType) → slice_get (slice_index_or rows i []) n ≡ Some v
+    → type_in (slice_get rows i) n ≡ Some v
 in_row [] i n v e = absurd cc
 in_row (row ∷ rows) zero n v e = e
 in_row (row ∷ rows) (suc i) n v e = in_row rows i n v e
@@ -63,21 +67,26 @@ field_of p r x f e =
     sym (ap (λ (g : Field). g.of) found.2)
 
 -- a path that goes on from a thread's own one is its own, and refers to objects
-goes_on : (p : ProgramView) (t : ℕ) (q : PathView) (o : Option ℕ) (xs : List (List ℕ)) (z : PathView) → IsOwn t q → ((r : ℕ) → o ≡ Some r → PathTo p q r)
+goes_on : (p : ProgramView) (t : ℕ) (q : PathView) (o : Option ℕ) (xs : List (List ℕ)) (z : PathView) → IsOwn t q
+    → ((r : ℕ) → o ≡ Some r → PathTo p q r)
     → path_from p q o xs ≡ Some z → IsOwn t z × ((r : ℕ) × PathTo p z r)
 goes_on p t q None xs z own to e = absurd cc
-goes_on p t q (Some r) [] z own to e = let same : q ≡ z = cc in (subst (IsOwn t) same own, (r, subst (λ (y : PathView). PathTo p y r) same (to r refl)))
+goes_on p t q (Some r) [] z own to e = let same : q ≡ z = cc in
+    (subst (IsOwn t) same own, (r, subst (λ (y : PathView). PathTo p y r) same (to r refl)))
 goes_on p t q (Some r) (x ∷ xs) z own to e =
     let found = and_then (λ f. path_from p (dot q f) (record_of_field p f) xs) (field_named p.source r x) z e in
     let f = found.0 in
     let of : r ≡ f.of = sym (field_of p.source r x f found.1) in
-    goes_on p t (dot q f) (record_of_field p f) xs z own (λ n is. (subst (PathTo p q) of (to r refl), field_to p f n is)) found.2
+    goes_on p t (dot q f) (record_of_field p f) xs z own
+    (λ n is. (subst (PathTo p q) of (to r refl), field_to p f n is)) found.2
 
 -- a name stands for a thread's own variable
 own_variable : (p : TreeView) (t : ℕ) (x : List ℕ) (v : Variable) → variable_named p t x ≡ Some v → IsOwn t (var v)
-own_variable p t x v e = go (place x (slice_index_or (all_locals p.threads) t [])) (place x (names_of_globals p.globals)) e
+own_variable p t x v e = go (place x (slice_index_or (all_locals p.threads) t []))
+    (place x (names_of_globals p.globals)) e
   where
-    go : (a b : Option ℕ) → or_variable (option_map (λ i. Local t i) a) (option_map (λ g. Global g) b) ≡ Some v → IsOwn t (var v)
+    go : (a b : Option ℕ) → or_variable (option_map (λ i. Local t i) a) (option_map (λ g. Global g) b) ≡ Some v
+        → IsOwn t (var v)
     go (Some i) b e = (let same : Local t i ≡ v = cc in subst (λ w. IsOwn t (var w)) same refl)
     go None (Some g) e = (let same : Global g ≡ v = cc in subst (λ w. IsOwn t (var w)) same tt)
     go None None e = absurd cc
@@ -88,7 +97,10 @@ own_base p t (base.Name x) v e = own_variable p t x v e
 own_base p t (base.InCall x n) v e = absurd cc
 
 -- the path that names stand for in a thread is the thread's own, and refers to objects
-pub path_stands : (p : ProgramView) (t : ℕ) (q : CertPath) (z : PathView) → path_named p t q ≡ Some z → IsOwn t z × ((r : ℕ) × PathTo p z r)
+pub path_stands : (p : ProgramView) (t : ℕ) (q : CertPath) (z : PathView) → path_named p t q ≡ Some z
+    → IsOwn t z × ((r : ℕ) × PathTo p z r)
 path_stands p t q z e =
-    let found = and_then (λ v. path_from p (var v) (record_of_variable p v) q.fields) (base_named p.source t q.base) z e in
-    goes_on p t (var found.0) (record_of_variable p found.0) q.fields z (own_base p.source t q.base found.0 found.1) (λ r is. variable_to p found.0 r is) found.2
+    let found = and_then (λ v. path_from p (var v) (record_of_variable p v) q.fields) (base_named p.source t q.base) z
+    e in
+    goes_on p t (var found.0) (record_of_variable p found.0) q.fields z (own_base p.source t q.base found.0 found.1)
+    (λ r is. variable_to p found.0 r is) found.2

@@ -1,5 +1,6 @@
 -- A key that is added to a list, place by place.
-use Rattle.std.proofs.Common.{◌≡◌, ℕ, suc, ◌+◌, ◌<◌, ◌≤◌, Bool, true, false, List, [], ◌∷◌, ◌++◌, length, take, drop, get_or, slice_set, refl, sym, ap, ◌∙◌, subst, arith}
+use Rattle.std.proofs.Common.{◌≡◌, ℕ, suc, ◌+◌, ◌<◌, ◌≤◌, Bool, true, false, List, [], ◌∷◌, ◌++◌, length, take, drop}
+use Rattle.std.proofs.Common.{get_or, slice_set, refl, sym, ap, ◌∙◌, subst, arith}
 use Rattle.std.specs.Prelude.{if◌then◌else◌, Result, Ok, Err, OnOk}
 use Rattle.std.specs.List.{insert}
 use Rattle.std.proofs.lemmas.List.{take-append-drop, take-set, drop-set, append_assoc, take_all}
@@ -24,11 +25,14 @@ use Rattle.sect_emit.specs.Plan.{grip, with_grip, gathered, class_mode, intended
 use Rattle.sect_emit.specs.steps.Wishes.{with_grips, HasWishes}
 
 -- what a list is once an element of it is another
-set_split : {X : Type 0} (xs : List X) (i : ℕ) (y : X) → i < length xs → slice_set xs i y ≡ take i xs ++ y ∷ drop (i + 1) xs
-set_split xs i y h = sym (take-append-drop i (slice_set xs i y)) ∙ ap (λ ys. ys ++ drop i (slice_set xs i y)) (take-set xs i y) ∙ ap (λ ys. take i xs ++ ys) (drop-set xs i y h)
+set_split : {X : Type 0} (xs : List X) (i : ℕ) (y : X) → i < length xs
+    → slice_set xs i y ≡ take i xs ++ y ∷ drop (i + 1) xs
+set_split xs i y h = sym (take-append-drop i (slice_set xs i y))
+    ∙ ap (λ ys. ys ++ drop i (slice_set xs i y)) (take-set xs i y) ∙ ap (λ ys. take i xs ++ ys) (drop-set xs i y h)
 
 -- a beginning with one element more
-pub take_next : {X : Type 0} (xs : List X) (i : ℕ) (x : X) → i < length xs → x ≡ get_or xs i x → take (i + 1) xs ≡ take i xs ++ x ∷ []
+pub take_next : {X : Type 0} (xs : List X) (i : ℕ) (x : X) → i < length xs → x ≡ get_or xs i x
+    → take (i + 1) xs ≡ take i xs ++ x ∷ []
 take_next xs i x h is =
     let e : i + 1 ≡ suc i = omega arith in
     ap (λ n. take n xs) e ∙ take-suc xs i x h ∙ ap (λ y. take i xs ++ y ∷ []) (sym is)
@@ -46,25 +50,31 @@ module _ (w : Grip) (xs : List Grip) (i : ℕ) (h : Grip) (within : i < length x
       h ∷ with_grip w (drop (i + 1) xs)
 
   -- behind the keys that were passed stands this one
-  here : (a b : Bool) → is_same_key w.key h.key ≡ a → is_key_below w.key h.key ≡ b → with_grip w xs ≡ take i xs ++ rest a b
+  here : (a b : Bool) → is_same_key w.key h.key ≡ a → is_key_below w.key h.key ≡ b
+      → with_grip w xs ≡ take i xs ++ rest a b
   here a b same below =
       far ∙ ap (λ ys. take i xs ++ with_grip w ys) (drop_next xs i h within is)
       ∙ ap (λ x. take i xs ++ rest x (is_key_below w.key h.key)) same ∙ ap (λ y. take i xs ++ rest a y) below
 
   pub same_there : is_same_key w.key h.key ≡ true → slice_set xs i (grip h.key (join_of w.mode h.mode)) ≡ with_grip w xs
-  same_there same = set_split xs i (grip h.key (join_of w.mode h.mode)) within ∙ sym (here true (is_key_below w.key h.key) same refl)
+  same_there same = set_split xs i (grip h.key (join_of w.mode h.mode)) within
+      ∙ sym (here true (is_key_below w.key h.key) same refl)
 
   pub above_there : is_same_key w.key h.key ≡ false → is_key_below w.key h.key ≡ true → insert xs i w ≡ with_grip w xs
-  above_there other below = ap (λ ys. take i xs ++ w ∷ ys) (drop_next xs i h within is) ∙ sym (here false true other below)
+  above_there other below = ap (λ ys. take i xs ++ w ∷ ys) (drop_next xs i h within is)
+      ∙ sym (here false true other below)
 
-  pub passed : is_same_key w.key h.key ≡ false → is_key_below w.key h.key ≡ false → with_grip w xs ≡ take (i + 1) xs ++ with_grip w (drop (i + 1) xs)
+  pub passed : is_same_key w.key h.key ≡ false → is_key_below w.key h.key ≡ false → with_grip w xs ≡ take (i + 1) xs
+      ++ with_grip w (drop (i + 1) xs)
   passed other above =
       here false false other above ∙ sym (append_assoc (take i xs) (h ∷ []) (with_grip w (drop (i + 1) xs)))
       ∙ ap (λ ys. ys ++ with_grip w (drop (i + 1) xs)) (sym (take_next xs i h within is))
 
 -- a key that comes behind all stands at the end
-pub at_the_end : (w : Grip) (xs : List Grip) (i : ℕ) → length xs ≤ i → with_grip w xs ≡ take i xs ++ with_grip w (drop i xs) → xs ++ w ∷ [] ≡ with_grip w xs
-at_the_end w xs i past far = ap (λ ys. ys ++ w ∷ []) (sym (take_all i xs past)) ∙ ap (λ ys. take i xs ++ with_grip w ys) (sym (drop_of_length-le xs past)) ∙ sym far
+pub at_the_end : (w : Grip) (xs : List Grip) (i : ℕ) → length xs ≤ i
+    → with_grip w xs ≡ take i xs ++ with_grip w (drop i xs) → xs ++ w ∷ [] ≡ with_grip w xs
+at_the_end w xs i past far = ap (λ ys. ys ++ w ∷ []) (sym (take_all i xs past))
+    ∙ ap (λ ys. take i xs ++ with_grip w ys) (sym (drop_of_length-le xs past)) ∙ sym far
 
 -- adding keys one after another gathers them
 pub gathered_more : (ws gs : List Grip) → gathered (ws ++ gs) ≡ with_grips ws (gathered gs)
@@ -72,16 +82,22 @@ gathered_more [] gs = refl
 gathered_more (w ∷ ws) gs = ap (with_grip w) (gathered_more ws gs)
 
 -- a part that has come to have the keys of a lock is that of the lock and the others
-pub one_more : (s : SchemeView) (l : Lock) (ls : List Lock) (old new : List Grip) → HasWishes s l old new → IsFixedPart s ls old → IsFixedPart s (l ∷ ls) new
-one_more s l ls old new has part =
-    (has.0 ++ part.0, (has.0, part.0, refl, has.1, part.1), has.2 ∙ ap (with_grips has.0) part.2 ∙ sym (gathered_more has.0 part.0))
+pub one_more : (s : SchemeView) (l : Lock) (ls : List Lock) (old new : List Grip) → HasWishes s l old new
+    → IsFixedPart s ls old → IsFixedPart s (l ∷ ls) new
+one_more s l ls old new has part = (
+  has.0 ++ part.0,
+  (has.0, part.0, refl, has.1, part.1),
+  has.2 ∙ ap (with_grips has.0) part.2
+      ∙ sym (gathered_more has.0 part.0),
+)
 
 -- an intention's intention is itself
 intended_again : (e : Effect) → intention_of (intended e) ≡ intended e
 intended_again effect.Read = refl
 intended_again effect.Write = refl
 
-pub path_wishes : (s : SchemeView) (l : Lock) (p : PathView) (e : Effect) (c : ℕ) (m : Mode) (old new : List Grip) → l ≡ lock.Path p e → HasClass s.classes p c → m ≡ intended e
+pub path_wishes : (s : SchemeView) (l : Lock) (p : PathView) (e : Effect) (c : ℕ) (m : Mode) (old new : List Grip)
+    → l ≡ lock.Path p e → HasClass s.classes p c → m ≡ intended e
     → new ≡ with_grip (grip key.All (intention_of m)) (with_grip (grip (key.Class c) m) old) → HasWishes s l old new
 path_wishes s l p e c m old new on has mode is = subst (λ k. HasWishes s k old new) (sym on) (
   grip key.All (intended e) ∷ grip (key.Class c) (intended e) ∷ [],
@@ -90,10 +106,12 @@ path_wishes s l p e c m old new on has mode is = subst (λ k. HasWishes s k old 
       ∙ ap (λ n. with_grip (grip key.All n) (with_grip (grip (key.Class c) (intended e)) old)) (intended_again e),
 )
 
-pub all_wishes : (s : SchemeView) (l : Lock) (old new : List Grip) → l ≡ lock.All → new ≡ with_grip (grip key.All Exclusive) old → HasWishes s l old new
+pub all_wishes : (s : SchemeView) (l : Lock) (old new : List Grip) → l ≡ lock.All
+    → new ≡ with_grip (grip key.All Exclusive) old → HasWishes s l old new
 all_wishes s l old new on is = subst (λ k. HasWishes s k old new) (sym on) (grip key.All Exclusive ∷ [], refl, is)
 
-pub class_wishes : (s : SchemeView) (l : Lock) (c : ℕ) (r : Right) (m : Mode) (old new : List Grip) → l ≡ lock.Class c r → m ≡ class_mode r
+pub class_wishes : (s : SchemeView) (l : Lock) (c : ℕ) (r : Right) (m : Mode) (old new : List Grip) → l ≡ lock.Class c r
+    → m ≡ class_mode r
     → new ≡ with_grip (grip key.All (intention_of m)) (with_grip (grip (key.Class c) m) old) → HasWishes s l old new
 class_wishes s l c r m old new on mode is = subst (λ k. HasWishes s k old new) (sym on) (
   grip key.All (intention_of (class_mode r)) ∷ grip (key.Class c) (class_mode r) ∷ [],

@@ -30,12 +30,15 @@ IsRight s i c of g x = DenotesSection s of.thread g x c × IsValidSection s of.t
 
 -- so the claims are for whatever section, graph and words have this number
 abbrev AreRightAt : SchemeView → Cert → ℕ → Claims → Type 0
-AreRightAt s a i c = (of : SectionView) (g : List Node) (x : CertSection) → IsSectionAt s i of g → slice_get a.sections i ≡ Some x → IsRight s i c of g x
+AreRightAt s a i c = (of : SectionView) (g : List Node) (x : CertSection) → IsSectionAt s i of g
+    → slice_get a.sections i ≡ Some x → IsRight s i c of g x
 
 module _ (s : SchemeView) (scheme : IsScheme s) (typed : IsTyped s.program.source) (tree : IsOfTree s.program)
     (lawful : (i : ℕ) (of : SectionView) (g : List Node) → IsSectionAt s i of g → AreLawful s of.thread (end_of s i) g)
-    (valid : (i : ℕ) (of : SectionView) (g : List Node) → IsSectionAt s i of g → (locks : LocksView) → AreLocksOf s (end_of s i) of g locks
-    → (chains : List (List Link)) → AreChains s of.thread (end_of s i) g locks.entry chains → IsValidSection s of.thread (end_of s i) g (claims_of locks chains))
+    (valid : (i : ℕ) (of : SectionView) (g : List Node) → IsSectionAt s i of g → (locks : LocksView)
+    → AreLocksOf s (end_of s i) of g locks
+    → (chains : List (List Link)) → AreChains s of.thread (end_of s i) g locks.entry chains
+    → IsValidSection s of.thread (end_of s i) g (claims_of locks chains))
     (all : List LocksView) (inferred : AreAllInferred s all) (a : Cert) (spelled : IsSpelled s all a) where
   -- each section has claims that are right
   claims_at : (i : ℕ) → i < length (sections_of s.program.texts) → (c : Claims) × AreRightAt s a i c
@@ -49,14 +52,18 @@ module _ (s : SchemeView) (scheme : IsScheme s) (typed : IsTyped s.program.sourc
       let said = spelled.each i locks.0 x.0 locks.1 x.1 of.0 g.0 of.1 g.1 in
       let c = claims_of locks.0 said.0 in
       let linked = chains_lawful s of.0.thread (end_of s i) g.0 (lawful i of.0 g.0 at) locks.0.entry said.0 said.1 in
-      let denoted = section_denoted s typed tree of.0.thread g.0 locks.0 said.0 told.0.needed.count told.0.first told.1 (λ links has. (linked links has).1) in
-      let right : IsRight s i c of.0 g.0 x.0 =
-      (subst (λ (y : CertSection). DenotesSection s of.0.thread g.0 y c) (sym said.2) denoted, valid i of.0 g.0 at locks.0 told.0 said.0 said.1) in (
+      let denoted = section_denoted s typed tree of.0.thread g.0 locks.0 said.0 told.0.needed.count told.0.first told.1
+      (λ links has. (linked links has).1) in
+      let right : IsRight s i c of.0 g.0 x.0 = (
+        subst (λ (y : CertSection). DenotesSection s of.0.thread g.0 y c) (sym said.2) denoted,
+        valid i of.0 g.0 at locks.0 told.0 said.0 said.1,
+      ) in (
         c,
         λ of2 g2 x2 at2 at_x.
             subst (λ (y : CertSection). IsRight s i c of2 g2 y) (one_at a.sections i x.0 x2 x.1 at_x)
             (subst (λ (h : List Node). IsRight s i c of2 h x.0) (one_at s.graphs.sections i g.0 g2 g.1 at2.1)
-            (subst (λ (o : SectionView). IsRight s i c o g.0 x.0) (one_at (sections_of s.program.texts) i of.0 of2 of.1 at2.0) right)),
+            (subst (λ (o : SectionView). IsRight s i c o g.0 x.0)
+            (one_at (sections_of s.program.texts) i of.0 of2 of.1 at2.0) right)),
       )
 
   -- so the certificate is valid

@@ -15,8 +15,11 @@ use Rattle.sect_emit.specs.Certificates.{HasTheSets}
 use Rattle.sect_emit.specs.Compiled.{CompiledView, IsCompiledFrom}
 
 -- its entry lists stand for least sets in canonical order, of which each section has one
-pub has_sets : ((s : SchemeView) (t : ℕ) (last : List Lock) (body : TextView) (locks others : List Lock) → IsLeast s t last body locks → IsLeast s t last body others → AreInOrder locks → AreInOrder others → locks ≡ others)
-    → (source : List ℕ) (k : ℕ) (bytes : List ℕ) (c : CompiledView) → ((a : Cert) → IsValid c.scheme a → AreEntriesLeast c.scheme a)
+pub has_sets : ((s : SchemeView) (t : ℕ) (last : List Lock) (body : TextView) (locks others : List Lock)
+    → IsLeast s t last body locks → IsLeast s t last body others → AreInOrder locks → AreInOrder others
+    → locks ≡ others)
+    → (source : List ℕ) (k : ℕ) (bytes : List ℕ) (c : CompiledView)
+    → ((a : Cert) → IsValid c.scheme a → AreEntriesLeast c.scheme a)
     → IsCompiledFrom source k c → (read : IsRead source k bytes IsValid) → HasTheSets c read.cert
 has_sets one source k bytes c least from read i of set at taken =
     let entry = least read.cert (valid_for source k bytes c.scheme from.accepted read.cert read refl) i of at in

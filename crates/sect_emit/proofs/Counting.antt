@@ -1,5 +1,6 @@
 -- A section has fewer locks than there are numbers.
-use Rattle.std.proofs.Common.{◌≡◌, ℕ, zero, suc, ◌+◌, ◌*◌, ◌<◌, ◌≤◌, List, [], ◌∷◌, ◌++◌, map, length, length-append, Option, Some, None, refl, sym, ap, ◌∙◌, subst, inl, inr, arith, slice_get}
+use Rattle.std.proofs.Common.{◌≡◌, ℕ, zero, suc, ◌+◌, ◌*◌, ◌<◌, ◌≤◌, List, [], ◌∷◌, ◌++◌, map, length, length-append}
+use Rattle.std.proofs.Common.{Option, Some, None, refl, sym, ap, ◌∙◌, subst, inl, inr, arith, slice_get}
 use Rattle.std.specs.Prelude.{slice_index_or}
 use Rattle.std.specs.List.{flat_map}
 use Rattle.std.proofs.lemmas.List.{length-map, get_or_past}
@@ -28,7 +29,8 @@ use Rattle.sect_names.proofs.Sounding.{path_there}
 use Rattle.sect_names.proofs.Uniqueness.{lock_once}
 
 -- a list without one of its elements
-without : {X : Type 0} (xs : List X) (x : X) → Has xs x → (rest : List X) × (length xs ≡ length rest + 1) × ((y : X) → (y ≡ x → ⊥) → Has xs y → Has rest y)
+without : {X : Type 0} (xs : List X) (x : X) → Has xs x → (rest : List X) × (length xs ≡ length rest + 1)
+    × ((y : X) → (y ≡ x → ⊥) → Has xs y → Has rest y)
 without [] x h = absurd h
 without (z ∷ xs) x (inl e) = (xs, (omega arith), λ y other h. elim h [ inl f ↦ absurd (other (sym f ∙ e)) | inr k ↦ k ])
 without (z ∷ xs) x (inr h) =
@@ -40,7 +42,8 @@ pub no_more : (xs big : List Lock) → AreInOrder xs → ((l : Lock) → Has xs 
 no_more [] big order sub = omega arith
 no_more (x ∷ xs) big order sub =
     let w = without big x (sub x (inl refl)) in
-    let rest = no_more xs w.0 order.1 (λ y h. w.2 y (λ e. let b = subst (LockBefore x) e (order.0 y h) in lock_once x x b b) (sub y (inr h))) in
+    let rest = no_more xs w.0 order.1
+    (λ y h. w.2 y (λ e. let b = subst (LockBefore x) e (order.0 y h) in lock_once x x b b) (sub y (inr h))) in
     omega (arith, rest, w.1)
 
 length-below : (n : ℕ) → length (below n) ≡ n
@@ -50,15 +53,18 @@ length-below (suc n) = let e = length-below n in omega (arith, e)
 module _ {X Y : Type 0} (f : X → List Y) where
   length-twice : ((x : X) → length (f x) ≡ 2) → (xs : List X) → length (flat_map f xs) ≡ 2 * length xs
   length-twice e [] = refl
-  length-twice e (x ∷ xs) = let a = e x in let b = length-twice e xs in omega (arith, a, b, length-append (f x) (flat_map f xs))
+  length-twice e (x ∷ xs) = let a = e x in let b = length-twice e xs in
+      omega (arith, a, b, length-append (f x) (flat_map f xs))
 
   length-thrice : ((x : X) → length (f x) ≡ 3) → (xs : List X) → length (flat_map f xs) ≡ 3 * length xs
   length-thrice e [] = refl
-  length-thrice e (x ∷ xs) = let a = e x in let b = length-thrice e xs in omega (arith, a, b, length-append (f x) (flat_map f xs))
+  length-thrice e (x ∷ xs) = let a = e x in let b = length-thrice e xs in
+      omega (arith, a, b, length-append (f x) (flat_map f xs))
 
   length-sixteen : ((x : X) → length (f x) ≡ 16) → (xs : List X) → length (flat_map f xs) ≡ 16 * length xs
   length-sixteen e [] = refl
-  length-sixteen e (x ∷ xs) = let a = e x in let b = length-sixteen e xs in omega (arith, a, b, length-append (f x) (flat_map f xs))
+  length-sixteen e (x ∷ xs) = let a = e x in let b = length-sixteen e xs in
+      omega (arith, a, b, length-append (f x) (flat_map f xs))
 
 -- the number of the record to whose objects a type refers
 abbrev number_of : Option ValueType → ℕ
@@ -119,28 +125,35 @@ module _ (p : ProgramView) (t : ℕ) where
     sixteen q = length-map (below 16) (λ n. dot q (field_at (reach q) n))
 
     more_paths : (k : ℕ) → length (paths (suc k)) ≤ 320 + 16 * length (paths k)
-    more_paths k = let b = few_bases in omega (arith, b, length-append bases (flat_map longer (paths k)), length-sixteen longer sixteen (paths k))
+    more_paths k = let b = few_bases in
+        omega (arith, b, length-append bases (flat_map longer (paths k)), length-sixteen longer sixteen (paths k))
 
     few_paths : (k : ℕ) → k ≤ 3 → length (paths k) ≤ 1398080
     few_paths zero most = let b = few_bases in omega (arith, b)
     few_paths (suc zero) most = let b = few_bases in let m = more_paths 0 in omega (arith, b, m)
-    few_paths (suc (suc zero)) most = let b = few_bases in let m = more_paths 0 in let n = more_paths 1 in omega (arith, b, m, n)
-    few_paths (suc (suc (suc zero))) most = let b = few_bases in let m = more_paths 0 in let n = more_paths 1 in let o = more_paths 2 in omega (arith, b, m, n, o)
+    few_paths (suc (suc zero)) most = let b = few_bases in let m = more_paths 0 in let n = more_paths 1 in
+        omega (arith, b, m, n)
+    few_paths (suc (suc (suc zero))) most = let b = few_bases in let m = more_paths 0 in let n = more_paths 1 in
+        let o = more_paths 2 in omega (arith, b, m, n, o)
     few_paths (suc (suc (suc (suc k)))) most = absurd (omega (arith, most))
 
     has_base : (v : Variable) (r : ℕ) → IsOwn t (var v) → PathTo p (var v) r → Has bases (var v)
     has_base (Global g) r own to =
-        Has-left (map (λ g. var (Global g)) (below (length p.globals))) own_locals (var (Global g)) (Has-map (λ g. var (Global g)) (below (length p.globals)) g (Has-below (length p.globals) g (slice_get_within p.globals g r to)))
+        Has-left (map (λ g. var (Global g)) (below (length p.globals))) own_locals (var (Global g))
+        (Has-map (λ g. var (Global g)) (below (length p.globals)) g
+        (Has-below (length p.globals) g (slice_get_within p.globals g r to)))
     has_base (Local u x) r own to =
         let at = subst (λ w. slice_get (slice_index_or p.locals w []) x ≡ Some (Refers r)) own to in
         let within = slice_get_within (slice_index_or p.locals t []) x (Refers r) at in
         subst (λ w. Has bases (var (Local w x))) (sym own)
         (Has-right (map (λ g. var (Global g)) (below (length p.globals))) own_locals (var (Local t x))
-        (Has-map (λ y. var (Local t y)) (below (length (slice_index_or p.locals t []))) x (Has-below (length (slice_index_or p.locals t [])) x within)))
+        (Has-map (λ y. var (Local t y)) (below (length (slice_index_or p.locals t []))) x
+        (Has-below (length (slice_index_or p.locals t [])) x within)))
 
     few_in_record : (f : Field) → IsField p f → f.number < 16
     few_in_record f there =
-        let few = All-get_or (λ (ts : List ValueType). length ts ≤ 16) p.records f.of [] (slice_get_within p.records f.of there.0 there.1) limits.few_fields in
+        let few = All-get_or (λ (ts : List ValueType). length ts ≤ 16) p.records f.of []
+        (slice_get_within p.records f.of there.0 there.1) limits.few_fields in
         omega (arith, there.2, few, ap length (get_or_from_slice_get p.records f.of there.0 [] there.1))
 
     has_path : (k : ℕ) (q : PathView) (r : ℕ) → IsOwn t q → PathTo p q r → depth q ≤ k → Has (paths k) q
@@ -150,8 +163,10 @@ module _ (p : ProgramView) (t : ℕ) where
     has_path (suc k) (dot q f) r own to few =
         let here = has_path k q f.of own to.0 (omega (arith, few)) in
         let at : field_at (reach q) f.number ≡ f = ap (λ n. field_at n f.number) (reaches q f.of to.0) in
-        let goes = Has-map (λ n. dot q (field_at (reach q) n)) (below 16) f.number (Has-below 16 f.number (few_in_record f (path_there p (dot q f) r to).1)) in
-        Has-right bases (flat_map longer (paths k)) (dot q f) (Has-flat_map longer (paths k) q (dot q f) here (subst (λ g. Has (longer q) (dot q g)) at goes))
+        let goes = Has-map (λ n. dot q (field_at (reach q) n)) (below 16) f.number
+        (Has-below 16 f.number (few_in_record f (path_there p (dot q f) r to).1)) in
+        Has-right bases (flat_map longer (paths k)) (dot q f)
+        (Has-flat_map longer (paths k) q (dot q f) here (subst (λ g. Has (longer q) (dot q g)) at goes))
 
 abbrev on_path : PathView → List Lock
 on_path q = lock.Path q effect.Read ∷ lock.Path q effect.Write ∷ []
@@ -167,7 +182,8 @@ module _ (s : SchemeView) (scheme : IsScheme s) (limits : IsWithinLimits s.progr
   on_own_path : (q : PathView) (l : Lock) → IsPathIn s t q → Has (on_path q) l → Has own_locks l
   on_own_path q l is h =
       inr (Has-left (flat_map on_path (paths s.program t s.most)) (flat_map on_class s.classes.numbers) l
-      (Has-flat_map on_path (paths s.program t s.most) q l (has_path s.program t limits s.most q is.of is.own is.refers is.short) h))
+      (Has-flat_map on_path (paths s.program t s.most) q l
+      (has_path s.program t limits s.most q is.of is.own is.refers is.short) h))
 
   on_its_class : (c : ℕ) (l : Lock) → Has s.classes.numbers c → Has (on_class c) l → Has own_locks l
   on_its_class c l there h =
@@ -186,7 +202,8 @@ module _ (s : SchemeView) (scheme : IsScheme s) (limits : IsWithinLimits s.progr
   few_own =
       let paths_few = few_paths s.program t limits s.most scheme.most in
       let sites : length (sites_of s.program.globals s.program.texts) ≤ 1024 = limits.few_sites in
-      let numbers : length s.classes.numbers ≡ length (sites_of s.program.globals s.program.texts) = scheme.parted.sites ∙ scheme.sites in
+      let numbers : length s.classes.numbers ≡ length (sites_of s.program.globals s.program.texts) =
+      scheme.parted.sites ∙ scheme.sites in
       omega (
         arith,
         paths_few,
@@ -198,5 +215,7 @@ module _ (s : SchemeView) (scheme : IsScheme s) (limits : IsWithinLimits s.progr
       )
 
   -- a set of them in order has no more than there are numbers
-  pub few_locks : (locks : List Lock) → AreInOrder locks → ((l : Lock) → Has locks l → IsLockOf s t l) → length locks ≤ 4294967296
-  few_locks locks order lawful = let n = no_more locks own_locks order (λ l h. has_lock l (lawful l h)) in let m = few_own in omega (arith, n, m)
+  pub few_locks : (locks : List Lock) → AreInOrder locks → ((l : Lock) → Has locks l → IsLockOf s t l)
+      → length locks ≤ 4294967296
+  few_locks locks order lawful = let n = no_more locks own_locks order (λ l h. has_lock l (lawful l h)) in
+      let m = few_own in omega (arith, n, m)

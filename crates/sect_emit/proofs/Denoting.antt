@@ -31,34 +31,47 @@ module _ (s : SchemeView) (typed : IsTyped s.program.source) (tree : IsOfTree s.
   lock_denoted (lock.Class c right.Read) is = (refl, is)
   lock_denoted (lock.Class c right.Write) is = (refl, is)
   lock_denoted (lock.Class c right.Make) is = (refl, is)
-  lock_denoted (lock.Path q effect.Read) is = (ap (option_map (λ x. lock.Path x effect.Read)) (path_called s.program typed tree t q is.of is.own is.refers), is)
-  lock_denoted (lock.Path q effect.Write) is = (ap (option_map (λ x. lock.Path x effect.Write)) (path_called s.program typed tree t q is.of is.own is.refers), is)
+  lock_denoted (lock.Path q effect.Read) is =
+      (ap (option_map (λ x. lock.Path x effect.Read)) (path_called s.program typed tree t q is.of is.own is.refers), is)
+  lock_denoted (lock.Path q effect.Write) is = (
+    ap (option_map (λ x. lock.Path x effect.Write)) (path_called s.program typed tree t q is.of is.own is.refers),
+    is,
+  )
 
   -- those of a list for the list
-  list_denoted : (locks : List Lock) → ((l : Lock) → Has locks l → IsLockOf s t l) → AllZip (Denotes s t) (list_words s.program.source locks) locks
+  list_denoted : (locks : List Lock) → ((l : Lock) → Has locks l → IsLockOf s t l)
+      → AllZip (Denotes s t) (list_words s.program.source locks) locks
   list_denoted [] all = tt
   list_denoted (l ∷ locks) all = (lock_denoted l (all l (inl refl)), list_denoted locks (λ m h. all m (inr h)))
 
   -- those of each node's list for it
-  lists_denoted : (at : List (List Lock)) → ((list : List Lock) → Has at list → (l : Lock) → Has list l → IsLockOf s t l)
+  lists_denoted : (at : List (List Lock))
+      → ((list : List Lock) → Has at list → (l : Lock) → Has list l → IsLockOf s t l)
       → AllZip (AllZip (Denotes s t)) (map (list_words s.program.source) at) at
   lists_denoted [] all = tt
-  lists_denoted (list ∷ at) all = (list_denoted list (all list (inl refl)), lists_denoted at (λ other h. all other (inr h)))
+  lists_denoted (list ∷ at) all =
+      (list_denoted list (all list (inl refl)), lists_denoted at (λ other h. all other (inr h)))
 
   -- those of steps for the steps
-  steps_denoted : (links : List Link) → ((a : Link) → Has links a → IsLockOf s t a.lock) → AllZip (DenotesStep s t) (map (step_words s.program.source) links) links
+  steps_denoted : (links : List Link) → ((a : Link) → Has links a → IsLockOf s t a.lock)
+      → AllZip (DenotesStep s t) (map (step_words s.program.source) links) links
   steps_denoted [] all = tt
-  steps_denoted (a ∷ links) all = ((refl, lock_denoted a.lock (all a (inl refl))), steps_denoted links (λ b h. all b (inr h)))
+  steps_denoted (a ∷ links) all =
+      ((refl, lock_denoted a.lock (all a (inl refl))), steps_denoted links (λ b h. all b (inr h)))
 
   -- those of chains for the chains
-  chains_denoted : (n : ℕ) (chains : List (List Link)) → ((links : List Link) → Has chains links → (a : Link) → Has links a → IsLockOf s t a.lock)
+  chains_denoted : (n : ℕ) (chains : List (List Link))
+      → ((links : List Link) → Has chains links → (a : Link) → Has links a → IsLockOf s t a.lock)
       → AllZip (DenotesChain s t) (chains_words s.program.source n chains) (chain_claims n chains)
   chains_denoted n [] all = tt
-  chains_denoted n (links ∷ chains) all = ((refl, steps_denoted links (all links (inl refl))), chains_denoted (n + 1) chains (λ other h. all other (inr h)))
+  chains_denoted n (links ∷ chains) all =
+      ((refl, steps_denoted links (all links (inl refl))), chains_denoted (n + 1) chains (λ other h. all other (inr h)))
 
   -- and those of a section for what is claimed of it
-  pub section_denoted : (g : List Node) (locks : LocksView) (chains : List (List Link)) → length locks.at ≡ length g + 1 → slice_get locks.at 0 ≡ Some locks.entry → AreOfProgram s t locks
-      → ((links : List Link) → Has chains links → (a : Link) → Has links a → IsLockOf s t a.lock) → DenotesSection s t g (section_words s.program.source locks chains) (claims_of locks chains)
+  pub section_denoted : (g : List Node) (locks : LocksView) (chains : List (List Link)) → length locks.at ≡ length g + 1
+      → slice_get locks.at 0 ≡ Some locks.entry → AreOfProgram s t locks
+      → ((links : List Link) → Has chains links → (a : Link) → Has links a → IsLockOf s t a.lock)
+      → DenotesSection s t g (section_words s.program.source locks chains) (claims_of locks chains)
   section_denoted g locks chains count first lawful linked = record {
     count = length-map locks.at (list_words s.program.source) ∙ count;
     nodes = lists_denoted locks.at (λ list has. (let at = Has-index locks.at list has in lawful at.0 list at.1));

@@ -1,5 +1,6 @@
 -- Keys are ordered, and tested for equality.
-use Rattle.std.proofs.Common.{◌≡◌, ℕ, ◌<◌, Bool, true, false, refl, sym, ap, ◌∙◌, ◌⊎◌, inl, inr, true≢false, arith, ltb-true, lt-ltb, eqb-true, eq-eqb}
+use Rattle.std.proofs.Common.{◌≡◌, ℕ, ◌<◌, Bool, true, false, refl, sym, ap, ◌∙◌, ◌⊎◌, inl, inr, true≢false, arith}
+use Rattle.std.proofs.Common.{ltb-true, lt-ltb, eqb-true, eq-eqb}
 use Rattle.std.specs.Prelude.{◌&&◌, ◌||◌, ◌==◌, nat_lt}
 use Rattle.sect_modes.specs.declared.key.Key.{Key}
 use Rattle.sect_modes.specs.declared.key.Key.TheVariants.{All, Class, Global, Made}
@@ -53,7 +54,8 @@ made_below t n u m e = by (either_true (nat_lt t u) ((t == u) && nat_lt n m) e) 
 
 below_made : (t n u m : ℕ) → (t < u) ⊎ ((t ≡ u) × (n < m)) → is_key_below (Made t n) (Made u m) ≡ true
 below_made t n u m (inl h) = or_left (nat_lt t u) ((t == u) && nat_lt n m) (lt-ltb t u h)
-below_made t n u m (inr h) = or_right (nat_lt t u) ((t == u) && nat_lt n m) (and_both (t == u) (nat_lt n m) (eq-eqb t u h.0) (lt-ltb n m h.1))
+below_made t n u m (inr h) = or_right (nat_lt t u) ((t == u) && nat_lt n m)
+    (and_both (t == u) (nat_lt n m) (eq-eqb t u h.0) (lt-ltb n m h.1))
 
 -- no key is below that of all objects
 pub nothing_below_all : (a : Key) → is_key_below a All ≡ true → ⊥
@@ -84,12 +86,13 @@ below_along (Made t n) (Class b) c e f = absurd (false≢true e)
 below_along (Made t n) (Global b) c e f = absurd (false≢true e)
 below_along (Made t n) (Made u m) (Class c) e f = absurd (false≢true f)
 below_along (Made t n) (Made u m) (Global c) e f = absurd (false≢true f)
-below_along (Made t n) (Made u m) (Made v k) e f = below_made t n v k (by (made_below t n u m e) (made_below u m v k f)) where
-  by : (t < u) ⊎ ((t ≡ u) × (n < m)) → (u < v) ⊎ ((u ≡ v) × (m < k)) → (t < v) ⊎ ((t ≡ v) × (n < k))
-  by (inl h) (inl g) = inl (omega (arith, h, g))
-  by (inl h) (inr g) = inl (omega (arith, h, g.0))
-  by (inr h) (inl g) = inl (omega (arith, h.0, g))
-  by (inr h) (inr g) = inr (h.0 ∙ g.0, omega (arith, h.1, g.1))
+below_along (Made t n) (Made u m) (Made v k) e f =
+    below_made t n v k (by (made_below t n u m e) (made_below u m v k f)) where
+      by : (t < u) ⊎ ((t ≡ u) × (n < m)) → (u < v) ⊎ ((u ≡ v) × (m < k)) → (t < v) ⊎ ((t ≡ v) × (n < k))
+      by (inl h) (inl g) = inl (omega (arith, h, g))
+      by (inl h) (inr g) = inl (omega (arith, h, g.0))
+      by (inr h) (inl g) = inl (omega (arith, h.0, g))
+      by (inr h) (inr g) = inr (h.0 ∙ g.0, omega (arith, h.1, g.1))
 
 number_above : (a b : ℕ) → (a == b) ≡ false → nat_lt a b ≡ false → b < a
 number_above a b e f = grind (arith, e, f)
@@ -112,7 +115,8 @@ other_above (Global a) (Made t n) e f = absurd (true≢false f)
 other_above (Made t n) (Class b) e f = refl
 other_above (Made t n) (Global b) e f = refl
 other_above (Made t n) (Made u m) e f = by (t == u) refl (nat_lt t u) refl e f where
-  by : (x : Bool) → (t == u) ≡ x → (y : Bool) → nat_lt t u ≡ y → (x && (n == m)) ≡ false → (y || (x && nat_lt n m)) ≡ false → is_key_below (Made u m) (Made t n) ≡ true
+  by : (x : Bool) → (t == u) ≡ x → (y : Bool) → nat_lt t u ≡ y → (x && (n == m)) ≡ false
+      → (y || (x && nat_lt n m)) ≡ false → is_key_below (Made u m) (Made t n) ≡ true
   by x xe true ye e' f' = absurd (true≢false f')
   by true xe false ye e' f' = below_made u m t n (inr (sym (eqb-true t u xe), number_above n m e' f'))
   by false xe false ye e' f' = below_made u m t n (inl (number_above t u xe ye))

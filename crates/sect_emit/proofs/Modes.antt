@@ -2,7 +2,8 @@
 use Rattle.std.proofs.Common.{◌≡◌, Bool, true, false, refl, sym, ◌∙◌, Option, Some, None}
 use Rattle.std.specs.Prelude.{◌&&◌, not}
 use Rattle.sect_modes.specs.declared.mode.Mode.{Mode}
-use Rattle.sect_modes.specs.declared.mode.Mode.TheVariants.{IntentionShared, IntentionExclusive, Shared, SharedIntentionExclusive, Exclusive}
+use Rattle.sect_modes.specs.declared.mode.Mode.TheVariants.{IntentionShared, IntentionExclusive, Shared}
+use Rattle.sect_modes.specs.declared.mode.Mode.TheVariants.{SharedIntentionExclusive, Exclusive}
 use Rattle.sect_modes.specs.Mode.{are_compatible, is_at_least, join_of, intention_of, is_reading, is_making}
 use Rattle.sect_names.specs.declared.lock.Effect.{Effect}
 use Rattle.sect_names.specs.declared.lock.Effect.TheVariants as effect
@@ -16,16 +17,20 @@ use Rattle.sect_names.specs.Locks.{Allows, Grants, Includes}
 
 -- the test holds of all five
 abbrev all_modes : (Mode → Bool) → Bool
-all_modes test = test IntentionShared && (test IntentionExclusive && (test Shared && (test SharedIntentionExclusive && test Exclusive)))
+all_modes test = test IntentionShared &&
+    (test IntentionExclusive && (test Shared && (test SharedIntentionExclusive && test Exclusive)))
 
 each_mode : (test : Mode → Bool) → all_modes test ≡ true → (m : Mode) → test m ≡ true
 each_mode test e m =
-    let a = both_hold (test IntentionShared) (test IntentionExclusive && (test Shared && (test SharedIntentionExclusive && test Exclusive))) e in
-    let b = both_hold (test IntentionExclusive) (test Shared && (test SharedIntentionExclusive && test Exclusive)) a.1 in
+    let a = both_hold (test IntentionShared)
+    (test IntentionExclusive && (test Shared && (test SharedIntentionExclusive && test Exclusive))) e in
+    let b = both_hold (test IntentionExclusive) (test Shared && (test SharedIntentionExclusive && test Exclusive))
+    a.1 in
     let d = both_hold (test Shared) (test SharedIntentionExclusive && test Exclusive) b.1 in
     let f = both_hold (test SharedIntentionExclusive) (test Exclusive) d.1 in
     by m a.0 b.0 d.0 f.0 f.1 where
-      by : (m : Mode) → test IntentionShared ≡ true → test IntentionExclusive ≡ true → test Shared ≡ true → test SharedIntentionExclusive ≡ true → test Exclusive ≡ true → test m ≡ true
+      by : (m : Mode) → test IntentionShared ≡ true → test IntentionExclusive ≡ true → test Shared ≡ true
+          → test SharedIntentionExclusive ≡ true → test Exclusive ≡ true → test m ≡ true
       by IntentionShared a b d f g = a
       by IntentionExclusive a b d f g = b
       by Shared a b d f g = d
@@ -47,35 +52,54 @@ at_least_itself = each_mode (λ m. is_at_least m m) refl
 -- at least what is at least a third is at least that
 pub at_least_along : (a b c : Mode) → is_at_least a b ≡ true → is_at_least b c ≡ true → is_at_least a c ≡ true
 at_least_along a b c e f =
-    holds _ _ (holds _ _ (each_mode (λ c. if_then (is_at_least a b) (if_then (is_at_least b c) (is_at_least a c))) (table a b) c) e) f where
-      table : (a b : Mode) → all_modes (λ c. if_then (is_at_least a b) (if_then (is_at_least b c) (is_at_least a c))) ≡ true
-      table a = each_mode (λ b. all_modes (λ c. if_then (is_at_least a b) (if_then (is_at_least b c) (is_at_least a c))))
-          (each_mode (λ a. all_modes (λ b. all_modes (λ c. if_then (is_at_least a b) (if_then (is_at_least b c) (is_at_least a c))))) refl a)
+    holds _ _
+    (holds _ _ (each_mode (λ c. if_then (is_at_least a b) (if_then (is_at_least b c) (is_at_least a c))) (table a b)
+    c) e) f where
+      table : (a b : Mode) → all_modes (λ c. if_then (is_at_least a b) (if_then (is_at_least b c) (is_at_least a c)))
+          ≡ true
+      table a = each_mode (λ b. all_modes
+          (λ c. if_then (is_at_least a b) (if_then (is_at_least b c) (is_at_least a c))))
+          (each_mode
+          (λ a. all_modes (λ b. all_modes
+          (λ c. if_then (is_at_least a b) (if_then (is_at_least b c) (is_at_least a c))))) refl a)
 
 -- a join is at least the first
 pub join_left : (a b : Mode) → is_at_least (join_of a b) a ≡ true
-join_left a = each_mode (λ b. is_at_least (join_of a b) a) (each_mode (λ a. all_modes (λ b. is_at_least (join_of a b) a)) refl a)
+join_left a = each_mode (λ b. is_at_least (join_of a b) a)
+    (each_mode (λ a. all_modes (λ b. is_at_least (join_of a b) a)) refl a)
 
 -- and the second
 pub join_right : (a b : Mode) → is_at_least (join_of a b) b ≡ true
-join_right a = each_mode (λ b. is_at_least (join_of a b) b) (each_mode (λ a. all_modes (λ b. is_at_least (join_of a b) b)) refl a)
+join_right a = each_mode (λ b. is_at_least (join_of a b) b)
+    (each_mode (λ a. all_modes (λ b. is_at_least (join_of a b) b)) refl a)
 
 -- and no more than it must be
 pub join_least : (a b c : Mode) → is_at_least c a ≡ true → is_at_least c b ≡ true → is_at_least c (join_of a b) ≡ true
-join_least a b c e f = holds _ _ (holds _ _ (each_mode (λ c. if_then (is_at_least c a) (if_then (is_at_least c b) (is_at_least c (join_of a b)))) (table a b) c) e) f where
-  table : (a b : Mode) → all_modes (λ c. if_then (is_at_least c a) (if_then (is_at_least c b) (is_at_least c (join_of a b)))) ≡ true
-  table a = each_mode (λ b. all_modes (λ c. if_then (is_at_least c a) (if_then (is_at_least c b) (is_at_least c (join_of a b)))))
-      (each_mode (λ a. all_modes (λ b. all_modes (λ c. if_then (is_at_least c a) (if_then (is_at_least c b) (is_at_least c (join_of a b)))))) refl a)
+join_least a b c e f = holds _ _
+    (holds _ _ (each_mode (λ c. if_then (is_at_least c a) (if_then (is_at_least c b) (is_at_least c (join_of a b))))
+    (table a b) c) e) f where
+      table : (a b : Mode) → all_modes
+          (λ c. if_then (is_at_least c a) (if_then (is_at_least c b) (is_at_least c (join_of a b)))) ≡ true
+      table a = each_mode (λ b. all_modes
+          (λ c. if_then (is_at_least c a) (if_then (is_at_least c b) (is_at_least c (join_of a b)))))
+          (each_mode
+          (λ a. all_modes (λ b. all_modes
+          (λ c. if_then (is_at_least c a) (if_then (is_at_least c b) (is_at_least c (join_of a b)))))) refl a)
 
-same_mode_of_intentions : (a b : Mode) → is_at_least (join_of (intention_of a) (intention_of b)) (intention_of (join_of a b)) ≡ true
+same_mode_of_intentions : (a b : Mode)
+    → is_at_least (join_of (intention_of a) (intention_of b)) (intention_of (join_of a b)) ≡ true
 same_mode_of_intentions a =
     each_mode (λ b. is_at_least (join_of (intention_of a) (intention_of b)) (intention_of (join_of a b)))
-    (each_mode (λ a. all_modes (λ b. is_at_least (join_of (intention_of a) (intention_of b)) (intention_of (join_of a b)))) refl a)
+    (each_mode
+    (λ a. all_modes (λ b. is_at_least (join_of (intention_of a) (intention_of b)) (intention_of (join_of a b))))
+    refl a)
 
 -- what is at least the intentions of both is at least that of their join
-pub intention_join : (n a b : Mode) → is_at_least n (intention_of a) ≡ true → is_at_least n (intention_of b) ≡ true → is_at_least n (intention_of (join_of a b)) ≡ true
+pub intention_join : (n a b : Mode) → is_at_least n (intention_of a) ≡ true → is_at_least n (intention_of b) ≡ true
+    → is_at_least n (intention_of (join_of a b)) ≡ true
 intention_join n a b e f =
-    at_least_along n (join_of (intention_of a) (intention_of b)) (intention_of (join_of a b)) (join_least (intention_of a) (intention_of b) n e f) (same_mode_of_intentions a b)
+    at_least_along n (join_of (intention_of a) (intention_of b)) (intention_of (join_of a b))
+    (join_least (intention_of a) (intention_of b) n e f) (same_mode_of_intentions a b)
 
 -- the intention due before an access
 pub intended_is : (e : Effect) → intention_of (object_mode e) ≡ intended e
@@ -83,9 +107,16 @@ intended_is effect.Read = refl
 intended_is effect.Write = refl
 
 -- S or X, on an object
-pub join_reading_object : (a b : Mode) → is_reading_object a ≡ true → is_reading_object b ≡ true → is_reading_object (join_of a b) ≡ true
+pub join_reading_object : (a b : Mode) → is_reading_object a ≡ true → is_reading_object b ≡ true
+    → is_reading_object (join_of a b) ≡ true
 join_reading_object a b e f =
-    holds _ _ (holds _ _ (each_mode (λ b. if_then (is_reading_object a) (if_then (is_reading_object b) (is_reading_object (join_of a b)))) (each_mode (λ a. all_modes (λ b. if_then (is_reading_object a) (if_then (is_reading_object b) (is_reading_object (join_of a b))))) refl a) b) e) f
+    holds _ _
+    (holds _ _
+    (each_mode (λ b. if_then (is_reading_object a)
+    (if_then (is_reading_object b) (is_reading_object (join_of a b))))
+    (each_mode
+    (λ a. all_modes (λ b. if_then (is_reading_object a)
+    (if_then (is_reading_object b) (is_reading_object (join_of a b))))) refl a) b) e) f
 
 -- the mode of an object allows to read it
 pub object_mode_reads : (e : Effect) → is_reading_object (object_mode e) ≡ true
@@ -96,9 +127,11 @@ object_mode_reads effect.Write = refl
 pub sharing_turned : (a b : Mode) → are_compatible a b ≡ are_compatible b a
 sharing_turned a b = by (are_compatible a b) refl (are_compatible b a) refl where
   one_way : (a b : Mode) → if_then (are_compatible a b) (are_compatible b a) ≡ true
-  one_way a = each_mode (λ b. if_then (are_compatible a b) (are_compatible b a)) (each_mode (λ a. all_modes (λ b. if_then (are_compatible a b) (are_compatible b a))) refl a)
+  one_way a = each_mode (λ b. if_then (are_compatible a b) (are_compatible b a))
+      (each_mode (λ a. all_modes (λ b. if_then (are_compatible a b) (are_compatible b a))) refl a)
 
-  by : (x : Bool) → are_compatible a b ≡ x → (y : Bool) → are_compatible b a ≡ y → are_compatible a b ≡ are_compatible b a
+  by : (x : Bool) → are_compatible a b ≡ x → (y : Bool) → are_compatible b a ≡ y
+      → are_compatible a b ≡ are_compatible b a
   by true e y f = e ∙ sym (holds (are_compatible a b) (are_compatible b a) (one_way a b) e)
   by false e true f = holds (are_compatible b a) (are_compatible a b) (one_way b a) f ∙ sym f
   by false e false f = e ∙ sym f
@@ -120,7 +153,9 @@ not_both false b e h = absurd (false≢true h)
 pub readers_and_makers : (a b : Mode) → is_reading a ≡ true → is_making b ≡ true → are_compatible a b ≡ false
 readers_and_makers a b e f =
     not_both (is_making b) (are_compatible a b)
-    (holds _ _ (each_mode (λ b. if_then (is_reading a) (if_then (is_making b) (not (are_compatible a b)))) (each_mode (λ a. all_modes (λ b. if_then (is_reading a) (if_then (is_making b) (not (are_compatible a b))))) refl a) b) e) f
+    (holds _ _ (each_mode (λ b. if_then (is_reading a) (if_then (is_making b) (not (are_compatible a b))))
+    (each_mode (λ a. all_modes (λ b. if_then (is_reading a) (if_then (is_making b) (not (are_compatible a b)))))
+    refl a) b) e) f
 
 -- the intention of a mode that writes an object is one that makes parts of a class
 pub intention_makes : (n m : Mode) → is_writing m ≡ true → is_at_least n (intention_of m) ≡ true → is_making n ≡ true

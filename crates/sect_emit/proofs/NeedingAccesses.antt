@@ -32,18 +32,32 @@ use Rattle.sect_names.proofs.Beginning.{read_variable}
 use Rattle.sect_names.proofs.Owning.{own_base}
 use Rattle.sect_emit.proofs.Pointing.{base_variable, denoted}
 
-module _ (s : SchemeView) (scheme : IsScheme s) (typed : IsTypedProgram s.program) (t : ℕ) (store : StoreView) (w : WorkView) (pointed : IsPointed s t store w) where
-  looked : (b : Base) (r : ℕ) (e : Effect) (o : ObjectName) → VariableTo s.program (variable_of t b) r → base_datum w.locals b ≡ Refers o
-      → IsObjectOf s store r o × Accesses s (variable_of t b) r e (lock.Path (read_for (guard_of s.guards r) (var (variable_of t b))) e)
+module _ (s : SchemeView) (scheme : IsScheme s) (typed : IsTypedProgram s.program) (t : ℕ) (store : StoreView)
+    (w : WorkView) (pointed : IsPointed s t store w) where
+  looked : (b : Base) (r : ℕ) (e : Effect) (o : ObjectName) → VariableTo s.program (variable_of t b) r
+      → base_datum w.locals b ≡ Refers o
+      → IsObjectOf s store r o × Accesses s (variable_of t b) r e
+      (lock.Path (read_for (guard_of s.guards r) (var (variable_of t b))) e)
   looked b r e o to at =
-      let k = denoted s scheme typed t store w pointed (var (variable_of t b)) r o to (own_base t b) (base_variable t w.locals b ∙ at) in
-      ((k.0, k.1, k.3), ((k.4.0, k.4.1), ap (λ p. lock.Path p e) (read_variable s scheme (guard_of s.guards r) (variable_of t b))))
+      let k = denoted s scheme typed t store w pointed (var (variable_of t b)) r o to (own_base t b)
+      (base_variable t w.locals b ∙ at) in (
+        (k.0, k.1, k.3),
+        (
+          (k.4.0, k.4.1),
+          ap (λ p. lock.Path p e) (read_variable s scheme (guard_of s.guards r) (variable_of t b)),
+        ),
+      )
 
   making : (x r i : ℕ) → SiteOf s.program i r → MakesLocked s t (action.New x r i) (guard_of s.guards r) i
   making x r i of = by (guard_of s.guards r) refl
     where
       within : i < length s.classes.numbers
-      within = omega (arith, slice_get_within (sites_of s.program.globals s.program.texts) i r of, scheme.sites, scheme.parted.sites)
+      within = omega (
+        arith,
+        slice_get_within (sites_of s.program.globals s.program.texts) i r of,
+        scheme.sites,
+        scheme.parted.sites,
+      )
 
       by : (o : Option ℕ) → guard_of s.guards r ≡ o → MakesLocked s t (action.New x r i) o i
       by None is =
@@ -56,7 +70,8 @@ module _ (s : SchemeView) (scheme : IsScheme s) (typed : IsTypedProgram s.progra
   pub access_needed : (a : Action) → IsProgramStep s t (label.Act a) → NeedsItsAccess s t store w a
   access_needed (action.Assign x v) there = tt
   access_needed (action.Compute x v o u) there = tt
-  access_needed (action.New x r i) there = let of = statement_sited s.program typed (thread_action t (action.New x r i)) there in (of, making x r i of)
+  access_needed (action.New x r i) there = let of =
+      statement_sited s.program typed (thread_action t (action.New x r i)) there in (of, making x r i of)
   access_needed (action.Load x b f) there =
       let sound = statement_sound s.program typed (thread_action t (action.Load x b f)) there in
       λ o at. looked b f.of effect.Read o (base_to s.program t b f.of sound.1) at

@@ -1,5 +1,6 @@
 -- What is kept of each section makes a compiled program.
-use Rattle.std.proofs.Common.{◌≡◌, ◌⊎◌, ℕ, ◌+◌, ◌<◌, List, [], ◌∷◌, ◌++◌, Some, length, length-append, get_or, sym, ap, ◌∙◌, subst, arith, slice_get, inl, inr}
+use Rattle.std.proofs.Common.{◌≡◌, ◌⊎◌, ℕ, ◌+◌, ◌<◌, List, [], ◌∷◌, ◌++◌, Some, length, length-append, get_or, sym, ap}
+use Rattle.std.proofs.Common.{◌∙◌, subst, arith, slice_get, inl, inr}
 use Rattle.std.proofs.lemmas.List.{length-map}
 use Rattle.std.proofs.lemmas.Option.{slice_get_within, slice_get-get_or}
 use Rattle.std.proofs.lemmas.Option.{slice_get-map as slice_get-mapped}
@@ -34,10 +35,12 @@ use Rattle.sect_emit.specs.steps.Wishes.{IsClassedLock}
 
 -- the program is well numbered, by its own counts
 abbrev pub IsNumbered : ProgramView → Type 0
-IsNumbered p = IsWellNumbered p (length (sections_of p.texts)) (length (sites_of p.globals p.texts)) (total_statements p.texts)
+IsNumbered p = IsWellNumbered p (length (sections_of p.texts)) (length (sites_of p.globals p.texts))
+    (total_statements p.texts)
 
 -- one part more
-pub one_part : (s : SchemeView) (sets : List (List Lock)) (parts : List (List Grip)) (locks : List Lock) (part : List Grip) → AreFixedParts s sets parts → IsFixedPart s locks part
+pub one_part : (s : SchemeView) (sets : List (List Lock)) (parts : List (List Grip)) (locks : List Lock)
+    (part : List Grip) → AreFixedParts s sets parts → IsFixedPart s locks part
     → AreFixedParts s (sets ++ locks ∷ []) (parts ++ part ∷ [])
 one_part s sets parts locks part before here = record {
   count = (let e = before.count in omega (arith, e, length-append sets (locks ∷ []), length-append parts (part ∷ [])));
@@ -47,17 +50,21 @@ one_part s sets parts locks part before here = record {
     by : (i : ℕ) (x : List Lock) (y : List Grip) → ((i ≡ length sets) × (locks ≡ x)) ⊎ (slice_get sets i ≡ Some x)
         → ((i ≡ length parts) × (part ≡ y)) ⊎ (slice_get parts i ≡ Some y) → IsFixedPart s x y
     by i x y (inl a) (inl b) = subst (IsFixedPart s x) b.1 (subst (λ z. IsFixedPart s z part) a.1 here)
-    by i x y (inl a) (inr k) = (let w = slice_get_within parts i y k in let e = before.count in absurd (omega (arith, w, e, a.0)))
-    by i x y (inr h) (inl b) = (let w = slice_get_within sets i x h in let e = before.count in absurd (omega (arith, w, e, b.0)))
+    by i x y (inl a) (inr k) = (let w = slice_get_within parts i y k in let e = before.count in
+        absurd (omega (arith, w, e, a.0)))
+    by i x y (inr h) (inl b) = (let w = slice_get_within sets i x h in let e = before.count in
+        absurd (omega (arith, w, e, b.0)))
     by i x y (inr h) (inr k) = before.each i x y h k
 
 -- each lock of an entry has a class where it is on a path
-pub classed_entry : (s : SchemeView) (all : List LocksView) → IsScheme s → AreAllInferred s all → (i : ℕ) (locks : LocksView) → i < length all → locks ≡ get_or all i locks
+pub classed_entry : (s : SchemeView) (all : List LocksView) → IsScheme s → AreAllInferred s all
+    → (i : ℕ) (locks : LocksView) → i < length all → locks ≡ get_or all i locks
     → (l : Lock) → Has locks.entry l → IsClassedLock s l
 classed_entry s all scheme inferred i locks within is l has =
     let of = at_of (sections_of s.program.texts) i (omega (arith, within, inferred.count)) in
     let g = at_of s.graphs.sections i (omega (arith, within, inferred.count, scheme.graphed.section_count)) in
-    let told = inferred.each i locks (slice_get-get_or all i locks within ∙ ap (λ x. Some x) (sym is)) of.0 g.0 of.1 g.1 in
+    let told = inferred.each i locks (slice_get-get_or all i locks within ∙ ap (λ x. Some x) (sym is)) of.0 g.0 of.1
+    g.1 in
     classed s of.0.thread l (told.1 0 locks.entry told.0.first l has)
   where
     classed : (s : SchemeView) (t : ℕ) (l : Lock) → IsLockOf s t l → IsClassedLock s l
@@ -66,15 +73,18 @@ classed_entry s all scheme inferred i locks within is l has =
     classed s t (lock.Path p e) is = is.classed
 
 -- a section has a list for each node, and one for the exit
-pub nodes_counted : (s : SchemeView) (i : ℕ) (locks : LocksView) → i < length (sections_of s.program.texts) → AreInferredAt s i locks
-    → (g : List Node) → slice_get s.graphs.sections i ≡ Some g → (exit : ℕ) → exit ≡ length g → length locks.at ≡ exit + 1
+pub nodes_counted : (s : SchemeView) (i : ℕ) (locks : LocksView) → i < length (sections_of s.program.texts)
+    → AreInferredAt s i locks
+    → (g : List Node) → slice_get s.graphs.sections i ≡ Some g → (exit : ℕ) → exit ≡ length g
+    → length locks.at ≡ exit + 1
 nodes_counted s i locks within inferred g graph exit is =
     let of = at_of (sections_of s.program.texts) i within in
     let e = (inferred of.0 g of.1 graph).0.needed.count in
     omega (arith, e, is)
 
 -- what the locks of a section name is there
-pub all_named : (s : SchemeView) → IsScheme s → (i : ℕ) (locks : LocksView) → i < length (sections_of s.program.texts) → AreInferredAt s i locks
+pub all_named : (s : SchemeView) → IsScheme s → (i : ℕ) (locks : LocksView) → i < length (sections_of s.program.texts)
+    → AreInferredAt s i locks
     → (list : List Lock) → Has locks.at list → AreNamed s.program list
 all_named s scheme i locks within inferred list has =
     let of = at_of (sections_of s.program.texts) i within in
@@ -83,26 +93,33 @@ all_named s scheme i locks within inferred list has =
     let at = Has-index locks.at list has in
     λ l there. named_lock s of.0.thread l (told.1 at.0 list at.1 l there)
 
-pub entry_named : (s : SchemeView) → IsScheme s → (i : ℕ) (locks : LocksView) → i < length (sections_of s.program.texts) → AreInferredAt s i locks → AreNamed s.program locks.entry
+pub entry_named : (s : SchemeView) → IsScheme s → (i : ℕ) (locks : LocksView) → i < length (sections_of s.program.texts)
+    → AreInferredAt s i locks → AreNamed s.program locks.entry
 entry_named s scheme i locks within inferred =
     let of = at_of (sections_of s.program.texts) i within in
     let g = at_of s.graphs.sections i (omega (arith, within, scheme.graphed.section_count)) in
-    all_named s scheme i locks within inferred locks.entry (Has-slice_get locks.at 0 locks.entry (inferred of.0 g.0 of.1 g.1).0.first)
+    all_named s scheme i locks within inferred locks.entry
+    (Has-slice_get locks.at 0 locks.entry (inferred of.0 g.0 of.1 g.1).0.first)
 
 -- what is kept of a section that the program has
-pub kept_at : (s : SchemeView) (all : List LocksView) (parts : List (List Grip)) → IsWhole s all parts → (v : CompiledView) → record { scheme = s; sets = entries_of all; parts = parts } ≡ v
-    → (i : ℕ) (locks : LocksView) → i < length (sections_of v.scheme.program.texts) → locks ≡ get_or all i locks → slice_get all i ≡ Some locks
+pub kept_at : (s : SchemeView) (all : List LocksView) (parts : List (List Grip)) → IsWhole s all parts
+    → (v : CompiledView) → record { scheme = s; sets = entries_of all; parts = parts } ≡ v
+    → (i : ℕ) (locks : LocksView) → i < length (sections_of v.scheme.program.texts) → locks ≡ get_or all i locks
+    → slice_get all i ≡ Some locks
 kept_at s all parts whole v view i locks within is =
-    let section : i < length (sections_of s.program.texts) = subst (λ (w : CompiledView). i < length (sections_of w.scheme.program.texts)) (sym view) within in
+    let section : i < length (sections_of s.program.texts) =
+    subst (λ (w : CompiledView). i < length (sections_of w.scheme.program.texts)) (sym view) within in
     slice_get-get_or all i locks (omega (arith, section, whole.inferred.count)) ∙ ap (λ x. Some x) (sym is)
 
 -- the set of a section is what is kept of its entry
-pub entry_at : (all : List LocksView) (i : ℕ) (locks : LocksView) (set : List Lock) → slice_get all i ≡ Some locks → slice_get (entries_of all) i ≡ Some set → locks.entry ≡ set
+pub entry_at : (all : List LocksView) (i : ℕ) (locks : LocksView) (set : List Lock) → slice_get all i ≡ Some locks
+    → slice_get (entries_of all) i ≡ Some set → locks.entry ≡ set
 entry_at all i locks set at has =
     let kept = slice_get-map (λ (l : LocksView). l.entry) all i set has in
     ap (λ (l : LocksView). l.entry) (one_at all i locks kept.0 at kept.1) ∙ kept.2
 
-module _ (s : SchemeView) (all : List LocksView) (parts : List (List Grip)) (scheme : IsScheme s) (whole : IsWhole s all parts) where
+module _ (s : SchemeView) (all : List LocksView) (parts : List (List Grip)) (scheme : IsScheme s)
+    (whole : IsWhole s all parts) where
   set_count : length (entries_of all) ≡ length (sections_of s.program.texts)
   set_count = length-map all (λ (locks : LocksView). locks.entry) ∙ whole.inferred.count
 
@@ -152,13 +169,16 @@ module _ (s : SchemeView) (all : List LocksView) (parts : List (List Grip)) (sch
   }
 
 -- what the locks of a section's set name is there
-pub set_named : (c : CompiledView) → IsCompiled c → (i : ℕ) (set : List Lock) → slice_get c.sets i ≡ Some set → AreNamed c.scheme.program set
+pub set_named : (c : CompiledView) → IsCompiled c → (i : ℕ) (set : List Lock) → slice_get c.sets i ≡ Some set
+    → AreNamed c.scheme.program set
 set_named c compiled i set at l has =
-    let of = at_of (sections_of c.scheme.program.texts) i (let w = slice_get_within c.sets i set at in omega (arith, w, compiled.set_count)) in
+    let of = at_of (sections_of c.scheme.program.texts) i
+    (let w = slice_get_within c.sets i set at in omega (arith, w, compiled.set_count)) in
     named_lock c.scheme of.0.thread l (compiled.lawful i of.0 set l of.1 at has)
 
 -- what is spelled of the locks that are kept is the certificate
-pub is_certificate : (s : SchemeView) (all : List LocksView) (parts : List (List Grip)) → AreAllInferred s all → (a : Cert) → IsSpelled s all a → HasText a
+pub is_certificate : (s : SchemeView) (all : List LocksView) (parts : List (List Grip)) → AreAllInferred s all
+    → (a : Cert) → IsSpelled s all a → HasText a
     → IsCertificateOf (record { scheme = s; sets = entries_of all; parts = parts }) a
 is_certificate s all parts inferred a spelled text = record {
   text = text;
@@ -174,7 +194,8 @@ is_certificate s all parts inferred a spelled text = record {
         set = locks.0.entry;
         chains = said.0;
         needed = told.0.needed;
-        taken = slice_get-mapped (λ (l : LocksView). l.entry) all i ∙ ap (option_map (λ (l : LocksView). l.entry)) locks.1;
+        taken = slice_get-mapped (λ (l : LocksView). l.entry) all i
+            ∙ ap (option_map (λ (l : LocksView). l.entry)) locks.1;
         chained = said.1;
         node_words = ap (λ (y : CertSection). y.nodes) said.2;
         entry_words = ap (λ (y : CertSection). y.entry) said.2;

@@ -18,22 +18,27 @@ not_both workers offered refused = elim refused [
 ]
 
 -- workers whose number is offered refuse for want of memory alone
-pub refused_for_memory : (workers : ℕ) (why : InferFault) → AreOffered workers → (why ≡ infer.BadWorkers → AreRefused workers) → of_workers why ≡ fault.Memory
+pub refused_for_memory : (workers : ℕ) (why : InferFault) → AreOffered workers
+    → (why ≡ infer.BadWorkers → AreRefused workers) → of_workers why ≡ fault.Memory
 refused_for_memory workers infer.Memory offered refused = refl
 refused_for_memory workers infer.BadWorkers offered refused = absurd (not_both workers offered (refused refl))
 
 -- a number of workers that is refused is due
-pub workers_due : (workers : ℕ) (bytes : List ℕ) (k : ℕ) (why : InferFault) → why ≡ infer.BadWorkers → AreRefused workers → IsDueBy workers bytes k (of_workers why)
+pub workers_due : (workers : ℕ) (bytes : List ℕ) (k : ℕ) (why : InferFault) → why ≡ infer.BadWorkers
+    → AreRefused workers → IsDueBy workers bytes k (of_workers why)
 workers_due workers bytes k infer.Memory bad refused = absurd (let e : infer.Memory ≡ infer.BadWorkers = bad in cc)
 workers_due workers bytes k infer.BadWorkers bad refused = (refl, refused)
 
 -- what is due of a text is due of it by so many workers as are offered
-pub source_due : (workers : ℕ) (bytes : List ℕ) (k : ℕ) (why : Refusal) → AreOffered workers → IsDue bytes k why → IsDueBy workers bytes k (of_source why)
+pub source_due : (workers : ℕ) (bytes : List ℕ) (k : ℕ) (why : Refusal) → AreOffered workers → IsDue bytes k why
+    → IsDueBy workers bytes k (of_source why)
 source_due workers bytes k refusal.Memory offered due = (offered, due)
 source_due workers bytes k (refusal.Front f) offered due = (offered, λ e. cc, due)
 source_due workers bytes k (refusal.Types f) offered due = (offered, λ e. cc, due)
 source_due workers bytes k (refusal.Scheme f) offered due = (offered, λ e. cc, due)
 
 -- want of memory is due of a text that is accepted
-pub memory_due : (workers : ℕ) (bytes : List ℕ) (k : ℕ) (s : SchemeView) → AreOffered workers → IsAccepted bytes k s → IsDueBy workers bytes k fault.Memory
-memory_due workers bytes k s offered accepted = (offered, (let few = accepted.scheme.most in omega (arith, few, accepted.most), tt))
+pub memory_due : (workers : ℕ) (bytes : List ℕ) (k : ℕ) (s : SchemeView) → AreOffered workers → IsAccepted bytes k s
+    → IsDueBy workers bytes k fault.Memory
+memory_due workers bytes k s offered accepted =
+    (offered, (let few = accepted.scheme.most in omega (arith, few, accepted.most), tt))

@@ -1,5 +1,7 @@
 -- A text has one fault at most.
-use Rattle.std.proofs.Common.{◌≡◌, ◌≢◌, ℕ, zero, suc, ◌+◌, ◌-◌, ◌<◌, ◌≤◌, Bool, true, false, List, [], ◌∷◌, ◌++◌, Some, Result, Ok, Err, length, take, drop, refl, sym, ◌∙◌, ap, subst, arith, append_assoc, ◌⊎◌, inl, inr}
+use Rattle.std.proofs.Common.{◌≡◌, ◌≢◌, ℕ, zero, suc, ◌+◌, ◌-◌, ◌<◌, ◌≤◌, Bool, true, false, List, [], ◌∷◌, ◌++◌, Some}
+use Rattle.std.proofs.Common.{Result, Ok, Err, length, take, drop, refl, sym, ◌∙◌, ap, subst, arith, append_assoc, ◌⊎◌}
+use Rattle.std.proofs.Common.{inl, inr}
 use Rattle.std.specs.Prelude.{unwrap_or, slice_get, option_map}
 use Rattle.std.proofs.lemmas.List.{take-append-drop}
 use Rattle.sect_front.specs.TreeView.{TreeView}
@@ -25,8 +27,12 @@ take_take (suc i) (suc j) (x ∷ xs) h = ap (λ w. x ∷ w) (take_take i j xs (o
 
 -- what begins a viable list is viable
 viable_front : (i : ℕ) (list : List Token) → IsViable list → IsViable (take i list)
-viable_front i list v =
-    (v.0, drop i list ++ v.1, v.2 ∙ (ap (λ x. x ++ v.1) (sym (take-append-drop i list)) ∙ append_assoc (take i list) (drop i list) v.1))
+viable_front i list v = (
+  v.0,
+  drop i list ++ v.1,
+  v.2 ∙ (ap (λ x. x ++ v.1) (sym (take-append-drop i list))
+      ∙ append_assoc (take i list) (drop i list) v.1),
+)
 
 viable_take : (i j : ℕ) (list : List Token) → i ≤ j → IsViable (take j list) → IsViable (take i list)
 viable_take i j list h v = subst IsViable (take_take i j list h) (viable_front i (take j list) v)
@@ -37,9 +43,15 @@ length_take (suc j) [] h = absurd (omega arith)
 length_take (suc j) (x ∷ xs) h = ap suc (length_take j xs (omega arith))
 
 -- no token of a shallow beginning opens the 33rd brace
-not_deep : (i j : ℕ) (list : List Token) → i < j → j ≤ length list → IsShallow (take j list) → open_after 0 (take (i + 1) list) ≡ 33 → ⊥
+not_deep : (i j : ℕ) (list : List Token) → i < j → j ≤ length list → IsShallow (take j list)
+    → open_after 0 (take (i + 1) list) ≡ 33 → ⊥
 not_deep i j list h fits shallow deep =
-    omega (arith, shallow (i + 1) (omega (arith, length_take j list fits)), ap (open_after 0) (take_take (i + 1) j list (omega arith)), deep)
+    omega (
+      arith,
+      shallow (i + 1) (omega (arith, length_take j list fits)),
+      ap (open_after 0) (take_take (i + 1) j list (omega arith)),
+      deep,
+    )
 
 -- one of two numbers is less, or they are the same
 compare : (i j : ℕ) → (i < j) ⊎ ((j < i) ⊎ (i ≡ j))
@@ -89,13 +101,16 @@ deep_ends list i h k =
     omega (arith, k.shallow (i + 1) (omega (arith, h.within)), h.deep)
 
 same_token : (list : List Token) (f g : TokenFault) → IsTokenFault list f → IsTokenFault list g → f ≡ g
-same_token list (token_fault.Unexpected i) (token_fault.Unexpected j) h k = ap token_fault.Unexpected (same_unexpected list i j h k)
+same_token list (token_fault.Unexpected i) (token_fault.Unexpected j) h k =
+    ap token_fault.Unexpected (same_unexpected list i j h k)
 same_token list (token_fault.Unexpected i) (token_fault.TooDeep j) h k = absurd (not_both list i j h k)
-same_token list (token_fault.Unexpected i) token_fault.Unfinished h k = absurd (h.here (viable_front (i + 1) list k.viable))
+same_token list (token_fault.Unexpected i) token_fault.Unfinished h k =
+    absurd (h.here (viable_front (i + 1) list k.viable))
 same_token list (token_fault.TooDeep i) (token_fault.Unexpected j) h k = absurd (not_both list j i k h)
 same_token list (token_fault.TooDeep i) (token_fault.TooDeep j) h k = ap token_fault.TooDeep (same_deep list i j h k)
 same_token list (token_fault.TooDeep i) token_fault.Unfinished h k = absurd (deep_ends list i h k)
-same_token list token_fault.Unfinished (token_fault.Unexpected j) h k = absurd (k.here (viable_front (j + 1) list h.viable))
+same_token list token_fault.Unfinished (token_fault.Unexpected j) h k =
+    absurd (k.here (viable_front (j + 1) list h.viable))
 same_token list token_fault.Unfinished (token_fault.TooDeep j) h k = absurd (deep_ends list j k h)
 same_token list token_fault.Unfinished token_fault.Unfinished h k = refl
 same_token list token_fault.Memory g h k = absurd h
@@ -124,11 +139,14 @@ bad_at bytes at = bad_answer (begins is_letter (drop at bytes)) (begins is_digit
 data Kind (bytes : List ℕ) (e : FrontFault) : Type 0 where
   Large : 1048576 < length bytes → e ≡ fault.TooLarge → Kind bytes e
   Bad : length bytes ≤ 1048576 → (at : ℕ) → IsBadAt bytes at → e ≡ bad_at bytes at → Kind bytes e
-  Tokens : length bytes ≤ 1048576 → (ps : List TokenAt) → Spells bytes ps → (t : TokenFault) → IsTokenFault (tokens_in ps) t → e ≡ token_answer bytes ps t → Kind bytes e
+  Tokens : length bytes ≤ 1048576 → (ps : List TokenAt) → Spells bytes ps → (t : TokenFault)
+      → IsTokenFault (tokens_in ps) t → e ≡ token_answer bytes ps t → Kind bytes e
 
 bad_kind : (bytes : List ℕ) (line : ℕ) (l d : Bool) → IsBadOn bytes line l d → Kind bytes (bad_answer l d line)
 bad_kind bytes line l d h =
-    Bad h.fits h.at h.bad (ap (bad_answer l d) h.place ∙ (ap (λ x. bad_answer x d (line_of bytes h.at)) (sym h.letter_first) ∙ ap (λ x. bad_answer (begins is_letter (drop h.at bytes)) x (line_of bytes h.at)) (sym h.digit_first)))
+    Bad h.fits h.at h.bad (ap (bad_answer l d) h.place
+    ∙ (ap (λ x. bad_answer x d (line_of bytes h.at)) (sym h.letter_first)
+    ∙ ap (λ x. bad_answer (begins is_letter (drop h.at bytes)) x (line_of bytes h.at)) (sym h.digit_first)))
 
 -- where a token is found is its place
 found_place : (ps : List TokenAt) (i : ℕ) (p : TokenAt) → slice_get ps i ≡ Some p → p.at ≡ place_at ps i
@@ -141,9 +159,11 @@ kind_of bytes (fault.BadByte line) ne h = bad_kind bytes line false false h
 kind_of bytes (fault.BadNumber line) ne h = bad_kind bytes line false true h
 kind_of bytes (fault.LongName line) ne h = bad_kind bytes line true false h
 kind_of bytes (fault.Unexpected line) ne h =
-    Tokens h.fits h.places h.spells (token_fault.Unexpected h.index) h.fault (ap fault.Unexpected (h.place ∙ ap (line_of bytes) (found_place h.places h.index h.token h.found)))
+    Tokens h.fits h.places h.spells (token_fault.Unexpected h.index) h.fault
+    (ap fault.Unexpected (h.place ∙ ap (line_of bytes) (found_place h.places h.index h.token h.found)))
 kind_of bytes (fault.TooDeep line) ne h =
-    Tokens h.fits h.places h.spells (token_fault.TooDeep h.index) h.fault (ap fault.TooDeep (h.place ∙ ap (line_of bytes) (found_place h.places h.index h.token h.found)))
+    Tokens h.fits h.places h.spells (token_fault.TooDeep h.index) h.fault
+    (ap fault.TooDeep (h.place ∙ ap (line_of bytes) (found_place h.places h.index h.token h.found)))
 kind_of bytes (fault.UnexpectedEnd line) ne h =
     Tokens h.fits h.places h.spells token_fault.Unfinished h.fault (ap fault.UnexpectedEnd h.place)
 
@@ -162,7 +182,8 @@ same_kind bytes e f (Tokens fits ps s t h p) (Tokens fits' qs s' u k q) =
     p ∙ (ap (λ x. token_answer bytes x t) same ∙ (ap (token_answer bytes qs) one ∙ sym q))
 
 -- a text with a fault is refused with it
-pub refuses : (bytes : List ℕ) (e : FrontFault) → e ≢ fault.Memory → IsFault bytes e → (r : Result TreeView FrontFault) → Judges bytes r → Refuses e r
+pub refuses : (bytes : List ℕ) (e : FrontFault) → e ≢ fault.Memory → IsFault bytes e → (r : Result TreeView FrontFault)
+    → Judges bytes r → Refuses e r
 refuses bytes e ne h (Ok tree) s = spelled_fault e ne h
   where
     spelled_fault : (e : FrontFault) → e ≢ fault.Memory → IsFault bytes e → ⊥
@@ -175,10 +196,18 @@ refuses bytes e ne h (Ok tree) s = spelled_fault e ne h
     spelled_fault (fault.TooDeep line) ne h = only bytes tree s (Err (fault.TooDeep line)) h
     spelled_fault (fault.UnexpectedEnd line) ne h = only bytes tree s (Err (fault.UnexpectedEnd line)) h
 refuses bytes e ne h (Err fault.Memory) s = tt
-refuses bytes e ne h (Err fault.TooLarge) s = same_kind bytes fault.TooLarge e (kind_of bytes fault.TooLarge (λ x. cc) s) (kind_of bytes e ne h)
-refuses bytes e ne h (Err (fault.BadByte line)) s = same_kind bytes (fault.BadByte line) e (kind_of bytes (fault.BadByte line) (λ x. cc) s) (kind_of bytes e ne h)
-refuses bytes e ne h (Err (fault.BadNumber line)) s = same_kind bytes (fault.BadNumber line) e (kind_of bytes (fault.BadNumber line) (λ x. cc) s) (kind_of bytes e ne h)
-refuses bytes e ne h (Err (fault.LongName line)) s = same_kind bytes (fault.LongName line) e (kind_of bytes (fault.LongName line) (λ x. cc) s) (kind_of bytes e ne h)
-refuses bytes e ne h (Err (fault.Unexpected line)) s = same_kind bytes (fault.Unexpected line) e (kind_of bytes (fault.Unexpected line) (λ x. cc) s) (kind_of bytes e ne h)
-refuses bytes e ne h (Err (fault.TooDeep line)) s = same_kind bytes (fault.TooDeep line) e (kind_of bytes (fault.TooDeep line) (λ x. cc) s) (kind_of bytes e ne h)
-refuses bytes e ne h (Err (fault.UnexpectedEnd line)) s = same_kind bytes (fault.UnexpectedEnd line) e (kind_of bytes (fault.UnexpectedEnd line) (λ x. cc) s) (kind_of bytes e ne h)
+refuses bytes e ne h (Err fault.TooLarge) s =
+    same_kind bytes fault.TooLarge e (kind_of bytes fault.TooLarge (λ x. cc) s) (kind_of bytes e ne h)
+refuses bytes e ne h (Err (fault.BadByte line)) s =
+    same_kind bytes (fault.BadByte line) e (kind_of bytes (fault.BadByte line) (λ x. cc) s) (kind_of bytes e ne h)
+refuses bytes e ne h (Err (fault.BadNumber line)) s =
+    same_kind bytes (fault.BadNumber line) e (kind_of bytes (fault.BadNumber line) (λ x. cc) s) (kind_of bytes e ne h)
+refuses bytes e ne h (Err (fault.LongName line)) s =
+    same_kind bytes (fault.LongName line) e (kind_of bytes (fault.LongName line) (λ x. cc) s) (kind_of bytes e ne h)
+refuses bytes e ne h (Err (fault.Unexpected line)) s =
+    same_kind bytes (fault.Unexpected line) e (kind_of bytes (fault.Unexpected line) (λ x. cc) s) (kind_of bytes e ne h)
+refuses bytes e ne h (Err (fault.TooDeep line)) s =
+    same_kind bytes (fault.TooDeep line) e (kind_of bytes (fault.TooDeep line) (λ x. cc) s) (kind_of bytes e ne h)
+refuses bytes e ne h (Err (fault.UnexpectedEnd line)) s =
+    same_kind bytes (fault.UnexpectedEnd line) e (kind_of bytes (fault.UnexpectedEnd line) (λ x. cc) s)
+    (kind_of bytes e ne h)

@@ -33,11 +33,13 @@ not_true false h = refl
 not_true true h = cc
 
 -- a fact of the value of each case of a choice
-pub if_some : {A : Type 0} (P : A → Type 0) (c : Bool) (x : A) (o : Option A) → P x → ((t : A) → o ≡ Some t → P t) → (t : A) → cond c (Some x) o ≡ Some t → P t
+pub if_some : {A : Type 0} (P : A → Type 0) (c : Bool) (x : A) (o : Option A) → P x → ((t : A) → o ≡ Some t → P t)
+    → (t : A) → cond c (Some x) o ≡ Some t → P t
 if_some P true x o p h t e = subst P (some_inj x t e) p
 if_some P false x o p h t e = h t e
 
 -- the same, where the fact needs that its test held
-pub if_some_so : {A : Type 0} (P : A → Type 0) (c : Bool) (x : A) (o : Option A) → (c ≡ true → P x) → ((t : A) → o ≡ Some t → P t) → (t : A) → cond c (Some x) o ≡ Some t → P t
+pub if_some_so : {A : Type 0} (P : A → Type 0) (c : Bool) (x : A) (o : Option A) → (c ≡ true → P x)
+    → ((t : A) → o ≡ Some t → P t) → (t : A) → cond c (Some x) o ≡ Some t → P t
 if_some_so P true x o p h t e = subst P (some_inj x t e) (p refl)
 if_some_so P false x o p h t e = h t e

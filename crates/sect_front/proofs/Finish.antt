@@ -4,7 +4,9 @@ use Rattle.sect_front.specs.Syntax.{StatementView, BlockView, Primitive, If, IfE
 use Rattle.sect_front.specs.TreeView.{TreeView}
 use Rattle.sect_front.specs.Trees.{append}
 use Rattle.sect_front.specs.Grammar.{kind_token}
-use Rattle.sect_front.specs.steps.Tokens.{locking_tokens, test_tokens, statement_tokens, block_tokens, declarations_tokens, record_tokens, global_tokens, thread_tokens, source_tokens}
+use Rattle.sect_front.specs.steps.Tokens.{locking_tokens, test_tokens, statement_tokens, block_tokens}
+use Rattle.sect_front.specs.steps.Tokens.{declarations_tokens, record_tokens, global_tokens, thread_tokens}
+use Rattle.sect_front.specs.steps.Tokens.{source_tokens}
 use Rattle.sect_front.specs.steps.ReaderView.{ReaderView, reading, empty}
 use Rattle.sect_front.specs.steps.Read.{after, with_record, with_global, with_thread}
 use Rattle.sect_front.specs.declared.token.Token.{Token}
@@ -40,7 +42,10 @@ use Rattle.sect_front.specs.declared.reader.ThreadStage.{ThreadStage}
 use Rattle.sect_front.specs.declared.reader.ThreadStage.TheVariants as in_thread
 use Rattle.sect_front.specs.declared.reader.Stage.{Stage}
 use Rattle.sect_front.specs.declared.reader.Stage.TheVariants as stage
-use Rattle.sect_front.proofs.Keeps.{line_tokens, place_tokens, frames_tokens, stage_tokens, record_stage_tokens, global_stage_tokens, thread_stage_tokens, body_tokens_append, after_law, declarations_append, hints_append, opened, headed, one_record, one_global, one_thread, Fits, part_in, IsOrdered, IsKept}
+use Rattle.sect_front.proofs.Keeps.{line_tokens, place_tokens, frames_tokens, stage_tokens, record_stage_tokens}
+use Rattle.sect_front.proofs.Keeps.{global_stage_tokens, thread_stage_tokens, body_tokens_append, after_law}
+use Rattle.sect_front.proofs.Keeps.{declarations_append, hints_append, opened, headed, one_record, one_global}
+use Rattle.sect_front.proofs.Keeps.{one_thread, Fits, part_in, IsOrdered, IsKept}
 
 -- a statement that a line can become, by these tokens
 record LineEnd (l : PartialHead) : Type 0 where
@@ -62,47 +67,112 @@ abbrev no_block : List Token → List Token
 no_block w = token.OpenBrace ∷ token.CloseBrace ∷ w
 
 assign_end : (x : List ℕ) (a : PartialAssign) → LineEnd (line.Assign x a)
-assign_end x assign.AfterEqual = record { form = Primitive (primitive.Assign x zero_operand); more = λ w. token.Number 0 ∷ token.Semicolon ∷ w; is = λ w. refl }
-assign_end x (assign.AfterFirstName y) = record { form = Primitive (primitive.Assign x (operand.Name y)); more = λ w. token.Semicolon ∷ w; is = λ w. refl }
-assign_end x (assign.AfterFirst v) = record { form = Primitive (primitive.Assign x v); more = λ w. token.Semicolon ∷ w; is = λ w. refl }
-assign_end x (assign.AfterOperator v o) = record { form = Primitive (primitive.Compute x v o zero_operand); more = λ w. token.Number 0 ∷ token.Semicolon ∷ w; is = λ w. refl }
-assign_end x (assign.AfterSecond v o u) = record { form = Primitive (primitive.Compute x v o u); more = λ w. token.Semicolon ∷ w; is = λ w. refl }
-assign_end x assign.AfterNew = record { form = Primitive (primitive.New x x); more = λ w. token.Name x ∷ token.Semicolon ∷ w; is = λ w. refl }
-assign_end x (assign.AfterRecord r) = record { form = Primitive (primitive.New x r); more = λ w. token.Semicolon ∷ w; is = λ w. refl }
-assign_end x (assign.AfterDot y) = record { form = Primitive (primitive.Load x y y); more = λ w. token.Name y ∷ token.Semicolon ∷ w; is = λ w. refl }
-assign_end x (assign.AfterField y f) = record { form = Primitive (primitive.Load x y f); more = λ w. token.Semicolon ∷ w; is = λ w. refl }
+assign_end x assign.AfterEqual =
+    record {
+      form = Primitive (primitive.Assign x zero_operand);
+      more = λ w. token.Number 0 ∷ token.Semicolon ∷ w;
+      is =
+          λ w. refl;
+    }
+assign_end x (assign.AfterFirstName y) =
+    record { form = Primitive (primitive.Assign x (operand.Name y)); more = λ w. token.Semicolon ∷ w; is = λ w. refl }
+assign_end x (assign.AfterFirst v) =
+    record { form = Primitive (primitive.Assign x v); more = λ w. token.Semicolon ∷ w; is = λ w. refl }
+assign_end x (assign.AfterOperator v o) =
+    record {
+      form = Primitive (primitive.Compute x v o zero_operand);
+      more =
+          λ w. token.Number 0 ∷ token.Semicolon ∷ w;
+      is = λ w. refl;
+    }
+assign_end x (assign.AfterSecond v o u) =
+    record { form = Primitive (primitive.Compute x v o u); more = λ w. token.Semicolon ∷ w; is = λ w. refl }
+assign_end x assign.AfterNew =
+    record { form = Primitive (primitive.New x x); more = λ w. token.Name x ∷ token.Semicolon ∷ w; is = λ w. refl }
+assign_end x (assign.AfterRecord r) =
+    record { form = Primitive (primitive.New x r); more = λ w. token.Semicolon ∷ w; is = λ w. refl }
+assign_end x (assign.AfterDot y) =
+    record { form = Primitive (primitive.Load x y y); more = λ w. token.Name y ∷ token.Semicolon ∷ w; is = λ w. refl }
+assign_end x (assign.AfterField y f) =
+    record { form = Primitive (primitive.Load x y f); more = λ w. token.Semicolon ∷ w; is = λ w. refl }
 
 store_end : (y : List ℕ) (s : PartialStore) → LineEnd (line.Store y s)
-store_end y store.AfterDot = record { form = Primitive (primitive.Store y y zero_operand); more = λ w. token.Name y ∷ token.Equal ∷ token.Number 0 ∷ token.Semicolon ∷ w; is = λ w. refl }
-store_end y (store.AfterField f) = record { form = Primitive (primitive.Store y f zero_operand); more = λ w. token.Equal ∷ token.Number 0 ∷ token.Semicolon ∷ w; is = λ w. refl }
-store_end y (store.AfterEqual f) = record { form = Primitive (primitive.Store y f zero_operand); more = λ w. token.Number 0 ∷ token.Semicolon ∷ w; is = λ w. refl }
-store_end y (store.AfterValue f v) = record { form = Primitive (primitive.Store y f v); more = λ w. token.Semicolon ∷ w; is = λ w. refl }
+store_end y store.AfterDot = record {
+  form = Primitive (primitive.Store y y zero_operand);
+  more =
+      λ w. token.Name y ∷ token.Equal ∷ token.Number 0 ∷ token.Semicolon ∷ w;
+  is = λ w. refl;
+}
+store_end y (store.AfterField f) =
+    record {
+      form = Primitive (primitive.Store y f zero_operand);
+      more =
+          λ w. token.Equal ∷ token.Number 0 ∷ token.Semicolon ∷ w;
+      is = λ w. refl;
+    }
+store_end y (store.AfterEqual f) =
+    record {
+      form = Primitive (primitive.Store y f zero_operand);
+      more = λ w. token.Number 0 ∷ token.Semicolon ∷ w;
+      is =
+          λ w. refl;
+    }
+store_end y (store.AfterValue f v) =
+    record { form = Primitive (primitive.Store y f v); more = λ w. token.Semicolon ∷ w; is = λ w. refl }
 
 -- the statement that a branch makes of a test, with an empty block
 abbrev branch_form : Branch → Test → StatementView
 branch_form branch.If t = If t End
 branch_form branch.While t = While t End
 
-branch_is : (b : Branch) (t : Test) (w : List Token) → statement_tokens (branch_form b t) w ≡ line_tokens (line.Branch b (head.AfterClose t)) (no_block w)
+branch_is : (b : Branch) (t : Test) (w : List Token)
+    → statement_tokens (branch_form b t) w ≡ line_tokens (line.Branch b (head.AfterClose t)) (no_block w)
 branch_is branch.If t w = refl
 branch_is branch.While t w = refl
 
 branch_end : (b : Branch) (h : PartialBranch) → LineEnd (line.Branch b h)
-branch_end b head.AfterWord = record { form = branch_form b zero_test; more = λ w. test_tokens zero_test (no_block w); is = branch_is b zero_test }
-branch_end b head.AfterOpen = record { form = branch_form b zero_test; more = λ w. token.Number 0 ∷ token.Less ∷ token.Number 0 ∷ token.CloseParen ∷ no_block w; is = branch_is b zero_test }
+branch_end b head.AfterWord = record {
+  form = branch_form b zero_test;
+  more =
+      λ w. test_tokens zero_test (no_block w);
+  is = branch_is b zero_test;
+}
+branch_end b head.AfterOpen = record {
+  form = branch_form b zero_test;
+  more =
+      λ w. token.Number 0 ∷ token.Less ∷ token.Number 0 ∷ token.CloseParen ∷ no_block w;
+  is = branch_is b zero_test;
+}
 branch_end b (head.AfterLeft v) = let t = test_of v comparison.Less zero_operand in
-    record { form = branch_form b t; more = λ w. token.Less ∷ token.Number 0 ∷ token.CloseParen ∷ no_block w; is = branch_is b t }
+    record {
+      form = branch_form b t;
+      more = λ w. token.Less ∷ token.Number 0 ∷ token.CloseParen ∷ no_block w;
+      is =
+          branch_is b t;
+    }
 branch_end b (head.AfterComparison v o) = let t = test_of v o zero_operand in
     record { form = branch_form b t; more = λ w. token.Number 0 ∷ token.CloseParen ∷ no_block w; is = branch_is b t }
-branch_end b (head.AfterRight t) = record { form = branch_form b t; more = λ w. token.CloseParen ∷ no_block w; is = branch_is b t }
+branch_end b (head.AfterRight t) =
+    record { form = branch_form b t; more = λ w. token.CloseParen ∷ no_block w; is = branch_is b t }
 branch_end b (head.AfterClose t) = record { form = branch_form b t; more = no_block; is = branch_is b t }
 
 line_end : (l : PartialHead) → LineEnd l
-line_end (line.AfterName x) = record { form = Primitive (primitive.Assign x zero_operand); more = λ w. token.Equal ∷ token.Number 0 ∷ token.Semicolon ∷ w; is = λ w. refl }
+line_end (line.AfterName x) = record {
+  form = Primitive (primitive.Assign x zero_operand);
+  more =
+      λ w. token.Equal ∷ token.Number 0 ∷ token.Semicolon ∷ w;
+  is = λ w. refl;
+}
 line_end (line.Assign x a) = assign_end x a
 line_end (line.Store y s) = store_end y s
-line_end line.AfterPrint = record { form = Primitive (primitive.Print zero_operand); more = λ w. token.Number 0 ∷ token.Semicolon ∷ w; is = λ w. refl }
-line_end (line.AfterPrinted v) = record { form = Primitive (primitive.Print v); more = λ w. token.Semicolon ∷ w; is = λ w. refl }
+line_end line.AfterPrint = record {
+  form = Primitive (primitive.Print zero_operand);
+  more =
+      λ w. token.Number 0 ∷ token.Semicolon ∷ w;
+  is = λ w. refl;
+}
+line_end (line.AfterPrinted v) =
+    record { form = Primitive (primitive.Print v); more = λ w. token.Semicolon ∷ w; is = λ w. refl }
 line_end (line.Branch b h) = branch_end b h
 line_end line.AfterAtomic = record { form = Atomic locking.Inferred End; more = no_block; is = λ w. refl }
 line_end line.AfterAll = record { form = Atomic locking.All End; more = no_block; is = λ w. refl }
@@ -116,26 +186,47 @@ record BodyEnd (kept : List Token → List Token) : Type 0 where
 place_end : (b : BlockView) (p : Partial) → BodyEnd (λ w. block_tokens b (place_tokens p w))
 place_end b place.Start = record { body = b; more = λ w. w; is = λ w. refl }
 place_end b (place.Inside l) = let e = line_end l in
-    record { body = append b e.form; more = e.more; is = λ w. body_tokens_append b e.form w ∙ ap (block_tokens b) (e.is w) }
-place_end b (place.AfterThen t a) = record { body = append b (If t a); more = λ w. w; is = body_tokens_append b (If t a) }
+    record {
+      body = append b e.form;
+      more = e.more;
+      is = λ w. body_tokens_append b e.form w
+          ∙ ap (block_tokens b) (e.is w);
+    }
+place_end b (place.AfterThen t a) =
+    record { body = append b (If t a); more = λ w. w; is = body_tokens_append b (If t a) }
 place_end b (place.AfterElse t a) =
     record { body = append b (IfElse t a End); more = no_block; is = body_tokens_append b (IfElse t a End) }
 
 -- the innermost block becomes a statement of the one around it
-closed : (fs : List Frame) (b : BlockView) (s : StatementView) (kept : List Token → List Token) → ((w : List Token) → statement_tokens s w ≡ kept (token.CloseBrace ∷ w)) →
-    BodyEnd (λ w. frames_tokens fs (block_tokens (append b s) w)) → BodyEnd (λ w. frames_tokens fs (block_tokens b (kept w)))
+closed : (fs : List Frame) (b : BlockView) (s : StatementView) (kept : List Token → List Token)
+    → ((w : List Token) → statement_tokens s w ≡ kept (token.CloseBrace ∷ w)) →
+    BodyEnd (λ w. frames_tokens fs (block_tokens (append b s) w))
+    → BodyEnd (λ w. frames_tokens fs (block_tokens b (kept w)))
 closed fs b s kept h e =
-    record { body = e.body; more = λ w. token.CloseBrace ∷ e.more w; is = λ w. e.is w ∙ ap (frames_tokens fs) (body_tokens_append b s (e.more w) ∙ ap (block_tokens b) (h (e.more w))) }
+    record {
+      body = e.body;
+      more = λ w. token.CloseBrace ∷ e.more w;
+      is =
+          λ w. e.is w ∙ ap (frames_tokens fs) (body_tokens_append b s (e.more w) ∙ ap (block_tokens b) (h (e.more w)));
+    }
 
 frames_end : (fs : List Frame) (b : BlockView) → BodyEnd (λ w. frames_tokens fs (block_tokens b w))
 frames_end [] b = record { body = b; more = λ w. w; is = λ w. refl }
-frames_end (frame.Atomic c l ∷ fs) b = closed fs c (Atomic l b) (λ w. token.Atomic ∷ locking_tokens l (token.OpenBrace ∷ block_tokens b w)) (λ w. refl) (frames_end fs (append c (Atomic l b)))
-frames_end (frame.While c t ∷ fs) b = closed fs c (While t b) (λ w. token.While ∷ test_tokens t (token.OpenBrace ∷ block_tokens b w)) (λ w. refl) (frames_end fs (append c (While t b)))
-frames_end (frame.Then c t ∷ fs) b = closed fs c (If t b) (λ w. token.If ∷ test_tokens t (token.OpenBrace ∷ block_tokens b w)) (λ w. refl) (frames_end fs (append c (If t b)))
+frames_end (frame.Atomic c l ∷ fs) b =
+    closed fs c (Atomic l b) (λ w. token.Atomic ∷ locking_tokens l (token.OpenBrace ∷ block_tokens b w)) (λ w. refl)
+    (frames_end fs (append c (Atomic l b)))
+frames_end (frame.While c t ∷ fs) b =
+    closed fs c (While t b) (λ w. token.While ∷ test_tokens t (token.OpenBrace ∷ block_tokens b w)) (λ w. refl)
+    (frames_end fs (append c (While t b)))
+frames_end (frame.Then c t ∷ fs) b =
+    closed fs c (If t b) (λ w. token.If ∷ test_tokens t (token.OpenBrace ∷ block_tokens b w)) (λ w. refl)
+    (frames_end fs (append c (If t b)))
 frames_end (frame.Else c t a ∷ fs) b =
-    closed fs c (IfElse t a b) (λ w. statement_tokens (If t a) (token.Else ∷ token.OpenBrace ∷ block_tokens b w)) (λ w. refl) (frames_end fs (append c (IfElse t a b)))
+    closed fs c (IfElse t a b) (λ w. statement_tokens (If t a) (token.Else ∷ token.OpenBrace ∷ block_tokens b w))
+    (λ w. refl) (frames_end fs (append c (IfElse t a b)))
 
-stand_end : (fs : List Frame) (b : BlockView) (p : Partial) → BodyEnd (λ w. frames_tokens fs (block_tokens b (place_tokens p w)))
+stand_end : (fs : List Frame) (b : BlockView) (p : Partial)
+    → BodyEnd (λ w. frames_tokens fs (block_tokens b (place_tokens p w)))
 stand_end fs b p = let e = place_end b p in let f = frames_end fs e.body in
     record { body = f.body; more = λ w. e.more (f.more w); is = λ w. f.is w ∙ ap (frames_tokens fs) (e.is (f.more w)) }
 
@@ -145,8 +236,10 @@ record SourceEnd (kept : List Token → List Token) : Type 0 where
   rest : List Token
   is : source_tokens source [] ≡ kept rest
 
-record_end : (s : TreeView) (n : List ℕ) (hs : List (List ℕ)) (fs : List Declaration) (kept : List Token → List Token) (rest : List Token) → Fits part.Records s →
-    record_tokens (record { name = n; hints = hs; fields = fs }) [] ≡ kept rest → SourceEnd (λ w. source_tokens s (kept w))
+record_end : (s : TreeView) (n : List ℕ) (hs : List (List ℕ)) (fs : List Declaration) (kept : List Token → List Token)
+    (rest : List Token) → Fits part.Records s →
+    record_tokens (record { name = n; hints = hs; fields = fs }) [] ≡ kept rest
+    → SourceEnd (λ w. source_tokens s (kept w))
 record_end s n hs fs kept rest h e = record {
   source = with_record s (record { name = n; hints = hs; fields = fs });
   rest = rest;
@@ -154,20 +247,29 @@ record_end s n hs fs kept rest h e = record {
 }
 
 -- a record with one more field and nothing else
-one_field : (n : List ℕ) (hs : List (List ℕ)) (fs : List Declaration) (d : Declaration) → record_tokens (record { name = n; hints = hs; fields = fs ++ d ∷ [] }) [] ≡
-    headed n hs (token.OpenBrace ∷ declarations_tokens fs (kind_token d.kind ∷ token.Name d.name ∷ token.Semicolon ∷ token.CloseBrace ∷ []))
+one_field : (n : List ℕ) (hs : List (List ℕ)) (fs : List Declaration) (d : Declaration)
+    → record_tokens (record { name = n; hints = hs; fields = fs ++ d ∷ [] }) [] ≡
+    headed n hs (token.OpenBrace ∷ declarations_tokens fs
+    (kind_token d.kind ∷ token.Name d.name ∷ token.Semicolon ∷ token.CloseBrace ∷ []))
 one_field n hs fs d = ap (λ x. headed n hs (token.OpenBrace ∷ x)) (declarations_append fs d (token.CloseBrace ∷ []))
 
-record_stage_end : (s : TreeView) (r : RecordStage) → Fits part.Records s → SourceEnd (λ w. source_tokens s (record_stage_tokens r w))
-record_stage_end s in_record.AfterWord h = record_end s (120 ∷ []) [] [] (record_stage_tokens in_record.AfterWord) (token.Name (120 ∷ []) ∷ no_block []) h refl
-record_stage_end s (in_record.Head n hs) h = record_end s n hs [] (record_stage_tokens (in_record.Head n hs)) (no_block []) h refl
+record_stage_end : (s : TreeView) (r : RecordStage) → Fits part.Records s
+    → SourceEnd (λ w. source_tokens s (record_stage_tokens r w))
+record_stage_end s in_record.AfterWord h =
+    record_end s (120 ∷ []) [] [] (record_stage_tokens in_record.AfterWord) (token.Name (120 ∷ []) ∷ no_block []) h refl
+record_stage_end s (in_record.Head n hs) h =
+    record_end s n hs [] (record_stage_tokens (in_record.Head n hs)) (no_block []) h refl
 record_stage_end s (in_record.AfterProtectedBy n hs) h =
-    record_end s n (hs ++ n ∷ []) [] (record_stage_tokens (in_record.AfterProtectedBy n hs)) (token.Name n ∷ no_block []) h (ap (λ x. token.Record ∷ token.Name n ∷ x) (hints_append hs n (no_block [])))
-record_stage_end s (in_record.Fields n hs fs) h = record_end s n hs fs (record_stage_tokens (in_record.Fields n hs fs)) (token.CloseBrace ∷ []) h refl
+    record_end s n (hs ++ n ∷ []) [] (record_stage_tokens (in_record.AfterProtectedBy n hs))
+    (token.Name n ∷ no_block []) h (ap (λ x. token.Record ∷ token.Name n ∷ x) (hints_append hs n (no_block [])))
+record_stage_end s (in_record.Fields n hs fs) h =
+    record_end s n hs fs (record_stage_tokens (in_record.Fields n hs fs)) (token.CloseBrace ∷ []) h refl
 record_stage_end s (in_record.AfterKind n hs fs k) h = let d : Declaration = record { kind = k; name = n } in
-    record_end s n hs (fs ++ d ∷ []) (record_stage_tokens (in_record.AfterKind n hs fs k)) (token.Name n ∷ token.Semicolon ∷ token.CloseBrace ∷ []) h (one_field n hs fs d)
+    record_end s n hs (fs ++ d ∷ []) (record_stage_tokens (in_record.AfterKind n hs fs k))
+    (token.Name n ∷ token.Semicolon ∷ token.CloseBrace ∷ []) h (one_field n hs fs d)
 record_stage_end s (in_record.AfterField n hs fs k f) h = let d : Declaration = record { kind = k; name = f } in
-    record_end s n hs (fs ++ d ∷ []) (record_stage_tokens (in_record.AfterField n hs fs k f)) (token.Semicolon ∷ token.CloseBrace ∷ []) h (one_field n hs fs d)
+    record_end s n hs (fs ++ d ∷ []) (record_stage_tokens (in_record.AfterField n hs fs k f))
+    (token.Semicolon ∷ token.CloseBrace ∷ []) h (one_field n hs fs d)
 
 global_end : (s : TreeView) (r g : List ℕ) (kept : List Token → List Token) (rest : List Token) → Fits part.Globals s →
     global_tokens (record { of = r; name = g }) [] ≡ kept rest → SourceEnd (λ w. source_tokens s (kept w))
@@ -177,14 +279,20 @@ global_end s r g kept rest h e = record {
   is = sym (one_global s (record { of = r; name = g }) [] h) ∙ ap (source_tokens s) e;
 }
 
-global_stage_end : (s : TreeView) (g : GlobalStage) → Fits part.Globals s → SourceEnd (λ w. source_tokens s (global_stage_tokens g w))
+global_stage_end : (s : TreeView) (g : GlobalStage) → Fits part.Globals s
+    → SourceEnd (λ w. source_tokens s (global_stage_tokens g w))
 global_stage_end s in_global.AfterWord h =
-    global_end s (120 ∷ []) (120 ∷ []) (global_stage_tokens in_global.AfterWord) (token.Name (120 ∷ []) ∷ token.Name (120 ∷ []) ∷ token.Semicolon ∷ []) h refl
-global_stage_end s (in_global.AfterRecord r) h = global_end s r r (global_stage_tokens (in_global.AfterRecord r)) (token.Name r ∷ token.Semicolon ∷ []) h refl
-global_stage_end s (in_global.AfterName r g) h = global_end s r g (global_stage_tokens (in_global.AfterName r g)) (token.Semicolon ∷ []) h refl
+    global_end s (120 ∷ []) (120 ∷ []) (global_stage_tokens in_global.AfterWord)
+    (token.Name (120 ∷ []) ∷ token.Name (120 ∷ []) ∷ token.Semicolon ∷ []) h refl
+global_stage_end s (in_global.AfterRecord r) h =
+    global_end s r r (global_stage_tokens (in_global.AfterRecord r)) (token.Name r ∷ token.Semicolon ∷ []) h refl
+global_stage_end s (in_global.AfterName r g) h =
+    global_end s r g (global_stage_tokens (in_global.AfterName r g)) (token.Semicolon ∷ []) h refl
 
-thread_end : (s : TreeView) (n : List ℕ) (ls : List Declaration) (b : BlockView) (kept : List Token → List Token) (rest : List Token) →
-    thread_tokens (record { name = n; locals = ls; body = b }) [] ≡ kept rest → SourceEnd (λ w. source_tokens s (kept w))
+thread_end : (s : TreeView) (n : List ℕ) (ls : List Declaration) (b : BlockView) (kept : List Token → List Token)
+    (rest : List Token) →
+    thread_tokens (record { name = n; locals = ls; body = b }) [] ≡ kept rest
+    → SourceEnd (λ w. source_tokens s (kept w))
 thread_end s n ls b kept rest e = record {
   source = with_thread s (record { name = n; locals = ls; body = b });
   rest = rest;
@@ -192,20 +300,28 @@ thread_end s n ls b kept rest e = record {
 }
 
 -- a thread with one more local and nothing else
-one_local : (n : List ℕ) (ls : List Declaration) (d : Declaration) → thread_tokens (record { name = n; locals = ls ++ d ∷ []; body = End }) [] ≡
+one_local : (n : List ℕ) (ls : List Declaration) (d : Declaration)
+    → thread_tokens (record { name = n; locals = ls ++ d ∷ []; body = End }) [] ≡
     opened n ls (kind_token d.kind ∷ token.Name d.name ∷ token.Semicolon ∷ token.CloseBrace ∷ [])
-one_local n ls d = ap (λ x. token.Thread ∷ token.Name n ∷ token.OpenBrace ∷ x) (declarations_append ls d (token.CloseBrace ∷ []))
+one_local n ls d = ap (λ x. token.Thread ∷ token.Name n ∷ token.OpenBrace ∷ x)
+    (declarations_append ls d (token.CloseBrace ∷ []))
 
 thread_stage_end : (s : TreeView) (t : ThreadStage) → SourceEnd (λ w. source_tokens s (thread_stage_tokens t w))
-thread_stage_end s in_thread.AfterWord = thread_end s (120 ∷ []) [] End (thread_stage_tokens in_thread.AfterWord) (token.Name (120 ∷ []) ∷ no_block []) refl
-thread_stage_end s (in_thread.AfterName n) = thread_end s n [] End (thread_stage_tokens (in_thread.AfterName n)) (no_block []) refl
-thread_stage_end s (in_thread.Locals n ls) = thread_end s n ls End (thread_stage_tokens (in_thread.Locals n ls)) (token.CloseBrace ∷ []) refl
+thread_stage_end s in_thread.AfterWord =
+    thread_end s (120 ∷ []) [] End (thread_stage_tokens in_thread.AfterWord) (token.Name (120 ∷ []) ∷ no_block []) refl
+thread_stage_end s (in_thread.AfterName n) =
+    thread_end s n [] End (thread_stage_tokens (in_thread.AfterName n)) (no_block []) refl
+thread_stage_end s (in_thread.Locals n ls) =
+    thread_end s n ls End (thread_stage_tokens (in_thread.Locals n ls)) (token.CloseBrace ∷ []) refl
 thread_stage_end s (in_thread.AfterKind n ls k) = let d : Declaration = record { kind = k; name = n } in
-    thread_end s n (ls ++ d ∷ []) End (thread_stage_tokens (in_thread.AfterKind n ls k)) (token.Name n ∷ token.Semicolon ∷ token.CloseBrace ∷ []) (one_local n ls d)
+    thread_end s n (ls ++ d ∷ []) End (thread_stage_tokens (in_thread.AfterKind n ls k))
+    (token.Name n ∷ token.Semicolon ∷ token.CloseBrace ∷ []) (one_local n ls d)
 thread_stage_end s (in_thread.AfterLocal n ls k x) = let d : Declaration = record { kind = k; name = x } in
-    thread_end s n (ls ++ d ∷ []) End (thread_stage_tokens (in_thread.AfterLocal n ls k x)) (token.Semicolon ∷ token.CloseBrace ∷ []) (one_local n ls d)
+    thread_end s n (ls ++ d ∷ []) End (thread_stage_tokens (in_thread.AfterLocal n ls k x))
+    (token.Semicolon ∷ token.CloseBrace ∷ []) (one_local n ls d)
 thread_stage_end s (in_thread.Inside n ls x) = let e = stand_end x.frames x.before x.place in
-    thread_end s n ls e.body (thread_stage_tokens (in_thread.Inside n ls x)) (e.more (token.CloseBrace ∷ [])) (ap (opened n ls) (e.is (token.CloseBrace ∷ [])))
+    thread_end s n ls e.body (thread_stage_tokens (in_thread.Inside n ls x)) (e.more (token.CloseBrace ∷ []))
+    (ap (opened n ls) (e.is (token.CloseBrace ∷ [])))
 
 source_end : (s : TreeView) (g : Stage) → Fits (part_in g) s → SourceEnd (λ w. source_tokens s (stage_tokens g w))
 source_end s (stage.Between p) h = record { source = s; rest = []; is = refl }
@@ -221,10 +337,12 @@ start_ordered = (refl, refl)
 
 -- these tokens are what the state keeps of them
 pub kept_from : (front rest : List Token) (r : ReaderView) → after start front ≡ Some r → IsKept (front ++ rest) rest r
-kept_from front rest r h = subst (λ o. IfSome o (IsKept (front ++ rest) rest)) h (after_law start front rest start_ordered)
+kept_from front rest r h = subst (λ o. IfSome o (IsKept (front ++ rest) rest)) h
+    (after_law start front rest start_ordered)
 
 -- what is read from the start on begins the tokens of a tree
-pub finishes : (front : List Token) (r : ReaderView) → after start front ≡ Some r → (s : TreeView) × (rest : List Token) × (source_tokens s [] ≡ front ++ rest)
+pub finishes : (front : List Token) (r : ReaderView) → after start front ≡ Some r → (s : TreeView) × (rest : List Token)
+    × (source_tokens s [] ≡ front ++ rest)
 finishes front r h =
     let ordered : IsOrdered r = (kept_from front [] r h).ordered in
     let e = source_end r.source r.stage ordered in

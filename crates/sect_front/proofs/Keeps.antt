@@ -1,14 +1,21 @@
 -- The tokens that have been read, as the state keeps them.
-use Rattle.std.proofs.Common.{◌≡◌, ℕ, option_and_then, List, [], ◌∷◌, ◌++◌, Option, Some, None, refl, sym, ◌∙◌, ap, IfSome, subst}
+use Rattle.std.proofs.Common.{◌≡◌, ℕ, option_and_then, List, [], ◌∷◌, ◌++◌, Option, Some, None, refl, sym, ◌∙◌, ap}
+use Rattle.std.proofs.Common.{IfSome, subst}
 use Rattle.sect_front.specs.Syntax.{StatementView, BlockView, Primitive, If, IfElse, While, Atomic, End, Then}
 use Rattle.sect_front.specs.TreeView.{TreeView}
 use Rattle.sect_front.specs.Trees.{append}
 use Rattle.sect_front.specs.Grammar.{operand_token, operator_token, comparison_token, kind_token}
-use Rattle.sect_front.specs.steps.Tokens.{locking_tokens, primitive_tokens, test_tokens, statement_tokens, block_tokens, declarations_tokens, hints_tokens, record_tokens, global_tokens, thread_tokens, records_tokens, globals_tokens, threads_tokens, source_tokens}
-use Rattle.sect_front.specs.steps.Advance.{advance_of, assign_step, store_step, branch_step, operand_of, operator_of, comparison_of, goes_to, first_step, ends_with, opens}
-use Rattle.sect_front.specs.steps.Step.{Next, Stays, Ends, Stuck, step_of, step_at, start_step, close_step, moved, moved_if}
+use Rattle.sect_front.specs.steps.Tokens.{locking_tokens, primitive_tokens, test_tokens, statement_tokens, block_tokens}
+use Rattle.sect_front.specs.steps.Tokens.{declarations_tokens, hints_tokens, record_tokens, global_tokens}
+use Rattle.sect_front.specs.steps.Tokens.{thread_tokens, records_tokens, globals_tokens, threads_tokens, source_tokens}
+use Rattle.sect_front.specs.steps.Advance.{advance_of, assign_step, store_step, branch_step, operand_of, operator_of}
+use Rattle.sect_front.specs.steps.Advance.{comparison_of, goes_to, first_step, ends_with, opens}
+use Rattle.sect_front.specs.steps.Step.{Next, Stays, Ends, Stuck, step_of, step_at, start_step, close_step, moved}
+use Rattle.sect_front.specs.steps.Step.{moved_if}
 use Rattle.sect_front.specs.steps.ReaderView.{ReaderView}
-use Rattle.sect_front.specs.steps.Read.{read_one, read_at, begin_step, record_step, global_step, thread_step, after_kind_step, goes_on, after, begun, fresh, with_record, with_global, with_thread}
+use Rattle.sect_front.specs.steps.Read.{read_one, read_at, begin_step, record_step, global_step, thread_step}
+use Rattle.sect_front.specs.steps.Read.{after_kind_step, goes_on, after, begun, fresh, with_record, with_global}
+use Rattle.sect_front.specs.steps.Read.{with_thread}
 use Rattle.sect_front.specs.declared.token.Token.{Token}
 use Rattle.sect_front.specs.declared.token.Token.TheVariants as token
 use Rattle.sect_front.specs.declared.tree.Operand.{Operand}
@@ -120,52 +127,77 @@ comparison_law token.NotEqual = refl
 comparison_law _ = tt
 
 -- a part of a statement, which is one token
-part : {A : Type 0} (back : A → Token) (o : Option A) (f : A → PartialHead) (t : Token) (w : List Token) (front : List Token → List Token) →
-    IfSome o (λ v. back v ≡ t) → ((v : A) → front (back v ∷ w) ≡ line_tokens (f v) w) → Moves (front (t ∷ w)) w (goes_to o f)
+part : {A : Type 0} (back : A → Token) (o : Option A) (f : A → PartialHead) (t : Token) (w : List Token)
+    (front : List Token → List Token) →
+    IfSome o (λ v. back v ≡ t) → ((v : A) → front (back v ∷ w) ≡ line_tokens (f v) w)
+    → Moves (front (t ∷ w)) w (goes_to o f)
 part back None f t w front h k = tt
 part back (Some v) f t w front h k = ap (λ x. front (x ∷ w)) (sym h) ∙ k v
 
-whole_law : (p : leaf.Primitive) (t : Token) (w : List Token) (front : List Token → List Token) → ((u : List Token) → front (token.Semicolon ∷ u) ≡ primitive_tokens p u) → Moves (front (t ∷ w)) w (ends_with p t)
+whole_law : (p : leaf.Primitive) (t : Token) (w : List Token) (front : List Token → List Token)
+    → ((u : List Token) → front (token.Semicolon ∷ u) ≡ primitive_tokens p u) → Moves (front (t ∷ w)) w (ends_with p t)
 whole_law p token.Semicolon w front h = h w
 whole_law p _ w front h = tt
 
-first_law : (x : List ℕ) (v : Operand) (t : Token) (w : List Token) → Moves (token.Name x ∷ token.Equal ∷ operand_token v ∷ t ∷ w) w (first_step x v t)
+first_law : (x : List ℕ) (v : Operand) (t : Token) (w : List Token)
+    → Moves (token.Name x ∷ token.Equal ∷ operand_token v ∷ t ∷ w) w (first_step x v t)
 first_law x v token.Semicolon w = refl
 first_law x v t w =
-    part operator_token (operator_of t) (λ o. line.Assign x (assign.AfterOperator v o)) t w (line_tokens (line.Assign x (assign.AfterFirst v))) (operator_law t) (λ o. refl)
+    part operator_token (operator_of t) (λ o. line.Assign x (assign.AfterOperator v o)) t w
+    (line_tokens (line.Assign x (assign.AfterFirst v))) (operator_law t) (λ o. refl)
 
-assign_law : (x : List ℕ) (a : PartialAssign) (t : Token) (w : List Token) → Moves (line_tokens (line.Assign x a) (t ∷ w)) w (assign_step x a t)
+assign_law : (x : List ℕ) (a : PartialAssign) (t : Token) (w : List Token)
+    → Moves (line_tokens (line.Assign x a) (t ∷ w)) w (assign_step x a t)
 assign_law x assign.AfterEqual (token.Name n) w = refl
 assign_law x assign.AfterEqual token.New w = refl
-assign_law x assign.AfterEqual t w = part operand_token (operand_of t) (λ v. line.Assign x (assign.AfterFirst v)) t w (line_tokens (line.Assign x assign.AfterEqual)) (operand_law t) (λ u. refl)
+assign_law x assign.AfterEqual t w =
+    part operand_token (operand_of t) (λ v. line.Assign x (assign.AfterFirst v)) t w
+    (line_tokens (line.Assign x assign.AfterEqual)) (operand_law t) (λ u. refl)
 assign_law x (assign.AfterFirstName y) token.Dot w = refl
 assign_law x (assign.AfterFirstName y) t w = first_law x (operand.Name y) t w
 assign_law x (assign.AfterFirst v) t w = first_law x v t w
-assign_law x (assign.AfterOperator v o) t w = part operand_token (operand_of t) (λ u. line.Assign x (assign.AfterSecond v o u)) t w (line_tokens (line.Assign x (assign.AfterOperator v o))) (operand_law t) (λ u. refl)
-assign_law x (assign.AfterSecond v o u) t w = whole_law (primitive.Compute x v o u) t w (line_tokens (line.Assign x (assign.AfterSecond v o u))) (λ u. refl)
+assign_law x (assign.AfterOperator v o) t w =
+    part operand_token (operand_of t) (λ u. line.Assign x (assign.AfterSecond v o u)) t w
+    (line_tokens (line.Assign x (assign.AfterOperator v o))) (operand_law t) (λ u. refl)
+assign_law x (assign.AfterSecond v o u) t w =
+    whole_law (primitive.Compute x v o u) t w (line_tokens (line.Assign x (assign.AfterSecond v o u))) (λ u. refl)
 assign_law x assign.AfterNew (token.Name r) w = refl
-assign_law x (assign.AfterRecord r) t w = whole_law (primitive.New x r) t w (line_tokens (line.Assign x (assign.AfterRecord r))) (λ u. refl)
+assign_law x (assign.AfterRecord r) t w =
+    whole_law (primitive.New x r) t w (line_tokens (line.Assign x (assign.AfterRecord r))) (λ u. refl)
 assign_law x (assign.AfterDot y) (token.Name f) w = refl
-assign_law x (assign.AfterField y f) t w = whole_law (primitive.Load x y f) t w (line_tokens (line.Assign x (assign.AfterField y f))) (λ u. refl)
+assign_law x (assign.AfterField y f) t w =
+    whole_law (primitive.Load x y f) t w (line_tokens (line.Assign x (assign.AfterField y f))) (λ u. refl)
 assign_law _ _ _ w = tt
 
-store_law : (y : List ℕ) (s : PartialStore) (t : Token) (w : List Token) → Moves (line_tokens (line.Store y s) (t ∷ w)) w (store_step y s t)
+store_law : (y : List ℕ) (s : PartialStore) (t : Token) (w : List Token)
+    → Moves (line_tokens (line.Store y s) (t ∷ w)) w (store_step y s t)
 store_law y store.AfterDot (token.Name f) w = refl
 store_law y (store.AfterField f) token.Equal w = refl
-store_law y (store.AfterEqual f) t w = part operand_token (operand_of t) (λ v. line.Store y (store.AfterValue f v)) t w (line_tokens (line.Store y (store.AfterEqual f))) (operand_law t) (λ u. refl)
-store_law y (store.AfterValue f v) t w = whole_law (primitive.Store y f v) t w (line_tokens (line.Store y (store.AfterValue f v))) (λ u. refl)
+store_law y (store.AfterEqual f) t w =
+    part operand_token (operand_of t) (λ v. line.Store y (store.AfterValue f v)) t w
+    (line_tokens (line.Store y (store.AfterEqual f))) (operand_law t) (λ u. refl)
+store_law y (store.AfterValue f v) t w =
+    whole_law (primitive.Store y f v) t w (line_tokens (line.Store y (store.AfterValue f v))) (λ u. refl)
 store_law _ _ _ w = tt
 
-opens_law : (b : Branch) (t : Test) (w : List Token) → branch_token b ∷ test_tokens t (token.OpenBrace ∷ w) ≡ move_tokens (opens b t) w
+opens_law : (b : Branch) (t : Test) (w : List Token)
+    → branch_token b ∷ test_tokens t (token.OpenBrace ∷ w) ≡ move_tokens (opens b t) w
 opens_law branch.If t w = refl
 opens_law branch.While t w = refl
 
-branch_law : (b : Branch) (h : PartialBranch) (t : Token) (w : List Token) → Moves (line_tokens (line.Branch b h) (t ∷ w)) w (branch_step b h t)
+branch_law : (b : Branch) (h : PartialBranch) (t : Token) (w : List Token)
+    → Moves (line_tokens (line.Branch b h) (t ∷ w)) w (branch_step b h t)
 branch_law b head.AfterWord token.OpenParen w = refl
-branch_law b head.AfterOpen t w = part operand_token (operand_of t) (λ v. line.Branch b (head.AfterLeft v)) t w (line_tokens (line.Branch b head.AfterOpen)) (operand_law t) (λ u. refl)
-branch_law b (head.AfterLeft v) t w = part comparison_token (comparison_of t) (λ c. line.Branch b (head.AfterComparison v c)) t w (line_tokens (line.Branch b (head.AfterLeft v))) (comparison_law t) (λ u. refl)
+branch_law b head.AfterOpen t w =
+    part operand_token (operand_of t) (λ v. line.Branch b (head.AfterLeft v)) t w
+    (line_tokens (line.Branch b head.AfterOpen)) (operand_law t) (λ u. refl)
+branch_law b (head.AfterLeft v) t w =
+    part comparison_token (comparison_of t) (λ c. line.Branch b (head.AfterComparison v c)) t w
+    (line_tokens (line.Branch b (head.AfterLeft v))) (comparison_law t) (λ u. refl)
 branch_law b (head.AfterComparison v c) t w =
-    part operand_token (operand_of t) (λ u. line.Branch b (head.AfterRight (record { left = v; comparison = c; right = u }))) t w (line_tokens (line.Branch b (head.AfterComparison v c))) (operand_law t) (λ u. refl)
+    part operand_token (operand_of t)
+    (λ u. line.Branch b (head.AfterRight (record { left = v; comparison = c; right = u }))) t w
+    (line_tokens (line.Branch b (head.AfterComparison v c))) (operand_law t) (λ u. refl)
 branch_law b (head.AfterRight t) token.CloseParen w = refl
 branch_law b (head.AfterClose t) token.OpenBrace w = opens_law b t w
 branch_law _ _ _ w = tt
@@ -176,7 +208,9 @@ line_law (line.AfterName x) token.Equal w = refl
 line_law (line.AfterName x) token.Dot w = refl
 line_law (line.Assign x a) t w = assign_law x a t w
 line_law (line.Store y s) t w = store_law y s t w
-line_law line.AfterPrint t w = part operand_token (operand_of t) (λ v. line.AfterPrinted v) t w (line_tokens line.AfterPrint) (operand_law t) (λ u. refl)
+line_law line.AfterPrint t w =
+    part operand_token (operand_of t) (λ v. line.AfterPrinted v) t w (line_tokens line.AfterPrint) (operand_law t)
+    (λ u. refl)
 line_law (line.AfterPrinted v) t w = whole_law (primitive.Print v) t w (line_tokens (line.AfterPrinted v)) (λ u. refl)
 line_law (line.Branch b h) t w = branch_law b h t w
 line_law line.AfterAtomic token.OpenBrace w = refl
@@ -193,15 +227,20 @@ place_tokens (place.AfterElse t a) w = statement_tokens (If t a) (token.Else ∷
 -- the open blocks, the innermost first
 abbrev pub frames_tokens : List Frame → List Token → List Token
 frames_tokens [] w = w
-frames_tokens (frame.Atomic b l ∷ fs) w = frames_tokens fs (block_tokens b (token.Atomic ∷ locking_tokens l (token.OpenBrace ∷ w)))
-frames_tokens (frame.While b t ∷ fs) w = frames_tokens fs (block_tokens b (token.While ∷ test_tokens t (token.OpenBrace ∷ w)))
-frames_tokens (frame.Then b t ∷ fs) w = frames_tokens fs (block_tokens b (token.If ∷ test_tokens t (token.OpenBrace ∷ w)))
-frames_tokens (frame.Else b t a ∷ fs) w = frames_tokens fs (block_tokens b (statement_tokens (If t a) (token.Else ∷ token.OpenBrace ∷ w)))
+frames_tokens (frame.Atomic b l ∷ fs) w =
+    frames_tokens fs (block_tokens b (token.Atomic ∷ locking_tokens l (token.OpenBrace ∷ w)))
+frames_tokens (frame.While b t ∷ fs) w =
+    frames_tokens fs (block_tokens b (token.While ∷ test_tokens t (token.OpenBrace ∷ w)))
+frames_tokens (frame.Then b t ∷ fs) w =
+    frames_tokens fs (block_tokens b (token.If ∷ test_tokens t (token.OpenBrace ∷ w)))
+frames_tokens (frame.Else b t a ∷ fs) w =
+    frames_tokens fs (block_tokens b (statement_tokens (If t a) (token.Else ∷ token.OpenBrace ∷ w)))
 
 abbrev pub stand_tokens : List Frame → BlockView → Partial → List Token → List Token
 stand_tokens fs b p w = frames_tokens fs (block_tokens b (place_tokens p w))
 
-pub body_tokens_append : (b : BlockView) (s : StatementView) (w : List Token) → block_tokens (append b s) w ≡ block_tokens b (statement_tokens s w)
+pub body_tokens_append : (b : BlockView) (s : StatementView) (w : List Token)
+    → block_tokens (append b s) w ≡ block_tokens b (statement_tokens s w)
 body_tokens_append End s w = refl
 body_tokens_append (Then t b) s w = ap (statement_tokens t) (body_tokens_append b s w)
 
@@ -211,17 +250,20 @@ Keeps old (Stays s) w = old ≡ stand_tokens s.frames s.before s.place w
 Keeps old (Ends b) w = old ≡ block_tokens b (token.CloseBrace ∷ w)
 Keeps old Stuck w = Unit {0}
 
-appended : (fs : List Frame) (b : BlockView) (s : StatementView) (w : List Token) → frames_tokens fs (block_tokens b (statement_tokens s w)) ≡ frames_tokens fs (block_tokens (append b s) w)
+appended : (fs : List Frame) (b : BlockView) (s : StatementView) (w : List Token)
+    → frames_tokens fs (block_tokens b (statement_tokens s w)) ≡ frames_tokens fs (block_tokens (append b s) w)
 appended fs b s w = ap (frames_tokens fs) (sym (body_tokens_append b s w))
 
-close_law : (fs : List Frame) (b : BlockView) (w : List Token) → Keeps (frames_tokens fs (block_tokens b (token.CloseBrace ∷ w))) (close_step fs b) w
+close_law : (fs : List Frame) (b : BlockView) (w : List Token)
+    → Keeps (frames_tokens fs (block_tokens b (token.CloseBrace ∷ w))) (close_step fs b) w
 close_law [] b w = refl
 close_law (frame.Atomic c l ∷ fs) b w = appended fs c (Atomic l b) w
 close_law (frame.While c t ∷ fs) b w = appended fs c (While t b) w
 close_law (frame.Then c t ∷ fs) b w = refl
 close_law (frame.Else c t a ∷ fs) b w = appended fs c (IfElse t a b) w
 
-start_law : (fs : List Frame) (b : BlockView) (t : Token) (w : List Token) → Keeps (frames_tokens fs (block_tokens b (t ∷ w))) (start_step fs b t) w
+start_law : (fs : List Frame) (b : BlockView) (t : Token) (w : List Token)
+    → Keeps (frames_tokens fs (block_tokens b (t ∷ w))) (start_step fs b t) w
 start_law fs b (token.Name x) w = refl
 start_law fs b token.Print w = refl
 start_law fs b token.If w = refl
@@ -230,26 +272,30 @@ start_law fs b token.Atomic w = refl
 start_law fs b token.CloseBrace w = close_law fs b w
 start_law fs b _ w = tt
 
-moved_law : (fs : List Frame) (b : BlockView) (m : Move) (w : List Token) → Keeps (frames_tokens fs (block_tokens b (move_tokens m w))) (moved fs b m) w
+moved_law : (fs : List Frame) (b : BlockView) (m : Move) (w : List Token)
+    → Keeps (frames_tokens fs (block_tokens b (move_tokens m w))) (moved fs b m) w
 moved_law fs b (move.To l) w = refl
 moved_law fs b (move.Whole p) w = appended fs b (Primitive p) w
 moved_law fs b (move.OpensThen t) w = refl
 moved_law fs b (move.OpensWhile t) w = refl
 moved_law fs b (move.OpensAtomic l) w = refl
 
-moved_if_law : (fs : List Frame) (b : BlockView) (o : Option Move) (u w : List Token) → IfSome o (λ m. u ≡ move_tokens m w) → Keeps (frames_tokens fs (block_tokens b u)) (moved_if fs b o) w
+moved_if_law : (fs : List Frame) (b : BlockView) (o : Option Move) (u w : List Token)
+    → IfSome o (λ m. u ≡ move_tokens m w) → Keeps (frames_tokens fs (block_tokens b u)) (moved_if fs b o) w
 moved_if_law fs b None u w h = tt
 moved_if_law fs b (Some m) u w h =
     subst (λ x. Keeps (frames_tokens fs (block_tokens b x)) (moved fs b m) w) (sym h) (moved_law fs b m w)
 
-pub stand_law : (fs : List Frame) (b : BlockView) (p : Partial) (t : Token) (w : List Token) → Keeps (stand_tokens fs b p (t ∷ w)) (step_at fs b p t) w
+pub stand_law : (fs : List Frame) (b : BlockView) (p : Partial) (t : Token) (w : List Token)
+    → Keeps (stand_tokens fs b p (t ∷ w)) (step_at fs b p t) w
 stand_law fs b place.Start t w = start_law fs b t w
 stand_law fs b (place.Inside l) t w = moved_if_law fs b (advance_of l t) (line_tokens l (t ∷ w)) w (line_law l t w)
 stand_law fs b (place.AfterThen v a) token.Else w = refl
 stand_law fs b (place.AfterElse v a) token.OpenBrace w = refl
 stand_law fs b (place.AfterElse v a) _ w = tt
 stand_law fs b (place.AfterThen v a) t w =
-    subst (λ x. Keeps x (start_step fs (append b (If v a)) t) w) (sym (appended fs b (If v a) (t ∷ w))) (start_law fs (append b (If v a)) t w)
+    subst (λ x. Keeps x (start_step fs (append b (If v a)) t) w) (sym (appended fs b (If v a) (t ∷ w)))
+    (start_law fs (append b (If v a)) t w)
 
 -- a record whose hints and fields so far are these
 abbrev pub headed : List ℕ → List (List ℕ) → List Token → List Token
@@ -313,44 +359,54 @@ pub record IsKept (old w : List Token) (m : ReaderView) : Type 0 where
   pub ordered : IsOrdered m
 
 pub declarations_append : (ds : List Declaration) (d : Declaration) (w : List Token) →
-    declarations_tokens (ds ++ d ∷ []) w ≡ declarations_tokens ds (kind_token d.kind ∷ token.Name d.name ∷ token.Semicolon ∷ w)
+    declarations_tokens (ds ++ d ∷ []) w ≡ declarations_tokens ds
+    (kind_token d.kind ∷ token.Name d.name ∷ token.Semicolon ∷ w)
 declarations_append [] d w = refl
 declarations_append (e ∷ ds) d w =
     ap (λ x. kind_token e.kind ∷ token.Name e.name ∷ token.Semicolon ∷ x) (declarations_append ds d w)
 
-pub hints_append : (ns : List (List ℕ)) (n : List ℕ) (w : List Token) → hints_tokens (ns ++ n ∷ []) w ≡ hints_tokens ns (token.ProtectedBy ∷ token.Name n ∷ w)
+pub hints_append : (ns : List (List ℕ)) (n : List ℕ) (w : List Token)
+    → hints_tokens (ns ++ n ∷ []) w ≡ hints_tokens ns (token.ProtectedBy ∷ token.Name n ∷ w)
 hints_append [] n w = refl
 hints_append (m ∷ ns) n w = ap (λ x. token.ProtectedBy ∷ token.Name m ∷ x) (hints_append ns n w)
 
-records_append : (rs : List Record) (r : Record) (w : List Token) → records_tokens (rs ++ r ∷ []) w ≡ records_tokens rs (record_tokens r w)
+records_append : (rs : List Record) (r : Record) (w : List Token)
+    → records_tokens (rs ++ r ∷ []) w ≡ records_tokens rs (record_tokens r w)
 records_append [] r w = refl
 records_append (q ∷ rs) r w = ap (record_tokens q) (records_append rs r w)
 
-globals_append : (gs : List GlobalObject) (g : GlobalObject) (w : List Token) → globals_tokens (gs ++ g ∷ []) w ≡ globals_tokens gs (global_tokens g w)
+globals_append : (gs : List GlobalObject) (g : GlobalObject) (w : List Token)
+    → globals_tokens (gs ++ g ∷ []) w ≡ globals_tokens gs (global_tokens g w)
 globals_append [] g w = refl
 globals_append (h ∷ gs) g w = ap (global_tokens h) (globals_append gs g w)
 
-threads_append : (ts : List Thread) (t : Thread) (w : List Token) → threads_tokens (ts ++ t ∷ []) w ≡ threads_tokens ts (thread_tokens t w)
+threads_append : (ts : List Thread) (t : Thread) (w : List Token)
+    → threads_tokens (ts ++ t ∷ []) w ≡ threads_tokens ts (thread_tokens t w)
 threads_append [] t w = refl
 threads_append (u ∷ ts) t w = ap (thread_tokens u) (threads_append ts t w)
 
-pub one_record : (s : TreeView) (r : Record) (w : List Token) → Fits part_of.Records s → source_tokens s (record_tokens r w) ≡ source_tokens (with_record s r) w
+pub one_record : (s : TreeView) (r : Record) (w : List Token) → Fits part_of.Records s
+    → source_tokens s (record_tokens r w) ≡ source_tokens (with_record s r) w
 one_record s r w h = rw (h.0, h.1) (sym (records_append s.records r w))
 
-pub one_global : (s : TreeView) (g : GlobalObject) (w : List Token) → Fits part_of.Globals s → source_tokens s (global_tokens g w) ≡ source_tokens (with_global s g) w
+pub one_global : (s : TreeView) (g : GlobalObject) (w : List Token) → Fits part_of.Globals s
+    → source_tokens s (global_tokens g w) ≡ source_tokens (with_global s g) w
 one_global s g w h = rw h (ap (records_tokens s.records) (sym (globals_append s.globals g w)))
 
-pub one_thread : (s : TreeView) (t : Thread) (w : List Token) → source_tokens s (thread_tokens t w) ≡ source_tokens (with_thread s t) w
+pub one_thread : (s : TreeView) (t : Thread) (w : List Token)
+    → source_tokens s (thread_tokens t w) ≡ source_tokens (with_thread s t) w
 one_thread s t w = ap (λ x. records_tokens s.records (globals_tokens s.globals x)) (sym (threads_append s.threads t w))
 
-begin_law : (s : TreeView) (p : Part) (t : Token) (w : List Token) → Fits p s → IfSome (begin_step s p t) (IsKept (source_tokens s (t ∷ w)) w)
+begin_law : (s : TreeView) (p : Part) (t : Token) (w : List Token) → Fits p s
+    → IfSome (begin_step s p t) (IsKept (source_tokens s (t ∷ w)) w)
 begin_law s part_of.Records token.Record w h = record { is = refl; ordered = h }
 begin_law s part_of.Records token.Global w h = record { is = refl; ordered = h.1 }
 begin_law s part_of.Globals token.Global w h = record { is = refl; ordered = h }
 begin_law s _ token.Thread w h = record { is = refl; ordered = tt }
 begin_law s _ _ w h = tt
 
-record_law : (s : TreeView) (r : RecordStage) (t : Token) (w : List Token) → Fits part_of.Records s → IfSome (record_step s r t) (IsKept (source_tokens s (record_stage_tokens r (t ∷ w))) w)
+record_law : (s : TreeView) (r : RecordStage) (t : Token) (w : List Token) → Fits part_of.Records s
+    → IfSome (record_step s r t) (IsKept (source_tokens s (record_stage_tokens r (t ∷ w))) w)
 record_law s in_record.AfterWord (token.Name n) w h = record { is = refl; ordered = h }
 record_law s (in_record.Head n hs) token.ProtectedBy w h = record { is = refl; ordered = h }
 record_law s (in_record.Head n hs) token.OpenBrace w h = record { is = refl; ordered = h }
@@ -362,10 +418,15 @@ record_law s (in_record.Fields n hs fs) token.CloseBrace w h =
     record { is = one_record s (record { name = n; hints = hs; fields = fs }) w h; ordered = h }
 record_law s (in_record.AfterKind n hs fs k) (token.Name f) w h = record { is = refl; ordered = h }
 record_law s (in_record.AfterField n hs fs k f) token.Semicolon w h =
-    record { is = ap (λ x. source_tokens s (headed n hs (token.OpenBrace ∷ x))) (sym (declarations_append fs (record { kind = k; name = f }) w)); ordered = h }
+    record {
+      is = ap (λ x. source_tokens s (headed n hs (token.OpenBrace ∷ x)))
+          (sym (declarations_append fs (record { kind = k; name = f }) w));
+      ordered = h;
+    }
 record_law _ _ _ w h = tt
 
-global_law : (s : TreeView) (g : GlobalStage) (t : Token) (w : List Token) → Fits part_of.Globals s → IfSome (global_step s g t) (IsKept (source_tokens s (global_stage_tokens g (t ∷ w))) w)
+global_law : (s : TreeView) (g : GlobalStage) (t : Token) (w : List Token) → Fits part_of.Globals s
+    → IfSome (global_step s g t) (IsKept (source_tokens s (global_stage_tokens g (t ∷ w))) w)
 global_law s in_global.AfterWord (token.Name r) w h = record { is = refl; ordered = h }
 global_law s (in_global.AfterRecord r) (token.Name g) w h = record { is = refl; ordered = h }
 global_law s (in_global.AfterName r g) token.Semicolon w h =
@@ -376,34 +437,50 @@ goes_law : (s : TreeView) (n : List ℕ) (ls : List Declaration) (x : Next) (u w
     IfSome (goes_on s n ls x) (IsKept (source_tokens s (opened n ls u)) w)
 goes_law s n ls (Stays x) u w h = record { is = ap (λ y. source_tokens s (opened n ls y)) h; ordered = tt }
 goes_law s n ls (Ends b) u w h =
-    record { is = ap (λ y. source_tokens s (opened n ls y)) h ∙ one_thread s (record { name = n; locals = ls; body = b }) w; ordered = tt }
+    record {
+      is = ap (λ y. source_tokens s (opened n ls y)) h
+          ∙ one_thread s (record { name = n; locals = ls; body = b }) w;
+      ordered = tt;
+    }
 goes_law s n ls Stuck u w h = tt
 
 after_kind_law : (s : TreeView) (n : List ℕ) (ls : List Declaration) (k : Kind) (t : Token) (w : List Token) →
     IfSome (after_kind_step s n ls k t) (IsKept (source_tokens s (opened n ls (kind_token k ∷ t ∷ w))) w)
 after_kind_law s n ls kind.Int t w = tt
-after_kind_law s n ls (kind.Record x) t w = goes_law s n ls (step_of (begun x) t) (token.Name x ∷ t ∷ w) w (stand_law [] End (place.Inside (line.AfterName x)) t w)
+after_kind_law s n ls (kind.Record x) t w =
+    goes_law s n ls (step_of (begun x) t) (token.Name x ∷ t ∷ w) w
+    (stand_law [] End (place.Inside (line.AfterName x)) t w)
 
-thread_law : (s : TreeView) (h : ThreadStage) (t : Token) (w : List Token) → IfSome (thread_step s h t) (IsKept (source_tokens s (thread_stage_tokens h (t ∷ w))) w)
+thread_law : (s : TreeView) (h : ThreadStage) (t : Token) (w : List Token)
+    → IfSome (thread_step s h t) (IsKept (source_tokens s (thread_stage_tokens h (t ∷ w))) w)
 thread_law s in_thread.AfterWord (token.Name n) w = record { is = refl; ordered = tt }
 thread_law s (in_thread.AfterName n) token.OpenBrace w = record { is = refl; ordered = tt }
 thread_law s (in_thread.Locals n ls) token.Int w = record { is = refl; ordered = tt }
 thread_law s (in_thread.Locals n ls) (token.Name x) w = record { is = refl; ordered = tt }
-thread_law s (in_thread.Locals n ls) t w = goes_law s n ls (step_of fresh t) (t ∷ w) w (stand_law [] End place.Start t w)
+thread_law s (in_thread.Locals n ls) t w =
+    goes_law s n ls (step_of fresh t) (t ∷ w) w (stand_law [] End place.Start t w)
 thread_law s (in_thread.AfterKind n ls k) (token.Name x) w = record { is = refl; ordered = tt }
 thread_law s (in_thread.AfterKind n ls k) t w = after_kind_law s n ls k t w
 thread_law s (in_thread.AfterLocal n ls k x) token.Semicolon w =
-    record { is = ap (λ y. source_tokens s (token.Thread ∷ token.Name n ∷ token.OpenBrace ∷ y)) (sym (declarations_append ls (record { kind = k; name = x }) w)); ordered = tt }
-thread_law s (in_thread.Inside n ls x) t w = goes_law s n ls (step_of x t) (stand_tokens x.frames x.before x.place (t ∷ w)) w (stand_law x.frames x.before x.place t w)
+    record {
+      is = ap (λ y. source_tokens s (token.Thread ∷ token.Name n ∷ token.OpenBrace ∷ y))
+          (sym (declarations_append ls (record { kind = k; name = x }) w));
+      ordered = tt;
+    }
+thread_law s (in_thread.Inside n ls x) t w =
+    goes_law s n ls (step_of x t) (stand_tokens x.frames x.before x.place (t ∷ w)) w
+    (stand_law x.frames x.before x.place t w)
 thread_law _ _ _ w = tt
 
-pub read_law : (s : TreeView) (g : Stage) (t : Token) (w : List Token) → Fits (part_in g) s → IfSome (read_at s g t) (IsKept (source_tokens s (stage_tokens g (t ∷ w))) w)
+pub read_law : (s : TreeView) (g : Stage) (t : Token) (w : List Token) → Fits (part_in g) s
+    → IfSome (read_at s g t) (IsKept (source_tokens s (stage_tokens g (t ∷ w))) w)
 read_law s (stage.Between p) t w h = begin_law s p t w h
 read_law s (stage.Record r) t w h = record_law s r t w h
 read_law s (stage.Global g) t w h = global_law s g t w h
 read_law s (stage.Thread x) t w h = thread_law s x t w
 
-IfSome_weaker : (o : Option ReaderView) (P Q : ReaderView → Type 0) → ((x : ReaderView) → P x → Q x) → IfSome o P → IfSome o Q
+IfSome_weaker : (o : Option ReaderView) (P Q : ReaderView → Type 0) → ((x : ReaderView) → P x → Q x) → IfSome o P
+    → IfSome o Q
 IfSome_weaker None P Q f h = tt
 IfSome_weaker (Some x) P Q f h = f x h
 
@@ -414,10 +491,12 @@ more_law : (u w v : List Token) (o : Option ReaderView) → IfSome o (IsKept u (
     ((m : ReaderView) → IsOrdered m → Keeping m w v) → IfSome (option_and_then (λ m. after m w) o) (IsKept u v)
 more_law u w v None h f = tt
 more_law u w v (Some m) h f =
-    IfSome_weaker (after m w) (IsKept (reading_tokens m (w ++ v)) v) (IsKept u v) (λ x e. record { is = h.is ∙ e.is; ordered = e.ordered }) (f m h.ordered)
+    IfSome_weaker (after m w) (IsKept (reading_tokens m (w ++ v)) v) (IsKept u v)
+    (λ x e. record { is = h.is ∙ e.is; ordered = e.ordered }) (f m h.ordered)
 
 -- the tokens so far are those that the state keeps
 pub after_law : (r : ReaderView) (w v : List Token) → IsOrdered r → Keeping r w v
 after_law r [] v h = record { is = refl; ordered = h }
 after_law r (t ∷ w) v h =
-    more_law (reading_tokens r (t ∷ (w ++ v))) w v (read_one r t) (read_law r.source r.stage t (w ++ v) h) (λ m k. after_law m w v k)
+    more_law (reading_tokens r (t ∷ (w ++ v))) w v (read_one r t) (read_law r.source r.stage t (w ++ v) h)
+    (λ m k. after_law m w v k)

@@ -1,5 +1,7 @@
 -- Which token stands at the front of a text.
-use Rattle.std.proofs.Common.{◌≡◌, ℕ, zero, suc, ◌+◌, ◌-◌, ◌*◌, ◌<◌, ◌≤◌, Bool, true, false, not, ◌||◌, ◌&&◌, cond, eqb, nat_lt, List, [], ◌∷◌, Option, Some, None, length, take, drop, refl, sym, ◌∙◌, ap, subst, arith}
+use Rattle.std.proofs.Common.{◌≡◌, ℕ, zero, suc, ◌+◌, ◌-◌, ◌*◌, ◌<◌, ◌≤◌, Bool, true, false, not, ◌||◌, ◌&&◌, cond, eqb}
+use Rattle.std.proofs.Common.{nat_lt, List, [], ◌∷◌, Option, Some, None, length, take, drop, refl, sym, ◌∙◌, ap, subst}
+use Rattle.std.proofs.Common.{arith}
 use Rattle.std.specs.List.{list_all, take_while, prefix_len}
 use Rattle.std.specs.Str.{bytes_eq}
 use Rattle.std.proofs.lemmas.Bool.{eqb-true}
@@ -7,13 +9,16 @@ use Rattle.std.proofs.lemmas.List.Folds.{length-prefix_len}
 use Rattle.std.proofs.lemmas.List.Sums.{prefix_len-le-length}
 use Rattle.sect_front.specs.Words.{is_letter, is_digit, is_name_byte}
 use Rattle.sect_front.specs.Gaps.{begins_with}
-use Rattle.sect_front.specs.steps.Recognition.{keyword_of, keyword_table, token_beside, or_name, word_token, decimal_from, number_of, as_number, single_sign, double_sign, sign_token, spelled}
+use Rattle.sect_front.specs.steps.Recognition.{keyword_of, keyword_table, token_beside, or_name, word_token}
+use Rattle.sect_front.specs.steps.Recognition.{decimal_from, number_of, as_number, single_sign, double_sign, sign_token}
+use Rattle.sect_front.specs.steps.Recognition.{spelled}
 use Rattle.sect_front.specs.Lexeme.{with_length, longest, sign_at, lexeme_of, begins_name}
 use Rattle.sect_front.specs.Lexing.{stands, IsFirst, IsBad}
 use Rattle.sect_front.specs.declared.token.Token.{Token}
 use Rattle.sect_front.specs.declared.token.Token.TheVariants as token
 use Rattle.sect_front.proofs.Spellings.{spelling_back, spelled_proper}
-use Rattle.sect_front.proofs.Choices.{some_inj, no_some, chosen, refused, both, either_right, neither, not_true, if_some, if_some_so}
+use Rattle.sect_front.proofs.Choices.{some_inj, no_some, chosen, refused, both, either_right, neither, not_true}
+use Rattle.sect_front.proofs.Choices.{if_some, if_some_so}
 
 -- the token is recognised at the front, in the first n bytes
 pub record IsFront (t : Token) (n : ℕ) (bytes : List ℕ) : Type 0 where
@@ -27,18 +32,23 @@ abbrev EachToken : (Token → Type 0) → List (List ℕ × Token) → Type 0
 EachToken P [] = Unit {0}
 EachToken P (row ∷ rows) = P row.1 × EachToken P rows
 
-beside_holds : (P : Token → Type 0) (w : List ℕ) (rows : List (List ℕ × Token)) → EachToken P rows → (t : Token) → token_beside w rows ≡ Some t → P t
+beside_holds : (P : Token → Type 0) (w : List ℕ) (rows : List (List ℕ × Token)) → EachToken P rows → (t : Token)
+    → token_beside w rows ≡ Some t → P t
 beside_holds P w [] h t e = absurd (no_some t e)
-beside_holds P w (row ∷ rows) h t e = if_some P (bytes_eq w row.0) row.1 (token_beside w rows) h.0 (beside_holds P w rows h.1) t e
+beside_holds P w (row ∷ rows) h t e =
+    if_some P (bytes_eq w row.0) row.1 (token_beside w rows) h.0 (beside_holds P w rows h.1) t e
 
 -- keywords and names stand where no name byte follows
 stands_word : (w rest : List ℕ) → stands (word_token w) rest ≡ not (begins_name rest)
-stands_word w rest = go (keyword_of w) (beside_holds P w keyword_table (refl, (refl, (refl, (refl, (refl, (refl, (refl, (refl, (refl, (refl, (refl, (refl, (refl, (refl, tt)))))))))))))))
+stands_word w rest = go (keyword_of w)
+    (beside_holds P w keyword_table
+    (refl, (refl, (refl, (refl, (refl, (refl, (refl, (refl, (refl, (refl, (refl, (refl, (refl, (refl, tt)))))))))))))))
   where
     P : Token → Type 0
     P t = stands t rest ≡ not (begins_name rest)
 
-    go : (o : Option Token) → ((t : Token) → o ≡ Some t → stands t rest ≡ not (begins_name rest)) → stands (or_name o w) rest ≡ not (begins_name rest)
+    go : (o : Option Token) → ((t : Token) → o ≡ Some t → stands t rest ≡ not (begins_name rest))
+        → stands (or_name o w) rest ≡ not (begins_name rest)
     go None h = refl
     go (Some t) h = h t refl
 
@@ -49,7 +59,8 @@ digits_are_names n (d ∷ ds) k h =
     let e = both _ _ c.0 in
     rw (either_right (is_letter d) (is_digit d) e.0) (digits_are_names (n * 10 + (d - 48)) ds k c.1)
 
-numbers_are_names : (ds : List ℕ) (t : Token) → as_number (number_of ds) ≡ Some t → (k : ℕ) × (number_of ds ≡ Some k) × (t ≡ token.Number k)
+numbers_are_names : (ds : List ℕ) (t : Token) → as_number (number_of ds) ≡ Some t → (k : ℕ) × (number_of ds ≡ Some k)
+    × (t ≡ token.Number k)
 numbers_are_names ds t h = go (number_of ds) h
   where
     go : (o : Option ℕ) → as_number o ≡ Some t → (k : ℕ) × (o ≡ Some k) × (t ≡ token.Number k)
@@ -61,12 +72,18 @@ record IsWord (bytes : List ℕ) (t : Token) : Type 0 where
   names : list_all is_name_byte bytes ≡ true
   stands_so : (rest : List ℕ) → stands t rest ≡ not (begins_name rest)
 
-letter_word : (b : ℕ) (bs : List ℕ) (t : Token) → is_letter b ≡ true → cond (list_all is_name_byte bs && nat_lt (length bs) 32) (Some (word_token (b ∷ bs))) None ≡ Some t → IsWord (b ∷ bs) t
+letter_word : (b : ℕ) (bs : List ℕ) (t : Token) → is_letter b ≡ true
+    → cond (list_all is_name_byte bs && nat_lt (length bs) 32) (Some (word_token (b ∷ bs))) None ≡ Some t
+    → IsWord (b ∷ bs) t
 letter_word b bs t l h =
     let c = chosen (list_all is_name_byte bs && nat_lt (length bs) 32) (Some (word_token (b ∷ bs))) t h in
     let e = both (list_all is_name_byte bs) (nat_lt (length bs) 32) c.0 in
     let same : word_token (b ∷ bs) ≡ t = some_inj (word_token (b ∷ bs)) t c.1 in
-    record { names = rw (l, e.0) refl; stands_so = λ rest. subst (λ u. stands u rest ≡ not (begins_name rest)) same (stands_word (b ∷ bs) rest) }
+    record {
+      names = rw (l, e.0) refl;
+      stands_so =
+          λ rest. subst (λ u. stands u rest ≡ not (begins_name rest)) same (stands_word (b ∷ bs) rest);
+    }
 
 digit_word : (b : ℕ) (bs : List ℕ) (t : Token) → as_number (number_of (b ∷ bs)) ≡ Some t → IsWord (b ∷ bs) t
 digit_word b bs t h =
@@ -78,7 +95,8 @@ is_word : (b : ℕ) (bs : List ℕ) (t : Token) → is_name_byte b ≡ true → 
 is_word b bs t h e = go (is_letter b) (is_digit b) refl refl h e
   where
     go : (l d : Bool) → is_letter b ≡ l → is_digit b ≡ d → (l || d) ≡ true →
-        cond l (cond (list_all is_name_byte bs && nat_lt (length bs) 32) (Some (word_token (b ∷ bs))) None) (cond d (as_number (number_of (b ∷ bs))) (sign_token b bs)) ≡ Some t → IsWord (b ∷ bs) t
+        cond l (cond (list_all is_name_byte bs && nat_lt (length bs) 32) (Some (word_token (b ∷ bs))) None)
+        (cond d (as_number (number_of (b ∷ bs))) (sign_token b bs)) ≡ Some t → IsWord (b ∷ bs) t
     go true d p q h e = letter_word b bs t p e
     go false true p q h e = digit_word b bs t e
     go false false p q h e = cc
@@ -87,7 +105,8 @@ abbrev pub pair : Token → ℕ → Token × ℕ
 pair t n = (t, n)
 
 -- names end where no byte of a name follows
-word_end : (bytes : List ℕ) (m : ℕ) → m ≤ length bytes → list_all is_name_byte (take m bytes) ≡ true → begins_name (drop m bytes) ≡ false → prefix_len is_name_byte bytes ≡ m
+word_end : (bytes : List ℕ) (m : ℕ) → m ≤ length bytes → list_all is_name_byte (take m bytes) ≡ true
+    → begins_name (drop m bytes) ≡ false → prefix_len is_name_byte bytes ≡ m
 word_end [] zero h all ends = refl
 word_end [] (suc m) h all ends = absurd (omega arith)
 word_end (b ∷ bs) zero h all ends = rw ends refl
@@ -99,22 +118,27 @@ word_names : (bytes : List ℕ) → begins_name (drop (prefix_len is_name_byte b
 word_names [] = refl
 word_names (b ∷ bs) = go (is_name_byte b) refl (word_names bs)
   where
-    go : (c : Bool) → is_name_byte b ≡ c → begins_name (drop (prefix_len is_name_byte bs) bs) ≡ false → begins_name (drop (cond c (1 + prefix_len is_name_byte bs) 0) (b ∷ bs)) ≡ false
+    go : (c : Bool) → is_name_byte b ≡ c → begins_name (drop (prefix_len is_name_byte bs) bs) ≡ false
+        → begins_name (drop (cond c (1 + prefix_len is_name_byte bs) 0) (b ∷ bs)) ≡ false
     go true e h = let one : 1 + prefix_len is_name_byte bs ≡ suc (prefix_len is_name_byte bs) = omega arith in rw one h
     go false e h = e
 
 -- a token that stands at the front and begins as a word is that word
-first_word : (b : ℕ) (bs : List ℕ) (t : Token) (m : ℕ) → is_name_byte b ≡ true → IsFront t m (b ∷ bs) → prefix_len is_name_byte (b ∷ bs) ≡ m
+first_word : (b : ℕ) (bs : List ℕ) (t : Token) (m : ℕ) → is_name_byte b ≡ true → IsFront t m (b ∷ bs)
+    → prefix_len is_name_byte (b ∷ bs) ≡ m
 first_word b bs t zero h f = absurd (omega (arith, f.some))
 first_word b bs t (suc m) h f =
     let w = is_word b (take m bs) t h f.spells in
-    word_end (b ∷ bs) (suc m) f.within w.names (not_true (begins_name (drop m bs)) (sym (w.stands_so (drop m bs)) ∙ f.free))
+    word_end (b ∷ bs) (suc m) f.within w.names
+    (not_true (begins_name (drop m bs)) (sym (w.stands_so (drop m bs)) ∙ f.free))
 
 -- the word at the front stands there, where it is a token
-pub word_first : (b : ℕ) (bs : List ℕ) (t : Token) → is_name_byte b ≡ true → spelled (take_while is_name_byte (b ∷ bs)) ≡ Some t →
+pub word_first : (b : ℕ) (bs : List ℕ) (t : Token) → is_name_byte b ≡ true
+    → spelled (take_while is_name_byte (b ∷ bs)) ≡ Some t →
     IsFront t (length (take_while is_name_byte (b ∷ bs))) (b ∷ bs)
 word_first b bs t h e =
-    let n : length (take_while is_name_byte (b ∷ bs)) ≡ prefix_len is_name_byte (b ∷ bs) = length-prefix_len is_name_byte (b ∷ bs) in
+    let n : length (take_while is_name_byte (b ∷ bs)) ≡ prefix_len is_name_byte (b ∷ bs) =
+    length-prefix_len is_name_byte (b ∷ bs) in
     let one : prefix_len is_name_byte (b ∷ bs) ≡ suc (prefix_len is_name_byte bs) = rw h (omega arith) in
     let w = is_word b (take (prefix_len is_name_byte bs) bs) t h (ap (λ k. spelled (take k (b ∷ bs))) (sym one) ∙ e) in
     rw n (record {
@@ -128,25 +152,37 @@ word_first b bs t h e =
 word_only : (b : ℕ) (bs : List ℕ) (t : Token) (m : ℕ) → is_name_byte b ≡ true → IsFront t m (b ∷ bs) →
     with_length (length (take_while is_name_byte (b ∷ bs))) (spelled (take_while is_name_byte (b ∷ bs))) ≡ Some (t, m)
 word_only b bs t m h f =
-    let n : length (take_while is_name_byte (b ∷ bs)) ≡ m = length-prefix_len is_name_byte (b ∷ bs) ∙ first_word b bs t m h f in
-    let same : spelled (take_while is_name_byte (b ∷ bs)) ≡ Some t = ap (λ k. spelled (take k (b ∷ bs))) (first_word b bs t m h f) ∙ f.spells in
+    let n : length (take_while is_name_byte (b ∷ bs)) ≡ m = length-prefix_len is_name_byte (b ∷ bs)
+    ∙ first_word b bs t m h f in
+    let same : spelled (take_while is_name_byte (b ∷ bs)) ≡ Some t =
+    ap (λ k. spelled (take k (b ∷ bs))) (first_word b bs t m h f) ∙ f.spells in
     ap (with_length (length (take_while is_name_byte (b ∷ bs)))) same ∙ ap (λ k. Some (pair t k)) n
 
 -- where a sign of one byte may stand
-single_stands : (b : ℕ) (rest : List ℕ) → (eqb b 61 ≡ true → not (begins_with 61 rest) ≡ true) → (eqb b 60 ≡ true → not (begins_with 61 rest) ≡ true) → (t : Token) → single_sign b ≡ Some t → stands t rest ≡ true
+single_stands : (b : ℕ) (rest : List ℕ) → (eqb b 61 ≡ true → not (begins_with 61 rest) ≡ true)
+    → (eqb b 60 ≡ true → not (begins_with 61 rest) ≡ true) → (t : Token) → single_sign b ≡ Some t → stands t rest ≡ true
 single_stands b rest equal less =
     let P : Token → Type 0 = λ u. stands u rest ≡ true in
-    if_some P (eqb b 123) token.OpenBrace _ refl (if_some P (eqb b 125) token.CloseBrace _ refl (if_some P (eqb b 40) token.OpenParen _ refl (if_some P (eqb b 41) token.CloseParen _ refl (
-    if_some P (eqb b 59) token.Semicolon _ refl (if_some P (eqb b 46) token.Dot _ refl (if_some_so P (eqb b 61) token.Equal _ equal (if_some P (eqb b 43) token.Plus _ refl (
-    if_some P (eqb b 45) token.Minus _ refl (if_some P (eqb b 42) token.Star _ refl (if_some_so P (eqb b 60) token.Less _ less (λ u f. absurd (no_some u f))))))))))))
+    if_some P (eqb b 123) token.OpenBrace _ refl
+    (if_some P (eqb b 125) token.CloseBrace _ refl
+    (if_some P (eqb b 40) token.OpenParen _ refl (if_some P (eqb b 41) token.CloseParen _ refl (
+    if_some P (eqb b 59) token.Semicolon _ refl
+    (if_some P (eqb b 46) token.Dot _ refl
+    (if_some_so P (eqb b 61) token.Equal _ equal (if_some P (eqb b 43) token.Plus _ refl (
+    if_some P (eqb b 45) token.Minus _ refl
+    (if_some P (eqb b 42) token.Star _ refl
+    (if_some_so P (eqb b 60) token.Less _ less (λ u f. absurd (no_some u f))))))))))))
 
 double_stands : (b : ℕ) (rest : List ℕ) (t : Token) → double_sign b ≡ Some t → stands t rest ≡ true
 double_stands b rest =
     let P : Token → Type 0 = λ u. stands u rest ≡ true in
-    if_some P (eqb b 61) token.EqualEqual _ refl (if_some P (eqb b 33) token.NotEqual _ refl (if_some P (eqb b 60) token.LessEqual _ refl (λ u f. absurd (no_some u f))))
+    if_some P (eqb b 61) token.EqualEqual _ refl
+    (if_some P (eqb b 33) token.NotEqual _ refl
+    (if_some P (eqb b 60) token.LessEqual _ refl (λ u f. absurd (no_some u f))))
 
 -- a sign of one byte that may stand before `=` makes no other sign with it
-no_double : (b : ℕ) (rest : List ℕ) (t : Token) → single_sign b ≡ Some t → stands t rest ≡ true → begins_with 61 rest ≡ true → double_sign b ≡ None
+no_double : (b : ℕ) (rest : List ℕ) (t : Token) → single_sign b ≡ Some t → stands t rest ≡ true
+    → begins_with 61 rest ≡ true → double_sign b ≡ None
 no_double b rest t e free next = go (eqb b 61) (eqb b 33) (eqb b 60) refl refl refl
   where
     clash : (u : Token) → single_sign b ≡ Some u → stands u rest ≡ not (begins_with 61 rest) → ⊥
@@ -155,7 +191,8 @@ no_double b rest t e free next = go (eqb b 61) (eqb b 33) (eqb b 60) refl refl r
         let yes : not (begins_with 61 rest) ≡ true = sym g ∙ (subst (λ x. stands x rest ≡ true) same free) in
         let no : not (begins_with 61 rest) ≡ false = ap not next in cc
 
-    go : (p q r : Bool) → eqb b 61 ≡ p → eqb b 33 ≡ q → eqb b 60 ≡ r → cond p (Some token.EqualEqual) (cond q (Some token.NotEqual) (cond r (Some token.LessEqual) None)) ≡ None
+    go : (p q r : Bool) → eqb b 61 ≡ p → eqb b 33 ≡ q → eqb b 60 ≡ r
+        → cond p (Some token.EqualEqual) (cond q (Some token.NotEqual) (cond r (Some token.LessEqual) None)) ≡ None
     go true q r f g h = absurd (clash token.Equal (ap single_sign (eqb-true b 61 f)) refl)
     go false true r f g h = absurd (no_some t (sym (ap single_sign (eqb-true b 33 g)) ∙ e))
     go false false true f g h = absurd (clash token.Less (ap single_sign (eqb-true b 60 h)) refl)
@@ -165,7 +202,8 @@ no_double b rest t e free next = go (eqb b 61) (eqb b 33) (eqb b 60) refl refl r
 sign_spelled : (b : ℕ) (bs : List ℕ) → is_name_byte b ≡ false → spelled (b ∷ bs) ≡ sign_token b bs
 sign_spelled b bs h = let n = neither (is_letter b) (is_digit b) h in rw (n.0, n.1) refl
 
-sign_first : (b : ℕ) (bs : List ℕ) (t : Token) (n : ℕ) → is_name_byte b ≡ false → sign_at b bs ≡ Some (t, n) → IsFront t n (b ∷ bs)
+sign_first : (b : ℕ) (bs : List ℕ) (t : Token) (n : ℕ) → is_name_byte b ≡ false → sign_at b bs ≡ Some (t, n)
+    → IsFront t n (b ∷ bs)
 sign_first b bs t n h e = go (begins_with 61 bs) refl (double_sign b) refl (single_sign b) refl e
   where
     is : (u : Token) (k : ℕ) → Some (pair u k) ≡ Some (t, n) → IsFront u k (b ∷ bs) → IsFront t n (b ∷ bs)
@@ -174,29 +212,46 @@ sign_first b bs t n h e = go (begins_with 61 bs) refl (double_sign b) refl (sing
     two : (u : Token) (cs : List ℕ) → begins_with 61 cs ≡ true → double_sign b ≡ Some u → IsFront u 2 (b ∷ cs)
     two u [] p q = cc
     two u (c ∷ cs) p q =
-        record { within = omega arith; some = omega arith; spells = sign_spelled b (c ∷ []) h ∙ rw p q; free = double_stands b cs u q }
+        record {
+          within = omega arith;
+          some = omega arith;
+          spells = sign_spelled b (c ∷ []) h ∙ rw p q;
+          free =
+              double_stands b cs u q;
+        }
 
-    one : (u : Token) → single_sign b ≡ Some u → (eqb b 61 ≡ true → not (begins_with 61 bs) ≡ true) → (eqb b 60 ≡ true → not (begins_with 61 bs) ≡ true) → IsFront u 1 (b ∷ bs)
-    one u q k l = record { within = omega arith; some = omega arith; spells = sign_spelled b [] h ∙ q; free = single_stands b bs k l u q }
+    one : (u : Token) → single_sign b ≡ Some u → (eqb b 61 ≡ true → not (begins_with 61 bs) ≡ true)
+        → (eqb b 60 ≡ true → not (begins_with 61 bs) ≡ true) → IsFront u 1 (b ∷ bs)
+    one u q k l = record {
+      within = omega arith;
+      some = omega arith;
+      spells = sign_spelled b [] h ∙ q;
+      free =
+          single_stands b bs k l u q;
+    }
 
     not_double : double_sign b ≡ None → (k : ℕ) → (u : Token) → double_sign k ≡ Some u → eqb b k ≡ true → ⊥
     not_double none k u some same = no_some u (sym none ∙ (ap double_sign (eqb-true b k same) ∙ some))
 
-    go : (c : Bool) → begins_with 61 bs ≡ c → (o : Option Token) → double_sign b ≡ o → (u : Option Token) → single_sign b ≡ u → longest (cond c o None) u ≡ Some (t, n) → IsFront t n (b ∷ bs)
+    go : (c : Bool) → begins_with 61 bs ≡ c → (o : Option Token) → double_sign b ≡ o → (u : Option Token)
+        → single_sign b ≡ u → longest (cond c o None) u ≡ Some (t, n) → IsFront t n (b ∷ bs)
     go true p (Some x) q u r e = is x 2 e (two x bs p q)
     go true p None q None r e = absurd (no_some (t, n) e)
     go true p None q (Some x) r e =
-        is x 1 e (one x r (λ k. absurd (not_double q 61 token.EqualEqual refl k)) (λ k. absurd (not_double q 60 token.LessEqual refl k)))
+        is x 1 e (one x r (λ k. absurd (not_double q 61 token.EqualEqual refl k))
+        (λ k. absurd (not_double q 60 token.LessEqual refl k)))
     go false p o q None r e = absurd (no_some (t, n) e)
     go false p o q (Some x) r e = is x 1 e (one x r (λ k. ap not p) (λ k. ap not p))
 
-sign_only : (b : ℕ) (bs : List ℕ) (t : Token) (n : ℕ) → is_name_byte b ≡ false → IsFront t n (b ∷ bs) → sign_at b bs ≡ Some (t, n)
+sign_only : (b : ℕ) (bs : List ℕ) (t : Token) (n : ℕ) → is_name_byte b ≡ false → IsFront t n (b ∷ bs)
+    → sign_at b bs ≡ Some (t, n)
 sign_only b bs t zero h f = absurd (omega (arith, f.some))
 sign_only b bs t (suc zero) h f =
     let e : single_sign b ≡ Some t = sym (sign_spelled b [] h) ∙ f.spells in
     go (begins_with 61 bs) (λ p. no_double b bs t e f.free p) e
   where
-    go : (c : Bool) → (c ≡ true → double_sign b ≡ None) → single_sign b ≡ Some t → longest (cond c (double_sign b) None) (single_sign b) ≡ Some (t, 1)
+    go : (c : Bool) → (c ≡ true → double_sign b ≡ None) → single_sign b ≡ Some t
+        → longest (cond c (double_sign b) None) (single_sign b) ≡ Some (t, 1)
     go true k e = rw (k refl, e) refl
     go false k e = rw e refl
 sign_only b [] t (suc (suc n)) h f = absurd (omega (arith, f.within))
@@ -211,8 +266,10 @@ pub names_pass : (bytes : List ℕ) → list_all is_name_byte (take_while is_nam
 names_pass [] = refl
 names_pass (b ∷ bs) = go (is_name_byte b) refl (names_pass bs)
   where
-    go : (c : Bool) → is_name_byte b ≡ c → list_all is_name_byte (take (prefix_len is_name_byte bs) bs) ≡ true → list_all is_name_byte (take (cond c (1 + prefix_len is_name_byte bs) 0) (b ∷ bs)) ≡ true
-    go true e h = let one : 1 + prefix_len is_name_byte bs ≡ suc (prefix_len is_name_byte bs) = omega arith in rw one (rw e h)
+    go : (c : Bool) → is_name_byte b ≡ c → list_all is_name_byte (take (prefix_len is_name_byte bs) bs) ≡ true
+        → list_all is_name_byte (take (cond c (1 + prefix_len is_name_byte bs) 0) (b ∷ bs)) ≡ true
+    go true e h = let one : 1 + prefix_len is_name_byte bs ≡ suc (prefix_len is_name_byte bs) = omega arith in
+        rw one (rw e h)
     go false e h = refl
 
 -- what lexeme_of gives stands at the front, and where it gives nothing, nothing does
@@ -221,10 +278,12 @@ lexeme_front [] t n e = absurd (no_some (t, n) e)
 lexeme_front (b ∷ bs) t n e = go (is_name_byte b) refl (spelled (take_while is_name_byte (b ∷ bs))) refl e
   where
     go : (c : Bool) → is_name_byte b ≡ c → (o : Option Token) → spelled (take_while is_name_byte (b ∷ bs)) ≡ o →
-        cond c (with_length (length (take_while is_name_byte (b ∷ bs))) o) (sign_at b bs) ≡ Some (t, n) → IsFront t n (b ∷ bs)
+        cond c (with_length (length (take_while is_name_byte (b ∷ bs))) o) (sign_at b bs) ≡ Some (t, n)
+        → IsFront t n (b ∷ bs)
     go true p None q e = absurd (no_some (t, n) e)
     go true p (Some u) q e =
-        subst (λ y. IsFront y.0 y.1 (b ∷ bs)) (some_inj (u, length (take_while is_name_byte (b ∷ bs))) (t, n) e) (word_first b bs u p q)
+        subst (λ y. IsFront y.0 y.1 (b ∷ bs)) (some_inj (u, length (take_while is_name_byte (b ∷ bs))) (t, n) e)
+        (word_first b bs u p q)
     go false p o q e = sign_first b bs t n p e
 
 -- what stands at the front is what lexeme_of gives
@@ -232,7 +291,9 @@ lexeme_same : (bytes : List ℕ) (t : Token) (n : ℕ) → IsFront t n bytes →
 lexeme_same [] t n f = absurd (omega (arith, f.within, f.some))
 lexeme_same (b ∷ bs) t n f = go (is_name_byte b) refl
   where
-    go : (c : Bool) → is_name_byte b ≡ c → cond c (with_length (length (take_while is_name_byte (b ∷ bs))) (spelled (take_while is_name_byte (b ∷ bs)))) (sign_at b bs) ≡ Some (t, n)
+    go : (c : Bool) → is_name_byte b ≡ c
+        → cond c (with_length (length (take_while is_name_byte (b ∷ bs))) (spelled (take_while is_name_byte (b ∷ bs))))
+        (sign_at b bs) ≡ Some (t, n)
     go true p = word_only b bs t n p f
     go false p = sign_only b bs t n p f
 
@@ -243,7 +304,13 @@ lexeme_first bytes t n e =
 
 pub lexeme_only : (bytes : List ℕ) (t : Token) (n : ℕ) → IsFirst t n bytes → lexeme_of bytes ≡ Some (t, n)
 lexeme_only bytes t n f =
-    lexeme_same bytes t n (record { within = f.within; some = f.some; spells = ap spelled f.spells.is ∙ spelled_proper t f.spells.proper; free = f.free })
+    lexeme_same bytes t n (record {
+      within = f.within;
+      some = f.some;
+      spells = ap spelled f.spells.is
+          ∙ spelled_proper t f.spells.proper;
+      free = f.free;
+    })
 
 pub lexeme_bad : (bytes : List ℕ) → lexeme_of bytes ≡ None → IsBad bytes
 lexeme_bad bytes e t n f = no_some (pair t n) (sym e ∙ lexeme_only bytes t n f)

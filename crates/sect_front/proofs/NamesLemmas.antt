@@ -1,5 +1,7 @@
 -- Lemmas on names.
-use Rattle.std.proofs.Common.{◌≡◌, ℕ, suc, ◌+◌, ◌<◌, ◌≤◌, get_or, eqb, Bool, true, false, not, ◌||◌, ◌&&◌, cond, List, [], ◌∷◌, ◌++◌, map, Option, Some, None, length, replicate, refl, sym, ◌∙◌, ap, arith, length-append, length-drop}
+use Rattle.std.proofs.Common.{◌≡◌, ℕ, suc, ◌+◌, ◌<◌, ◌≤◌, get_or, eqb, Bool, true, false, not, ◌||◌, ◌&&◌, cond, List}
+use Rattle.std.proofs.Common.{[], ◌∷◌, ◌++◌, map, Option, Some, None, length, replicate, refl, sym, ◌∙◌, ap, arith}
+use Rattle.std.proofs.Common.{length-append, length-drop}
 use Rattle.std.proofs.Math.Seq.{take-append_seam}
 use Rattle.std.proofs.lemmas.Bool.{leb-true, le-leb, eq-eqb}
 use Rattle.std.proofs.lemmas.Bool.Decides.{nat_tests}
@@ -39,13 +41,19 @@ padded_name b len e h =
     let front = take-append_seam b (zeros_from (length b)) in
     record {
       fits = omega (arith, (named b h).fits);
-      room = omega (arith, (named b h).fits, length-append b (zeros_from len), length-drop {A = ℕ} len (replicate 32 0));
+      room = omega (
+        arith,
+        (named b h).fits,
+        length-append b (zeros_from len),
+        length-drop {A = ℕ} len (replicate 32 0),
+      );
       padded = rw (← e) (ap (λ x. x ++ zeros_from (length b)) (sym front));
       name = rw (← e) (ap is_name front ∙ h);
     }
 
 -- a table has a word exactly where one of its spellings is the word
-beside_known : (w : List ℕ) (rows : List (List ℕ × Token)) → is_some (token_beside w rows) ≡ list_any (bytes_eq w) (map (λ r. r.0) rows)
+beside_known : (w : List ℕ) (rows : List (List ℕ × Token))
+    → is_some (token_beside w rows) ≡ list_any (bytes_eq w) (map (λ r. r.0) rows)
 beside_known w [] = refl
 beside_known w (row ∷ rows) = go (bytes_eq w row.0) (beside_known w rows)
   where
@@ -66,7 +74,8 @@ keyword_free w = go (keyword_of w) (is_keyword w) (keyword_known w)
     go (Some t) k h = rw (← h) refl
 
 -- a short word that is no keyword is a name
-pub short_name : (w : List ℕ) → (begins is_letter w && list_all is_name_byte w) ≡ true → length w ≤ 32 → is_none (keyword_of w) ≡ is_name w
+pub short_name : (w : List ℕ) → (begins is_letter w && list_all is_name_byte w) ≡ true → length w ≤ 32
+    → is_none (keyword_of w) ≡ is_name w
 short_name w h fits = rw (h, le-leb (length w) 32 fits) (keyword_free w)
 
 all_length : (xs : List ℕ) → list_all is_name_byte xs ≡ true → prefix_len is_name_byte xs ≡ length xs
@@ -78,7 +87,9 @@ some_length : (xs : List ℕ) → list_all is_name_byte xs ≡ false → prefix_
 some_length [] h = cc
 some_length (x ∷ xs) h = go (is_name_byte x) h (λ e. some_length xs e)
   where
-    go : (b : Bool) → (b && list_all is_name_byte xs) ≡ false → (list_all is_name_byte xs ≡ false → prefix_len is_name_byte xs < length xs) → cond b (1 + prefix_len is_name_byte xs) 0 < suc (length xs)
+    go : (b : Bool) → (b && list_all is_name_byte xs) ≡ false
+        → (list_all is_name_byte xs ≡ false → prefix_len is_name_byte xs < length xs)
+        → cond b (1 + prefix_len is_name_byte xs) 0 < suc (length xs)
     go true h k = omega (arith, k h)
     go false h k = omega arith
 
@@ -91,7 +102,8 @@ whole_word xs = go (list_all is_name_byte xs) refl
 
     go : (b : Bool) → list_all is_name_byte xs ≡ b → eqb (length (take_while is_name_byte xs)) (length xs) ≡ b
     go true h = eq-eqb (length (take_while is_name_byte xs)) (length xs) (same ∙ all_length xs h)
-    go false h = let less : length (take_while is_name_byte xs) < length xs = omega (arith, same, some_length xs h) in grind (arith, nat_tests)
+    go false h = let less : length (take_while is_name_byte xs) < length xs = omega (arith, same, some_length xs h) in
+        grind (arith, nat_tests)
 
 small_letter : (b : ℕ) → is_name_byte b ≡ true → b < 128
 small_letter b h = grind (arith, nat_tests)

@@ -11,7 +11,8 @@ use Rattle.sect_front.proofs.Numerals as numerals
 from_is : (n : ℕ) (ds : List ℕ) → decimal_from n ds ≡ numerals.numeral_from 9223372036854775808 n ds
 from_is n [] = refl
 from_is n (d ∷ ds) =
-    ap (λ r. cond (is_digit d && nat_lt (n * 10 + (d - 48)) 9223372036854775808) r None) (from_is (n * 10 + (d - 48)) ds)
+    ap (λ r. cond (is_digit d && nat_lt (n * 10 + (d - 48)) 9223372036854775808) r None)
+    (from_is (n * 10 + (d - 48)) ds)
 
 number_is : (ds : List ℕ) → number_of ds ≡ numerals.numeral 9223372036854775808 ds
 number_is [] = refl

@@ -1,6 +1,7 @@
 -- Numerals below a limit: the numbers that are read are those that are printed.
 use Rattle.std.proofs.Common.{◌≡◌, ◌≢◌, ℕ, zero, suc, ◌+◌, ◌-◌, ◌*◌, ◌/◌, ◌%◌, ◌<◌, ◌≤◌, Bool, true, false, ◌&&◌, cond}
-use Rattle.std.proofs.Common.{eqb, nat_lt, ◌==◌, if◌then◌else◌, List, [], ◌∷◌, ◌++◌, Option, Some, None, length, get_or, refl, sym, ◌∙◌, ap}
+use Rattle.std.proofs.Common.{eqb, nat_lt, ◌==◌, if◌then◌else◌, List, [], ◌∷◌, ◌++◌, Option, Some, None, length, get_or}
+use Rattle.std.proofs.Common.{refl, sym, ◌∙◌, ap}
 use Rattle.std.proofs.Common.{arith, rules}
 use Rattle.std.specs.List.{list_all}
 use Rattle.std.specs.Fmt.{decimal}
@@ -29,14 +30,19 @@ below : (n k : ℕ) → n < k → nat_lt n k ≡ true
 below n k h = grind (arith, nat_tests)
 
 -- one more digit at the end
-last_digit : (limit k : ℕ) (ds : List ℕ) (m d : ℕ) → numeral_from limit k ds ≡ Some m → d < 10 → m * 10 + d < limit → numeral_from limit k (ds ++ (48 + d) ∷ []) ≡ Some (m * 10 + d)
+last_digit : (limit k : ℕ) (ds : List ℕ) (m d : ℕ) → numeral_from limit k ds ≡ Some m → d < 10 → m * 10 + d < limit
+    → numeral_from limit k (ds ++ (48 + d) ∷ []) ≡ Some (m * 10 + d)
 last_digit limit k [] m d h small fits =
     let e : k ≡ m = cc in
     let f : 48 + d - 48 ≡ d = omega arith in
     rw (e, digit_test d small, f, below (m * 10 + d) limit fits) refl
-last_digit limit k (c ∷ ds) m d h small fits = go (is_digit c && nat_lt (k * 10 + (c - 48)) limit) h (λ g. last_digit limit (k * 10 + (c - 48)) ds m d g small fits)
+last_digit limit k (c ∷ ds) m d h small fits =
+    go (is_digit c && nat_lt (k * 10 + (c - 48)) limit) h
+    (λ g. last_digit limit (k * 10 + (c - 48)) ds m d g small fits)
   where
-    go : (b : Bool) → cond b (numeral_from limit (k * 10 + (c - 48)) ds) None ≡ Some m → (numeral_from limit (k * 10 + (c - 48)) ds ≡ Some m → numeral_from limit (k * 10 + (c - 48)) (ds ++ (48 + d) ∷ []) ≡ Some (m * 10 + d)) →
+    go : (b : Bool) → cond b (numeral_from limit (k * 10 + (c - 48)) ds) None ≡ Some m
+        → (numeral_from limit (k * 10 + (c - 48)) ds ≡ Some m
+        → numeral_from limit (k * 10 + (c - 48)) (ds ++ (48 + d) ∷ []) ≡ Some (m * 10 + d)) →
         cond b (numeral_from limit (k * 10 + (c - 48)) (ds ++ (48 + d) ∷ [])) None ≡ Some (m * 10 + d)
     go true g f = f g
     go false g f = cc
@@ -128,8 +134,11 @@ numeral_back limit (d ∷ ds) n some wide h =
     let c = refused (eqb d 48 && nat_lt 0 (length ds)) (numeral_from limit 0 (d ∷ ds)) n h in
     let r = decimal_read limit 0 (d ∷ ds) n c.1 in
     let low : n < limit = r.low (omega arith) in
-    let lead : d ≡ 48 → length (d ∷ ds) ≡ 1 = λ e. alone (eqb d 48) (length ds) (eq-eqb d 48 e) c.0 in
-    (sym (decimal-digits_value model (d ∷ ds) r.digits (omega arith) lead (omega (arith, r.value, low))) ∙ ap decimal r.value, low)
+    let lead : d ≡ 48 → length (d ∷ ds) ≡ 1 = λ e. alone (eqb d 48) (length ds) (eq-eqb d 48 e) c.0 in (
+      sym (decimal-digits_value model (d ∷ ds) r.digits (omega arith) lead (omega (arith, r.value, low)))
+          ∙ ap decimal r.value,
+      low,
+    )
   where
     alone : (b : Bool) (k : ℕ) → b ≡ true → (b && nat_lt 0 k) ≡ false → suc k ≡ 1
     alone true k e f = grind (arith, nat_tests)

@@ -4,7 +4,9 @@ use Rattle.sect_front.specs.Syntax.{StatementView, BlockView, Primitive, If, IfE
 use Rattle.sect_front.specs.TreeView.{TreeView}
 use Rattle.sect_front.specs.Trees.{append}
 use Rattle.sect_front.specs.Grammar.{operand_token, operator_token, comparison_token, kind_token}
-use Rattle.sect_front.specs.steps.Tokens.{primitive_tokens, test_tokens, statement_tokens, block_tokens, declarations_tokens, hints_tokens, record_tokens, thread_tokens, records_tokens, globals_tokens, threads_tokens, source_tokens}
+use Rattle.sect_front.specs.steps.Tokens.{primitive_tokens, test_tokens, statement_tokens, block_tokens}
+use Rattle.sect_front.specs.steps.Tokens.{declarations_tokens, hints_tokens, record_tokens, thread_tokens}
+use Rattle.sect_front.specs.steps.Tokens.{records_tokens, globals_tokens, threads_tokens, source_tokens}
 use Rattle.sect_front.specs.steps.Advance.{operand_of, operator_of, comparison_of}
 use Rattle.sect_front.specs.steps.ReaderView.{ReaderView, reading}
 use Rattle.sect_front.specs.steps.Read.{after}
@@ -90,12 +92,16 @@ module _ (s : TreeView) (n : List ℕ) (ls : List Declaration) where
   ended fs b (IfElse t a c) = at fs (append b (IfElse t a c)) place.Start
   ended fs b (Atomic l a) = at fs (append b (Atomic l a)) place.Start
 
-  assign_passes : (fs : List Frame) (b : BlockView) (x : List ℕ) (v : Operand) (w : List Token) → after (at fs b place.Start) (primitive_tokens (primitive.Assign x v) w) ≡ after (at fs (append b (Primitive (primitive.Assign x v))) place.Start) w
+  assign_passes : (fs : List Frame) (b : BlockView) (x : List ℕ) (v : Operand) (w : List Token)
+      → after (at fs b place.Start) (primitive_tokens (primitive.Assign x v) w) ≡ after
+      (at fs (append b (Primitive (primitive.Assign x v))) place.Start) w
   assign_passes fs b x (operand.Number n) w = refl
   assign_passes fs b x operand.Null w = refl
   assign_passes fs b x (operand.Name n) w = refl
 
-  compute_passes : (fs : List Frame) (b : BlockView) (x : List ℕ) (v : Operand) (o : Operator) (u : Operand) (w : List Token) → after (at fs b place.Start) (primitive_tokens (primitive.Compute x v o u) w) ≡ after (at fs (append b (Primitive (primitive.Compute x v o u))) place.Start) w
+  compute_passes : (fs : List Frame) (b : BlockView) (x : List ℕ) (v : Operand) (o : Operator) (u : Operand)
+      (w : List Token) → after (at fs b place.Start) (primitive_tokens (primitive.Compute x v o u) w) ≡ after
+      (at fs (append b (Primitive (primitive.Compute x v o u))) place.Start) w
   compute_passes fs b x (operand.Number n) operator.Add u w = simp operand_back
   compute_passes fs b x (operand.Number n) operator.Subtract u w = simp operand_back
   compute_passes fs b x (operand.Number n) operator.Multiply u w = simp operand_back
@@ -106,7 +112,8 @@ module _ (s : TreeView) (n : List ℕ) (ls : List Declaration) where
   compute_passes fs b x (operand.Name n) operator.Subtract u w = simp operand_back
   compute_passes fs b x (operand.Name n) operator.Multiply u w = simp operand_back
 
-  primitive_passes : (fs : List Frame) (b : BlockView) (p : leaf.Primitive) (w : List Token) → after (at fs b place.Start) (primitive_tokens p w) ≡ after (at fs (append b (Primitive p)) place.Start) w
+  primitive_passes : (fs : List Frame) (b : BlockView) (p : leaf.Primitive) (w : List Token)
+      → after (at fs b place.Start) (primitive_tokens p w) ≡ after (at fs (append b (Primitive p)) place.Start) w
   primitive_passes fs b (primitive.Assign x v) w = assign_passes fs b x v w
   primitive_passes fs b (primitive.Compute x v o u) w = compute_passes fs b x v o u w
   primitive_passes fs b (primitive.New x r) w = refl
@@ -115,16 +122,19 @@ module _ (s : TreeView) (n : List ℕ) (ls : List Declaration) where
   primitive_passes fs b (primitive.Print v) w = simp operand_back
 
   test_passes : (fs : List Frame) (b : BlockView) (t : Test) (w : List Token) →
-      after (at fs b place.Start) (token.If ∷ test_tokens t (token.OpenBrace ∷ w)) ≡ after (at (frame.Then b t ∷ fs) End place.Start) w
+      after (at fs b place.Start) (token.If ∷ test_tokens t (token.OpenBrace ∷ w)) ≡ after
+      (at (frame.Then b t ∷ fs) End place.Start) w
   test_passes fs b t w = simp (operand_back, comparison_back)
 
   while_passes : (fs : List Frame) (b : BlockView) (t : Test) (w : List Token) →
-      after (at fs b place.Start) (token.While ∷ test_tokens t (token.OpenBrace ∷ w)) ≡ after (at (frame.While b t ∷ fs) End place.Start) w
+      after (at fs b place.Start) (token.While ∷ test_tokens t (token.OpenBrace ∷ w)) ≡ after
+      (at (frame.While b t ∷ fs) End place.Start) w
   while_passes fs b t w = simp (operand_back, comparison_back)
 
   -- after a choice with no else-part the next statement starts as after any other
   settled_next : (fs : List Frame) (b : BlockView) (t : Test) (a : BlockView) (s : StatementView) (w : List Token) →
-      after (at fs b (place.AfterThen t a)) (statement_tokens s w) ≡ after (at fs (append b (If t a)) place.Start) (statement_tokens s w)
+      after (at fs b (place.AfterThen t a)) (statement_tokens s w) ≡ after (at fs (append b (If t a)) place.Start)
+      (statement_tokens s w)
   settled_next fs b t a (Primitive (primitive.Assign x v)) w = refl
   settled_next fs b t a (Primitive (primitive.Compute x v o u)) w = refl
   settled_next fs b t a (Primitive (primitive.New x r)) w = refl
@@ -137,7 +147,8 @@ module _ (s : TreeView) (n : List ℕ) (ls : List Declaration) where
   settled_next fs b t a (Atomic l c) w = refl
 
   settled : (fs : List Frame) (b : BlockView) (s : StatementView) (r : BlockView) (w : List Token) →
-      after (ended fs b s) (block_tokens r (token.CloseBrace ∷ w)) ≡ after (at fs (append b s) place.Start) (block_tokens r (token.CloseBrace ∷ w))
+      after (ended fs b s) (block_tokens r (token.CloseBrace ∷ w)) ≡ after (at fs (append b s) place.Start)
+      (block_tokens r (token.CloseBrace ∷ w))
   settled fs b (Primitive p) r w = refl
   settled fs b (If t a) End w = refl
   settled fs b (If t a) (Then s r) w = settled_next fs b t a s (block_tokens r (token.CloseBrace ∷ w))
@@ -146,23 +157,31 @@ module _ (s : TreeView) (n : List ℕ) (ls : List Declaration) where
   settled fs b (Atomic l a) r w = refl
 
   mutual
-    form_passes : (s : StatementView) (fs : List Frame) (b : BlockView) (w : List Token) → after (at fs b place.Start) (statement_tokens s w) ≡ after (ended fs b s) w
+    form_passes : (s : StatementView) (fs : List Frame) (b : BlockView) (w : List Token)
+        → after (at fs b place.Start) (statement_tokens s w) ≡ after (ended fs b s) w
     form_passes (Primitive p) fs b w = primitive_passes fs b p w
     form_passes (If t a) fs b w =
-        test_passes fs b t _ ∙ (body_passes a (frame.Then b t ∷ fs) End w ∙ ap (λ x. after (at fs b (place.AfterThen t x)) w) (join_end a))
+        test_passes fs b t _ ∙ (body_passes a (frame.Then b t ∷ fs) End w
+        ∙ ap (λ x. after (at fs b (place.AfterThen t x)) w) (join_end a))
     form_passes (IfElse t a c) fs b w =
         test_passes fs b t _ ∙ (body_passes a (frame.Then b t ∷ fs) End _ ∙
-        (ap (λ x. after (at fs b (place.AfterThen t x)) (token.Else ∷ token.OpenBrace ∷ block_tokens c (token.CloseBrace ∷ w))) (join_end a) ∙
-        (body_passes c (frame.Else b t a ∷ fs) End w ∙ ap (λ x. after (at fs (append b (IfElse t a x)) place.Start) w) (join_end c))))
+        (ap (λ x. after (at fs b (place.AfterThen t x))
+        (token.Else ∷ token.OpenBrace ∷ block_tokens c (token.CloseBrace ∷ w))) (join_end a) ∙
+        (body_passes c (frame.Else b t a ∷ fs) End w
+        ∙ ap (λ x. after (at fs (append b (IfElse t a x)) place.Start) w) (join_end c))))
     form_passes (While t a) fs b w =
-        while_passes fs b t _ ∙ (body_passes a (frame.While b t ∷ fs) End w ∙ ap (λ x. after (at fs (append b (While t x)) place.Start) w) (join_end a))
+        while_passes fs b t _ ∙ (body_passes a (frame.While b t ∷ fs) End w
+        ∙ ap (λ x. after (at fs (append b (While t x)) place.Start) w) (join_end a))
     form_passes (Atomic locking.Inferred a) fs b w =
-        body_passes a (frame.Atomic b locking.Inferred ∷ fs) End w ∙ ap (λ x. after (at fs (append b (Atomic locking.Inferred x)) place.Start) w) (join_end a)
+        body_passes a (frame.Atomic b locking.Inferred ∷ fs) End w
+        ∙ ap (λ x. after (at fs (append b (Atomic locking.Inferred x)) place.Start) w) (join_end a)
     form_passes (Atomic locking.All a) fs b w =
-        body_passes a (frame.Atomic b locking.All ∷ fs) End w ∙ ap (λ x. after (at fs (append b (Atomic locking.All x)) place.Start) w) (join_end a)
+        body_passes a (frame.Atomic b locking.All ∷ fs) End w
+        ∙ ap (λ x. after (at fs (append b (Atomic locking.All x)) place.Start) w) (join_end a)
 
     body_passes : (c : BlockView) (fs : List Frame) (b : BlockView) (w : List Token) →
-        after (at fs b place.Start) (block_tokens c (token.CloseBrace ∷ w)) ≡ after (at fs (join b c) place.Start) (token.CloseBrace ∷ w)
+        after (at fs b place.Start) (block_tokens c (token.CloseBrace ∷ w)) ≡ after (at fs (join b c) place.Start)
+        (token.CloseBrace ∷ w)
     body_passes End fs b w = refl
     body_passes (Then s c) fs b w = form_passes s fs b _ ∙ (settled fs b s c w ∙ body_passes c fs (append b s) w)
 
@@ -185,7 +204,8 @@ in_locals s n ls = reading s (stage.Thread (in_thread.Locals n ls))
 
 -- the first statement after the locals starts as any other
 enter : (s : TreeView) (n : List ℕ) (ls : List Declaration) (b : BlockView) (w : List Token) →
-    after (in_locals s n ls) (block_tokens b (token.CloseBrace ∷ w)) ≡ after (at s n ls [] End place.Start) (block_tokens b (token.CloseBrace ∷ w))
+    after (in_locals s n ls) (block_tokens b (token.CloseBrace ∷ w)) ≡ after (at s n ls [] End place.Start)
+    (block_tokens b (token.CloseBrace ∷ w))
 enter s n ls End w = refl
 enter s n ls (Then (Primitive (primitive.Assign x v)) b) w = refl
 enter s n ls (Then (Primitive (primitive.Compute x v o u)) b) w = refl
@@ -199,45 +219,63 @@ enter s n ls (Then (While t a) b) w = refl
 enter s n ls (Then (Atomic l a) b) w = refl
 
 local_passes : (s : TreeView) (n : List ℕ) (ls : List Declaration) (k : Kind) (x : List ℕ) (w : List Token) →
-    after (in_locals s n ls) (kind_token k ∷ token.Name x ∷ token.Semicolon ∷ w) ≡ after (in_locals s n (ls ++ record { kind = k; name = x } ∷ [])) w
+    after (in_locals s n ls) (kind_token k ∷ token.Name x ∷ token.Semicolon ∷ w) ≡ after
+    (in_locals s n (ls ++ record { kind = k; name = x } ∷ [])) w
 local_passes s n ls kind.Int x w = refl
 local_passes s n ls (kind.Record r) x w = refl
 
-locals_pass : (s : TreeView) (n : List ℕ) (ms ls : List Declaration) (w : List Token) → after (in_locals s n ls) (declarations_tokens ms w) ≡ after (in_locals s n (ls ++ ms)) w
+locals_pass : (s : TreeView) (n : List ℕ) (ms ls : List Declaration) (w : List Token)
+    → after (in_locals s n ls) (declarations_tokens ms w) ≡ after (in_locals s n (ls ++ ms)) w
 locals_pass s n [] ls w = ap (λ x. after (in_locals s n x) w) (sym (append-nil ls))
 locals_pass s n (m ∷ ms) ls w =
-    local_passes s n ls m.kind m.name (declarations_tokens ms w) ∙ (locals_pass s n ms (ls ++ m ∷ []) w ∙ ap (λ x. after (in_locals s n x) w) (append_assoc ls (m ∷ []) ms))
+    local_passes s n ls m.kind m.name (declarations_tokens ms w)
+    ∙ (locals_pass s n ms (ls ++ m ∷ []) w ∙ ap (λ x. after (in_locals s n x) w) (append_assoc ls (m ∷ []) ms))
 
-field_passes : (s : TreeView) (n : List ℕ) (hs : List (List ℕ)) (fs : List Declaration) (k : Kind) (x : List ℕ) (w : List Token) →
-    after (in_fields s n hs fs) (kind_token k ∷ token.Name x ∷ token.Semicolon ∷ w) ≡ after (in_fields s n hs (fs ++ record { kind = k; name = x } ∷ [])) w
+field_passes : (s : TreeView) (n : List ℕ) (hs : List (List ℕ)) (fs : List Declaration) (k : Kind) (x : List ℕ)
+    (w : List Token) →
+    after (in_fields s n hs fs) (kind_token k ∷ token.Name x ∷ token.Semicolon ∷ w) ≡ after
+    (in_fields s n hs (fs ++ record { kind = k; name = x } ∷ [])) w
 field_passes s n hs fs kind.Int x w = refl
 field_passes s n hs fs (kind.Record r) x w = refl
 
-fields_pass : (s : TreeView) (n : List ℕ) (hs : List (List ℕ)) (gs fs : List Declaration) (w : List Token) → after (in_fields s n hs fs) (declarations_tokens gs w) ≡ after (in_fields s n hs (fs ++ gs)) w
+fields_pass : (s : TreeView) (n : List ℕ) (hs : List (List ℕ)) (gs fs : List Declaration) (w : List Token)
+    → after (in_fields s n hs fs) (declarations_tokens gs w) ≡ after (in_fields s n hs (fs ++ gs)) w
 fields_pass s n hs [] fs w = ap (λ x. after (in_fields s n hs x) w) (sym (append-nil fs))
 fields_pass s n hs (g ∷ gs) fs w =
-    field_passes s n hs fs g.kind g.name (declarations_tokens gs w) ∙ (fields_pass s n hs gs (fs ++ g ∷ []) w ∙ ap (λ x. after (in_fields s n hs x) w) (append_assoc fs (g ∷ []) gs))
+    field_passes s n hs fs g.kind g.name (declarations_tokens gs w)
+    ∙ (fields_pass s n hs gs (fs ++ g ∷ []) w
+    ∙ ap (λ x. after (in_fields s n hs x) w) (append_assoc fs (g ∷ []) gs))
 
-hints_pass : (s : TreeView) (n : List ℕ) (gs hs : List (List ℕ)) (w : List Token) → after (in_head s n hs) (hints_tokens gs w) ≡ after (in_head s n (hs ++ gs)) w
+hints_pass : (s : TreeView) (n : List ℕ) (gs hs : List (List ℕ)) (w : List Token)
+    → after (in_head s n hs) (hints_tokens gs w) ≡ after (in_head s n (hs ++ gs)) w
 hints_pass s n [] hs w = ap (λ x. after (in_head s n x) w) (sym (append-nil hs))
 hints_pass s n (g ∷ gs) hs w =
     hints_pass s n gs (hs ++ g ∷ []) w ∙ ap (λ x. after (in_head s n x) w) (append_assoc hs (g ∷ []) gs)
 
 record_passes : (rs : List Record) (gs : List GlobalObject) (ts : List Thread) (r : Record) (w : List Token) →
-    after (between (source rs gs ts) part.Records) (record_tokens r w) ≡ after (between (source (rs ++ r ∷ []) gs ts) part.Records) w
+    after (between (source rs gs ts) part.Records) (record_tokens r w) ≡ after
+    (between (source (rs ++ r ∷ []) gs ts) part.Records) w
 record_passes rs gs ts r w =
     let s = source rs gs ts in
-    hints_pass s r.name r.hints [] (token.OpenBrace ∷ declarations_tokens r.fields (token.CloseBrace ∷ w)) ∙ fields_pass s r.name r.hints r.fields [] (token.CloseBrace ∷ w)
+    hints_pass s r.name r.hints [] (token.OpenBrace ∷ declarations_tokens r.fields (token.CloseBrace ∷ w))
+    ∙ fields_pass s r.name r.hints r.fields [] (token.CloseBrace ∷ w)
 
-records_pass : (qs rs : List Record) (w : List Token) → after (between (source rs [] []) part.Records) (records_tokens qs w) ≡ after (between (source (rs ++ qs) [] []) part.Records) w
+records_pass : (qs rs : List Record) (w : List Token)
+    → after (between (source rs [] []) part.Records) (records_tokens qs w) ≡ after
+    (between (source (rs ++ qs) [] []) part.Records) w
 records_pass [] rs w = ap (λ x. after (between (source x [] []) part.Records) w) (sym (append-nil rs))
 records_pass (q ∷ qs) rs w =
-    record_passes rs [] [] q (records_tokens qs w) ∙ (records_pass qs (rs ++ q ∷ []) w ∙ ap (λ x. after (between (source x [] []) part.Records) w) (append_assoc rs (q ∷ []) qs))
+    record_passes rs [] [] q (records_tokens qs w)
+    ∙ (records_pass qs (rs ++ q ∷ []) w
+    ∙ ap (λ x. after (between (source x [] []) part.Records) w) (append_assoc rs (q ∷ []) qs))
 
-globals_more : (rs : List Record) (hs gs : List GlobalObject) (w : List Token) → after (between (source rs gs []) part.Globals) (globals_tokens hs w) ≡ after (between (source rs (gs ++ hs) []) part.Globals) w
+globals_more : (rs : List Record) (hs gs : List GlobalObject) (w : List Token)
+    → after (between (source rs gs []) part.Globals) (globals_tokens hs w) ≡ after
+    (between (source rs (gs ++ hs) []) part.Globals) w
 globals_more rs [] gs w = ap (λ x. after (between (source rs x []) part.Globals) w) (sym (append-nil gs))
 globals_more rs (h ∷ hs) gs w =
-    globals_more rs hs (gs ++ h ∷ []) w ∙ ap (λ x. after (between (source rs x []) part.Globals) w) (append_assoc gs (h ∷ []) hs)
+    globals_more rs hs (gs ++ h ∷ []) w
+    ∙ ap (λ x. after (between (source rs x []) part.Globals) w) (append_assoc gs (h ∷ []) hs)
 
 -- which declarations may come after globals, and after threads
 abbrev after_globals : List GlobalObject → Part
@@ -248,35 +286,49 @@ abbrev after_threads : Part → List Thread → Part
 after_threads p [] = p
 after_threads p (t ∷ ts) = part.Threads
 
-globals_pass : (rs : List Record) (gs : List GlobalObject) (w : List Token) → after (between (source rs [] []) part.Records) (globals_tokens gs w) ≡ after (between (source rs gs []) (after_globals gs)) w
+globals_pass : (rs : List Record) (gs : List GlobalObject) (w : List Token)
+    → after (between (source rs [] []) part.Records) (globals_tokens gs w) ≡ after
+    (between (source rs gs []) (after_globals gs)) w
 globals_pass rs [] w = refl
 globals_pass rs (g ∷ gs) w = globals_more rs gs (g ∷ []) w
 
 -- a thread may come after each declaration
-thread_begins : (s : TreeView) (p : Part) (w : List Token) → after (between s p) (token.Thread ∷ w) ≡ after (reading s (stage.Thread in_thread.AfterWord)) w
+thread_begins : (s : TreeView) (p : Part) (w : List Token)
+    → after (between s p) (token.Thread ∷ w) ≡ after (reading s (stage.Thread in_thread.AfterWord)) w
 thread_begins s part.Records w = refl
 thread_begins s part.Globals w = refl
 thread_begins s part.Threads w = refl
 
-thread_passes : (rs : List Record) (gs : List GlobalObject) (ts : List Thread) (p : Part) (t : Thread) (w : List Token) →
-    after (between (source rs gs ts) p) (thread_tokens t w) ≡ after (between (source rs gs (ts ++ t ∷ [])) part.Threads) w
+thread_passes : (rs : List Record) (gs : List GlobalObject) (ts : List Thread) (p : Part) (t : Thread) (w : List Token)
+    →
+    after (between (source rs gs ts) p) (thread_tokens t w) ≡ after (between (source rs gs (ts ++ t ∷ [])) part.Threads)
+    w
 thread_passes rs gs ts p t w =
     let s = source rs gs ts in
     let inner : List Token = block_tokens t.body (token.CloseBrace ∷ w) in
     thread_begins s p (token.Name t.name ∷ token.OpenBrace ∷ declarations_tokens t.locals inner) ∙
-    (locals_pass s t.name t.locals [] inner ∙ (enter s t.name t.locals t.body w ∙ (body_passes s t.name t.locals t.body [] End w ∙
-    ap (λ x. after (between (source rs gs (ts ++ record { name = t.name; locals = t.locals; body = x } ∷ [])) part.Threads) w) (join_end t.body))))
+    (locals_pass s t.name t.locals [] inner
+    ∙ (enter s t.name t.locals t.body w ∙ (body_passes s t.name t.locals t.body [] End w ∙
+    ap
+    (λ x. after (between (source rs gs (ts ++ record { name = t.name; locals = t.locals; body = x } ∷ []))
+    part.Threads) w) (join_end t.body))))
 
 threads_pass : (rs : List Record) (gs : List GlobalObject) (us ts : List Thread) (p : Part) →
-    after (between (source rs gs ts) p) (threads_tokens us []) ≡ Some (between (source rs gs (ts ++ us)) (after_threads p us))
+    after (between (source rs gs ts) p) (threads_tokens us []) ≡ Some
+    (between (source rs gs (ts ++ us)) (after_threads p us))
 threads_pass rs gs [] ts p = ap (λ x. Some (between (source rs gs x) p)) (sym (append-nil ts))
 threads_pass rs gs (u ∷ us) ts p =
-    thread_passes rs gs ts p u (threads_tokens us []) ∙ threads_more us (ts ++ u ∷ []) ∙ ap (λ x. Some (between (source rs gs x) part.Threads)) (append_assoc ts (u ∷ []) us)
+    thread_passes rs gs ts p u (threads_tokens us []) ∙ threads_more us (ts ++ u ∷ [])
+    ∙ ap (λ x. Some (between (source rs gs x) part.Threads)) (append_assoc ts (u ∷ []) us)
   where
-    threads_more : (us ts : List Thread) → after (between (source rs gs ts) part.Threads) (threads_tokens us []) ≡ Some (between (source rs gs (ts ++ us)) part.Threads)
+    threads_more : (us ts : List Thread)
+        → after (between (source rs gs ts) part.Threads) (threads_tokens us []) ≡ Some
+        (between (source rs gs (ts ++ us)) part.Threads)
     threads_more [] ts = ap (λ x. Some (between (source rs gs x) part.Threads)) (sym (append-nil ts))
     threads_more (v ∷ vs) ts =
-        thread_passes rs gs ts part.Threads v (threads_tokens vs []) ∙ (threads_more vs (ts ++ v ∷ []) ∙ ap (λ x. Some (between (source rs gs x) part.Threads)) (append_assoc ts (v ∷ []) vs))
+        thread_passes rs gs ts part.Threads v (threads_tokens vs [])
+        ∙ (threads_more vs (ts ++ v ∷ [])
+        ∙ ap (λ x. Some (between (source rs gs x) part.Threads)) (append_assoc ts (v ∷ []) vs))
 
 -- which declarations may come after a tree's
 abbrev pub last_part : TreeView → Part
@@ -286,4 +338,5 @@ last_part s = after_threads (after_globals s.globals) s.threads
 pub source_passes : (s : TreeView) → after start (source_tokens s []) ≡ Some (reading s (stage.Between (last_part s)))
 source_passes s =
     records_pass s.records [] (globals_tokens s.globals (threads_tokens s.threads [])) ∙
-    (globals_pass s.records s.globals (threads_tokens s.threads []) ∙ threads_pass s.records s.globals s.threads [] (after_globals s.globals))
+    (globals_pass s.records s.globals (threads_tokens s.threads [])
+    ∙ threads_pass s.records s.globals s.threads [] (after_globals s.globals))

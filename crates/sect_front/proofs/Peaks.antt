@@ -4,7 +4,9 @@ use Rattle.std.proofs.lemmas.List.{take-append-drop}
 use Rattle.sect_front.specs.Syntax.{StatementView, BlockView, Primitive, If, IfElse, While, Atomic, End, Then}
 use Rattle.sect_front.specs.TreeView.{TreeView}
 use Rattle.sect_front.specs.Grammar.{operand_token, operator_token, comparison_token, kind_token, tokens_of}
-use Rattle.sect_front.specs.steps.Tokens.{primitive_tokens, test_tokens, statement_tokens, block_tokens, declarations_tokens, hints_tokens, record_tokens, records_tokens, globals_tokens, threads_tokens}
+use Rattle.sect_front.specs.steps.Tokens.{primitive_tokens, test_tokens, statement_tokens, block_tokens}
+use Rattle.sect_front.specs.steps.Tokens.{declarations_tokens, hints_tokens, record_tokens, records_tokens}
+use Rattle.sect_front.specs.steps.Tokens.{globals_tokens, threads_tokens}
 use Rattle.sect_front.specs.Depth.{statement_depth, block_depth, threads_depth, depth}
 use Rattle.sect_front.specs.Braces.{brace, open_after, IsShallow}
 use Rattle.sect_front.specs.declared.token.Token.{Token}
@@ -83,23 +85,29 @@ peak_append k [] w = omega (arith, peak_from k w)
 peak_append k (t ∷ v) w = omega (arith, peak_append (brace k t) v w, peak_cons t k (v ++ w), peak_cons t k v)
 
 -- a body whose peak is known, and its closing brace
-braced : (k d p : ℕ) (w : List Token) → p ≡ max (k + 1 + d) (peak (k + 1) (token.CloseBrace ∷ w)) → p ≡ max (k + (d + 1)) (peak k w)
+braced : (k d p : ℕ) (w : List Token) → p ≡ max (k + 1 + d) (peak (k + 1) (token.CloseBrace ∷ w))
+    → p ≡ max (k + (d + 1)) (peak k w)
 braced k d p w h = let e : k + 1 - 1 ≡ k = omega arith in omega (arith, ap (λ j. peak j w) e)
 
 mutual
-  form_peak : (k : ℕ) (s : StatementView) (w : List Token) → peak k (statement_tokens s w) ≡ max (k + statement_depth s) (peak k w)
+  form_peak : (k : ℕ) (s : StatementView) (w : List Token)
+      → peak k (statement_tokens s w) ≡ max (k + statement_depth s) (peak k w)
   form_peak k (Primitive p) w = omega (arith, calm_primitive k p w, peak_from k w)
-  form_peak k (If t a) w = calm_test k t (token.OpenBrace ∷ block_tokens a (token.CloseBrace ∷ w)) ∙ braced k (block_depth a) _ w (body_peak (k + 1) a (token.CloseBrace ∷ w))
+  form_peak k (If t a) w = calm_test k t (token.OpenBrace ∷ block_tokens a (token.CloseBrace ∷ w))
+      ∙ braced k (block_depth a) _ w (body_peak (k + 1) a (token.CloseBrace ∷ w))
   form_peak k (IfElse t a b) w =
       let rest : List Token = token.Else ∷ token.OpenBrace ∷ block_tokens b (token.CloseBrace ∷ w) in
       omega (
         arith,
         calm_test k t (token.OpenBrace ∷ block_tokens a (token.CloseBrace ∷ rest)),
-        braced k (block_depth a) (peak (k + 1) (block_tokens a (token.CloseBrace ∷ rest))) rest (body_peak (k + 1) a (token.CloseBrace ∷ rest)),
-        braced k (block_depth b) (peak (k + 1) (block_tokens b (token.CloseBrace ∷ w))) w (body_peak (k + 1) b (token.CloseBrace ∷ w)),
+        braced k (block_depth a) (peak (k + 1) (block_tokens a (token.CloseBrace ∷ rest))) rest
+            (body_peak (k + 1) a (token.CloseBrace ∷ rest)),
+        braced k (block_depth b) (peak (k + 1) (block_tokens b (token.CloseBrace ∷ w))) w
+            (body_peak (k + 1) b (token.CloseBrace ∷ w)),
       )
   form_peak k (While t a) w =
-      calm_test k t (token.OpenBrace ∷ block_tokens a (token.CloseBrace ∷ w)) ∙ braced k (block_depth a) _ w (body_peak (k + 1) a (token.CloseBrace ∷ w))
+      calm_test k t (token.OpenBrace ∷ block_tokens a (token.CloseBrace ∷ w))
+      ∙ braced k (block_depth a) _ w (body_peak (k + 1) a (token.CloseBrace ∷ w))
   form_peak k (Atomic locking.Inferred a) w = braced k (block_depth a) _ w (body_peak (k + 1) a (token.CloseBrace ∷ w))
   form_peak k (Atomic locking.All a) w = braced k (block_depth a) _ w (body_peak (k + 1) a (token.CloseBrace ∷ w))
 
@@ -123,7 +131,13 @@ threads_peak : (ts : List Thread) → peak 0 (threads_tokens ts []) ≡ threads_
 threads_peak [] = refl
 threads_peak (t ∷ ts) =
     let rest : List Token = token.CloseBrace ∷ threads_tokens ts [] in
-    omega (arith, calm_declarations 1 t.locals (block_tokens t.body rest), braced 0 (block_depth t.body) (peak 1 (block_tokens t.body rest)) (threads_tokens ts []) (body_peak 1 t.body rest), threads_peak ts)
+    omega (
+      arith,
+      calm_declarations 1 t.locals (block_tokens t.body rest),
+      braced 0 (block_depth t.body) (peak 1 (block_tokens t.body rest)) (threads_tokens ts [])
+          (body_peak 1 t.body rest),
+      threads_peak ts,
+    )
 
 globals_peak : (gs : List GlobalObject) (w : List Token) → peak 0 (globals_tokens gs w) ≡ peak 0 w
 globals_peak [] w = refl
@@ -141,9 +155,21 @@ records_peak (r ∷ rs) w = omega (arith, record_peak r (records_tokens rs w), r
 
 pub depth_peak : (s : TreeView) → max 1 (peak 0 (tokens_of s)) ≡ max 1 (depth s)
 depth_peak s =
-    omega (arith, ap (peak 0) (tokens_same s), records_peak s.records (globals_tokens s.globals (threads_tokens s.threads [])), globals_peak s.globals (threads_tokens s.threads []), threads_peak s.threads)
+    omega (
+      arith,
+      ap (peak 0) (tokens_same s),
+      records_peak s.records (globals_tokens s.globals (threads_tokens s.threads [])),
+      globals_peak s.globals (threads_tokens s.threads []),
+      threads_peak s.threads,
+    )
 
 -- where the peak is low, every count is
 pub shallow_from : (list : List Token) → peak 0 list ≤ 32 → IsShallow list
 shallow_from list h j lt =
-    omega (arith, h, ap (peak 0) (take-append-drop j list), peak_append 0 (take j list) (drop j list), peak_from (open_after 0 (take j list)) (drop j list))
+    omega (
+      arith,
+      h,
+      ap (peak 0) (take-append-drop j list),
+      peak_append 0 (take j list) (drop j list),
+      peak_from (open_after 0 (take j list)) (drop j list),
+    )

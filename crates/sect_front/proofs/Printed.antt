@@ -1,5 +1,6 @@
 -- What is printed spells the tokens of the tree.
-use Rattle.std.proofs.Common.{◌≡◌, ℕ, ◌-◌, ◌<◌, ◌≤◌, Bool, true, false, eqb, nat_lt, List, [], ◌∷◌, ◌++◌, length, drop, refl, sym, ◌∙◌, ap, subst, arith, append_assoc, length-append}
+use Rattle.std.proofs.Common.{◌≡◌, ℕ, ◌-◌, ◌<◌, ◌≤◌, Bool, true, false, eqb, nat_lt, List, [], ◌∷◌, ◌++◌, length, drop}
+use Rattle.std.proofs.Common.{refl, sym, ◌∙◌, ap, subst, arith, append_assoc, length-append}
 use Rattle.std.specs.List.{list_all, flat_map}
 use Rattle.std.specs.Fmt.{decimal}
 use Rattle.std.proofs.Math.Seq.{take-append_seam}
@@ -8,7 +9,8 @@ use Rattle.sect_front.specs.Words.{is_letter, is_digit, begins}
 use Rattle.sect_front.specs.Gaps.{is_blank, after_gap}
 use Rattle.sect_front.specs.TreeView.{TreeView}
 use Rattle.sect_front.specs.Depth.{depth}
-use Rattle.sect_front.specs.Grammar.{in_braces, declaration_list, hint_list, record_list, global_list, thread_list, statements_list, tokens_of}
+use Rattle.sect_front.specs.Grammar.{in_braces, declaration_list, hint_list, record_list, global_list, thread_list}
+use Rattle.sect_front.specs.Grammar.{statements_list, tokens_of}
 use Rattle.sect_front.specs.Spelling.{spelling_of, is_proper}
 use Rattle.sect_front.specs.Lexing.{stands, IsFirst, Reaches}
 use Rattle.sect_front.specs.Faults.{tokens_in}
@@ -34,13 +36,27 @@ record IsSolid (bytes : List ℕ) : Type 0 where
 
 name_solid : (n : List ℕ) → begins is_letter n ≡ true → IsSolid n
 name_solid [] h = cc
-name_solid (b ∷ bs) h = record { first = b; others = bs; is = refl; no_blank = grind (arith, nat_tests); no_slash = grind (arith, nat_tests) }
+name_solid (b ∷ bs) h = record {
+  first = b;
+  others = bs;
+  is = refl;
+  no_blank = grind (arith, nat_tests);
+  no_slash =
+      grind (arith, nat_tests);
+}
 
 digits_solid : (ds : List ℕ) → list_all is_digit ds ≡ true → 0 < length ds → IsSolid ds
 digits_solid [] h some = absurd (omega arith)
 digits_solid (d ∷ ds) h some =
     let digit = (both (is_digit d) (list_all is_digit ds) h).0 in
-    record { first = d; others = ds; is = refl; no_blank = grind (arith, nat_tests); no_slash = grind (arith, nat_tests) }
+    record {
+      first = d;
+      others = ds;
+      is = refl;
+      no_blank = grind (arith, nat_tests);
+      no_slash =
+          grind (arith, nat_tests);
+    }
 
 below : (a b : ℕ) → nat_lt a b ≡ true → a < b
 below a b h = grind (arith, nat_tests)
@@ -124,7 +140,8 @@ solid_gap bytes w s = rw s.is (rw (s.no_blank, s.no_slash) refl)
 
 spread_gap : (w : List Token) → list_all is_proper w ≡ true → after_gap (spread w) ≡ spread w
 spread_gap [] h = refl
-spread_gap (t ∷ w) h = solid_gap (spelling_of t) (separator t ∷ spread w) (solid t (both (is_proper t) (list_all is_proper w) h).0)
+spread_gap (t ∷ w) h = solid_gap (spelling_of t) (separator t ∷ spread w)
+    (solid t (both (is_proper t) (list_all is_proper w) h).0)
 
 blank_gap : (b : ℕ) (w : List ℕ) → is_blank b ≡ true → after_gap (b ∷ w) ≡ after_gap w
 blank_gap b w h = rw h refl
@@ -148,7 +165,8 @@ record IsReached (total : ℕ) (bytes : List ℕ) (w : List Token) : Type 0 wher
   reaches : Reaches total bytes (places_of total w) rest
   gap : after_gap rest ≡ []
 
-first_printed : (t : Token) (w : List ℕ) → is_proper t ≡ true → IsFirst t (length (spelling_of t)) (spelling_of t ++ separator t ∷ w)
+first_printed : (t : Token) (w : List ℕ) → is_proper t ≡ true
+    → IsFirst t (length (spelling_of t)) (spelling_of t ++ separator t ∷ w)
 first_printed t w h =
     let s = solid t h in
     let bytes : List ℕ = spelling_of t ++ separator t ∷ w in
@@ -159,11 +177,13 @@ first_printed t w h =
       free = ap (stands t) (drop_front (spelling_of t) (separator t ∷ w)) ∙ stands_before t w;
     }
 
-reach : (total : ℕ) (bytes : List ℕ) (w : List Token) → list_all is_proper w ≡ true → after_gap bytes ≡ spread w → length (spread w) ≤ total → IsReached total bytes w
+reach : (total : ℕ) (bytes : List ℕ) (w : List Token) → list_all is_proper w ≡ true → after_gap bytes ≡ spread w
+    → length (spread w) ≤ total → IsReached total bytes w
 reach total bytes [] h gap fits = record { rest = bytes; reaches = refl; gap = gap }
 reach total bytes (t ∷ w) h gap fits =
     let proper = both (is_proper t) (list_all is_proper w) h in
-    let next : drop (length (spelling_of t)) (after_gap bytes) ≡ separator t ∷ spread w = ap (drop (length (spelling_of t))) gap ∙ drop_front (spelling_of t) (separator t ∷ spread w) in
+    let next : drop (length (spelling_of t)) (after_gap bytes) ≡ separator t ∷ spread w =
+    ap (drop (length (spelling_of t))) gap ∙ drop_front (spelling_of t) (separator t ∷ spread w) in
     let more = reach total (drop (length (spelling_of t)) (after_gap bytes)) w proper.1
     (ap after_gap next ∙ (blank_gap (separator t) (spread w) (separator_blank t) ∙ spread_gap w proper.1))
     (omega (arith, fits, length-append (spelling_of t) (separator t ∷ spread w))) in
@@ -195,7 +215,8 @@ ends_snoc [] = refl
 ends_snoc (t ∷ []) = refl
 ends_snoc (t ∷ u ∷ v) = ends_snoc (u ∷ v)
 
-ends_each : {A : Type 0} (f : A → List Token) (xs : List A) → ((x : A) → ends_line (f x) ≡ true) → ends_line (flat_map f xs) ≡ true
+ends_each : {A : Type 0} (f : A → List Token) (xs : List A) → ((x : A) → ends_line (f x) ≡ true)
+    → ends_line (flat_map f xs) ≡ true
 ends_each f [] h = refl
 ends_each f (x ∷ xs) h = ends_append (f x) (flat_map f xs) (h x) (ends_each f xs h)
 
@@ -203,18 +224,21 @@ record_ends : (r : Record) → ends_line (record_list r) ≡ true
 record_ends r =
     let fields : List Token = flat_map declaration_list r.fields in
     let front : List Token = token.Record ∷ token.Name r.name ∷ flat_map hint_list r.hints in
-    let all : front ++ in_braces fields ≡ (front ++ token.OpenBrace ∷ fields) ++ token.CloseBrace ∷ [] = sym (append_assoc front (token.OpenBrace ∷ fields) (token.CloseBrace ∷ [])) in
+    let all : front ++ in_braces fields ≡ (front ++ token.OpenBrace ∷ fields) ++ token.CloseBrace ∷ [] =
+    sym (append_assoc front (token.OpenBrace ∷ fields) (token.CloseBrace ∷ [])) in
     ap ends_line all ∙ ends_snoc (front ++ token.OpenBrace ∷ fields)
 
 thread_ends : (t : Thread) → ends_line (thread_list t) ≡ true
-thread_ends t = ends_snoc (token.Thread ∷ token.Name t.name ∷ token.OpenBrace ∷ flat_map declaration_list t.locals ++ statements_list t.body)
+thread_ends t = ends_snoc (token.Thread ∷ token.Name t.name ∷ token.OpenBrace ∷ flat_map declaration_list t.locals
+    ++ statements_list t.body)
 
 tree_ends : (tree : TreeView) → ends_line (tokens_of tree) ≡ true
 tree_ends tree =
     let records : List Token = flat_map record_list tree.records in
     let globals : List Token = flat_map global_list tree.globals in
     ends_append (records ++ globals) (flat_map thread_list tree.threads)
-    (ends_append records globals (ends_each record_list tree.records record_ends) (ends_each global_list tree.globals (λ g. refl)))
+    (ends_append records globals (ends_each record_list tree.records record_ends)
+    (ends_each global_list tree.globals (λ g. refl)))
     (ends_each thread_list tree.threads thread_ends)
 
 same_number : (a b : ℕ) → eqb a b ≡ true → a ≡ b
@@ -231,14 +255,21 @@ pub record IsPrinted (tree : TreeView) (text : List ℕ) : Type 0 where
   pub spells : IsTextOf text tree
   pub reads_back : length text ≤ 1048576 → IsSpelled text tree
 
-printed_spread : (tree : TreeView) → list_all is_proper (tokens_of tree) ≡ true → depth tree ≤ 32 → IsPrinted tree (spread (tokens_of tree))
+printed_spread : (tree : TreeView) → list_all is_proper (tokens_of tree) ≡ true → depth tree ≤ 32
+    → IsPrinted tree (spread (tokens_of tree))
 printed_spread tree proper low =
     let list : List Token = tokens_of tree in
     let total : ℕ = length (spread list) in
-    let r = reach (length (spread (tokens_of tree))) (spread (tokens_of tree)) (tokens_of tree) proper (spread_gap (tokens_of tree) proper) (omega arith) in
+    let r = reach (length (spread (tokens_of tree))) (spread (tokens_of tree)) (tokens_of tree) proper
+    (spread_gap (tokens_of tree) proper) (omega arith) in
     record {
       layout = spread_layout (tokens_of tree) (tree_ends tree);
-      spells = record { places = places_of total list; spells = (r.rest, r.reaches, r.gap); tokens = sym (tokens_of_places total list) };
+      spells = record {
+        places = places_of total list;
+        spells = (r.rest, r.reaches, r.gap);
+        tokens =
+            sym (tokens_of_places total list);
+      };
       reads_back = λ fits. record {
         fits = fits;
         places = places_of total list;
@@ -247,9 +278,11 @@ printed_spread tree proper low =
       };
     }
 
-pub printed : (tree : TreeView) (text : List ℕ) → text ≡ spread (tokens_of tree) → list_all is_proper (tokens_of tree) ≡ true → depth tree ≤ 32 → IsPrinted tree text
+pub printed : (tree : TreeView) (text : List ℕ) → text ≡ spread (tokens_of tree)
+    → list_all is_proper (tokens_of tree) ≡ true → depth tree ≤ 32 → IsPrinted tree text
 printed tree text e proper low = subst (IsPrinted tree) (sym e) (printed_spread tree proper low)
 
 -- a tree without declarations has no tokens
-pub no_tokens : (tree : TreeView) → (tree.records ≡ []) × (tree.globals ≡ []) × (tree.threads ≡ []) → tokens_of tree ≡ []
+pub no_tokens : (tree : TreeView) → (tree.records ≡ []) × (tree.globals ≡ []) × (tree.threads ≡ [])
+    → tokens_of tree ≡ []
 no_tokens tree h = rw (h.0, h.1, h.2) refl

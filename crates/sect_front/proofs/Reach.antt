@@ -1,5 +1,7 @@
 -- How the tokens of a text follow one another.
-use Rattle.std.proofs.Common.{◌≡◌, ◌≢◌, ℕ, zero, suc, ◌+◌, ◌<◌, ◌≤◌, Bool, true, false, not, ◌&&◌, cond, eqb, List, [], ◌∷◌, ◌++◌, Some, None, length, drop, get_or, refl, sym, ◌∙◌, ap, subst, arith, length-drop}
+use Rattle.std.proofs.Common.{◌≡◌, ◌≢◌, ℕ, zero, suc, ◌+◌, ◌<◌, ◌≤◌, Bool, true, false, not, ◌&&◌, cond, eqb, List, []}
+use Rattle.std.proofs.Common.{◌∷◌, ◌++◌, Some, None, length, drop, get_or, refl, sym, ◌∙◌, ap, subst, arith}
+use Rattle.std.proofs.Common.{length-drop}
 use Rattle.std.specs.List.{slice_get}
 use Rattle.std.proofs.lemmas.Option.{slice_get-get_or}
 use Rattle.sect_front.specs.Gaps.{begins_with, after_gap, skip, is_blank}
@@ -18,10 +20,13 @@ pub record Reached (bytes : List ℕ) (ps : List TokenAt) (here : List ℕ) : Ty
 
 skip_fits : (c : Bool) (bytes : List ℕ) → length (skip c bytes) ≤ length bytes
 skip_fits c [] = omega arith
-skip_fits c (b ∷ bs) = go c (is_blank b) (eqb b 47 && begins_with 47 bs) (skip_fits (not (eqb b 10)) bs) (skip_fits false bs) (skip_fits true bs)
+skip_fits c (b ∷ bs) = go c (is_blank b) (eqb b 47 && begins_with 47 bs) (skip_fits (not (eqb b 10)) bs)
+    (skip_fits false bs) (skip_fits true bs)
   where
-    go : (c d e : Bool) → length (skip (not (eqb b 10)) bs) ≤ length bs → length (skip false bs) ≤ length bs → length (skip true bs) ≤ length bs →
-        length (cond c (skip (not (eqb b 10)) bs) (cond d (skip false bs) (cond e (skip true bs) (b ∷ bs)))) ≤ suc (length bs)
+    go : (c d e : Bool) → length (skip (not (eqb b 10)) bs) ≤ length bs → length (skip false bs) ≤ length bs
+        → length (skip true bs) ≤ length bs →
+        length (cond c (skip (not (eqb b 10)) bs) (cond d (skip false bs) (cond e (skip true bs) (b ∷ bs)))) ≤ suc
+        (length bs)
     go true d e h k l = omega arith
     go false true e h k l = omega arith
     go false false true h k l = omega arith
@@ -33,18 +38,23 @@ gap_fits bytes = skip_fits false bytes
 pub reached_none : (bytes : List ℕ) → Reached bytes [] (after_gap bytes)
 reached_none bytes = record { rest = bytes; reaches = refl; gap = refl; fits = gap_fits bytes }
 
-reaches_more : (total : ℕ) (bytes : List ℕ) (ps : List TokenAt) (rest : List ℕ) (p : TokenAt) (n : ℕ) → Reaches total bytes ps rest →
-    p.at + length (after_gap rest) ≡ total → IsFirst p.token n (after_gap rest) → Reaches total bytes (ps ++ p ∷ []) (drop n (after_gap rest))
+reaches_more : (total : ℕ) (bytes : List ℕ) (ps : List TokenAt) (rest : List ℕ) (p : TokenAt) (n : ℕ)
+    → Reaches total bytes ps rest →
+    p.at + length (after_gap rest) ≡ total → IsFirst p.token n (after_gap rest)
+    → Reaches total bytes (ps ++ p ∷ []) (drop n (after_gap rest))
 reaches_more total bytes [] rest p n h at f =
     subst (λ x. Reaches total x (p ∷ []) (drop n (after_gap rest))) (sym h) (n, at, f, refl)
-reaches_more total bytes (q ∷ ps) rest p n h at f = (h.0, h.1, h.2, reaches_more total (drop h.0 (after_gap bytes)) ps rest p n h.3 at f)
+reaches_more total bytes (q ∷ ps) rest p n h at f =
+    (h.0, h.1, h.2, reaches_more total (drop h.0 (after_gap bytes)) ps rest p n h.3 at f)
 
 pub reached_more : (bytes : List ℕ) (ps : List TokenAt) (here : List ℕ) (p : TokenAt) (n : ℕ) → Reached bytes ps here →
-    p.at + length here ≡ length bytes → lexeme_of here ≡ Some (p.token, n) → Reached bytes (ps ++ p ∷ []) (after_gap (drop n here))
+    p.at + length here ≡ length bytes → lexeme_of here ≡ Some (p.token, n)
+    → Reached bytes (ps ++ p ∷ []) (after_gap (drop n here))
 reached_more bytes ps here p n r at f = record {
   rest = drop n here;
   reaches = subst (λ x. Reaches (length bytes) bytes (ps ++ p ∷ []) (drop n x)) r.gap
-      (reaches_more (length bytes) bytes ps r.rest p n r.reaches (ap (λ x. p.at + length x) r.gap ∙ at) (subst (λ x. IsFirst p.token n x) (sym r.gap) (lexeme_first here p.token n f)));
+      (reaches_more (length bytes) bytes ps r.rest p n r.reaches (ap (λ x. p.at + length x) r.gap ∙ at)
+      (subst (λ x. IsFirst p.token n x) (sym r.gap) (lexeme_first here p.token n f)));
   gap = refl;
   fits = omega (arith, gap_fits (drop n here), length-drop n here, r.fits);
 }
@@ -52,7 +62,8 @@ reached_more bytes ps here p n r at f = record {
 pub lexed : (bytes : List ℕ) (ps : List TokenAt) (here : List ℕ) → Reached bytes ps here → here ≡ [] → Spells bytes ps
 lexed bytes ps here r e = (r.rest, r.reaches, r.gap ∙ e)
 
-pub bad_at : (bytes : List ℕ) (ps : List TokenAt) (here : List ℕ) (at : ℕ) → Reached bytes ps here → here ≢ [] → lexeme_of here ≡ None → at + length here ≡ length bytes → IsBadAt bytes at
+pub bad_at : (bytes : List ℕ) (ps : List TokenAt) (here : List ℕ) (at : ℕ) → Reached bytes ps here → here ≢ []
+    → lexeme_of here ≡ None → at + length here ≡ length bytes → IsBadAt bytes at
 bad_at bytes ps here at r some none place = record {
   before = ps;
   rest = r.rest;
@@ -63,24 +74,30 @@ bad_at bytes ps here at r some none place = record {
 }
 
 -- one text is one list of tokens
-same_reach : (total : ℕ) (bytes : List ℕ) (ps qs : List TokenAt) (r s : List ℕ) → Reaches total bytes ps r → Reaches total bytes qs s →
+same_reach : (total : ℕ) (bytes : List ℕ) (ps qs : List TokenAt) (r s : List ℕ) → Reaches total bytes ps r
+    → Reaches total bytes qs s →
     IsBad (after_gap r) → IsBad (after_gap s) → (ps ≡ qs) × (r ≡ s)
 same_reach total bytes [] [] r s h k x y = (refl, sym h ∙ k)
-same_reach total bytes [] (q ∷ qs) r s h k x y = absurd (x q.token k.0 (subst (λ b. IsFirst q.token k.0 (after_gap b)) h k.2))
-same_reach total bytes (p ∷ ps) [] r s h k x y = absurd (y p.token h.0 (subst (λ b. IsFirst p.token h.0 (after_gap b)) k h.2))
+same_reach total bytes [] (q ∷ qs) r s h k x y =
+    absurd (x q.token k.0 (subst (λ b. IsFirst q.token k.0 (after_gap b)) h k.2))
+same_reach total bytes (p ∷ ps) [] r s h k x y =
+    absurd (y p.token h.0 (subst (λ b. IsFirst p.token h.0 (after_gap b)) k h.2))
 same_reach total bytes (p ∷ ps) (q ∷ qs) r s h k x y =
-    let e : Some (pair p.token h.0) ≡ Some (pair q.token k.0) = sym (lexeme_only _ p.token h.0 h.2) ∙ lexeme_only _ q.token k.0 k.2 in
+    let e : Some (pair p.token h.0) ≡ Some (pair q.token k.0) = sym (lexeme_only _ p.token h.0 h.2)
+    ∙ lexeme_only _ q.token k.0 k.2 in
     let one : pair p.token h.0 ≡ pair q.token k.0 = some_inj (pair p.token h.0) (pair q.token k.0) e in
     let place : p.at ≡ q.at = omega (arith, h.1, k.1) in
     let len : k.0 ≡ h.0 = sym (ap (λ z. z.1) one) in
-    let rest = same_reach total (drop h.0 (after_gap bytes)) ps qs r s h.3 (subst (λ n. Reaches total (drop n (after_gap bytes)) qs s) len k.3) x y in
+    let rest = same_reach total (drop h.0 (after_gap bytes)) ps qs r s h.3
+    (subst (λ n. Reaches total (drop n (after_gap bytes)) qs s) len k.3) x y in
     (λ i. record { token = (one i).0; at = place i } ∷ rest.0 i, rest.1)
 
 nothing_bad : (bytes : List ℕ) → bytes ≡ [] → IsBad bytes
 nothing_bad bytes e t n f = omega (arith, f.within, f.some, ap length e)
 
 pub one_lexing : (bytes : List ℕ) (ps qs : List TokenAt) → Spells bytes ps → Spells bytes qs → ps ≡ qs
-one_lexing bytes ps qs h k = (same_reach (length bytes) bytes ps qs h.0 k.0 h.1 k.1 (nothing_bad _ h.2) (nothing_bad _ k.2)).0
+one_lexing bytes ps qs h k = (same_reach (length bytes) bytes ps qs h.0 k.0 h.1 k.1 (nothing_bad _ h.2)
+    (nothing_bad _ k.2)).0
 
 pub bad_or_lexed : (bytes : List ℕ) (at : ℕ) (qs : List TokenAt) → IsBadAt bytes at → Spells bytes qs → ⊥
 bad_or_lexed bytes at qs h k =
@@ -94,12 +111,15 @@ one_bad bytes at at' h k =
     omega (arith, h.place, k.place, ap (λ r. length (after_gap r)) e)
 
 -- each place is in the text
-places_fit : (total : ℕ) (bytes : List ℕ) (ps : List TokenAt) (rest : List ℕ) → Reaches total bytes ps rest → (i : ℕ) (d : TokenAt) → i < length ps → (get_or ps i d).at ≤ total
+places_fit : (total : ℕ) (bytes : List ℕ) (ps : List TokenAt) (rest : List ℕ) → Reaches total bytes ps rest
+    → (i : ℕ) (d : TokenAt) → i < length ps → (get_or ps i d).at ≤ total
 places_fit total bytes [] rest h i d lt = absurd (omega arith)
 places_fit total bytes (p ∷ ps) rest h zero d lt = omega (arith, h.1)
-places_fit total bytes (p ∷ ps) rest h (suc i) d lt = places_fit total (drop h.0 (after_gap bytes)) ps rest h.3 i d (omega arith)
+places_fit total bytes (p ∷ ps) rest h (suc i) d lt =
+    places_fit total (drop h.0 (after_gap bytes)) ps rest h.3 i d (omega arith)
 
-pub place_fits : (bytes : List ℕ) (ps : List TokenAt) → Spells bytes ps → (i : ℕ) (p : TokenAt) → i < length ps → p ≡ get_or ps i p → p.at ≤ length bytes
+pub place_fits : (bytes : List ℕ) (ps : List TokenAt) → Spells bytes ps → (i : ℕ) (p : TokenAt) → i < length ps
+    → p ≡ get_or ps i p → p.at ≤ length bytes
 place_fits bytes ps h i p lt e = omega (arith, places_fit (length bytes) bytes ps h.0 h.1 i p lt, ap (λ q. q.at) e)
 
 -- a place that is read is found

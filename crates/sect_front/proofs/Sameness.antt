@@ -1,5 +1,6 @@
 -- What `==` says of the parts of a tree.
-use Rattle.std.proofs.Common.{◌≡◌, ◌∙◌, ◌<◌, ◌+◌, ◌∷◌, [], ℕ, zero, suc, List, length, take, get_or, refl, sym, ap, arith, rules}
+use Rattle.std.proofs.Common.{◌≡◌, ◌∙◌, ◌<◌, ◌+◌, ◌∷◌, [], ℕ, zero, suc, List, length, take, get_or, refl, sym, ap}
+use Rattle.std.proofs.Common.{arith, rules}
 use native.Mathlib.Numerals.{unary_clauses}
 use Rattle.std.proofs.Math.Seq.{take-suc}
 use Rattle.std.specs.Bool.{Decides}

@@ -1,5 +1,6 @@
 -- The tokens that are recognised are those that the bytes spell.
-use Rattle.std.proofs.Common.{◌≡◌, ℕ, ◌<◌, Bool, true, false, ◌&&◌, cond, eqb, nat_lt, List, [], ◌∷◌, Option, Some, None, length, refl, sym, ◌∙◌, ap, subst, arith}
+use Rattle.std.proofs.Common.{◌≡◌, ℕ, ◌<◌, Bool, true, false, ◌&&◌, cond, eqb, nat_lt, List, [], ◌∷◌, Option, Some}
+use Rattle.std.proofs.Common.{None, length, refl, sym, ◌∙◌, ap, subst, arith}
 use Rattle.std.specs.Prelude.{is_some}
 use Rattle.std.specs.List.{list_all}
 use Rattle.std.specs.Str.{bytes_eq}
@@ -9,7 +10,8 @@ use Rattle.std.proofs.lemmas.Bool.{eqb-true}
 use Rattle.std.proofs.lemmas.Bool.Decides.{nat_tests}
 use Rattle.sect_front.specs.Words.{is_letter, is_digit, is_name_byte, is_name}
 use Rattle.sect_front.specs.Spelling.{spelling_of, is_proper, IsSpelling}
-use Rattle.sect_front.specs.steps.Recognition.{keyword_of, keyword_table, token_beside, or_name, word_token, number_of, as_number, single_sign, double_sign, sign_token, spelled}
+use Rattle.sect_front.specs.steps.Recognition.{keyword_of, keyword_table, token_beside, or_name, word_token, number_of}
+use Rattle.sect_front.specs.steps.Recognition.{as_number, single_sign, double_sign, sign_token, spelled}
 use Rattle.sect_front.specs.declared.token.Token.{Token}
 use Rattle.sect_front.specs.declared.token.Token.TheVariants as token
 use Rattle.sect_front.proofs.Choices.{some_inj, no_some, chosen, both, if_some_so}
@@ -39,14 +41,16 @@ name_spelled (b ∷ bs) h =
     let none : keyword_of (b ∷ bs) ≡ None = no_keyword (keyword_of (b ∷ bs)) (keyword_known (b ∷ bs) ∙ m.free) in
     rw (m.letter, all.1, below (length bs) 32 (omega (arith, m.fits))) (ap (λ o. Some (or_name o (b ∷ bs))) none)
 
-digits_spelled : (ds : List ℕ) (n : ℕ) → list_all is_digit ds ≡ true → 0 < length ds → number_of ds ≡ Some n → spelled ds ≡ Some (token.Number n)
+digits_spelled : (ds : List ℕ) (n : ℕ) → list_all is_digit ds ≡ true → 0 < length ds → number_of ds ≡ Some n
+    → spelled ds ≡ Some (token.Number n)
 digits_spelled [] n h some e = absurd (omega arith)
 digits_spelled (d ∷ ds) n h some e =
     let digit = both (is_digit d) (list_all is_digit ds) h in
     go (is_letter d) (is_digit d) (no_letter d digit.0) digit.0
   where
     go : (l g : Bool) → l ≡ false → g ≡ true →
-        cond l (cond (list_all is_name_byte ds && nat_lt (length ds) 32) (Some (word_token (d ∷ ds))) None) (cond g (as_number (number_of (d ∷ ds))) (sign_token d ds)) ≡ Some (token.Number n)
+        cond l (cond (list_all is_name_byte ds && nat_lt (length ds) 32) (Some (word_token (d ∷ ds))) None)
+        (cond g (as_number (number_of (d ∷ ds))) (sign_token d ds)) ≡ Some (token.Number n)
     go false true p q = ap as_number e
     go true g p q = cc
     go false false p q = cc
@@ -91,22 +95,61 @@ abbrev EachSo : (Token → Type 0) → List ℕ → List (List ℕ × Token) →
 EachSo P w [] = Unit {0}
 EachSo P w (row ∷ rows) = (w ≡ row.0 → P row.1) × EachSo P w rows
 
-beside_so : (P : Token → Type 0) (w : List ℕ) (rows : List (List ℕ × Token)) → EachSo P w rows → (t : Token) → token_beside w rows ≡ Some t → P t
+beside_so : (P : Token → Type 0) (w : List ℕ) (rows : List (List ℕ × Token)) → EachSo P w rows → (t : Token)
+    → token_beside w rows ≡ Some t → P t
 beside_so P w [] h t e = absurd (no_some t e)
 beside_so P w (row ∷ rows) h t e =
-    if_some_so P (bytes_eq w row.0) row.1 (token_beside w rows) (λ same. h.0 (same_text w row.0 (sym same))) (beside_so P w rows h.1) t e
+    if_some_so P (bytes_eq w row.0) row.1 (token_beside w rows) (λ same. h.0 (same_text w row.0 (sym same)))
+    (beside_so P w rows h.1) t e
 
 keyword_back : (w : List ℕ) (t : Token) → keyword_of w ≡ Some t → IsSpelling t w
 keyword_back w =
-    beside_so (λ t. IsSpelling t w) w keyword_table
-    (λ e. record { is = e; proper = refl }, (λ e. record { is = e; proper = refl }, (λ e. record { is = e; proper = refl }, (λ e. record { is = e; proper = refl }, (λ e. record { is = e; proper = refl }, (λ e. record { is = e; proper = refl }, (λ e. record { is = e; proper = refl }, (λ e. record { is = e; proper = refl }, (λ e. record { is = e; proper = refl }, (λ e. record { is = e; proper = refl }, (λ e. record { is = e; proper = refl }, (λ e. record { is = e; proper = refl }, (λ e. record { is = e; proper = refl }, (λ e. record { is = e; proper = refl }, tt))))))))))))))
+    beside_so (λ t. IsSpelling t w) w keyword_table (
+      λ e. record { is = e; proper = refl },
+      (
+        λ e. record { is = e; proper = refl },
+        (
+          λ e. record { is = e; proper = refl },
+          (
+            λ e. record { is = e; proper = refl },
+            (
+              λ e. record { is = e; proper = refl },
+              (
+                λ e. record { is = e; proper = refl },
+                (
+                  λ e. record { is = e; proper = refl },
+                  (
+                    λ e. record { is = e; proper = refl },
+                    (
+                      λ e. record { is = e; proper = refl },
+                      (
+                        λ e. record { is = e; proper = refl },
+                        (
+                          λ e. record { is = e; proper = refl },
+                          (
+                            λ e. record { is = e; proper = refl },
+                            (λ e. record { is = e; proper = refl }, (λ e. record { is = e; proper = refl }, tt)),
+                          ),
+                        ),
+                      ),
+                    ),
+                  ),
+                ),
+              ),
+            ),
+          ),
+        ),
+      ),
+    )
 
 -- a word that is no keyword is a name
-word_back : (w : List ℕ) (o : Option Token) → keyword_of w ≡ o → (o ≡ None → is_name w ≡ true) → IsSpelling (or_name o w) w
+word_back : (w : List ℕ) (o : Option Token) → keyword_of w ≡ o → (o ≡ None → is_name w ≡ true)
+    → IsSpelling (or_name o w) w
 word_back w None e h = record { is = refl; proper = h refl }
 word_back w (Some t) e h = keyword_back w t e
 
-letter_back : (b : ℕ) (bs : List ℕ) → is_letter b ≡ true → list_all is_name_byte bs ≡ true → length bs < 32 → IsSpelling (word_token (b ∷ bs)) (b ∷ bs)
+letter_back : (b : ℕ) (bs : List ℕ) → is_letter b ≡ true → list_all is_name_byte bs ≡ true → length bs < 32
+    → IsSpelling (word_token (b ∷ bs)) (b ∷ bs)
 letter_back b bs letter all fits =
     word_back (b ∷ bs) (keyword_of (b ∷ bs)) refl (λ none. is_named (b ∷ bs) (record {
       letter = letter;
@@ -119,15 +162,19 @@ number_spelling : (ds : List ℕ) (o : Option ℕ) → number_of ds ≡ o → (t
 number_spelling ds None e t h = absurd (no_some t h)
 number_spelling ds (Some n) e t h =
     let back = number_back ds n e in
-    subst (λ u. IsSpelling u ds) (some_inj (token.Number n) t h) (record { is = back.0; proper = below n 9223372036854775808 back.1 })
+    subst (λ u. IsSpelling u ds) (some_inj (token.Number n) t h)
+    (record { is = back.0; proper = below n 9223372036854775808 back.1 })
 
 single_back : (b : ℕ) (t : Token) → single_sign b ≡ Some t → IsSpelling t (b ∷ [])
 single_back b =
     let P : Token → Type 0 = λ u. IsSpelling u (b ∷ []) in
-    if_some_so P (eqb b 123) token.OpenBrace _ (λ e. record { is = ap (λ x. x ∷ []) (eqb-true b 123 e); proper = refl }) (
-    if_some_so P (eqb b 125) token.CloseBrace _ (λ e. record { is = ap (λ x. x ∷ []) (eqb-true b 125 e); proper = refl }) (
+    if_some_so P (eqb b 123) token.OpenBrace _ (λ e. record { is = ap (λ x. x ∷ []) (eqb-true b 123 e); proper = refl })
+    (
+    if_some_so P (eqb b 125) token.CloseBrace _
+    (λ e. record { is = ap (λ x. x ∷ []) (eqb-true b 125 e); proper = refl }) (
     if_some_so P (eqb b 40) token.OpenParen _ (λ e. record { is = ap (λ x. x ∷ []) (eqb-true b 40 e); proper = refl }) (
-    if_some_so P (eqb b 41) token.CloseParen _ (λ e. record { is = ap (λ x. x ∷ []) (eqb-true b 41 e); proper = refl }) (
+    if_some_so P (eqb b 41) token.CloseParen _ (λ e. record { is = ap (λ x. x ∷ []) (eqb-true b 41 e); proper = refl })
+    (
     if_some_so P (eqb b 59) token.Semicolon _ (λ e. record { is = ap (λ x. x ∷ []) (eqb-true b 59 e); proper = refl }) (
     if_some_so P (eqb b 46) token.Dot _ (λ e. record { is = ap (λ x. x ∷ []) (eqb-true b 46 e); proper = refl }) (
     if_some_so P (eqb b 61) token.Equal _ (λ e. record { is = ap (λ x. x ∷ []) (eqb-true b 61 e); proper = refl }) (
@@ -140,9 +187,12 @@ single_back b =
 double_back : (b : ℕ) (t : Token) → double_sign b ≡ Some t → IsSpelling t (b ∷ 61 ∷ [])
 double_back b =
     let P : Token → Type 0 = λ u. IsSpelling u (b ∷ 61 ∷ []) in
-    if_some_so P (eqb b 61) token.EqualEqual _ (λ e. record { is = ap (λ x. x ∷ 61 ∷ []) (eqb-true b 61 e); proper = refl }) (
-    if_some_so P (eqb b 33) token.NotEqual _ (λ e. record { is = ap (λ x. x ∷ 61 ∷ []) (eqb-true b 33 e); proper = refl }) (
-    if_some_so P (eqb b 60) token.LessEqual _ (λ e. record { is = ap (λ x. x ∷ 61 ∷ []) (eqb-true b 60 e); proper = refl }) (
+    if_some_so P (eqb b 61) token.EqualEqual _
+    (λ e. record { is = ap (λ x. x ∷ 61 ∷ []) (eqb-true b 61 e); proper = refl }) (
+    if_some_so P (eqb b 33) token.NotEqual _
+    (λ e. record { is = ap (λ x. x ∷ 61 ∷ []) (eqb-true b 33 e); proper = refl }) (
+    if_some_so P (eqb b 60) token.LessEqual _
+    (λ e. record { is = ap (λ x. x ∷ 61 ∷ []) (eqb-true b 60 e); proper = refl }) (
     λ t e. absurd (no_some t e))))
 
 sign_back : (b : ℕ) (bs : List ℕ) (t : Token) → sign_token b bs ≡ Some t → IsSpelling t (b ∷ bs)
@@ -158,10 +208,12 @@ spelling_back [] t h = absurd (no_some t h)
 spelling_back (b ∷ bs) t h = go (is_letter b) (is_digit b) refl h
   where
     go : (l d : Bool) → is_letter b ≡ l →
-        cond l (cond (list_all is_name_byte bs && nat_lt (length bs) 32) (Some (word_token (b ∷ bs))) None) (cond d (as_number (number_of (b ∷ bs))) (sign_token b bs)) ≡ Some t → IsSpelling t (b ∷ bs)
+        cond l (cond (list_all is_name_byte bs && nat_lt (length bs) 32) (Some (word_token (b ∷ bs))) None)
+        (cond d (as_number (number_of (b ∷ bs))) (sign_token b bs)) ≡ Some t → IsSpelling t (b ∷ bs)
     go true d letter e =
         let c = chosen (list_all is_name_byte bs && nat_lt (length bs) 32) (Some (word_token (b ∷ bs))) t e in
         let f = both (list_all is_name_byte bs) (nat_lt (length bs) 32) c.0 in
-        subst (λ u. IsSpelling u (b ∷ bs)) (some_inj (word_token (b ∷ bs)) t c.1) (letter_back b bs letter f.0 (below_back (length bs) 32 f.1))
+        subst (λ u. IsSpelling u (b ∷ bs)) (some_inj (word_token (b ∷ bs)) t c.1)
+        (letter_back b bs letter f.0 (below_back (length bs) 32 f.1))
     go false true letter e = number_spelling (b ∷ bs) (number_of (b ∷ bs)) refl t e
     go false false letter e = sign_back b bs t e

@@ -1,5 +1,7 @@
 -- What the end of a reading says of its tokens.
-use Rattle.std.proofs.Common.{◌≡◌, ℕ, ◌+◌, ◌<◌, ◌≤◌, List, [], ◌∷◌, ◌++◌, Option, Some, None, Result, Ok, Err, option_and_then, length, take, drop, refl, sym, ◌∙◌, ap, subst, arith, append_assoc, append-nil, get_or, zero, suc, add-one}
+use Rattle.std.proofs.Common.{◌≡◌, ℕ, ◌+◌, ◌<◌, ◌≤◌, List, [], ◌∷◌, ◌++◌, Option, Some, None, Result, Ok, Err}
+use Rattle.std.proofs.Common.{option_and_then, length, take, drop, refl, sym, ◌∙◌, ap, subst, arith, append_assoc}
+use Rattle.std.proofs.Common.{append-nil, get_or, zero, suc, add-one}
 use Rattle.std.proofs.lemmas.List.{take-append-drop, length-map}
 use Rattle.std.specs.Prelude.{⊤}
 use Rattle.std.specs.Option.{ok_or}
@@ -43,8 +45,10 @@ after_append : (r : ReaderView) (v w : List Token) → after r (v ++ w) ≡ opti
 after_append r [] w = refl
 after_append r (t ∷ v) w = go v w (λ m. after_append m v w) (read_one r t)
   where
-    go : (v w : List Token) → ((m : ReaderView) → after m (v ++ w) ≡ option_and_then (λ x. after x w) (after m v)) → (o : Option ReaderView) →
-        option_and_then (λ m. after m (v ++ w)) o ≡ option_and_then (λ x. after x w) (option_and_then (λ m. after m v) o)
+    go : (v w : List Token) → ((m : ReaderView) → after m (v ++ w) ≡ option_and_then (λ x. after x w) (after m v))
+        → (o : Option ReaderView) →
+        option_and_then (λ m. after m (v ++ w)) o ≡ option_and_then (λ x. after x w)
+        (option_and_then (λ m. after m v) o)
     go v w h None = refl
     go v w h (Some m) = h m
 
@@ -60,21 +64,35 @@ open_append k (u ∷ v) t = open_append (brace k u) v t
 pub reads_nothing : ReadsTo [] start 0
 reads_nothing = record { is = refl; level = refl; shallow = omega arith }
 
-pub reads_more : (front : List Token) (r m : ReaderView) (k : ℕ) (t : Token) → ReadsTo front r k → read_one r t ≡ Some m → brace k t ≤ 32 →
+pub reads_more : (front : List Token) (r m : ReaderView) (k : ℕ) (t : Token) → ReadsTo front r k → read_one r t ≡ Some m
+    → brace k t ≤ 32 →
     ReadsTo (front ++ t ∷ []) m (brace k t)
 reads_more front r m k t h e low = record {
   is = after_one front r t [] h.is ∙ ap (option_and_then (λ x. after x [])) e;
   level = ap (λ j. brace j t) h.level ∙ sym (open_append 0 front t);
-  shallow = omega (arith, h.shallow, peak_append 0 front (t ∷ []), ap (λ j. peak j (t ∷ [])) h.level, peak_cons t k [], peak_append 0 front [], peak_from (open_after 0 front) [], ap (peak 0) (append-nil front));
+  shallow = omega (
+    arith,
+    h.shallow,
+    peak_append 0 front (t ∷ []),
+    ap (λ j. peak j (t ∷ [])) h.level,
+    peak_cons t k [],
+    peak_append 0 front [],
+    peak_from (open_after 0 front) [],
+    ap (peak 0) (append-nil front),
+  );
 }
 
-pub not_viable : (front : List Token) (r : ReaderView) (t : Token) → after start front ≡ Some r → read_one r t ≡ None → IsViable (front ++ t ∷ []) → ⊥
+pub not_viable : (front : List Token) (r : ReaderView) (t : Token) → after start front ≡ Some r → read_one r t ≡ None
+    → IsViable (front ++ t ∷ []) → ⊥
 not_viable front r t h e v =
-    let one : after start (front ++ t ∷ v.1) ≡ None = after_one front r t v.1 h ∙ ap (option_and_then (λ m. after m v.1)) e in
-    let all : after start (front ++ t ∷ v.1) ≡ Some (reading v.0 (stage.Between (last_part v.0))) = ap (after start) (sym (append_assoc front (t ∷ []) v.1) ∙ sym v.2) ∙ tree_passes v.0 in
+    let one : after start (front ++ t ∷ v.1) ≡ None = after_one front r t v.1 h
+    ∙ ap (option_and_then (λ m. after m v.1)) e in
+    let all : after start (front ++ t ∷ v.1) ≡ Some (reading v.0 (stage.Between (last_part v.0))) =
+    ap (after start) (sym (append_assoc front (t ∷ []) v.1) ∙ sym v.2) ∙ tree_passes v.0 in
     cc
 
-pub unexpected : (list : List Token) (i : ℕ) (r : ReaderView) (k : ℕ) (t : Token) → ReadsTo (take i list) r k → i < length list →
+pub unexpected : (list : List Token) (i : ℕ) (r : ReaderView) (k : ℕ) (t : Token) → ReadsTo (take i list) r k
+    → i < length list →
     take (i + 1) list ≡ take i list ++ t ∷ [] → read_one r t ≡ None → IsUnexpectedAt list i
 unexpected list i r k t h within e none = record {
   within = within;
@@ -83,24 +101,29 @@ unexpected list i r k t h within e none = record {
   shallow = shallow_from (take i list) h.shallow;
 }
 
-pub too_deep : (list : List Token) (i : ℕ) (r m : ReaderView) (k : ℕ) (t : Token) → ReadsTo (take i list) r k → i < length list →
+pub too_deep : (list : List Token) (i : ℕ) (r m : ReaderView) (k : ℕ) (t : Token) → ReadsTo (take i list) r k
+    → i < length list →
     take (i + 1) list ≡ take i list ++ t ∷ [] → read_one r t ≡ Some m → brace k t ≡ 33 → IsTooDeepAt list i
 too_deep list i r m k t h within e some deep = record {
   within = within;
-  here = subst IsViable (sym e) (viable (take i list ++ t ∷ []) m (after_one (take i list) r t [] h.is ∙ ap (option_and_then (λ x. after x [])) some));
+  here = subst IsViable (sym e) (viable (take i list ++ t ∷ []) m
+      (after_one (take i list) r t [] h.is ∙ ap (option_and_then (λ x. after x [])) some));
   deep = ap (open_after 0) e ∙ (open_append 0 (take i list) t ∙ (ap (λ j. brace j t) (sym h.level) ∙ deep));
   shallow = shallow_from (take i list) h.shallow;
 }
 
-pub unfinished : (list : List Token) (r : ReaderView) (k : ℕ) → ReadsTo list r k → finish_of r ≡ None → IsUnfinished list
+pub unfinished : (list : List Token) (r : ReaderView) (k : ℕ) → ReadsTo list r k → finish_of r ≡ None
+    → IsUnfinished list
 unfinished list r k h e = record {
   viable = viable list r h.is;
-  none = λ tree same. let one : Some r ≡ Some (reading tree (stage.Between (last_part tree))) = sym h.is ∙ (ap (after start) (sym same) ∙ tree_passes tree) in
+  none = λ tree same. let one : Some r ≡ Some (reading tree (stage.Between (last_part tree))) =
+      sym h.is ∙ (ap (after start) (sym same) ∙ tree_passes tree) in
       let two : finish_of r ≡ Some tree = ap (λ o. option_and_then finish_of o) one in no_some tree (sym e ∙ two);
   shallow = shallow_from list h.shallow;
 }
 
-finished_at : (s : TreeView) (g : Stage) (tree : TreeView) → finish_at s g ≡ Some tree → reading_tokens (reading s g) [] ≡ source_tokens tree []
+finished_at : (s : TreeView) (g : Stage) (tree : TreeView) → finish_at s g ≡ Some tree
+    → reading_tokens (reading s g) [] ≡ source_tokens tree []
 finished_at s (stage.Between p) tree e = ap (λ x. source_tokens x []) (some_inj s tree e)
 finished_at s (stage.Record r) tree e = absurd (no_some tree e)
 finished_at s (stage.Global g) tree e = absurd (no_some tree e)
@@ -109,9 +132,11 @@ finished_at s (stage.Thread t) tree e = absurd (no_some tree e)
 kept : (list : List Token) (r : ReaderView) → after start list ≡ Some r → list ≡ reading_tokens r []
 kept list r h = sym (append-nil list) ∙ (kept_from list [] r h).is
 
-pub finished : (list : List Token) (r : ReaderView) (k : ℕ) (tree : TreeView) → ReadsTo list r k → finish_of r ≡ Some tree → IsTree list tree
+pub finished : (list : List Token) (r : ReaderView) (k : ℕ) (tree : TreeView) → ReadsTo list r k
+    → finish_of r ≡ Some tree → IsTree list tree
 finished list r k tree h e =
-    let same : tokens_of tree ≡ list = tokens_same tree ∙ (sym (finished_at r.source r.stage tree e) ∙ sym (kept list r h.is)) in
+    let same : tokens_of tree ≡ list =
+    tokens_same tree ∙ (sym (finished_at r.source r.stage tree e) ∙ sym (kept list r h.is)) in
     record { tokens = same; shallow = omega (arith, depth_peak tree, ap (peak 0) same, h.shallow) }
 
 abbrev source_in : Option ReaderView → TreeView
@@ -120,7 +145,14 @@ source_in (Some r) = r.source
 
 pub is_low : (front : List Token) (r : ReaderView) (k : ℕ) → ReadsTo front r k → k ≤ 32
 is_low front r k h =
-    omega (arith, h.level, h.shallow, peak_append 0 front [], peak_from (open_after 0 front) [], ap (peak 0) (append-nil front))
+    omega (
+      arith,
+      h.level,
+      h.shallow,
+      peak_append 0 front [],
+      peak_from (open_after 0 front) [],
+      ap (peak 0) (append-nil front),
+    )
 
 pub brace_most : (k : ℕ) (t : Token) → brace k t ≤ k + 1
 brace_most k token.OpenBrace = omega arith
@@ -140,7 +172,8 @@ next_token (q ∷ ps) (suc i) p h e =
     rw add-one (ap (λ w. q.token ∷ w) (ap (λ j. take j (tokens_in ps)) (sym one) ∙ next_token ps i p (omega arith) e))
 
 -- the end of the tokens
-pub at_end : (list : List Token) (r : ReaderView) (k : ℕ) → ReadsTo list r k → (o : Option TreeView) → o ≡ finish_of r → JudgesTokens list (ok_or o fault.Unfinished)
+pub at_end : (list : List Token) (r : ReaderView) (k : ℕ) → ReadsTo list r k → (o : Option TreeView) → o ≡ finish_of r
+    → JudgesTokens list (ok_or o fault.Unfinished)
 at_end list r k h None e = unfinished list r k h (sym e)
 at_end list r k h (Some tree) e = finished list r k tree h (sym e)
 
@@ -151,13 +184,24 @@ IsGiven tree (Err fault.Memory) = ⊤
 IsGiven tree (Err _) = ⊥
 
 -- a tree is given wherever there is one
-pub given : (list : List Token) (result : Result TreeView TokenFault) → JudgesTokens list result → (tree : TreeView) → IsTree list tree → IsGiven tree result
+pub given : (list : List Token) (result : Result TreeView TokenFault) → JudgesTokens list result → (tree : TreeView)
+    → IsTree list tree → IsGiven tree result
 given list (Ok found) h tree p =
-    let e : Some (reading found (stage.Between (last_part found))) ≡ Some (reading tree (stage.Between (last_part tree))) =
+    let e : Some (reading found (stage.Between (last_part found))) ≡ Some
+    (reading tree (stage.Between (last_part tree))) =
     sym (tree_passes found) ∙ (ap (after start) (h.tokens ∙ sym p.tokens) ∙ tree_passes tree) in ap source_in e
 given list (Err fault.Memory) h tree p = tt
 given list (Err (fault.Unexpected i)) h tree p =
     h.here (tree, drop (i + 1) list, p.tokens ∙ sym (take-append-drop (i + 1) list))
 given list (Err (fault.TooDeep i)) h tree p =
-    absurd (omega (arith, depth_peak tree, ap (peak 0) p.tokens, p.shallow, ap (peak 0) (take-append-drop (i + 1) list), peak_append 0 (take (i + 1) list) (drop (i + 1) list), peak_from (open_after 0 (take (i + 1) list)) (drop (i + 1) list), h.deep))
+    absurd (omega (
+      arith,
+      depth_peak tree,
+      ap (peak 0) p.tokens,
+      p.shallow,
+      ap (peak 0) (take-append-drop (i + 1) list),
+      peak_append 0 (take (i + 1) list) (drop (i + 1) list),
+      peak_from (open_after 0 (take (i + 1) list)) (drop (i + 1) list),
+      h.deep,
+    ))
 given list (Err fault.Unfinished) h tree p = h.none tree p.tokens

@@ -1,5 +1,6 @@
 -- Lists of lists to which elements are added.
-use Rattle.std.proofs.Common.{◌≡◌, ◌↔◌, ◌⊎◌, ℕ, zero, suc, ◌<◌, List, [], ◌∷◌, ◌++◌, map, set, length, get_or, inl, inr, refl, sym, ap, ◌∙◌, subst}
+use Rattle.std.proofs.Common.{◌≡◌, ◌↔◌, ◌⊎◌, ℕ, zero, suc, ◌<◌, List, [], ◌∷◌, ◌++◌, map, set, length, get_or, inl, inr}
+use Rattle.std.proofs.Common.{refl, sym, ap, ◌∙◌, subst}
 use Rattle.std.specs.Prelude.{slice_index_or}
 use Rattle.std.proofs.lemmas.Bool.{cases_eq}
 use Rattle.std.proofs.lemmas.List.{get_or-set_same, get_or-set_other}
@@ -14,24 +15,30 @@ map-set f (y ∷ xs) zero x = refl
 map-set f (y ∷ xs) (suc i) x = ap (λ l. f y ∷ l) (map-set f xs i x)
 
 -- one empty list more
-pub empty_more : {X : Type 0} (xs : List (List X)) (m : ℕ) → ((m : ℕ) → slice_index_or xs m [] ≡ []) → slice_index_or (xs ++ [] ∷ []) m [] ≡ []
+pub empty_more : {X : Type 0} (xs : List (List X)) (m : ℕ) → ((m : ℕ) → slice_index_or xs m [] ≡ [])
+    → slice_index_or (xs ++ [] ∷ []) m [] ≡ []
 empty_more [] zero h = refl
 empty_more [] (suc m) h = refl
 empty_more (x ∷ xs) zero h = h 0
 empty_more (x ∷ xs) (suc m) h = empty_more xs m (λ n. h (suc n))
 
 -- one element more in the list at a place
-pub put_at : {X : Type 0} (lists : List (List X)) (to : ℕ) (x : X) (new : List X) → to < length lists → ((y : X) → Has new y ↔ (Has (slice_index_or lists to []) y ⊎ (y ≡ x))) → IsAdded lists (set lists to new) to x
+pub put_at : {X : Type 0} (lists : List (List X)) (to : ℕ) (x : X) (new : List X) → to < length lists
+    → ((y : X) → Has new y ↔ (Has (slice_index_or lists to []) y ⊎ (y ≡ x))) → IsAdded lists (set lists to new) to x
 put_at lists to x new there put m within y =
     elim (cases_eq m to) [
       | inl e ↦
-          let here : slice_index_or (set lists to new) m [] ≡ new = ap (λ k. get_or (set lists to new) k []) e ∙ get_or-set_same lists to new [] there in
+          let here : slice_index_or (set lists to new) m [] ≡ new = ap (λ k. get_or (set lists to new) k []) e
+          ∙ get_or-set_same lists to new [] there in
           let was : slice_index_or lists m [] ≡ slice_index_or lists to [] = ap (λ k. get_or lists k []) e in (
-            λ h. elim ((put y).0 (subst (λ l. Has l y) here h)) [ inl a ↦ inl (subst (λ l. Has l y) (sym was) a) | inr q ↦ inr (e, q) ],
-            λ h. subst (λ l. Has l y) (sym here) ((put y).1 (elim h [ inl a ↦ inl (subst (λ l. Has l y) was a) | inr b ↦ inr b.1 ])),
+            λ h. elim ((put y).0 (subst (λ l. Has l y) here h))
+                [ inl a ↦ inl (subst (λ l. Has l y) (sym was) a) | inr q ↦ inr (e, q) ],
+            λ h. subst (λ l. Has l y) (sym here)
+                ((put y).1 (elim h [ inl a ↦ inl (subst (λ l. Has l y) was a) | inr b ↦ inr b.1 ])),
           )
       | inr n ↦
-          let here : slice_index_or (set lists to new) m [] ≡ slice_index_or lists m [] = get_or-set_other lists to m new [] n in (
+          let here : slice_index_or (set lists to new) m [] ≡ slice_index_or lists m [] =
+          get_or-set_other lists to m new [] n in (
             λ h. inl (subst (λ l. Has l y) here h),
             λ h. subst (λ l. Has l y) (sym here) (elim h [ inl a ↦ a | inr b ↦ absurd (n b.0) ]),
           )

@@ -32,16 +32,19 @@ entry_up_to (Loop t p rest) n next most low high = low
 entry_up_to (Section i p rest) n next most low high = low
 
 -- control goes on from a text's nodes to nothing above both the place behind them and where the text goes on
-nodes_up_to : (c : TextView) (n next most : ℕ) → n + node_count c ≤ most → next ≤ most → All (LeadsUpTo most) (nodes_of c n next)
+nodes_up_to : (c : TextView) (n next most : ℕ) → n + node_count c ≤ most → next ≤ most
+    → All (LeadsUpTo most) (nodes_of c n next)
 nodes_up_to Stop n next most low high = All-nil (LeadsUpTo most)
 nodes_up_to (Do a rest) n next most low high =
     let after = entry_of rest (n + 1) next in
     let here = next_up_to (Act a) after most (entry_up_to rest (n + 1) next most (omega arith) high) in
-    All-cons (LeadsUpTo most) (node (Act a) (Next after)) (nodes_of rest (n + 1) next) here (nodes_up_to rest (n + 1) next most (omega arith) high)
+    All-cons (LeadsUpTo most) (node (Act a) (Next after)) (nodes_of rest (n + 1) next) here
+    (nodes_up_to rest (n + 1) next most (omega arith) high)
 nodes_up_to (Section i p rest) n next most low high =
     let after = entry_of rest (n + 1) next in
     let here = next_up_to (WholeSection i) after most (entry_up_to rest (n + 1) next most (omega arith) high) in
-    All-cons (LeadsUpTo most) (node (WholeSection i) (Next after)) (nodes_of rest (n + 1) next) here (nodes_up_to rest (n + 1) next most (omega arith) high)
+    All-cons (LeadsUpTo most) (node (WholeSection i) (Next after)) (nodes_of rest (n + 1) next) here
+    (nodes_up_to rest (n + 1) next most (omega arith) high)
 nodes_up_to (Choose t p q rest) n next most low high =
     let other = n + 1 + node_count p in
     let end = n + 1 + node_count p + node_count q in
@@ -52,9 +55,12 @@ nodes_up_to (Choose t p q rest) n next most low high =
     let xs = nodes_of p (n + 1) after in
     let ys = nodes_of q other after in
     let zs = nodes_of rest end next in
-    let here = branch_up_to (Test t) first second most (entry_up_to p (n + 1) after most (omega arith) behind) (entry_up_to q other after most (omega arith) behind) in
-    let in_q = All-append (LeadsUpTo most) ys zs (nodes_up_to q other after most (omega arith) behind) (nodes_up_to rest end next most (omega arith) high) in
-    let parts = All-append (LeadsUpTo most) xs (ys ++ zs) (nodes_up_to p (n + 1) after most (omega arith) behind) in_q in
+    let here = branch_up_to (Test t) first second most (entry_up_to p (n + 1) after most (omega arith) behind)
+    (entry_up_to q other after most (omega arith) behind) in
+    let in_q = All-append (LeadsUpTo most) ys zs (nodes_up_to q other after most (omega arith) behind)
+    (nodes_up_to rest end next most (omega arith) high) in
+    let parts = All-append (LeadsUpTo most) xs (ys ++ zs) (nodes_up_to p (n + 1) after most (omega arith) behind)
+    in_q in
     All-cons (LeadsUpTo most) (node (Test t) (Branch first second)) (xs ++ (ys ++ zs)) here parts
 nodes_up_to (Loop t p rest) n next most low high =
     let end = n + 1 + node_count p in
@@ -62,14 +68,18 @@ nodes_up_to (Loop t p rest) n next most low high =
     let second = entry_of rest end next in
     let xs = nodes_of p (n + 1) n in
     let zs = nodes_of rest end next in
-    let here = branch_up_to (Test t) first second most (entry_up_to p (n + 1) n most (omega arith) (omega arith)) (entry_up_to rest end next most (omega arith) high) in
-    let parts = All-append (LeadsUpTo most) xs zs (nodes_up_to p (n + 1) n most (omega arith) (omega arith)) (nodes_up_to rest end next most (omega arith) high) in
+    let here = branch_up_to (Test t) first second most (entry_up_to p (n + 1) n most (omega arith) (omega arith))
+    (entry_up_to rest end next most (omega arith) high) in
+    let parts = All-append (LeadsUpTo most) xs zs (nodes_up_to p (n + 1) n most (omega arith) (omega arith))
+    (nodes_up_to rest end next most (omega arith) high) in
     All-cons (LeadsUpTo most) (node (Test t) (Branch first second)) (xs ++ zs) here parts
 
 -- control goes on from each node to a node or to the exit
-pub leads_within : (text : TextView) (g : List Node) → g ≡ flow_nodes text → (i j : ℕ) (x : Node) → slice_get g i ≡ Some x → LeadsTo x j → j ≤ length g
+pub leads_within : (text : TextView) (g : List Node) → g ≡ flow_nodes text → (i j : ℕ) (x : Node)
+    → slice_get g i ≡ Some x → LeadsTo x j → j ≤ length g
 leads_within text g is i j x at to =
     let len : length g ≡ node_count text = ap length is ∙ length-nodes_of text 0 (node_count text) in
-    let all = All-same (LeadsUpTo (length g)) g (flow_nodes text) is (nodes_up_to text 0 (node_count text) (length g) (omega arith) (omega arith)) in
+    let all = All-same (LeadsUpTo (length g)) g (flow_nodes text) is
+    (nodes_up_to text 0 (node_count text) (length g) (omega arith) (omega arith)) in
     let here = All-get_or (LeadsUpTo (length g)) g i x (slice_get_within g i x at) all in
     subst (LeadsUpTo (length g)) (get_or_from_slice_get g i x x at) here j to

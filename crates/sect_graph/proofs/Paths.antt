@@ -1,5 +1,6 @@
 -- The paths of the graph are the traces of the text, and each node is on one.
-use Rattle.std.proofs.Common.{◌≡◌, ℕ, zero, suc, ◌+◌, ◌<◌, ◌≤◌, ◌⊎◌, ◌↔◌, List, [], ◌∷◌, ◌++◌, length, Some, None, refl, sym, ap, ◌∙◌, subst, inl, inr, arith, append_assoc, length-append}
+use Rattle.std.proofs.Common.{◌≡◌, ℕ, zero, suc, ◌+◌, ◌<◌, ◌≤◌, ◌⊎◌, ◌↔◌, List, [], ◌∷◌, ◌++◌, length, Some, None, refl}
+use Rattle.std.proofs.Common.{sym, ap, ◌∙◌, subst, inl, inr, arith, append_assoc, length-append}
 use Rattle.std.specs.Prelude.{slice_get}
 use Rattle.std.proofs.Math.Seq.{get_or-append_seam}
 use Rattle.std.proofs.lemmas.List.{append-nil}
@@ -50,7 +51,14 @@ length-nodes_of (Choose z a b rest) n next =
     let xs = nodes_of a (n + 1) after in
     let ys = nodes_of b (n + 1 + node_count a) after in
     let zs = nodes_of rest end next in
-    omega (arith, length-nodes_of a (n + 1) after, length-nodes_of b (n + 1 + node_count a) after, length-nodes_of rest end next, length-append xs (ys ++ zs), length-append ys zs)
+    omega (
+      arith,
+      length-nodes_of a (n + 1) after,
+      length-nodes_of b (n + 1 + node_count a) after,
+      length-nodes_of rest end next,
+      length-append xs (ys ++ zs),
+      length-append ys zs,
+    )
 length-nodes_of (Loop z a rest) n next =
     let end = n + 1 + node_count a in
     let xs = nodes_of a (n + 1) n in
@@ -58,29 +66,46 @@ length-nodes_of (Loop z a rest) n next =
     omega (arith, length-nodes_of a (n + 1) n, length-nodes_of rest end next, length-append xs zs)
 
 -- the nodes behind a block's
-pub behind : (g : List Node) (c : TextView) (n next : ℕ) (zs : List Node) → HasAt g n (nodes_of c n next ++ zs) → HasAt g (n + node_count c) zs
-behind g c n next zs h = subst (λ k. HasAt g (n + k) zs) (length-nodes_of c n next) (has_back g n (nodes_of c n next) zs h)
+pub behind : (g : List Node) (c : TextView) (n next : ℕ) (zs : List Node) → HasAt g n (nodes_of c n next ++ zs)
+    → HasAt g (n + node_count c) zs
+behind g c n next zs h = subst (λ k. HasAt g (n + k) zs) (length-nodes_of c n next)
+    (has_back g n (nodes_of c n next) zs h)
 
-pub path_join : (g : List Node) (xs ys : List Visit) (i j k : ℕ) → IsPath g i xs j → IsPath g j ys k → IsPath g i (xs ++ ys) k
+pub path_join : (g : List Node) (xs ys : List Visit) (i j k : ℕ) → IsPath g i xs j → IsPath g j ys k
+    → IsPath g i (xs ++ ys) k
 path_join g [] ys i j k p q = subst (λ n. IsPath g n ys k) (sym p) q
 path_join g (s ∷ xs) ys i j k p q = (p.0, p.1, p.2, p.3, p.4, path_join g xs ys p.3 j k p.5 q)
 
 module _ (g : List Node) where
   -- a trace is a path
-  turn_paths : (z : Condition) (a : TextView) (n next turns : ℕ) (steps : List Visit) (x : Node) → slice_get g n ≡ Some x → x ≡ node (Test z) (Branch (entry_of a (n + 1) n) next) → ((mid : List Visit) → IsTrace a (n + 1) mid → IsPath g (entry_of a (n + 1) n) mid n) → Rounds n z (IsTrace a (n + 1)) turns steps → IsPath g n steps next
+  turn_paths : (z : Condition) (a : TextView) (n next turns : ℕ) (steps : List Visit) (x : Node)
+      → slice_get g n ≡ Some x → x ≡ node (Test z) (Branch (entry_of a (n + 1) n) next)
+      → ((mid : List Visit) → IsTrace a (n + 1) mid → IsPath g (entry_of a (n + 1) n) mid n)
+      → Rounds n z (IsTrace a (n + 1)) turns steps → IsPath g n steps next
   turn_paths z a n next zero steps x at is body t =
-      subst (λ s. IsPath g n s next) (sym t) (node (Test z) (Branch (entry_of a (n + 1) n) next), at ∙ ap Some is, refl, next, inr refl, refl)
+      subst (λ s. IsPath g n s next) (sym t)
+      (node (Test z) (Branch (entry_of a (n + 1) n) next), at ∙ ap Some is, refl, next, inr refl, refl)
   turn_paths z a n next (suc turns) steps x at is body (turn, tail, e, b, t) =
-      subst (λ s. IsPath g n s next) (sym e) (node (Test z) (Branch (entry_of a (n + 1) n) next), at ∙ ap Some is, refl, entry_of a (n + 1) n, inl refl, path_join g turn tail _ n next (body turn b) (turn_paths z a n next turns tail x at is body t))
+      subst (λ s. IsPath g n s next) (sym e) (
+        node (Test z) (Branch (entry_of a (n + 1) n) next),
+        at ∙ ap Some is,
+        refl,
+        entry_of a (n + 1) n,
+        inl refl,
+        path_join g turn tail _ n next (body turn b) (turn_paths z a n next turns tail x at is body t),
+      )
 
-  pub walks : (c : TextView) (n next : ℕ) (steps : List Visit) → HasAt g n (nodes_of c n next) → IsTrace c n steps → IsPath g (entry_of c n next) steps next
+  pub walks : (c : TextView) (n next : ℕ) (steps : List Visit) → HasAt g n (nodes_of c n next) → IsTrace c n steps
+      → IsPath g (entry_of c n next) steps next
   walks Stop n next steps has t = subst (λ s. IsPath g next s next) (sym t) refl
   walks (Do a rest) n next steps has (tail, e, t) =
       let after = entry_of rest (n + 1) next in
-      subst (λ s. IsPath g n s next) (sym e) (node (Act a) (Next after), has.0, refl, after, refl, walks rest (n + 1) next tail has.1 t)
+      subst (λ s. IsPath g n s next) (sym e)
+      (node (Act a) (Next after), has.0, refl, after, refl, walks rest (n + 1) next tail has.1 t)
   walks (Section k c rest) n next steps has (tail, e, t) =
       let after = entry_of rest (n + 1) next in
-      subst (λ s. IsPath g n s next) (sym e) (node (WholeSection k) (Next after), has.0, refl, after, refl, walks rest (n + 1) next tail has.1 t)
+      subst (λ s. IsPath g n s next) (sym e)
+      (node (WholeSection k) (Next after), has.0, refl, after, refl, walks rest (n + 1) next tail has.1 t)
   walks (Choose z a b rest) n next steps has (mid, tail, e, side, t) =
       let end = n + 1 + node_count a + node_count b in
       let after = entry_of rest end next in
@@ -93,8 +118,24 @@ module _ (g : List Node) where
       let x = node (Test z) (Branch (entry_of a (n + 1) after) (entry_of b (n + 1 + node_count a) after)) in
       subst (λ s. IsPath g n s next) (sym e)
       (elim side [
-        | inl p ↦ (x, has.0, refl, entry_of a (n + 1) after, inl refl, path_join g mid tail _ after next (walks a (n + 1) after mid (has_front g (n + 1) xs (ys ++ zs) has.1) p) on)
-        | inr p ↦ (x, has.0, refl, entry_of b (n + 1 + node_count a) after, inr refl, path_join g mid tail _ after next (walks b (n + 1 + node_count a) after mid (has_front g (n + 1 + node_count a) ys zs at_b) p) on)
+        | inl p ↦ (
+          x,
+          has.0,
+          refl,
+          entry_of a (n + 1) after,
+          inl refl,
+          path_join g mid tail _ after next (walks a (n + 1) after mid (has_front g (n + 1) xs (ys ++ zs) has.1) p)
+              on,
+        )
+        | inr p ↦ (
+          x,
+          has.0,
+          refl,
+          entry_of b (n + 1 + node_count a) after,
+          inr refl,
+          path_join g mid tail _ after next
+              (walks b (n + 1 + node_count a) after mid (has_front g (n + 1 + node_count a) ys zs at_b) p) on,
+        )
       ])
   walks (Loop z a rest) n next steps has (turns, mid, tail, e, t, r) =
       let end = n + 1 + node_count a in
@@ -102,9 +143,11 @@ module _ (g : List Node) where
       let xs = nodes_of a (n + 1) n in
       let zs = nodes_of rest end next in
       let at_rest = behind g a (n + 1) n zs has.1 in
-      let body = λ (m : List Visit) (p : IsTrace a (n + 1) m). walks a (n + 1) n m (has_front g (n + 1) xs zs has.1) p in
+      let body = λ (m : List Visit) (p : IsTrace a (n + 1) m). walks a (n + 1) n m (has_front g (n + 1) xs zs has.1)
+      p in
       subst (λ s. IsPath g n s next) (sym e)
-      (path_join g mid tail n after next (turn_paths z a n after turns mid _ has.0 refl body t) (walks rest end next tail at_rest r))
+      (path_join g mid tail n after next (turn_paths z a n after turns mid _ has.0 refl body t)
+      (walks rest end next tail at_rest r))
 
   -- a list of steps in two parts: the first is such a trace, the second a path from there to the exit
   abbrev Split : ℕ → (List Visit → Type 0) → ℕ → List Visit → Type 0
@@ -113,7 +156,8 @@ module _ (g : List Node) where
 
   -- a path to the exit begins with a trace
   abbrev Splits : ℕ → TextView → ℕ → ℕ → Type 0
-  Splits exit c n next = (steps : List Visit) → IsPath g (entry_of c n next) steps exit → Split exit (IsTrace c n) next steps
+  Splits exit c n next = (steps : List Visit) → IsPath g (entry_of c n next) steps exit
+      → Split exit (IsTrace c n) next steps
 
   same_node : (i : ℕ) (x y : Node) → slice_get g i ≡ Some x → slice_get g i ≡ Some y → x ≡ y
   same_node i x y e f = cc
@@ -121,7 +165,10 @@ module _ (g : List Node) where
   not_end : (exit i : ℕ) (x : Node) → slice_get g exit ≡ None → slice_get g i ≡ Some x → i ≡ exit → ⊥
   not_end exit i x e f same = let h : slice_get g i ≡ None = subst (λ k. slice_get g k ≡ None) (sym same) e in cc
 
-  split_turns : (exit : ℕ) → slice_get g exit ≡ None → (z : Condition) (a : TextView) (n next : ℕ) → slice_get g n ≡ Some (node (Test z) (Branch (entry_of a (n + 1) n) next)) → Splits exit a (n + 1) n → (fuel : ℕ) (steps : List Visit) → length steps ≤ fuel → IsPath g n steps exit → Split exit (λ s. (turns : ℕ) × Rounds n z (IsTrace a (n + 1)) turns s) next steps
+  split_turns : (exit : ℕ) → slice_get g exit ≡ None → (z : Condition) (a : TextView) (n next : ℕ)
+      → slice_get g n ≡ Some (node (Test z) (Branch (entry_of a (n + 1) n) next)) → Splits exit a (n + 1) n
+      → (fuel : ℕ) (steps : List Visit) → length steps ≤ fuel → IsPath g n steps exit
+      → Split exit (λ s. (turns : ℕ) × Rounds n z (IsTrace a (n + 1)) turns s) next steps
   split_turns exit ends z a n next at body fuel [] le p = absurd (not_end exit n _ ends at p)
   split_turns exit ends z a n next at body zero (s ∷ steps) le p = absurd (omega arith)
   split_turns exit ends z a n next at body (suc fuel) (s ∷ steps) le (x, here, is, m, to, p) =
@@ -132,13 +179,20 @@ module _ (g : List Node) where
             let q = body steps (subst (λ k. IsPath g k steps exit) e p) in
             let short : length q.1 ≤ fuel = omega (arith, ap length q.2, length-append q.0 q.1) in
             let r = split_turns exit ends z a n next at body fuel q.1 short q.4 in
-            let joined : s ∷ steps ≡ (visit n (Test z) ∷ (q.0 ++ r.0)) ++ r.1 = ap (λ y. y ∷ steps) first ∙ ap (λ l. visit n (Test z) ∷ l) (q.2 ∙ ap (λ l. q.0 ++ l) r.2 ∙ sym (append_assoc q.0 r.0 r.1)) in
+            let joined : s ∷ steps ≡ (visit n (Test z) ∷ (q.0 ++ r.0)) ++ r.1 = ap (λ y. y ∷ steps) first
+            ∙ ap (λ l. visit n (Test z) ∷ l) (q.2 ∙ ap (λ l. q.0 ++ l) r.2 ∙ sym (append_assoc q.0 r.0 r.1)) in
             (visit n (Test z) ∷ (q.0 ++ r.0), r.1, joined, (suc r.3.0, (q.0, r.0, refl, q.3, r.3.1)), r.4)
-        | inr e ↦
-            (visit n (Test z) ∷ [], steps, ap (λ y. y ∷ steps) first, (zero, refl), subst (λ k. IsPath g k steps exit) e p)
+        | inr e ↦ (
+          visit n (Test z) ∷ [],
+          steps,
+          ap (λ y. y ∷ steps) first,
+          (zero, refl),
+          subst (λ k. IsPath g k steps exit) e p,
+        )
       ]
 
-  pub splits : (exit : ℕ) → slice_get g exit ≡ None → (c : TextView) (n next : ℕ) → HasAt g n (nodes_of c n next) → Splits exit c n next
+  pub splits : (exit : ℕ) → slice_get g exit ≡ None → (c : TextView) (n next : ℕ) → HasAt g n (nodes_of c n next)
+      → Splits exit c n next
   splits exit ends Stop n next has steps p = ([], steps, refl, refl, p)
   splits exit ends (Do a rest) n next has [] p = absurd (not_end exit n _ ends has.0 p)
   splits exit ends (Section k c rest) n next has [] p = absurd (not_end exit n _ ends has.0 p)
@@ -148,7 +202,8 @@ module _ (g : List Node) where
       let first : s ≡ visit n (Act a) = is ∙ ap (λ y. visit n y.label) same in
       let there : m ≡ after = subst (λ y. LeadsTo y m) same to in
       let q = splits exit ends rest (n + 1) next has.1 steps (subst (λ k. IsPath g k steps exit) there p) in
-      let joined : s ∷ steps ≡ (visit n (Act a) ∷ q.0) ++ q.1 = ap (λ y. y ∷ steps) first ∙ ap (λ l. visit n (Act a) ∷ l) q.2 in
+      let joined : s ∷ steps ≡ (visit n (Act a) ∷ q.0) ++ q.1 = ap (λ y. y ∷ steps) first
+      ∙ ap (λ l. visit n (Act a) ∷ l) q.2 in
       (visit n (Act a) ∷ q.0, q.1, joined, (q.0, refl, q.3), q.4)
   splits exit ends (Section k c rest) n next has (s ∷ steps) (x, here, is, m, to, p) =
       let after = entry_of rest (n + 1) next in
@@ -156,7 +211,8 @@ module _ (g : List Node) where
       let first : s ≡ visit n (WholeSection k) = is ∙ ap (λ y. visit n y.label) same in
       let there : m ≡ after = subst (λ y. LeadsTo y m) same to in
       let q = splits exit ends rest (n + 1) next has.1 steps (subst (λ k. IsPath g k steps exit) there p) in
-      let joined : s ∷ steps ≡ (visit n (WholeSection k) ∷ q.0) ++ q.1 = ap (λ y. y ∷ steps) first ∙ ap (λ l. visit n (WholeSection k) ∷ l) q.2 in
+      let joined : s ∷ steps ≡ (visit n (WholeSection k) ∷ q.0) ++ q.1 = ap (λ y. y ∷ steps) first
+      ∙ ap (λ l. visit n (WholeSection k) ∷ l) q.2 in
       (visit n (WholeSection k) ∷ q.0, q.1, joined, (q.0, refl, q.3), q.4)
   splits exit ends (Choose z a b rest) n next has [] p = absurd (not_end exit n _ ends has.0 p)
   splits exit ends (Choose z a b rest) n next has (s ∷ steps) (x, here, is, m, to, p) =
@@ -173,14 +229,17 @@ module _ (g : List Node) where
       let side : Split exit (λ l. IsTrace a (n + 1) l ⊎ IsTrace b (n + 1 + node_count a) l) after steps =
       elim (subst (λ y. LeadsTo y m) same to) [
         | inl e ↦
-            let q = splits exit ends a (n + 1) after (has_front g (n + 1) xs (ys ++ zs) has.1) steps (subst (λ k. IsPath g k steps exit) e p) in
+            let q = splits exit ends a (n + 1) after (has_front g (n + 1) xs (ys ++ zs) has.1) steps
+            (subst (λ k. IsPath g k steps exit) e p) in
             (q.0, q.1, q.2, inl q.3, q.4)
         | inr e ↦
-            let q = splits exit ends b (n + 1 + node_count a) after (has_front g (n + 1 + node_count a) ys zs at_b) steps (subst (λ k. IsPath g k steps exit) e p) in
+            let q = splits exit ends b (n + 1 + node_count a) after (has_front g (n + 1 + node_count a) ys zs at_b)
+            steps (subst (λ k. IsPath g k steps exit) e p) in
             (q.0, q.1, q.2, inr q.3, q.4)
       ] in
       let r = splits exit ends rest end next at_rest side.1 side.4 in
-      let joined : s ∷ steps ≡ (visit n (Test z) ∷ (side.0 ++ r.0)) ++ r.1 = ap (λ y. y ∷ steps) first ∙ ap (λ l. visit n (Test z) ∷ l) (side.2 ∙ ap (λ l. side.0 ++ l) r.2 ∙ sym (append_assoc side.0 r.0 r.1)) in
+      let joined : s ∷ steps ≡ (visit n (Test z) ∷ (side.0 ++ r.0)) ++ r.1 = ap (λ y. y ∷ steps) first
+      ∙ ap (λ l. visit n (Test z) ∷ l) (side.2 ∙ ap (λ l. side.0 ++ l) r.2 ∙ sym (append_assoc side.0 r.0 r.1)) in
       (visit n (Test z) ∷ (side.0 ++ r.0), r.1, joined, (side.0, r.0, refl, side.3, r.3), r.4)
   splits exit ends (Loop z a rest) n next has steps p =
       let end = n + 1 + node_count a in
@@ -188,7 +247,8 @@ module _ (g : List Node) where
       let xs = nodes_of a (n + 1) n in
       let zs = nodes_of rest end next in
       let at_rest = behind g a (n + 1) n zs has.1 in
-      let q = split_turns exit ends z a n after has.0 (splits exit ends a (n + 1) n (has_front g (n + 1) xs zs has.1)) (length steps) steps (omega arith) p in
+      let q = split_turns exit ends z a n after has.0 (splits exit ends a (n + 1) n (has_front g (n + 1) xs zs has.1))
+      (length steps) steps (omega arith) p in
       let r = splits exit ends rest end next at_rest q.1 q.4 in
       let joined : steps ≡ (q.0 ++ r.0) ++ r.1 = q.2 ∙ ap (λ l. q.0 ++ l) r.2 ∙ sym (append_assoc q.0 r.0 r.1) in
       (q.0 ++ r.0, r.1, joined, (q.3.0, q.0, r.0, refl, q.3.1, r.3), r.4)
@@ -197,18 +257,23 @@ module _ (g : List Node) where
 abbrev PathsFrom : TextView → List Node → ℕ → Type 0
 PathsFrom c g entry = (steps : List Visit) → IsPath g entry steps (length g) ↔ IsTrace c 0 steps
 
-paths_are_traces : (c : TextView) (g : List Node) → g ≡ nodes_of c 0 (node_count c) → PathsFrom c g (entry_of c 0 (node_count c))
+paths_are_traces : (c : TextView) (g : List Node) → g ≡ nodes_of c 0 (node_count c)
+    → PathsFrom c g (entry_of c 0 (node_count c))
 paths_are_traces c g is steps =
     let len : node_count c ≡ length g = omega (arith, ap length is, length-nodes_of c 0 (node_count c)) in
-    let has : HasAt g 0 (nodes_of c 0 (node_count c)) = subst (λ l. HasAt l 0 (nodes_of c 0 (node_count c))) (sym is) (has_all (nodes_of c 0 (node_count c)) []) in
+    let has : HasAt g 0 (nodes_of c 0 (node_count c)) =
+    subst (λ l. HasAt l 0 (nodes_of c 0 (node_count c))) (sym is) (has_all (nodes_of c 0 (node_count c)) []) in
     let ends : slice_get g (node_count c) ≡ None = slice_get_past g (node_count c) (omega arith) in (
-      λ p. of_split c g steps ends (splits g (node_count c) ends c 0 (node_count c) has steps (subst (λ k. IsPath g (entry_of c 0 (node_count c)) steps k) (sym len) p)),
+      λ p. of_split c g steps ends (splits g (node_count c) ends c 0 (node_count c) has steps
+          (subst (λ k. IsPath g (entry_of c 0 (node_count c)) steps k) (sym len) p)),
       λ t. subst (λ k. IsPath g (entry_of c 0 (node_count c)) steps k) len (walks g c 0 (node_count c) steps has t),
     )
   where
-    of_split : (c : TextView) (g : List Node) (steps : List Visit) → slice_get g (node_count c) ≡ None → Split g (node_count c) (IsTrace c 0) (node_count c) steps → IsTrace c 0 steps
+    of_split : (c : TextView) (g : List Node) (steps : List Visit) → slice_get g (node_count c) ≡ None
+        → Split g (node_count c) (IsTrace c 0) (node_count c) steps → IsTrace c 0 steps
     of_split c g steps ends (front, [], e, t, p) = subst (IsTrace c 0) (sym (e ∙ append-nil front)) t
-    of_split c g steps ends (front, s ∷ back, e, t, p) = absurd (not_end g (node_count c) (node_count c) p.0 ends p.1 refl)
+    of_split c g steps ends (front, s ∷ back, e, t, p) =
+        absurd (not_end g (node_count c) (node_count c) p.0 ends p.1 refl)
 
 entry_zero : (c : TextView) → entry_of c 0 (node_count c) ≡ 0
 entry_zero Stop = refl
@@ -259,21 +324,26 @@ module _ (g : List Node) where
   abbrev Both : ℕ → ℕ → ℕ → Type 0
   Both entry i next = Leads entry i × Leads i next
 
-  both : (c : TextView) (n next i : ℕ) → HasAt g n (nodes_of c n next) → n ≤ i → i < n + node_count c → Both (entry_of c n next) i next
+  both : (c : TextView) (n next i : ℕ) → HasAt g n (nodes_of c n next) → n ≤ i → i < n + node_count c
+      → Both (entry_of c n next) i next
   both Stop n next i has le lt = absurd (omega arith)
   both (Do a rest) n next i has le lt =
       let after = entry_of rest (n + 1) next in
       let first = leads_next n (Act a) after has.0 in
       elim (cases_eq n i) [
-        | inl e ↦ subst (λ k. Both n k next) e (leads_here n, leads_on n after next first (through rest (n + 1) next has.1))
-        | inr ne ↦ (let r = both rest (n + 1) next i has.1 (omega arith) (omega arith) in (leads_on n after i first r.0, r.1))
+        | inl e ↦ subst (λ k. Both n k next) e
+            (leads_here n, leads_on n after next first (through rest (n + 1) next has.1))
+        | inr ne ↦ (let r = both rest (n + 1) next i has.1 (omega arith) (omega arith) in
+            (leads_on n after i first r.0, r.1))
       ]
   both (Section k c rest) n next i has le lt =
       let after = entry_of rest (n + 1) next in
       let first = leads_next n (WholeSection k) after has.0 in
       elim (cases_eq n i) [
-        | inl e ↦ subst (λ k. Both n k next) e (leads_here n, leads_on n after next first (through rest (n + 1) next has.1))
-        | inr ne ↦ (let r = both rest (n + 1) next i has.1 (omega arith) (omega arith) in (leads_on n after i first r.0, r.1))
+        | inl e ↦ subst (λ k. Both n k next) e
+            (leads_here n, leads_on n after next first (through rest (n + 1) next has.1))
+        | inr ne ↦ (let r = both rest (n + 1) next i has.1 (omega arith) (omega arith) in
+            (leads_on n after i first r.0, r.1))
       ]
   both (Choose z a b rest) n next i has le lt =
       let end = n + 1 + node_count a + node_count b in
@@ -292,10 +362,13 @@ module _ (g : List Node) where
       elim (cases_eq n i) [
         | inl e ↦ subst (λ k. Both n k next) e (leads_here n, leads_on n after next over last)
         | inr ne ↦ elim (cases_lt i (n + 1 + node_count a)) [
-          | inl in_a ↦ (let r = both a (n + 1) after i at_a (omega arith) in_a in (leads_on n _ i to_a r.0, leads_on i after next r.1 last))
+          | inl in_a ↦ (let r = both a (n + 1) after i at_a (omega arith) in_a in
+              (leads_on n _ i to_a r.0, leads_on i after next r.1 last))
           | inr past_a ↦ elim (cases_lt i end) [
-            | inl in_b ↦ (let r = both b (n + 1 + node_count a) after i at_b past_a in_b in (leads_on n _ i to_b r.0, leads_on i after next r.1 last))
-            | inr past_b ↦ (let r = both rest end next i at_rest past_b (omega arith) in (leads_on n after i over r.0, r.1))
+            | inl in_b ↦ (let r = both b (n + 1 + node_count a) after i at_b past_a in_b in
+                (leads_on n _ i to_b r.0, leads_on i after next r.1 last))
+            | inr past_b ↦ (let r = both rest end next i at_rest past_b (omega arith) in
+                (leads_on n after i over r.0, r.1))
           ]
         ]
       ]
@@ -312,7 +385,8 @@ module _ (g : List Node) where
       elim (cases_eq n i) [
         | inl e ↦ subst (λ k. Both n k next) e (leads_here n, last)
         | inr ne ↦ elim (cases_lt i end) [
-          | inl in_a ↦ (let r = both a (n + 1) n i at_a (omega arith) in_a in (leads_on n _ i to_a r.0, leads_on i n next r.1 last))
+          | inl in_a ↦ (let r = both a (n + 1) n i at_a (omega arith) in_a in
+              (leads_on n _ i to_a r.0, leads_on i n next r.1 last))
           | inr past ↦ (let r = both rest end next i at_rest past (omega arith) in (leads_on n after i over r.0, r.1))
         ]
       ]
@@ -320,7 +394,8 @@ module _ (g : List Node) where
 pub is_connected : (c : TextView) (g : List Node) → g ≡ nodes_of c 0 (node_count c) → IsConnected g
 is_connected c g is =
     let len : node_count c ≡ length g = omega (arith, ap length is, length-nodes_of c 0 (node_count c)) in
-    let has : HasAt g 0 (nodes_of c 0 (node_count c)) = subst (λ l. HasAt l 0 (nodes_of c 0 (node_count c))) (sym is) (has_all (nodes_of c 0 (node_count c)) []) in
+    let has : HasAt g 0 (nodes_of c 0 (node_count c)) =
+    subst (λ l. HasAt l 0 (nodes_of c 0 (node_count c))) (sym is) (has_all (nodes_of c 0 (node_count c)) []) in
     let all = λ (i : ℕ) (lt : i < length g). both g c 0 (node_count c) i has (omega arith) (omega arith) in
     record {
       reached = λ i lt. subst (λ k. (steps : List Visit) × IsPath g k steps i) (entry_zero c) (all i lt).0;
@@ -328,5 +403,6 @@ is_connected c g is =
     }
 
 -- from the entry to the exit
-pub leads_over : (c : TextView) (g : List Node) → g ≡ nodes_of c 0 (node_count c) → (steps : List Visit) × IsPath g 0 steps (length g)
+pub leads_over : (c : TextView) (g : List Node) → g ≡ nodes_of c 0 (node_count c)
+    → (steps : List Visit) × IsPath g 0 steps (length g)
 leads_over c g is = let t = some_trace c 0 in (t.0, (paths_from_zero c g is t.0).1 t.1)

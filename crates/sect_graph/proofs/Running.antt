@@ -1,5 +1,6 @@
 -- Each node does the first step of what is still to run there.
-use Rattle.std.proofs.Common.{◌≡◌, ℕ, zero, suc, ◌+◌, ◌-◌, ◌<◌, ◌≤◌, List, [], ◌++◌, Some, None, refl, sym, ap, ◌∙◌, subst, inl, inr, arith, length, true, false, nat_lt}
+use Rattle.std.proofs.Common.{◌≡◌, ℕ, zero, suc, ◌+◌, ◌-◌, ◌<◌, ◌≤◌, List, [], ◌++◌, Some, None, refl, sym, ap, ◌∙◌}
+use Rattle.std.proofs.Common.{subst, inl, inr, arith, length, true, false, nat_lt}
 use Rattle.std.specs.Prelude.{slice_get}
 use Rattle.std.proofs.lemmas.Bool.{cases_lt}
 use Rattle.std.proofs.lemmas.Option.{slice_get_past}
@@ -38,7 +39,8 @@ abbrev Says : (ℕ → TextView) → TextView → ℕ → TextView → Type 0
 Says rest c n k = (j : ℕ) → j < node_count c → rest (n + j) ≡ rest_before c j k
 
 -- at the entry of statements they are to run
-at_entry : (rest : ℕ → TextView) (c : TextView) (n next : ℕ) (k : TextView) → Says rest c n k → rest next ≡ k → rest (entry_of c n next) ≡ joined c k
+at_entry : (rest : ℕ → TextView) (c : TextView) (n next : ℕ) (k : TextView) → Says rest c n k → rest next ≡ k
+    → rest (entry_of c n next) ≡ joined c k
 at_entry rest Stop n next k says on = on
 at_entry rest (Do a r) n next k says on = ap rest (omega arith) ∙ says 0 (omega arith)
 at_entry rest (Choose t p q r) n next k says on = ap rest (omega arith) ∙ says 0 (omega arith)
@@ -49,29 +51,39 @@ same : (g : List Node) (i : ℕ) (x y : Node) → slice_get g i ≡ Some x → s
 same g i x y e f = cc
 
 -- what is to run at the nodes of the parts of an `if`
-says_holds : (rest : ℕ → TextView) (t : Condition) (p q r : TextView) (n : ℕ) (k : TextView) → Says rest (Choose t p q r) n k → Says rest p (n + 1) (joined r k)
+says_holds : (rest : ℕ → TextView) (t : Condition) (p q r : TextView) (n : ℕ) (k : TextView)
+    → Says rest (Choose t p q r) n k → Says rest p (n + 1) (joined r k)
 says_holds rest t p q r n k says i lt =
     ap rest (omega arith) ∙ says (suc i) (omega arith) ∙ rw (less i (node_count p) lt) refl
 
-says_fails : (rest : ℕ → TextView) (t : Condition) (p q r : TextView) (n : ℕ) (k : TextView) → Says rest (Choose t p q r) n k → Says rest q (n + 1 + node_count p) (joined r k)
+says_fails : (rest : ℕ → TextView) (t : Condition) (p q r : TextView) (n : ℕ) (k : TextView)
+    → Says rest (Choose t p q r) n k → Says rest q (n + 1 + node_count p) (joined r k)
 says_fails rest t p q r n k says i lt =
     let e : node_count p + i - node_count p ≡ i = omega arith in
     ap rest (omega arith) ∙ says (suc (node_count p + i)) (omega arith)
     ∙ rw (not_less (node_count p + i) (node_count p) (omega arith), e, less i (node_count q) lt) refl
 
-says_behind : (rest : ℕ → TextView) (t : Condition) (p q r : TextView) (n : ℕ) (k : TextView) → Says rest (Choose t p q r) n k → Says rest r (n + 1 + node_count p + node_count q) k
+says_behind : (rest : ℕ → TextView) (t : Condition) (p q r : TextView) (n : ℕ) (k : TextView)
+    → Says rest (Choose t p q r) n k → Says rest r (n + 1 + node_count p + node_count q) k
 says_behind rest t p q r n k says i lt =
     let e : node_count p + node_count q + i - node_count p ≡ node_count q + i = omega arith in
     let f : node_count q + i - node_count q ≡ i = omega arith in
     ap rest (omega arith) ∙ says (suc (node_count p + node_count q + i)) (omega arith)
-    ∙ rw (not_less (node_count p + node_count q + i) (node_count p) (omega arith), e, not_less (node_count q + i) (node_count q) (omega arith), f) refl
+    ∙ rw (
+      not_less (node_count p + node_count q + i) (node_count p) (omega arith),
+      e,
+      not_less (node_count q + i) (node_count q) (omega arith),
+      f,
+    ) refl
 
 -- and of a `while`
-says_body : (rest : ℕ → TextView) (t : Condition) (p r : TextView) (n : ℕ) (k : TextView) → Says rest (Loop t p r) n k → Says rest p (n + 1) (Loop t p (joined r k))
+says_body : (rest : ℕ → TextView) (t : Condition) (p r : TextView) (n : ℕ) (k : TextView) → Says rest (Loop t p r) n k
+    → Says rest p (n + 1) (Loop t p (joined r k))
 says_body rest t p r n k says i lt =
     ap rest (omega arith) ∙ says (suc i) (omega arith) ∙ rw (less i (node_count p) lt) refl
 
-says_past : (rest : ℕ → TextView) (t : Condition) (p r : TextView) (n : ℕ) (k : TextView) → Says rest (Loop t p r) n k → Says rest r (n + 1 + node_count p) k
+says_past : (rest : ℕ → TextView) (t : Condition) (p r : TextView) (n : ℕ) (k : TextView) → Says rest (Loop t p r) n k
+    → Says rest r (n + 1 + node_count p) k
 says_past rest t p r n k says i lt =
     let e : node_count p + i - node_count p ≡ i = omega arith in
     ap rest (omega arith) ∙ says (suc (node_count p + i)) (omega arith)
@@ -83,22 +95,31 @@ within g j x at = elim (cases_lt j (length g)) [
   | inr ge ↦ (let e : slice_get g j ≡ None = slice_get_past g j ge in absurd cc)
 ]
 
-begins : (g : List Node) (rest : ℕ → TextView) (c : TextView) (n next : ℕ) (k : TextView) → HasAt g n (nodes_of c n next)
+begins : (g : List Node) (rest : ℕ → TextView) (c : TextView) (n next : ℕ) (k : TextView)
+    → HasAt g n (nodes_of c n next)
     → Says rest c n k → rest next ≡ k
     → (j : ℕ) → j < node_count c → (x : Node) → slice_get g (n + j) ≡ Some x → Begins rest x (rest_before c j k)
 begins g rest Stop n next k has says on j lt x at = absurd (omega arith)
 begins g rest (Do a r) n next k has says on zero lt x at =
     let after = entry_of r (n + 1) next in
-    let says' : Says rest r (n + 1) k = λ j lt. ap rest (omega arith) ∙ says (suc j) (omega arith) in
-    (after, same g n x _ (subst (λ i. slice_get g i ≡ Some x) (omega arith) at) has.0, at_entry rest r (n + 1) next k says' on)
+    let says' : Says rest r (n + 1) k = λ j lt. ap rest (omega arith) ∙ says (suc j) (omega arith) in (
+      after,
+      same g n x _ (subst (λ i. slice_get g i ≡ Some x) (omega arith) at) has.0,
+      at_entry rest r (n + 1) next k says' on,
+    )
 begins g rest (Do a r) n next k has says on (suc j) lt x at =
-    begins g rest r (n + 1) next k has.1 (λ j lt. ap rest (omega arith) ∙ says (suc j) (omega arith)) on j (omega arith) x (subst (λ i. slice_get g i ≡ Some x) (omega arith) at)
+    begins g rest r (n + 1) next k has.1 (λ j lt. ap rest (omega arith) ∙ says (suc j) (omega arith)) on j (omega arith)
+    x (subst (λ i. slice_get g i ≡ Some x) (omega arith) at)
 begins g rest (Section i p r) n next k has says on zero lt x at =
     let after = entry_of r (n + 1) next in
-    let says' : Says rest r (n + 1) k = λ j lt. ap rest (omega arith) ∙ says (suc j) (omega arith) in
-    (after, same g n x _ (subst (λ i. slice_get g i ≡ Some x) (omega arith) at) has.0, at_entry rest r (n + 1) next k says' on)
+    let says' : Says rest r (n + 1) k = λ j lt. ap rest (omega arith) ∙ says (suc j) (omega arith) in (
+      after,
+      same g n x _ (subst (λ i. slice_get g i ≡ Some x) (omega arith) at) has.0,
+      at_entry rest r (n + 1) next k says' on,
+    )
 begins g rest (Section i p r) n next k has says on (suc j) lt x at =
-    begins g rest r (n + 1) next k has.1 (λ j lt. ap rest (omega arith) ∙ says (suc j) (omega arith)) on j (omega arith) x (subst (λ i. slice_get g i ≡ Some x) (omega arith) at)
+    begins g rest r (n + 1) next k has.1 (λ j lt. ap rest (omega arith) ∙ says (suc j) (omega arith)) on j (omega arith)
+    x (subst (λ i. slice_get g i ≡ Some x) (omega arith) at)
 begins g rest (Choose t p q r) n next k has says on zero lt x at =
     let end = n + 1 + node_count p + node_count q in
     let after = entry_of r end next in
@@ -120,12 +141,16 @@ begins g rest (Choose t p q r) n next k has says on (suc j) lt x at =
     let has_r = behind g q (n + 1 + node_count p) after zs has_q in
     elim (cases_lt j (node_count p)) [
       | inl holds ↦ rw (less j (node_count p) holds)
-          (begins g rest p (n + 1) after (joined r k) (has_front g (n + 1) xs (ys ++ zs) has.1) (says_holds rest t p q r n k says) on' j holds x (subst (λ i. slice_get g i ≡ Some x) (omega arith) at))
+          (begins g rest p (n + 1) after (joined r k) (has_front g (n + 1) xs (ys ++ zs) has.1)
+          (says_holds rest t p q r n k says) on' j holds x (subst (λ i. slice_get g i ≡ Some x) (omega arith) at))
       | inr other ↦ rw (not_less j (node_count p) other) (elim (cases_lt (j - node_count p) (node_count q)) [
         | inl fails ↦ rw (less (j - node_count p) (node_count q) fails)
-            (begins g rest q (n + 1 + node_count p) after (joined r k) (has_front g (n + 1 + node_count p) ys zs has_q) (says_fails rest t p q r n k says) on' (j - node_count p) fails x (subst (λ i. slice_get g i ≡ Some x) (omega arith) at))
+            (begins g rest q (n + 1 + node_count p) after (joined r k) (has_front g (n + 1 + node_count p) ys zs has_q)
+            (says_fails rest t p q r n k says) on' (j - node_count p) fails x
+            (subst (λ i. slice_get g i ≡ Some x) (omega arith) at))
         | inr behind ↦ rw (not_less (j - node_count p) (node_count q) behind)
-            (begins g rest r end next k has_r (says_behind rest t p q r n k says) on (j - node_count p - node_count q) (omega arith) x (subst (λ i. slice_get g i ≡ Some x) (omega arith) at))
+            (begins g rest r end next k has_r (says_behind rest t p q r n k says) on (j - node_count p - node_count q)
+            (omega arith) x (subst (λ i. slice_get g i ≡ Some x) (omega arith) at))
       ])
     ]
 begins g rest (Loop t p r) n next k has says on zero lt x at =
@@ -133,7 +158,8 @@ begins g rest (Loop t p r) n next k has says on zero lt x at =
       entry_of p (n + 1) n,
       entry_of r end next,
       same g n x _ (subst (λ i. slice_get g i ≡ Some x) (omega arith) at) has.0,
-      at_entry rest p (n + 1) n (Loop t p (joined r k)) (says_body rest t p r n k says) (ap rest (omega arith) ∙ says zero (omega arith)),
+      at_entry rest p (n + 1) n (Loop t p (joined r k)) (says_body rest t p r n k says)
+          (ap rest (omega arith) ∙ says zero (omega arith)),
       at_entry rest r end next k (says_past rest t p r n k says) on,
     )
 begins g rest (Loop t p r) n next k has says on (suc j) lt x at =
@@ -143,9 +169,12 @@ begins g rest (Loop t p r) n next k has says on (suc j) lt x at =
     let has_r = behind g p (n + 1) n zs has.1 in
     elim (cases_lt j (node_count p)) [
       | inl body ↦ rw (less j (node_count p) body)
-          (begins g rest p (n + 1) n (Loop t p (joined r k)) (has_front g (n + 1) xs zs has.1) (says_body rest t p r n k says) (ap rest (omega arith) ∙ says zero (omega arith)) j body x (subst (λ i. slice_get g i ≡ Some x) (omega arith) at))
+          (begins g rest p (n + 1) n (Loop t p (joined r k)) (has_front g (n + 1) xs zs has.1)
+          (says_body rest t p r n k says) (ap rest (omega arith) ∙ says zero (omega arith)) j body x
+          (subst (λ i. slice_get g i ≡ Some x) (omega arith) at))
       | inr past ↦ rw (not_less j (node_count p) past)
-          (begins g rest r end next k has_r (says_past rest t p r n k says) on (j - node_count p) (omega arith) x (subst (λ i. slice_get g i ≡ Some x) (omega arith) at))
+          (begins g rest r end next k has_r (says_past rest t p r n k says) on (j - node_count p) (omega arith) x
+          (subst (λ i. slice_get g i ≡ Some x) (omega arith) at))
     ]
 
 at_start : (c : TextView) → rest_at c 0 ≡ joined c Stop
@@ -158,9 +187,12 @@ at_start (Section i p r) = refl
 pub runs_rests : (c : TextView) (g : List Node) → g ≡ nodes_of c 0 (node_count c) → RunsRests c g
 runs_rests c g is =
     let len : length g ≡ node_count c = ap length is ∙ length-nodes_of c 0 (node_count c) in
-    let has : HasAt g 0 (nodes_of c 0 (node_count c)) = subst (λ l. HasAt l 0 (nodes_of c 0 (node_count c))) (sym is) (has_all (nodes_of c 0 (node_count c)) []) in
+    let has : HasAt g 0 (nodes_of c 0 (node_count c)) =
+    subst (λ l. HasAt l 0 (nodes_of c 0 (node_count c))) (sym is) (has_all (nodes_of c 0 (node_count c)) []) in
     record {
       start = at_start c ∙ joined_stop c;
-      begins = λ j x at. begins g (rest_at c) c 0 (node_count c) Stop has (λ i lt. ap (rest_at c) (omega arith)) (past c (node_count c) Stop (omega arith)) j (omega (arith, len, within g j x at)) x (subst (λ i. slice_get g i ≡ Some x) (omega arith) at);
+      begins = λ j x at. begins g (rest_at c) c 0 (node_count c) Stop has (λ i lt. ap (rest_at c) (omega arith))
+          (past c (node_count c) Stop (omega arith)) j (omega (arith, len, within g j x at)) x
+          (subst (λ i. slice_get g i ≡ Some x) (omega arith) at);
       end = ap (rest_at c) len ∙ past c (node_count c) Stop (omega arith);
     }

@@ -1,5 +1,6 @@
 -- The worklist ends, since the lists that only grow have bounded lengths.
-use Rattle.std.proofs.Common.{◌≡◌, ℕ, zero, suc, ◌+◌, ◌-◌, ◌*◌, ◌<◌, ◌≤◌, List, [], ◌∷◌, ◌++◌, Some, Bool, true, false, map, set, length, length-append, refl, sym, ap, ◌∙◌, subst, arith, inl, inr}
+use Rattle.std.proofs.Common.{◌≡◌, ℕ, zero, suc, ◌+◌, ◌-◌, ◌*◌, ◌<◌, ◌≤◌, List, [], ◌∷◌, ◌++◌, Some, Bool, true, false}
+use Rattle.std.proofs.Common.{map, set, length, length-append, refl, sym, ap, ◌∙◌, subst, arith, inl, inr}
 use Rattle.std.specs.Prelude.{slice_get, slice_index_or}
 use Rattle.std.specs.List.{All}
 use Rattle.std.specs.List.Sorted.{IsStrictlySortedBy}
@@ -32,11 +33,13 @@ total [] = 0
 total (xs ∷ lists) = length xs + total lists
 
 -- one list is longer
-total_more : {X : Type 0} (lists : List (List X)) (j : ℕ) (more : List X) → j < length lists → total (set lists j (slice_index_or lists j [] ++ more)) ≡ total lists + length more
+total_more : {X : Type 0} (lists : List (List X)) (j : ℕ) (more : List X) → j < length lists
+    → total (set lists j (slice_index_or lists j [] ++ more)) ≡ total lists + length more
 unfolding total
 total_more [] j more there = absurd (omega (arith, there))
 total_more (xs ∷ lists) zero more there = let long = length-append xs more in omega (arith, long)
-total_more (xs ∷ lists) (suc j) more there = let rest = total_more lists j more (omega (arith, there)) in omega (arith, rest)
+total_more (xs ∷ lists) (suc j) more there = let rest = total_more lists j more (omega (arith, there)) in
+    omega (arith, rest)
 
 -- so many for each
 times : ℕ → ℕ → ℕ
@@ -44,7 +47,8 @@ times zero most = 0
 times (suc n) most = most + times n most
 
 -- each list is at most so long
-total_most : {X : Type 0} (lists : List (List X)) (most : ℕ) → ((j : ℕ) → length (slice_index_or lists j []) ≤ most) → total lists ≤ times (length lists) most
+total_most : {X : Type 0} (lists : List (List X)) (most : ℕ) → ((j : ℕ) → length (slice_index_or lists j []) ≤ most)
+    → total lists ≤ times (length lists) most
 unfolding total times
 total_most [] most each = omega arith
 total_most (xs ∷ lists) most each =
@@ -54,27 +58,33 @@ total_most (xs ∷ lists) most each =
 
 -- the lock with a number
 pub named : (keys : List Lock) (n : ℕ) → n < length keys → slice_get keys n ≡ Some (lock_at keys n)
-named keys n within = let l = at_of keys n within in l.1 ∙ ap (λ x. Some x) (sym (get_or_from_slice_get keys n l.0 lock.All l.1))
+named keys n within = let l = at_of keys n within in
+    l.1 ∙ ap (λ x. Some x) (sym (get_or_from_slice_get keys n l.0 lock.All l.1))
 
 -- locks of numbers that are apart are apart
-named_apart : (keys : List Lock) (ns : List ℕ) → AreApart keys → AreNumbers keys ns → AreApart ns → AreApart (map (lock_at keys) ns)
+named_apart : (keys : List Lock) (ns : List ℕ) → AreApart keys → AreNumbers keys ns → AreApart ns
+    → AreApart (map (lock_at keys) ns)
 named_apart keys [] apart there a = tt
 named_apart keys (n ∷ ns) apart there a = (
   λ h. (let m = Has-unmap (lock_at keys) ns (lock_at keys n) h in
-      let same = apart_one keys m.0 n (lock_at keys n) apart (named keys m.0 (there m.0 (inr m.1)) ∙ ap (λ x. Some x) m.2) (named keys n (there n (inl refl))) in
+      let same = apart_one keys m.0 n (lock_at keys n) apart
+      (named keys m.0 (there m.0 (inr m.1)) ∙ ap (λ x. Some x) m.2) (named keys n (there n (inl refl))) in
       a.0 (subst (Has ns) same m.1)),
   named_apart keys ns apart (λ m h. there m (inr h)) a.1,
 )
 
 module _ (s : SchemeView) (t : ℕ) (g : List Node) (lawful : AreLawful s t g) where
   -- a node has at most all locks of the program
-  few : (a : TableView) (lists : List (List ℕ)) (waiting : List ℕ) → IsWorking s t g a lists waiting → (j : ℕ) → length (slice_index_or lists j []) ≤ length (all_locks s)
+  few : (a : TableView) (lists : List (List ℕ)) (waiting : List ℕ) → IsWorking s t g a lists waiting → (j : ℕ)
+      → length (slice_index_or lists j []) ≤ length (all_locks s)
   few a lists waiting w j =
       let ns : List ℕ = slice_index_or lists j [] in
       let there = w.numbered.numbers j in
-      let short = apart_short the_lock_laws lock_tells (map (lock_at a.keys) ns) (all_locks s) (named_apart a.keys ns w.numbered.table.apart there (w.numbered.apart j))
+      let short = apart_short the_lock_laws lock_tells (map (lock_at a.keys) ns) (all_locks s)
+      (named_apart a.keys ns w.numbered.table.apart there (w.numbered.apart j))
       (λ l h. let n = Has-unmap (lock_at a.keys) ns l h in
-      finite_locks s t l (lawful_at s t g lawful a lists w.derived j l (n.0, n.1, named a.keys n.0 (there n.0 n.1) ∙ ap (λ x. Some x) n.2))) in
+      finite_locks s t l (lawful_at s t g lawful a lists w.derived j l
+      (n.0, n.1, named a.keys n.0 (there n.0 n.1) ∙ ap (λ x. Some x) n.2))) in
       omega (arith, short, length-map ns (lock_at a.keys))
 
 -- numbers that are below another
@@ -83,15 +93,18 @@ all_below n xs each = λ i d within. each (slice_index_or xs i d) (Has-get_or xs
 
 -- what is left to be found, and how many nodes wait
 pub measure : SchemeView → List Node → List (List ℕ) → List ℕ → ℕ
-measure s g lists waiting = (length g + 1) * (times (length lists) (length (all_locks s)) - total lists) + length waiting
+measure s g lists waiting = (length g + 1) * (times (length lists) (length (all_locks s)) - total lists) + length
+    waiting
 
 -- a measure of two parts, of which the first falls
 less : (m x y v w : ℕ) → y + 1 ≤ x → v < m → m * y + v < m * x + w
 less m x y v w h k = let p = mul-le-mul_left m h in omega (arith, p, k)
 
 -- each visit takes a node out, or finds more
-module _ (s : SchemeView) (t : ℕ) (g : List Node) (lawful : AreLawful s t g) (a d : TableView) (before after : List (List ℕ)) (rest later : List ℕ) (j : ℕ) (any : Bool) (within : j < length g)
-    (w : IsWorking s t g a before (rest ++ j ∷ [])) (v : IsVisit s t g a before d after j any) (new : IsWorking s t g d after later) where
+module _ (s : SchemeView) (t : ℕ) (g : List Node) (lawful : AreLawful s t g) (a d : TableView)
+    (before after : List (List ℕ)) (rest later : List ℕ) (j : ℕ) (any : Bool) (within : j < length g)
+    (w : IsWorking s t g a before (rest ++ j ∷ [])) (v : IsVisit s t g a before d after j any)
+    (new : IsWorking s t g d after later) where
   -- the lists have grown by what is more
   longer : total after ≡ total before + length v.more
   longer = ap total v.changed ∙ total_more before j v.more (omega (arith, within, w.numbered.count))
@@ -107,11 +120,13 @@ module _ (s : SchemeView) (t : ℕ) (g : List Node) (lawful : AreLawful s t g) (
       rw (same_count, same, is) (omega (arith, length-append rest (j ∷ [])))
 
   -- less is left to be found
-  pub busy_less : any ≡ true → IsStrictlySortedBy nat_cmp later → measure s g after later < measure s g before (rest ++ j ∷ [])
+  pub busy_less : any ≡ true → IsStrictlySortedBy nat_cmp later
+      → measure s g after later < measure s g before (rest ++ j ∷ [])
   unfolding measure
   busy_less on sorted =
       let most = total_most after (length (all_locks s)) (few s t g lawful d after later new) in
       let waiting = length-le_from_below (length g) later sorted (all_below (length g) later new.nodes) in
       let bound = ap (λ n. times n (length (all_locks s))) same_count in
-      less (length g + 1) (times (length before) (length (all_locks s)) - total before) (times (length after) (length (all_locks s)) - total after) (length later) (length (rest ++ j ∷ []))
+      less (length g + 1) (times (length before) (length (all_locks s)) - total before)
+      (times (length after) (length (all_locks s)) - total after) (length later) (length (rest ++ j ∷ []))
       (omega (arith, longer, v.some on, most, bound)) (omega (arith, waiting))

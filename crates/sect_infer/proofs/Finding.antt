@@ -1,5 +1,6 @@
 -- The locks that are found for a section.
-use Rattle.std.proofs.Common.{◌≡◌, ◌↔◌, ℕ, zero, suc, ◌+◌, ◌<◌, ◌≤◌, map, List, [], ◌∷◌, Some, length, inl, inr, refl, sym, ap, ◌∙◌, subst, append-nil, arith}
+use Rattle.std.proofs.Common.{◌≡◌, ◌↔◌, ℕ, zero, suc, ◌+◌, ◌<◌, ◌≤◌, map, List, [], ◌∷◌, Some, length, inl, inr, refl}
+use Rattle.std.proofs.Common.{sym, ap, ◌∙◌, subst, append-nil, arith}
 use Rattle.std.specs.Prelude.{slice_get, slice_index_or}
 use Rattle.std.proofs.lemmas.Bool.{cases_lt}
 use Rattle.std.proofs.lemmas.List.{length-map}
@@ -29,14 +30,16 @@ use Rattle.sect_infer.proofs.Listing.{maximal_of, listed_maximal}
 use Rattle.sect_infer.proofs.Meaning.{derived_from}
 
 -- what a list of values stands for
-mapped_at : {X Y : Type 0} (f : X → Y) (xs : List X) (j : ℕ) (y : Y) → slice_get (map f xs) j ≡ Some y → (x : X) × (slice_get xs j ≡ Some x) × (f x ≡ y)
+mapped_at : {X Y : Type 0} (f : X → Y) (xs : List X) (j : ℕ) (y : Y) → slice_get (map f xs) j ≡ Some y
+    → (x : X) × (slice_get xs j ≡ Some x) × (f x ≡ y)
 mapped_at f [] j y at = absurd cc
 mapped_at f (x ∷ xs) zero y at = (x, refl, cc)
 mapped_at f (x ∷ xs) (suc j) y at = mapped_at f xs j y at
 
 module _ (s : SchemeView) (t : ℕ) (g : List Node) where
   -- where the work has settled, each node's list has the maximal locks of those that are derived there
-  pub are_found : (a : TableView) (lists : List (List ℕ)) (order : List ℕ) → IsSettled s t g a lists → IsOrder a.keys order → AreFound s t g (map (listed a order) lists)
+  pub are_found : (a : TableView) (lists : List (List ℕ)) (order : List ℕ) → IsSettled s t g a lists
+      → IsOrder a.keys order → AreFound s t g (map (listed a order) lists)
   are_found a lists order settled o = record {
     count = length-map lists (listed a order) ∙ settled.numbered.count;
     each = λ j locks at.
@@ -46,12 +49,14 @@ module _ (s : SchemeView) (t : ℕ) (g : List Node) where
         subst (AreMaximal s (λ l. IsDerived s t g (need j l))) ns.2
         (maximal_of s (HasLock a.keys ns.0) (λ l. IsDerived s t g (need j l)) (listed a order ns.0)
         (λ l h. settled.derived j l (subst (λ ms. HasLock a.keys ms l) (sym here) h))
-        (λ l d. let over = settled.covered j l d in (over.0, subst (λ ms. HasLock a.keys ms over.0) here over.1, over.2))
+        (λ l d. let over = settled.covered j l d in
+        (over.0, subst (λ ms. HasLock a.keys ms over.0) here over.1, over.2))
         (listed_maximal s a settled.numbered.table order o ns.0 there));
   }
 
   -- the locks at each node are the program's
-  pub found_lawful : AreLawful s t g → (lists : List (List Lock)) → AreFound s t g lists → (j : ℕ) (locks : List Lock) → slice_get lists j ≡ Some locks → (l : Lock) → Has locks l → IsLockOf s t l
+  pub found_lawful : AreLawful s t g → (lists : List (List Lock)) → AreFound s t g lists → (j : ℕ) (locks : List Lock)
+      → slice_get lists j ≡ Some locks → (l : Lock) → Has locks l → IsLockOf s t l
   found_lawful lawful lists found j locks at l h =
       let d = (((found.each j locks at).kept_are l).0 h).0 in
       (derived_lock s t g lawful d.0 (need j l) d.1).1
@@ -65,9 +70,11 @@ module _ (s : SchemeView) (t : ℕ) (g : List Node) where
     )
 
     -- lists that have what is needed at each node are the section's locks
-    pub locks_of : (locks : LocksView) → slice_get locks.at 0 ≡ Some locks.entry → AreNeeded s t last body g locks.at → AreLocksOf s last (record { thread = t; body = body }) g locks
+    pub locks_of : (locks : LocksView) → slice_get locks.at 0 ≡ Some locks.entry → AreNeeded s t last body g locks.at
+        → AreLocksOf s last (record { thread = t; body = body }) g locks
     locks_of locks first needed =
-        let max = maximal_as s (IsNeededFrom s t last body g 0) (IsNeeded s t last body) locks.entry needed_first (needed.each 0 locks.entry first) in
+        let max = maximal_as s (IsNeededFrom s t last body g 0) (IsNeeded s t last body) locks.entry needed_first
+        (needed.each 0 locks.entry first) in
         record {
           needed = needed;
           first = first;
@@ -83,7 +90,8 @@ module _ (s : SchemeView) (t : ℕ) (g : List Node) where
       count = found.count;
       each = λ j locks at.
           maximal_as s (λ l. IsDerived s t g (need j l)) (IsNeededFrom s t [] body g j) locks
-          (λ l. derived_from s t g body graph j l (omega (arith, slice_get_within lists j locks at, found.count))) (found.each j locks at);
+          (λ l. derived_from s t g body graph j l (omega (arith, slice_get_within lists j locks at, found.count)))
+          (found.each j locks at);
     }
 
     abbrev on_all : List Lock
@@ -122,30 +130,43 @@ module _ (s : SchemeView) (t : ℕ) (g : List Node) where
     }
 
   -- so what is found are the locks of a section that takes what it needs, or the lock on all
-  pub inferred_of : (body : TextView) → IsGraphOf body g → (locks : LocksView) → IsFound s t g locks → AreLocksOf s [] (record { thread = t; body = body }) g locks
-  inferred_of body graph locks found = locks_of [] body graph locks found.first (found_needed body graph locks.at found.found)
+  pub inferred_of : (body : TextView) → IsGraphOf body g → (locks : LocksView) → IsFound s t g locks
+      → AreLocksOf s [] (record { thread = t; body = body }) g locks
+  inferred_of body graph locks found =
+      locks_of [] body graph locks found.first (found_needed body graph locks.at found.found)
 
-  pub on_all_of : (body : TextView) → IsGraphOf body g → (locks : LocksView) → IsOnAll s (length g + 1) locks → AreLocksOf s (lock.All ∷ []) (record { thread = t; body = body }) g locks
-  on_all_of body graph locks found = locks_of (lock.All ∷ []) body graph locks found.first (all_needed body graph locks.at found.all)
+  pub on_all_of : (body : TextView) → IsGraphOf body g → (locks : LocksView) → IsOnAll s (length g + 1) locks
+      → AreLocksOf s (lock.All ∷ []) (record { thread = t; body = body }) g locks
+  on_all_of body graph locks found =
+      locks_of (lock.All ∷ []) body graph locks found.first (all_needed body graph locks.at found.all)
 
 -- the locks on all are the program's
-pub all_lawful : (s : SchemeView) (t n : ℕ) (lists : List (List Lock)) → AreAllOnAll s n lists → (j : ℕ) (locks : List Lock) → slice_get lists j ≡ Some locks → (l : Lock) → Has locks l → IsLockOf s t l
+pub all_lawful : (s : SchemeView) (t n : ℕ) (lists : List (List Lock)) → AreAllOnAll s n lists
+    → (j : ℕ) (locks : List Lock) → slice_get lists j ≡ Some locks → (l : Lock) → Has locks l → IsLockOf s t l
 all_lawful s t n lists all j locks at l h = subst (IsLockOf s t) (sym (((all.each j locks at).kept_are l).0 h).0) tt
 
 -- lists that each have the number of the lock on all
-pub are_on_all : (s : SchemeView) (a : TableView) (lists : List (List ℕ)) (order : List ℕ) (count n : ℕ) → IsTable s a → slice_get a.keys n ≡ Some lock.All → IsOrder a.keys order → length lists ≡ count
+pub are_on_all : (s : SchemeView) (a : TableView) (lists : List (List ℕ)) (order : List ℕ) (count n : ℕ) → IsTable s a
+    → slice_get a.keys n ≡ Some lock.All → IsOrder a.keys order → length lists ≡ count
     → ((j : ℕ) → j < count → slice_index_or lists j [] ≡ n ∷ []) → AreAllOnAll s count (map (listed a order) lists)
 are_on_all s a lists order count n is at o long each = record {
   counted = length-map lists (listed a order) ∙ long;
   each = λ j locks got.
       let ns = mapped_at (listed a order) lists j locks got in
       let within = slice_get_within lists j ns.0 ns.1 in
-      let here : ns.0 ≡ n ∷ [] = sym (get_or_from_slice_get lists j ns.0 [] ns.1) ∙ each j (omega (arith, within, long)) in
-      let there : AreNumbers a.keys ns.0 = λ m h. (let w = slice_get_within a.keys n lock.All at in elim (subst (λ ms. Has ms m) here h) [ inl e ↦ omega (arith, w, e) | inr none ↦ absurd none ]) in
+      let here : ns.0 ≡ n ∷ [] = sym (get_or_from_slice_get lists j ns.0 [] ns.1)
+      ∙ each j (omega (arith, within, long)) in
+      let there : AreNumbers a.keys ns.0 =
+      λ m h. (let w = slice_get_within a.keys n lock.All at in
+      elim (subst (λ ms. Has ms m) here h) [ inl e ↦ omega (arith, w, e) | inr none ↦ absurd none ]) in
       subst (AreMaximal s (λ l. l ≡ lock.All)) ns.2
       (maximal_as s (HasLock a.keys ns.0) (λ l. l ≡ lock.All) (listed a order ns.0)
       (λ l. (
-        λ h. elim (subst (λ ms. Has ms h.0) here h.1) [ inl e ↦ one_at a.keys n l lock.All (subst (λ m. slice_get a.keys m ≡ Some l) (sym e) h.2) at | inr none ↦ absurd none ],
+        λ h. elim (subst (λ ms. Has ms h.0) here h.1) [
+          | inl e ↦ one_at a.keys n l lock.All (subst (λ m. slice_get a.keys m ≡ Some l) (sym e) h.2) at
+          | inr none ↦
+              absurd none
+        ],
         λ e. (n, subst (λ ms. Has ms n) (sym here) (inl refl), at ∙ ap (λ x. Some x) (sym e)),
       ))
       (listed_maximal s a is order o ns.0 there));

@@ -1,5 +1,6 @@
 -- The maximal locks among those with some numbers, in canonical order.
-use Rattle.std.proofs.Common.{◌≡◌, ◌↔◌, ◌⊎◌, inl, inr, ℕ, ◌+◌, ◌<◌, List, [], ◌∷◌, ◌++◌, Some, Bool, true, false, not, map, take, length, get_or, refl, sym, ap, ◌∙◌, subst, true≢false}
+use Rattle.std.proofs.Common.{◌≡◌, ◌↔◌, ◌⊎◌, inl, inr, ℕ, ◌+◌, ◌<◌, List, [], ◌∷◌, ◌++◌, Some, Bool, true, false, not}
+use Rattle.std.proofs.Common.{map, take, length, get_or, refl, sym, ap, ◌∙◌, subst, true≢false}
 use Rattle.std.specs.Prelude.{slice_get, cond, ◌&&◌}
 use Rattle.std.specs.List.{filter}
 use Rattle.std.proofs.lemmas.List.{append-nil, map-append, take_more}
@@ -23,8 +24,10 @@ use Rattle.sect_infer.proofs.Apart.{Has-filter, number_tells, with_all_has, apar
 use Rattle.sect_infer.proofs.Undone.{told_by, under_is, is_under_is}
 use Rattle.sect_infer.proofs.Bounding.{named}
 
--- the maximal locks with one property are those with another, where each that has the first has the second, and covers of the second have the first
-pub maximal_of : (s : SchemeView) (Given P : Lock → Type 0) (kept : List Lock) → ((l : Lock) → Given l → P l) → ((l : Lock) → P l → (big : Lock) × Given big × Covers s big l) → AreMaximal s Given kept → AreMaximal s P kept
+-- the maximal locks with one property are those with another, where each that has the first has the second, and covers
+-- of the second have the first
+pub maximal_of : (s : SchemeView) (Given P : Lock → Type 0) (kept : List Lock) → ((l : Lock) → Given l → P l)
+    → ((l : Lock) → P l → (big : Lock) × Given big × Covers s big l) → AreMaximal s Given kept → AreMaximal s P kept
 maximal_of s Given P kept sound complete max = record {
   kept_are = λ l. (
     λ h. (let k = (max.kept_are l).0 h in (
@@ -55,7 +58,11 @@ order_filter f p [] o = tt
 order_filter f p (x ∷ xs) o = go (p x) (order_filter f p xs o.1)
   where
     go : (b : Bool) → AreInOrder (map f (filter p xs)) → AreInOrder (map f (cond b (x ∷ filter p xs) (filter p xs)))
-    go true rest = (λ m h. (let n = Has-unmap f (filter p xs) m h in o.0 m (subst (Has (map f xs)) n.2 (Has-map f xs n.0 ((Has-filter p xs n.0).0 n.1).0))), rest)
+    go true rest = (
+      λ m h. (let n = Has-unmap f (filter p xs) m h in
+          o.0 m (subst (Has (map f xs)) n.2 (Has-map f xs n.0 ((Has-filter p xs n.0).0 n.1).0))),
+      rest,
+    )
     go false rest = rest
 
 -- two tests that both hold
@@ -71,14 +78,18 @@ negated : (b : Bool) → not b ≡ true → b ≡ true → ⊥
 negated true e f = true≢false (sym e)
 negated false e f = true≢false (sym f)
 
-module _ (s : SchemeView) (t : TableView) (is : IsTable s t) (order : List ℕ) (o : IsOrder t.keys order) (ns : List ℕ) (there : AreNumbers t.keys ns) where
+module _ (s : SchemeView) (t : TableView) (is : IsTable s t) (order : List ℕ) (o : IsOrder t.keys order) (ns : List ℕ)
+    (there : AreNumbers t.keys ns) where
   -- the numbers, once each
   abbrev once : List ℕ
   once = with_numbers [] ns
 
   -- they are the same numbers, of the same locks
   same_has : (n : ℕ) → Has once n ↔ Has ns n
-  same_has n = (λ h. elim ((with_all_has [] ns n).0 h) [ inl none ↦ absurd none | inr k ↦ k ], λ h. (with_all_has [] ns n).1 (inr h))
+  same_has n = (
+    λ h. elim ((with_all_has [] ns n).0 h) [ inl none ↦ absurd none | inr k ↦ k ],
+    λ h. (with_all_has [] ns n).1 (inr h),
+  )
 
   same_lock : (l : Lock) → HasLock t.keys once l ↔ HasLock t.keys ns l
   same_lock l = (λ h. (h.0, (same_has h.0).0 h.1, h.2), λ h. (h.0, (same_has h.0).1 h.1, h.2))
@@ -90,27 +101,37 @@ module _ (s : SchemeView) (t : TableView) (is : IsTable s t) (order : List ℕ) 
         let kept = (Has-filter (is_kept t.above once) order n.0).0 n.1 in
         let tests = both (has_number once n.0) (not (is_under t.above once n.0)) kept.1 in
         let has = (number_tells once n.0).0 tests.0 in
-        let at : slice_get t.keys n.0 ≡ Some l = named t.keys n.0 (there n.0 ((same_has n.0).0 has)) ∙ ap (λ x. Some x) n.2 in
+        let at : slice_get t.keys n.0 ≡ Some l = named t.keys n.0 (there n.0 ((same_has n.0).0 has))
+        ∙ ap (λ x. Some x) n.2 in
         ((n.0, has, at), λ out. negated (is_under t.above once n.0) tests.1 (is_under_is s t is once n.0 l at out))),
     λ h. (let n = h.0 in
         let within = slice_get_within t.keys n.0 l n.2 in
-        let free : not (is_under t.above once n.0) ≡ true = elim (told_by (is_under t.above once n.0)) [ inl under ↦ absurd (h.1 (under_is s t is once n.0 l n.2 under)) | inr f ↦ f ] in
-        let kept = (Has-filter (is_kept t.above once) order n.0).1 (o.all n.0 within, and (has_number once n.0) (not (is_under t.above once n.0)) ((number_tells once n.0).1 n.1) free) in
-        subst (Has (listed t order ns)) (get_or_from_slice_get t.keys n.0 l lock.All n.2) (Has-map (lock_at t.keys) (filter (is_kept t.above once) order) n.0 kept)),
+        let free : not (is_under t.above once n.0) ≡ true =
+        elim (told_by (is_under t.above once n.0))
+        [ inl under ↦ absurd (h.1 (under_is s t is once n.0 l n.2 under)) | inr f ↦ f ] in
+        let kept = (Has-filter (is_kept t.above once) order n.0).1 (
+          o.all n.0 within,
+          and (has_number once n.0) (not (is_under t.above once n.0))
+              ((number_tells once n.0).1 n.1) free,
+        ) in
+        subst (Has (listed t order ns)) (get_or_from_slice_get t.keys n.0 l lock.All n.2)
+        (Has-map (lock_at t.keys) (filter (is_kept t.above once) order) n.0 kept)),
   )
 
   -- a lock is listed or outdone
   list_told : (l : Lock) → HasLock t.keys once l → Has (listed t order ns) l ⊎ IsOutdone s (HasLock t.keys once) l
   list_told l h = elim (told_by (is_under t.above once h.0)) [
     | inl under ↦ inr (under_is s t is once h.0 l h.2 under)
-    | inr free ↦ inl ((list_is l).1 (h, λ out. negated (is_under t.above once h.0) free (is_under_is s t is once h.0 l h.2 out)))
+    | inr free ↦ inl ((list_is l).1
+        (h, λ out. negated (is_under t.above once h.0) free (is_under_is s t is once h.0 l h.2 out)))
   ]
 
   -- the listed locks are the maximal ones of those with the numbers
   pub listed_maximal : AreMaximal s (HasLock t.keys ns) (listed t order ns)
   listed_maximal = record {
     kept_are = λ l. (
-      λ h. (let k = (list_is l).0 h in ((same_lock l).0 k.0, λ out. k.1 (out.0, (same_lock out.0).1 out.1, out.2, out.3))),
+      λ h. (let k = (list_is l).0 h in
+          ((same_lock l).0 k.0, λ out. k.1 (out.0, (same_lock out.0).1 out.1, out.2, out.3))),
       λ h. (list_is l).1 ((same_lock l).1 h.0, λ out. h.1 (out.0, (same_lock out.0).0 out.1, out.2, out.3)),
     );
     covering = λ l h. covered s (HasLock t.keys once) (Has (listed t order ns)) list_told l ((same_lock l).1 h);
@@ -118,33 +139,51 @@ module _ (s : SchemeView) (t : TableView) (is : IsTable s t) (order : List ℕ) 
   }
 
 -- the next number of an order is listed, or not
-module _ (keys : List Lock) (p : ℕ → Bool) (order : List ℕ) (i n : ℕ) (within : i < length order) (is : n ≡ get_or order i n) where
+module _ (keys : List Lock) (p : ℕ → Bool) (order : List ℕ) (i n : ℕ) (within : i < length order)
+    (is : n ≡ get_or order i n) where
   -- what is picked with one number more
   picked : filter p (take (i + 1) order) ≡ filter p (take i order) ++ cond (p n) (n ∷ []) []
   picked = filter_more p order i n within ∙ ap (λ m. filter p (take i order) ++ cond (p m) (m ∷ []) []) (sym is)
 
-  pub list_next : (locks : List Lock) (l : Lock) → p n ≡ true → slice_get keys n ≡ Some l → locks ≡ map (lock_at keys) (filter p (take i order)) → locks ++ l ∷ [] ≡ map (lock_at keys) (filter p (take (i + 1) order))
+  pub list_next : (locks : List Lock) (l : Lock) → p n ≡ true → slice_get keys n ≡ Some l
+      → locks ≡ map (lock_at keys) (filter p (take i order))
+      → locks ++ l ∷ [] ≡ map (lock_at keys) (filter p (take (i + 1) order))
   list_next locks l on at before =
-      ap (λ ls. ls ++ l ∷ []) before ∙ ap (λ k. map (lock_at keys) (filter p (take i order)) ++ k ∷ []) (sym (get_or_from_slice_get keys n l lock.All at))
-      ∙ sym (map-append (lock_at keys) (filter p (take i order)) (n ∷ [])) ∙ ap (map (lock_at keys)) (sym (picked ∙ ap (λ b. filter p (take i order) ++ cond b (n ∷ []) []) on))
+      ap (λ ls. ls ++ l ∷ []) before
+      ∙ ap (λ k. map (lock_at keys) (filter p (take i order)) ++ k ∷ [])
+      (sym (get_or_from_slice_get keys n l lock.All at))
+      ∙ sym (map-append (lock_at keys) (filter p (take i order)) (n ∷ []))
+      ∙ ap (map (lock_at keys)) (sym (picked ∙ ap (λ b. filter p (take i order) ++ cond b (n ∷ []) []) on))
 
-  pub list_skip : (locks : List Lock) → p n ≡ false → locks ≡ map (lock_at keys) (filter p (take i order)) → locks ≡ map (lock_at keys) (filter p (take (i + 1) order))
-  list_skip locks off before = before ∙ ap (map (lock_at keys)) (sym (picked ∙ ap (λ b. filter p (take i order) ++ cond b (n ∷ []) []) off ∙ append-nil (filter p (take i order))))
+  pub list_skip : (locks : List Lock) → p n ≡ false → locks ≡ map (lock_at keys) (filter p (take i order))
+      → locks ≡ map (lock_at keys) (filter p (take (i + 1) order))
+  list_skip locks off before = before
+      ∙ ap (map (lock_at keys)) (sym
+      (picked ∙ ap (λ b. filter p (take i order) ++ cond b (n ∷ []) []) off ∙ append-nil (filter p (take i order))))
 
 -- the next lock of a sorted list has a number in the order
-pub order_next : (keys locks : List Lock) (order : List ℕ) (i n : ℕ) (l : Lock) → i < length locks → l ≡ get_or locks i l → slice_get keys n ≡ Some l → map (lock_at keys) order ≡ take i locks → map (lock_at keys) (order ++ n ∷ []) ≡ take (i + 1) locks
+pub order_next : (keys locks : List Lock) (order : List ℕ) (i n : ℕ) (l : Lock) → i < length locks
+    → l ≡ get_or locks i l → slice_get keys n ≡ Some l → map (lock_at keys) order ≡ take i locks
+    → map (lock_at keys) (order ++ n ∷ []) ≡ take (i + 1) locks
 order_next keys locks order i n l within is at same =
-    map-append (lock_at keys) order (n ∷ []) ∙ ap (λ k. map (lock_at keys) order ++ k ∷ []) (get_or_from_slice_get keys n l lock.All at) ∙ ap (λ ls. ls ++ l ∷ []) same
+    map-append (lock_at keys) order (n ∷ [])
+    ∙ ap (λ k. map (lock_at keys) order ++ k ∷ []) (get_or_from_slice_get keys n l lock.All at)
+    ∙ ap (λ ls. ls ++ l ∷ []) same
     ∙ ap (λ k. take i locks ++ k ∷ []) is ∙ sym (take_more locks i l within)
 
 -- numbers whose locks are all the keys, in order
-pub order_is : (keys locks : List Lock) (order : List ℕ) → AreApart keys → ((l : Lock) → Has locks l ↔ Has keys l) → AreInOrder locks → map (lock_at keys) order ≡ locks → ((n : ℕ) → Has order n → n < length keys) → IsOrder keys order
+pub order_is : (keys locks : List Lock) (order : List ℕ) → AreApart keys → ((l : Lock) → Has locks l ↔ Has keys l)
+    → AreInOrder locks → map (lock_at keys) order ≡ locks → ((n : ℕ) → Has order n → n < length keys)
+    → IsOrder keys order
 order_is keys locks order apart all sorted same numbers = record {
   sorted = subst AreInOrder (sym same) sorted;
   numbers = numbers;
   all = λ n within.
       let at = named keys n within in
-      let m = Has-unmap (lock_at keys) order (lock_at keys n) (subst (λ ls. Has ls (lock_at keys n)) (sym same) ((all (lock_at keys n)).1 (Has-slice_get keys n (lock_at keys n) at))) in
-      let one = apart_one keys m.0 n (lock_at keys n) apart (named keys m.0 (numbers m.0 m.1) ∙ ap (λ x. Some x) m.2) at in
+      let m = Has-unmap (lock_at keys) order (lock_at keys n)
+      (subst (λ ls. Has ls (lock_at keys n)) (sym same)
+      ((all (lock_at keys n)).1 (Has-slice_get keys n (lock_at keys n) at))) in
+      let one = apart_one keys m.0 n (lock_at keys n) apart (named keys m.0 (numbers m.0 m.1) ∙ ap (λ x. Some x) m.2)
+      at in
       subst (Has order) one m.1;
 }

@@ -1,5 +1,6 @@
 -- Marks that say which numbers are there.
-use Rattle.std.proofs.Common.{◌≡◌, ◌↔◌, ℕ, zero, suc, ◌+◌, ◌<◌, ◌≤◌, List, [], ◌∷◌, ◌++◌, Bool, true, false, nat_eq, length, get_or, set, take, drop, refl, sym, ap, ◌∙◌, subst, arith, true≢false, inl, inr}
+use Rattle.std.proofs.Common.{◌≡◌, ◌↔◌, ℕ, zero, suc, ◌+◌, ◌<◌, ◌≤◌, List, [], ◌∷◌, ◌++◌, Bool, true, false, nat_eq}
+use Rattle.std.proofs.Common.{length, get_or, set, take, drop, refl, sym, ap, ◌∙◌, subst, arith, true≢false, inl, inr}
 use Rattle.std.specs.Prelude.{slice_index_or, ◌||◌}
 use Rattle.std.specs.Cmp.{unsigned_Decides}
 use Rattle.std.proofs.lemmas.Bool.{cases_eq}
@@ -26,7 +27,8 @@ has_other x n ns apart = ap (λ b. b || has_number ns n) (off (nat_eq n x) (unsi
 
 -- the number at an index is there
 pub has_at : (ns : List ℕ) (i x : ℕ) → i < length ns → x ≡ get_or ns i x → has_number (drop i ns) x ≡ true
-has_at ns i x within is = (number_tells (drop i ns) x).1 (subst (λ ms. Has ms x) (sym (drop_next ns i x within is)) (inl refl))
+has_at ns i x within is = (number_tells (drop i ns) x).1
+    (subst (λ ms. Has ms x) (sym (drop_next ns i x within is)) (inl refl))
 
 -- the rest of numbers without repetition
 drop_apart : (ns : List ℕ) (i : ℕ) → AreApart ns → AreApart (drop i ns)
@@ -35,21 +37,27 @@ drop_apart [] (suc i) a = a
 drop_apart (n ∷ ns) (suc i) a = drop_apart ns i a.1
 
 -- one mark is taken away
-pub unmark_next : (ns : List ℕ) (marks : List Bool) (i x : ℕ) → AreApart ns → i < length ns → x ≡ get_or ns i x → ((n : ℕ) → slice_index_or marks n false ≡ has_number (drop i ns) n)
+pub unmark_next : (ns : List ℕ) (marks : List Bool) (i x : ℕ) → AreApart ns → i < length ns → x ≡ get_or ns i x
+    → ((n : ℕ) → slice_index_or marks n false ≡ has_number (drop i ns) n)
     → (n : ℕ) → slice_index_or (set marks x false) n false ≡ has_number (drop (i + 1) ns) n
 unmark_next ns marks i x apart within is told n =
     let next : drop i ns ≡ x ∷ drop (i + 1) ns = drop_next ns i x within is in
     let there : x < length marks = mark_within marks x (told x ∙ has_at ns i x within is) in
     elim (cases_eq n x) [
       | inl e ↦
-          let gone : has_number (drop (i + 1) ns) n ≡ false = off (has_number (drop (i + 1) ns) n) (number_tells (drop (i + 1) ns) n) (λ h. (subst AreApart next (drop_apart ns i apart)).0 (subst (Has (drop (i + 1) ns)) e h)) in
+          let gone : has_number (drop (i + 1) ns) n ≡ false =
+          off (has_number (drop (i + 1) ns) n) (number_tells (drop (i + 1) ns) n)
+          (λ h. (subst AreApart next (drop_apart ns i apart)).0 (subst (Has (drop (i + 1) ns)) e h)) in
           ap (λ m. get_or (set marks x false) m false) e ∙ get_or-set_same marks x false false there ∙ sym gone
-      | inr other ↦ get_or-set_other marks x n false false other ∙ told n ∙ ap (λ ms. has_number ms n) next ∙ has_other x n (drop (i + 1) ns) other
+      | inr other ↦ get_or-set_other marks x n false false other ∙ told n ∙ ap (λ ms. has_number ms n) next
+          ∙ has_other x n (drop (i + 1) ns) other
     ]
 
 -- none is left
-pub unmarked : (ns : List ℕ) (marks : List Bool) (i : ℕ) → length ns ≤ i → ((n : ℕ) → slice_index_or marks n false ≡ has_number (drop i ns) n) → AreMarked [] marks
-unmarked ns marks i past told = record { told = λ n. told n ∙ ap (λ ms. has_number ms n) (drop_past ns i past); apart = tt }
+pub unmarked : (ns : List ℕ) (marks : List Bool) (i : ℕ) → length ns ≤ i
+    → ((n : ℕ) → slice_index_or marks n false ≡ has_number (drop i ns) n) → AreMarked [] marks
+unmarked ns marks i past told =
+    record { told = λ n. told n ∙ ap (λ ms. has_number ms n) (drop_past ns i past); apart = tt }
   where
     drop_past : (ns : List ℕ) (i : ℕ) → length ns ≤ i → drop i ns ≡ []
     drop_past [] zero h = refl
@@ -64,19 +72,24 @@ has_behind [] x n = or_false (nat_eq n x)
     or_false : (b : Bool) → (b || false) ≡ b
     or_false true = refl
     or_false false = refl
-has_behind (m ∷ ns) x n = ap (λ b. nat_eq n m || b) (has_behind ns x n) ∙ or_assoc (nat_eq n m) (has_number ns n) (nat_eq n x)
+has_behind (m ∷ ns) x n = ap (λ b. nat_eq n m || b) (has_behind ns x n)
+    ∙ or_assoc (nat_eq n m) (has_number ns n) (nat_eq n x)
   where
     or_assoc : (a b c : Bool) → (a || (b || c)) ≡ ((a || b) || c)
     or_assoc true b c = refl
     or_assoc false b c = refl
 
 -- one number more is marked
-pub mark_one : (ns : List ℕ) (marks : List Bool) (x : ℕ) → has_number ns x ≡ false → x < length marks → ((n : ℕ) → slice_index_or marks n false ≡ has_number ns n) → AreApart ns
+pub mark_one : (ns : List ℕ) (marks : List Bool) (x : ℕ) → has_number ns x ≡ false → x < length marks
+    → ((n : ℕ) → slice_index_or marks n false ≡ has_number ns n) → AreApart ns
     → AreMarked (ns ++ x ∷ []) (set marks x true)
 mark_one ns marks x absent there told apart = record {
   told = λ n. elim (cases_eq n x) [
-    | inl e ↦ ap (λ m. get_or (set marks x true) m false) e ∙ get_or-set_same marks x true false there ∙ sym (has_behind ns x n ∙ or_true (has_number ns n) (nat_eq n x) ((unsigned_Decides n x).1 e))
-    | inr other ↦ get_or-set_other marks x n true false other ∙ told n ∙ sym (has_behind ns x n ∙ or_off (has_number ns n) (nat_eq n x) (off (nat_eq n x) (unsigned_Decides n x) other))
+    | inl e ↦ ap (λ m. get_or (set marks x true) m false) e ∙ get_or-set_same marks x true false there
+        ∙ sym (has_behind ns x n ∙ or_true (has_number ns n) (nat_eq n x) ((unsigned_Decides n x).1 e))
+    | inr other ↦ get_or-set_other marks x n true false other ∙ told n
+        ∙ sym (has_behind ns x n ∙ or_off (has_number ns n) (nat_eq n x)
+        (off (nat_eq n x) (unsigned_Decides n x) other))
   ];
   apart = apart_push ns x apart (number_absent ns x absent);
 }
@@ -90,8 +103,11 @@ mark_one ns marks x absent there told apart = record {
     or_off false b e = e
 
 -- one number more of a list
-pub with_next : (ns ms : List ℕ) (i m : ℕ) → i < length ms → m ≡ get_or ms i m → with_number (with_numbers ns (take i ms)) m ≡ with_numbers ns (take (i + 1) ms)
-with_next ns ms i m within is = sym (ap (with_numbers ns) (take_more ms i m within ∙ ap (λ x. take i ms ++ x ∷ []) (sym is)) ∙ behind ns (take i ms) m)
+pub with_next : (ns ms : List ℕ) (i m : ℕ) → i < length ms → m ≡ get_or ms i m
+    → with_number (with_numbers ns (take i ms)) m ≡ with_numbers ns (take (i + 1) ms)
+with_next ns ms i m within is =
+    sym (ap (with_numbers ns) (take_more ms i m within ∙ ap (λ x. take i ms ++ x ∷ []) (sym is))
+    ∙ behind ns (take i ms) m)
   where
     behind : (ns ms : List ℕ) (m : ℕ) → with_numbers ns (ms ++ m ∷ []) ≡ with_number (with_numbers ns ms) m
     behind ns [] m = refl

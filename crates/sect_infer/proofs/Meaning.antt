@@ -1,5 +1,6 @@
 -- What is derived over the graph is what the traces need.
-use Rattle.std.proofs.Common.{◌≡◌, ◌↔◌, ℕ, zero, suc, ◌≤◌, List, [], ◌∷◌, ◌++◌, Some, length, refl, sym, ap, ◌∙◌, subst, arith}
+use Rattle.std.proofs.Common.{◌≡◌, ◌↔◌, ℕ, zero, suc, ◌≤◌, List, [], ◌∷◌, ◌++◌, Some, length, refl, sym, ap, ◌∙◌, subst}
+use Rattle.std.proofs.Common.{arith}
 use Rattle.std.specs.Prelude.{slice_get}
 use Rattle.std.proofs.lemmas.Option.{slice_get_within}
 use Rattle.sect_types.specs.Statements.{TextView}
@@ -19,9 +20,11 @@ module _ (s : SchemeView) (t : ℕ) (g : List Node) where
   IsNeededAlong j l = (steps : List Visit) × IsPath g j steps (length g) × IsNeededOn s t [] steps l
 
   -- a path from a node begins with what the node does
-  pub path_begins : (j : ℕ) (y : Node) (steps : List Visit) → slice_get g j ≡ Some y → IsPath g j steps (length g) → (post : List Visit) × (steps ≡ visit j y.label ∷ post)
+  pub path_begins : (j : ℕ) (y : Node) (steps : List Visit) → slice_get g j ≡ Some y → IsPath g j steps (length g)
+      → (post : List Visit) × (steps ≡ visit j y.label ∷ post)
   path_begins j y [] at p = absurd (let w = slice_get_within g j y at in omega (arith, w, p))
-  path_begins j y (a ∷ steps) at p = let same : p.0 ≡ y = (let e = p.1 in cc) in (steps, ap (λ b. b ∷ steps) (p.2 ∙ ap (λ z. visit j z.label) same))
+  path_begins j y (a ∷ steps) at p = let same : p.0 ≡ y = (let e = p.1 in cc) in
+      (steps, ap (λ b. b ∷ steps) (p.2 ∙ ap (λ z. visit j z.label) same))
 
   derived_along : IsConnected g → (k : ℕ) (x : Need) → Derived s t g k x → IsNeededAlong x.node x.lock
   derived_along con zero x h =
@@ -32,10 +35,14 @@ module _ (s : SchemeView) (t : ℕ) (g : List Node) where
       let c = h.2 in
       let q = derived_along con k h.0 h.1 in
       let n = q.2 in
-      let a = visit x.node c.0.label in
-      (a ∷ q.0, (c.0, c.1, refl, h.0.node, c.2, q.1), (a ∷ n.0, n.1, n.2, ap (λ l. a ∷ l) n.3, n.4, (h.0.lock, n.5, c.3)))
+      let a = visit x.node c.0.label in (
+        a ∷ q.0,
+        (c.0, c.1, refl, h.0.node, c.2, q.1),
+        (a ∷ n.0, n.1, n.2, ap (λ l. a ∷ l) n.3, n.4, (h.0.lock, n.5, c.3)),
+      )
 
-  along_derived : (before : List Visit) (j : ℕ) (steps rest : List Visit) (x l : Lock) → IsPath g j steps (length g) → steps ≡ before ++ rest → GeneratedFirst s t [] rest x → CarriedOver s t before x l → IsDerived s t g (need j l)
+  along_derived : (before : List Visit) (j : ℕ) (steps rest : List Visit) (x l : Lock) → IsPath g j steps (length g)
+      → steps ≡ before ++ rest → GeneratedFirst s t [] rest x → CarriedOver s t before x l → IsDerived s t g (need j l)
   along_derived [] j steps [] x l p e h c = absurd h
   along_derived [] j steps (a ∷ rest) x l p e h c =
       let q = subst (λ z. IsPath g j z (length g)) e p in

@@ -1,5 +1,6 @@
 -- The worklist: what it keeps, where it ends, and that it ends.
-use Rattle.std.proofs.Common.{◌≡◌, ◌↔◌, ◌⊎◌, inl, inr, ℕ, zero, suc, ◌<◌, List, [], ◌∷◌, ◌++◌, Some, Bool, true, false, length, refl, sym, ap, ◌∙◌, subst, arith, true≢false}
+use Rattle.std.proofs.Common.{◌≡◌, ◌↔◌, ◌⊎◌, inl, inr, ℕ, zero, suc, ◌<◌, List, [], ◌∷◌, ◌++◌, Some, Bool, true, false}
+use Rattle.std.proofs.Common.{length, refl, sym, ap, ◌∙◌, subst, arith, true≢false}
 use Rattle.std.specs.Prelude.{slice_get, slice_index_or}
 use Rattle.std.proofs.lemmas.Bool.{cases_eq}
 use Rattle.std.proofs.lemmas.List.{append-nil}
@@ -17,7 +18,8 @@ use Rattle.sect_infer.specs.Numbers.{AreApart}
 use Rattle.sect_infer.specs.steps.Needs.{Need, need, Derived, IsDerived, AreLawful}
 use Rattle.sect_graph.specs.Predecessors.{AreBefore}
 use Rattle.sect_infer.specs.Tables.{TableView, HasLock}
-use Rattle.sect_infer.specs.steps.Working.{IsFoundAt, IsCoveredAt, IsDue, AreLawfulAt, IsVisit, IsWorking, IsBegun, IsSettled}
+use Rattle.sect_infer.specs.steps.Working.{IsFoundAt, IsCoveredAt, IsDue, AreLawfulAt, IsVisit, IsWorking, IsBegun}
+use Rattle.sect_infer.specs.steps.Working.{IsSettled}
 use Rattle.sect_infer.proofs.Tabling.{extends_lock, extends_back}
 
 -- whether a number is there
@@ -30,7 +32,8 @@ is_there (x ∷ xs) i = elim (cases_eq x i) [
 
 module _ (s : SchemeView) (t : ℕ) (g : List Node) where
   -- nothing has been found, and all nodes wait
-  pub work_begins : (a : TableView) (lists : List (List ℕ)) (waiting : List ℕ) → IsBegun g a lists → ((i : ℕ) → Has waiting i ↔ (i < length g)) → IsWorking s t g a lists waiting
+  pub work_begins : (a : TableView) (lists : List (List ℕ)) (waiting : List ℕ) → IsBegun g a lists
+      → ((i : ℕ) → Has waiting i ↔ (i < length g)) → IsWorking s t g a lists waiting
   work_begins a lists waiting b all = record {
     numbered = record {
       table = record {
@@ -51,29 +54,38 @@ module _ (s : SchemeView) (t : ℕ) (g : List Node) where
       none j n h = subst (λ ns. Has ns n) (b.none j) h
 
   -- what is due where all that was found is derived is derived
-  due_derived : (keys : List Lock) (lists : List (List ℕ)) → ((j : ℕ) (l : Lock) → IsFoundAt keys lists j l → IsDerived s t g (need j l)) → (j : ℕ) (l : Lock) → IsDue s t g keys lists j l → IsDerived s t g (need j l)
+  due_derived : (keys : List Lock) (lists : List (List ℕ))
+      → ((j : ℕ) (l : Lock) → IsFoundAt keys lists j l → IsDerived s t g (need j l)) → (j : ℕ) (l : Lock)
+      → IsDue s t g keys lists j l → IsDerived s t g (need j l)
   due_derived keys lists derived j l due = elim due [
     | inl h ↦ (0, h)
     | inr h ↦ (let d = derived h.1 h.2 h.5 in (suc d.0, (need h.1 h.2, d.1, (h.0, h.3, h.4, h.6))))
   ]
 
   -- node j was taken out and gone over; where there is more, the nodes before it wait
-  module _ (a d : TableView) (before after : List (List ℕ)) (waiting later : List ℕ) (j : ℕ) (any : Bool) (w : IsWorking s t g a before waiting) (v : IsVisit s t g a before d after j any)
-      (waits : (i : ℕ) → Has waiting i → (i ≡ j) ⊎ Has later i) (woken : any ≡ true → (i : ℕ) (y : Node) → slice_get g i ≡ Some y → LeadsTo y j → Has later i) where
+  module _ (a d : TableView) (before after : List (List ℕ)) (waiting later : List ℕ) (j : ℕ) (any : Bool)
+      (w : IsWorking s t g a before waiting) (v : IsVisit s t g a before d after j any)
+      (waits : (i : ℕ) → Has waiting i → (i ≡ j) ⊎ Has later i)
+      (woken : any ≡ true → (i : ℕ) (y : Node) → slice_get g i ≡ Some y → LeadsTo y j → Has later i) where
     -- what was found at a node still is
     grown : (i : ℕ) (l : Lock) → (i ≡ j → ⊥) → IsFoundAt a.keys before i l → IsFoundAt d.keys after i l
-    grown i l n h = subst (λ ns. HasLock d.keys ns l) (sym (v.others i n)) (extends_lock a d v.longer (slice_index_or before i []) l h)
+    grown i l n h = subst (λ ns. HasLock d.keys ns l) (sym (v.others i n))
+        (extends_lock a d v.longer (slice_index_or before i []) l h)
 
     -- what is found at another node was
-    was : (i : ℕ) (l : Lock) → slice_index_or after i [] ≡ slice_index_or before i [] → IsFoundAt d.keys after i l → IsFoundAt a.keys before i l
-    was i l same h = extends_back a d v.longer (slice_index_or before i []) (w.numbered.numbers i) l (subst (λ ns. HasLock d.keys ns l) same h)
+    was : (i : ℕ) (l : Lock) → slice_index_or after i [] ≡ slice_index_or before i [] → IsFoundAt d.keys after i l
+        → IsFoundAt a.keys before i l
+    was i l same h = extends_back a d v.longer (slice_index_or before i []) (w.numbered.numbers i) l
+        (subst (λ ns. HasLock d.keys ns l) same h)
 
     -- where there is no more, node j is as it was
     same_here : any ≡ false → slice_index_or after j [] ≡ slice_index_or before j []
-    same_here off = v.here ∙ ap (λ m. slice_index_or before j [] ++ m) (v.none off) ∙ append-nil (slice_index_or before j [])
+    same_here off = v.here ∙ ap (λ m. slice_index_or before j [] ++ m) (v.none off)
+        ∙ append-nil (slice_index_or before j [])
 
     -- a node that doesn't wait later sees what it saw before
-    quiet : (i : ℕ) → (Has later i → ⊥) → (m : ℕ) (y : Node) (l : Lock) → slice_get g i ≡ Some y → LeadsTo y m → IsFoundAt d.keys after m l → IsFoundAt a.keys before m l
+    quiet : (i : ℕ) → (Has later i → ⊥) → (m : ℕ) (y : Node) (l : Lock) → slice_get g i ≡ Some y → LeadsTo y m
+        → IsFoundAt d.keys after m l → IsFoundAt a.keys before m l
     quiet i absent m y l at leads h = elim (cases_eq m j) [
       | inr apart ↦ was m l (v.others m apart) h
       | inl e ↦ here e any refl
@@ -81,7 +93,8 @@ module _ (s : SchemeView) (t : ℕ) (g : List Node) where
       where
         here : m ≡ j → (b : Bool) → any ≡ b → IsFoundAt a.keys before m l
         here e true on = absurd (absent (woken on i y at (subst (LeadsTo y) e leads)))
-        here e false off = was m l (ap (λ k. slice_index_or after k []) e ∙ same_here off ∙ ap (λ k. slice_index_or before k []) (sym e)) h
+        here e false off = was m l (ap (λ k. slice_index_or after k []) e ∙ same_here off
+            ∙ ap (λ k. slice_index_or before k []) (sym e)) h
 
     -- so the worklist goes on
     pub work_next : ((i : ℕ) → Has later i → i < length g) → IsWorking s t g d after later
@@ -89,17 +102,24 @@ module _ (s : SchemeView) (t : ℕ) (g : List Node) where
       numbered = v.numbered;
       derived = λ i l h. elim (cases_eq i j) [
         | inr apart ↦ w.derived i l (was i l (v.others i apart) h)
-        | inl e ↦ subst (λ m. IsDerived s t g (need m l)) (sym e) (elim (v.only l (subst (λ m. IsFoundAt d.keys after m l) e h)) [
-          | inl old ↦ w.derived j l old
-          | inr due ↦ due_derived a.keys before w.derived j l due
-        ])
+        | inl e ↦ subst (λ m. IsDerived s t g (need m l)) (sym e)
+            (elim (v.only l (subst (λ m. IsFoundAt d.keys after m l) e h)) [
+              | inl old ↦ w.derived j l old
+              | inr due ↦ due_derived a.keys before w.derived j l due
+            ])
       ];
       closed = λ i within. elim (is_there later i) [
         | inl held ↦ inl held
         | inr absent ↦ inr (λ l due.
-            let old : IsDue s t g a.keys before i l = elim due [ inl h ↦ inl h | inr h ↦ inr (h.0, h.1, h.2, h.3, h.4, quiet i absent h.1 h.0 h.2 h.3 h.4 h.5, h.6) ] in
+            let old : IsDue s t g a.keys before i l =
+            elim due [
+              | inl h ↦ inl h
+              | inr h ↦
+                  inr (h.0, h.1, h.2, h.3, h.4, quiet i absent h.1 h.0 h.2 h.3 h.4 h.5, h.6)
+            ] in
             elim (cases_eq i j) [
-              | inl e ↦ subst (λ m. IsCoveredAt s d.keys after m l) (sym e) (v.put l (subst (λ m. IsDue s t g a.keys before m l) e old))
+              | inl e ↦ subst (λ m. IsCoveredAt s d.keys after m l) (sym e)
+                  (v.put l (subst (λ m. IsDue s t g a.keys before m l) e old))
               | inr apart ↦ elim (w.closed i within) [
                 | inl held ↦ elim (waits i held) [ inl e ↦ absurd (apart e) | inr k ↦ absurd (absent k) ]
                 | inr closed ↦ (let over = closed l old in (over.0, grown i over.0 apart over.1, over.2))
@@ -110,7 +130,8 @@ module _ (s : SchemeView) (t : ℕ) (g : List Node) where
     }
 
   -- the last node that waits is gone over
-  module _ (a d : TableView) (before after : List (List ℕ)) (rest : List ℕ) (j : ℕ) (any : Bool) (w : IsWorking s t g a before (rest ++ j ∷ [])) (v : IsVisit s t g a before d after j any) where
+  module _ (a d : TableView) (before after : List (List ℕ)) (rest : List ℕ) (j : ℕ) (any : Bool)
+      (w : IsWorking s t g a before (rest ++ j ∷ [])) (v : IsVisit s t g a before d after j any) where
     -- it is a node of the graph
     pub last_within : j < length g
     last_within = w.nodes j (Has-right rest (j ∷ []) j (inl refl))
@@ -123,7 +144,8 @@ module _ (s : SchemeView) (t : ℕ) (g : List Node) where
         (λ i h. w.nodes i (Has-left rest (j ∷ []) i h))
 
     -- there is more: the nodes before it wait
-    pub work_busy : (nodes later : List ℕ) → AreBefore g j nodes → ((i : ℕ) → Has later i ↔ (Has rest i ⊎ Has nodes i)) → IsWorking s t g d after later
+    pub work_busy : (nodes later : List ℕ) → AreBefore g j nodes → ((i : ℕ) → Has later i ↔ (Has rest i ⊎ Has nodes i))
+        → IsWorking s t g d after later
     work_busy nodes later are there = work_next a d before after (rest ++ j ∷ []) later j any w v
         (λ i h. elim ((behind rest j i).0 h) [ inl k ↦ inr ((there i).1 (inl k)) | inr e ↦ inl e ])
         (λ on i y at leads. (there i).1 (inr ((are i).1 (y, at, leads))))
@@ -142,23 +164,29 @@ module _ (s : SchemeView) (t : ℕ) (g : List Node) where
         (slice_get_within g x.node c.0 c.1, lawful.carried x.node c.0 c.1 h.0.lock x.lock before.1 c.3)
 
     -- so is what was found
-    pub lawful_at : (a : TableView) (lists : List (List ℕ)) → ((j : ℕ) (l : Lock) → IsFoundAt a.keys lists j l → IsDerived s t g (need j l)) → AreLawfulAt s t a.keys lists
+    pub lawful_at : (a : TableView) (lists : List (List ℕ))
+        → ((j : ℕ) (l : Lock) → IsFoundAt a.keys lists j l → IsDerived s t g (need j l)) → AreLawfulAt s t a.keys lists
     lawful_at a lists derived j l h = let d = derived j l h in (derived_lock d.0 (need j l) d.1).1
 
     -- where no node waits, each lock that is derived is covered
-    settled_covers : (a : TableView) (lists : List (List ℕ)) → ((j : ℕ) → j < length g → (l : Lock) → IsDue s t g a.keys lists j l → IsCoveredAt s a.keys lists j l)
+    settled_covers : (a : TableView) (lists : List (List ℕ))
+        → ((j : ℕ) → j < length g → (l : Lock) → IsDue s t g a.keys lists j l → IsCoveredAt s a.keys lists j l)
         → (k : ℕ) (x : Need) → Derived s t g k x → IsCoveredAt s a.keys lists x.node x.lock
     settled_covers a lists closed zero x h = closed x.node (slice_get_within g x.node h.0 h.1) x.lock (inl h)
     settled_covers a lists closed (suc k) x (n, d, (y, at, leads, c)) =
         let before = settled_covers a lists closed k n d in
         let over = lawful.respects x.node y at n.lock before.0 x.lock before.2 c in
-        let top = closed x.node (slice_get_within g x.node y at) over.0 (inr (y, n.node, before.0, at, leads, before.1, over.1)) in
+        let top = closed x.node (slice_get_within g x.node y at) over.0
+        (inr (y, n.node, before.0, at, leads, before.1, over.1)) in
         (top.0, top.1, covers_trans s top.0 over.0 x.lock top.2 over.2)
 
     -- so the work has settled
-    pub work_ends : (a : TableView) (lists : List (List ℕ)) (waiting : List ℕ) → waiting ≡ [] → IsWorking s t g a lists waiting → IsSettled s t g a lists
+    pub work_ends : (a : TableView) (lists : List (List ℕ)) (waiting : List ℕ) → waiting ≡ []
+        → IsWorking s t g a lists waiting → IsSettled s t g a lists
     work_ends a lists waiting none w = record {
       numbered = w.numbered;
       derived = w.derived;
-      covered = λ j l h. settled_covers a lists (λ i within. elim (w.closed i within) [ inl held ↦ absurd (subst (λ ns. Has ns i) none held) | inr c ↦ c ]) h.0 (need j l) h.1;
+      covered = λ j l h. settled_covers a lists
+          (λ i within. elim (w.closed i within) [ inl held ↦ absurd (subst (λ ns. Has ns i) none held) | inr c ↦ c ])
+          h.0 (need j l) h.1;
     }

@@ -1,5 +1,6 @@
 -- Locks of sections that workers have found, put in their places.
-use Rattle.std.proofs.Common.{◌≡◌, ◌⊎◌, ℕ, zero, suc, ◌+◌, ◌<◌, List, [], ◌∷◌, ◌++◌, Option, Some, None, length, length-append, slice_get, slice_set, refl, sym, ap, ◌∙◌, subst, arith, inl, inr}
+use Rattle.std.proofs.Common.{◌≡◌, ◌⊎◌, ℕ, zero, suc, ◌+◌, ◌<◌, List, [], ◌∷◌, ◌++◌, Option, Some, None, length}
+use Rattle.std.proofs.Common.{length-append, slice_get, slice_set, refl, sym, ap, ◌∙◌, subst, arith, inl, inr}
 use Rattle.std.proofs.lemmas.List.{length-set}
 use Rattle.sect_types.specs.Sections.{sections_of}
 use Rattle.sect_types.proofs.Basics.{some_injective, none_or_some}
@@ -15,7 +16,8 @@ pub record AreInferredBelow (s : SchemeView) (n : ℕ) (all : List LocksView) : 
   pub each : (i : ℕ) (locks : LocksView) → slice_get all i ≡ Some locks → AreInferredAt s i locks
 
 -- one section more
-pub one_inferred : (s : SchemeView) (n : ℕ) (all : List LocksView) (locks : LocksView) → AreInferredBelow s n all → AreInferredAt s n locks → AreInferredBelow s (n + 1) (all ++ locks ∷ [])
+pub one_inferred : (s : SchemeView) (n : ℕ) (all : List LocksView) (locks : LocksView) → AreInferredBelow s n all
+    → AreInferredAt s n locks → AreInferredBelow s (n + 1) (all ++ locks ∷ [])
 one_inferred s n all locks before here = record {
   count = (let e = before.count in omega (arith, e, length-append all (locks ∷ [])));
   each = λ i x at. elim (pushed_at all locks x i at) [
@@ -25,17 +27,20 @@ one_inferred s n all locks before here = record {
 }
 
 -- one more is found
-pub one_found : (s : SchemeView) (found : List SectionLocks) (x : SectionLocks) → AreFound s found → x.section < length (sections_of s.program.texts) → AreInferredAt s x.section x.locks
+pub one_found : (s : SchemeView) (found : List SectionLocks) (x : SectionLocks) → AreFound s found
+    → x.section < length (sections_of s.program.texts) → AreInferredAt s x.section x.locks
     → AreFound s (found ++ x ∷ [])
 one_found s found x before within is = record {
   each = λ k y at. elim (pushed_at found x y k at) [
-    | inl e ↦ subst (λ z. (z.section < length (sections_of s.program.texts)) × AreInferredAt s z.section z.locks) e.1 (within, is)
+    | inl e ↦ subst (λ z. (z.section < length (sections_of s.program.texts)) × AreInferredAt s z.section z.locks) e.1
+        (within, is)
     | inr h ↦ before.each k y h
   ];
 }
 
 -- one worker more
-pub one_started : (s : SchemeView) (handles : List Handle) (h : Handle) → AreOf s handles → h.promise.scheme.now ≡ s → AreOf s (handles ++ h ∷ [])
+pub one_started : (s : SchemeView) (handles : List Handle) (h : Handle) → AreOf s handles → h.promise.scheme.now ≡ s
+    → AreOf s (handles ++ h ∷ [])
 one_started s handles h before is = record {
   each = λ k x at. elim (pushed_at handles h x k at) [
     | inl e ↦ subst (λ (z : Handle). z.promise.scheme.now ≡ s) e.1 is
@@ -64,10 +69,12 @@ one_empty n places before = record {
   ];
 }
 
-pub empty_places : (s : SchemeView) (places : List (Option LocksView)) → AreEmpty (length (sections_of s.program.texts)) places → AreInPlace s places
+pub empty_places : (s : SchemeView) (places : List (Option LocksView))
+    → AreEmpty (length (sections_of s.program.texts)) places → AreInPlace s places
 empty_places s places none = record { count = none.count; each = λ i locks at. absurd (none.each i locks at) }
 
-set_at : {X : Type 0} (xs : List X) (n : ℕ) (x : X) (i : ℕ) (y : X) → slice_get (slice_set xs n x) i ≡ Some y → ((i ≡ n) × (x ≡ y)) ⊎ (slice_get xs i ≡ Some y)
+set_at : {X : Type 0} (xs : List X) (n : ℕ) (x : X) (i : ℕ) (y : X) → slice_get (slice_set xs n x) i ≡ Some y
+    → ((i ≡ n) × (x ≡ y)) ⊎ (slice_get xs i ≡ Some y)
 set_at [] n x i y at = inr at
 set_at (z ∷ zs) zero x zero y at = inl (refl, some_injective x y at)
 set_at (z ∷ zs) zero x (suc i) y at = inr at
@@ -78,15 +85,18 @@ set_at (z ∷ zs) (suc n) x (suc i) y at = elim (set_at zs n x i y at) [
 ]
 
 -- the locks of a section are put in its place
-pub one_placed : (s : SchemeView) (places : List (Option LocksView)) (n : ℕ) (locks : LocksView) → AreInPlace s places → AreInferredAt s n locks → AreInPlace s (slice_set places n (Some locks))
+pub one_placed : (s : SchemeView) (places : List (Option LocksView)) (n : ℕ) (locks : LocksView) → AreInPlace s places
+    → AreInferredAt s n locks → AreInPlace s (slice_set places n (Some locks))
 one_placed s places n locks before here = record {
   count = length-set places n (Some locks) ∙ before.count;
   each = λ i x at. elim (set_at places n (Some locks) i (Some x) at) [
-    | inl e ↦ subst (AreInferredAt s i) (some_injective locks x e.1) (subst (λ m. AreInferredAt s m locks) (sym e.0) here)
+    | inl e ↦ subst (AreInferredAt s i) (some_injective locks x e.1)
+        (subst (λ m. AreInferredAt s m locks) (sym e.0) here)
     | inr h ↦ before.each i x h
   ];
 }
 
 -- a section of the program has a place
-pub has_place : (s : SchemeView) (places : List (Option LocksView)) (n : ℕ) → AreInPlace s places → n < length (sections_of s.program.texts) → n < length places
+pub has_place : (s : SchemeView) (places : List (Option LocksView)) (n : ℕ) → AreInPlace s places
+    → n < length (sections_of s.program.texts) → n < length places
 has_place s places n placed within = let e = placed.count in omega (arith, e, within)

@@ -1,5 +1,6 @@
 -- Tables that are extended.
-use Rattle.std.proofs.Common.{◌≡◌, ◌↔◌, inl, inr, ℕ, zero, suc, ◌+◌, ◌<◌, List, [], ◌∷◌, ◌++◌, Some, Bool, true, false, length, get_or, take, refl, sym, ap, ◌∙◌, subst, append_assoc, length-append, arith}
+use Rattle.std.proofs.Common.{◌≡◌, ◌↔◌, inl, inr, ℕ, zero, suc, ◌+◌, ◌<◌, List, [], ◌∷◌, ◌++◌, Some, Bool, true, false}
+use Rattle.std.proofs.Common.{length, get_or, take, refl, sym, ap, ◌∙◌, subst, append_assoc, length-append, arith}
 use Rattle.std.specs.Prelude.{slice_get, slice_index_or, if◌then◌else◌}
 use Rattle.std.specs.List.{list_any}
 use Rattle.std.proofs.lemmas.List.{append-nil}
@@ -15,7 +16,8 @@ use Rattle.sect_names.proofs.Making.{last_of, so_far}
 use Rattle.sect_names.proofs.Inserting.{behind}
 use Rattle.sect_names.proofs.Telling.{lock_tells, any_tells}
 use Rattle.sect_infer.specs.Numbers.{AreApart}
-use Rattle.sect_infer.specs.Tables.{TableView, HasLock, AreNumbers, AreOf, AreAbove, IsTable, Extends, IsNumbered, AreAllPut}
+use Rattle.sect_infer.specs.Tables.{TableView, HasLock, AreNumbers, AreOf, AreAbove, IsTable, Extends, IsNumbered}
+use Rattle.sect_infer.specs.Tables.{AreAllPut}
 use Rattle.sect_infer.proofs.Apart.{apart_push}
 
 -- what stands in the front of a list
@@ -25,7 +27,8 @@ get_left (z ∷ xs) ys zero x at = at
 get_left (z ∷ xs) ys (suc i) x at = get_left xs ys i x at
 
 -- and that it stands there alone
-pub get_front : {X : Type 0} (xs ys : List X) (i : ℕ) (x : X) → i < length xs → slice_get (xs ++ ys) i ≡ Some x → slice_get xs i ≡ Some x
+pub get_front : {X : Type 0} (xs ys : List X) (i : ℕ) (x : X) → i < length xs → slice_get (xs ++ ys) i ≡ Some x
+    → slice_get xs i ≡ Some x
 get_front [] ys i x within at = absurd (omega (arith, within))
 get_front (z ∷ xs) ys zero x within at = at
 get_front (z ∷ xs) ys (suc i) x within at = get_front xs ys i x (omega (arith, within)) at
@@ -37,13 +40,15 @@ get_last [] x d (suc i) e = absurd (omega (arith, e))
 get_last (z ∷ xs) x d zero e = absurd (omega (arith, e))
 get_last (z ∷ xs) x d (suc i) e = get_last xs x d i (omega (arith, e))
 
-get_before : {X : Type 0} (xs : List X) (x d : X) (i : ℕ) → i < length xs → slice_index_or (xs ++ x ∷ []) i d ≡ slice_index_or xs i d
+get_before : {X : Type 0} (xs : List X) (x d : X) (i : ℕ) → i < length xs
+    → slice_index_or (xs ++ x ∷ []) i d ≡ slice_index_or xs i d
 get_before [] x d i within = absurd (omega (arith, within))
 get_before (z ∷ xs) x d zero within = refl
 get_before (z ∷ xs) x d (suc i) within = get_before xs x d i (omega (arith, within))
 
 -- the next lock of a list has a number, or none
-module _ (keys locks : List Lock) (i : ℕ) (l : Lock) (ns : List ℕ) (within : i < length locks) (is : l ≡ get_or locks i l) (before : AreOf keys (take i locks) ns) where
+module _ (keys locks : List Lock) (i : ℕ) (l : Lock) (ns : List ℕ) (within : i < length locks)
+    (is : l ≡ get_or locks i l) (before : AreOf keys (take i locks) ns) where
   pub of_next : (m : ℕ) → slice_get keys m ≡ Some l → AreOf keys (take (i + 1) locks) (ns ++ m ∷ [])
   of_next m at = record {
     only = λ n h. elim ((behind ns m n).0 h) [
@@ -72,7 +77,8 @@ get_end (z ∷ xs) x zero e = absurd (omega (arith, e))
 get_end (z ∷ xs) x (suc i) e = get_end xs x i (omega (arith, e))
 
 -- a lock that isn't there comes last
-pub put_last : (keys : List Lock) (l : Lock) → (Has keys l → ⊥) → (if list_any (the_lock_eq.eq l) keys then keys else keys ++ l ∷ []) ≡ keys ++ l ∷ []
+pub put_last : (keys : List Lock) (l : Lock) → (Has keys l → ⊥)
+    → (if list_any (the_lock_eq.eq l) keys then keys else keys ++ l ∷ []) ≡ keys ++ l ∷ []
 put_last keys l absent = go (list_any (the_lock_eq.eq l) keys) (any_tells the_lock_eq.eq lock_tells keys l)
   where
     go : (b : Bool) → ((b ≡ true) ↔ Has keys l) → (if b then keys else keys ++ l ∷ []) ≡ keys ++ l ∷ []
@@ -88,21 +94,27 @@ pub extends_then : (a b c : TableView) → Extends a b → Extends b c → Exten
 extends_then a b c h k = (h.0 ++ k.0, k.1 ∙ ap (λ l. l ++ k.0) h.1 ∙ append_assoc a.keys h.0 k.0)
 
 -- a table that is extended keeps its locks and their numbers
-pub extends_at : (old new : TableView) → Extends old new → (n : ℕ) (l : Lock) → slice_get old.keys n ≡ Some l → slice_get new.keys n ≡ Some l
+pub extends_at : (old new : TableView) → Extends old new → (n : ℕ) (l : Lock) → slice_get old.keys n ≡ Some l
+    → slice_get new.keys n ≡ Some l
 extends_at old new e n l at = subst (λ ks. slice_get ks n ≡ Some l) (sym e.1) (get_left old.keys e.0 n l at)
 
 pub extends_has : (old new : TableView) → Extends old new → (l : Lock) → Has old.keys l → Has new.keys l
 extends_has old new e l h = subst (λ ks. Has ks l) (sym e.1) (Has-left old.keys e.0 l h)
 
-pub extends_lock : (old new : TableView) → Extends old new → (ns : List ℕ) (l : Lock) → HasLock old.keys ns l → HasLock new.keys ns l
+pub extends_lock : (old new : TableView) → Extends old new → (ns : List ℕ) (l : Lock) → HasLock old.keys ns l
+    → HasLock new.keys ns l
 extends_lock old new e ns l h = (h.0, h.1, extends_at old new e h.0 l h.2)
 
 -- the numbers that there were keep their locks
-pub extends_back : (old new : TableView) → Extends old new → (ns : List ℕ) → AreNumbers old.keys ns → (l : Lock) → HasLock new.keys ns l → HasLock old.keys ns l
-extends_back old new e ns there l h = (h.0, h.1, get_front old.keys e.0 h.0 l (there h.0 h.1) (subst (λ ks. slice_get ks h.0 ≡ Some l) e.1 h.2))
+pub extends_back : (old new : TableView) → Extends old new → (ns : List ℕ) → AreNumbers old.keys ns → (l : Lock)
+    → HasLock new.keys ns l → HasLock old.keys ns l
+extends_back old new e ns there l h =
+    (h.0, h.1, get_front old.keys e.0 h.0 l (there h.0 h.1) (subst (λ ks. slice_get ks h.0 ≡ Some l) e.1 h.2))
 
-pub extends_numbers : (old new : TableView) → Extends old new → (ns : List ℕ) → AreNumbers old.keys ns → AreNumbers new.keys ns
-extends_numbers old new e ns there n h = let w = there n h in omega (arith, w, ap length e.1, length-append old.keys e.0)
+pub extends_numbers : (old new : TableView) → Extends old new → (ns : List ℕ) → AreNumbers old.keys ns
+    → AreNumbers new.keys ns
+extends_numbers old new e ns there n h = let w = there n h in
+    omega (arith, w, ap length e.1, length-append old.keys e.0)
 
 module _ (s : SchemeView) where
   -- what is above a lock stays so
@@ -113,21 +125,28 @@ module _ (s : SchemeView) where
   }
 
   -- one lock more, whose coverers are there
-  pub table_put : (t new : TableView) (l : Lock) (coverers : List Lock) (ns : List ℕ) → new.keys ≡ t.keys ++ l ∷ [] → new.above ≡ t.above ++ ns ∷ [] → IsTable s t → (Has t.keys l → ⊥)
-      → AreCoverers s l coverers → ((big : Lock) → IsAbove s big l → Has t.keys big) → AreOf t.keys coverers ns → IsTable s new
+  pub table_put : (t new : TableView) (l : Lock) (coverers : List Lock) (ns : List ℕ) → new.keys ≡ t.keys ++ l ∷ []
+      → new.above ≡ t.above ++ ns ∷ [] → IsTable s t → (Has t.keys l → ⊥)
+      → AreCoverers s l coverers → ((big : Lock) → IsAbove s big l → Has t.keys big) → AreOf t.keys coverers ns
+      → IsTable s new
   table_put t new l coverers ns keys above is absent are there of = record {
-    count = ap length above ∙ length-append t.above (ns ∷ []) ∙ ap (λ n. n + 1) is.count ∙ sym (ap length keys ∙ length-append t.keys (l ∷ []));
+    count = ap length above ∙ length-append t.above (ns ∷ []) ∙ ap (λ n. n + 1) is.count
+        ∙ sym (ap length keys ∙ length-append t.keys (l ∷ []));
     apart = subst (λ ks. AreApart ks) (sym keys) (apart_push t.keys l is.apart absent);
     told = λ n k at. subst (λ ks. AreAbove s ks k (slice_index_or new.above n [])) (sym keys)
         (subst (λ ms. AreAbove s (t.keys ++ l ∷ []) k (slice_index_or ms n [])) (sym above)
         (elim (pushed_at t.keys l k n (subst (λ ks. slice_get ks n ≡ Some k) keys at)) [
           | inl e ↦
-              let here : slice_index_or (t.above ++ ns ∷ []) n [] ≡ ns = get_last t.above ns [] n (e.0 ∙ sym is.count) in
-              subst (AreAbove s (t.keys ++ l ∷ []) k) (sym here) (subst (λ x. AreAbove s (t.keys ++ l ∷ []) x ns) e.1 (above_more t.keys (l ∷ []) l ns fresh))
+              let here : slice_index_or (t.above ++ ns ∷ []) n [] ≡ ns =
+              get_last t.above ns [] n (e.0 ∙ sym is.count) in
+              subst (AreAbove s (t.keys ++ l ∷ []) k) (sym here)
+              (subst (λ x. AreAbove s (t.keys ++ l ∷ []) x ns) e.1 (above_more t.keys (l ∷ []) l ns fresh))
           | inr old ↦
               let within = slice_get_within t.keys n k old in
-              let here : slice_index_or (t.above ++ ns ∷ []) n [] ≡ slice_index_or t.above n [] = get_before t.above ns [] n (omega (arith, within, is.count)) in
-              subst (AreAbove s (t.keys ++ l ∷ []) k) (sym here) (above_more t.keys (l ∷ []) k (slice_index_or t.above n []) (is.told n k old))
+              let here : slice_index_or (t.above ++ ns ∷ []) n [] ≡ slice_index_or t.above n [] =
+              get_before t.above ns [] n (omega (arith, within, is.count)) in
+              subst (AreAbove s (t.keys ++ l ∷ []) k) (sym here)
+              (above_more t.keys (l ∷ []) k (slice_index_or t.above n []) (is.told n k old))
         ]));
   }
     where
@@ -138,10 +157,12 @@ module _ (s : SchemeView) where
       }
 
   -- a lock that is there has its number; one that is put after other locks has it too
-  pub numbered_there : (t : TableView) (l : Lock) (n : ℕ) → IsTable s t → slice_get t.keys n ≡ Some l → IsNumbered s t t l n
+  pub numbered_there : (t : TableView) (l : Lock) (n : ℕ) → IsTable s t → slice_get t.keys n ≡ Some l
+      → IsNumbered s t t l n
   numbered_there t l n is at = record { table = is; longer = extends_none t; there = at }
 
-  pub numbered_after : (a b c : TableView) (l : Lock) (n : ℕ) → Extends a b → IsNumbered s b c l n → IsNumbered s a c l n
+  pub numbered_after : (a b c : TableView) (l : Lock) (n : ℕ) → Extends a b → IsNumbered s b c l n
+      → IsNumbered s a c l n
   numbered_after a b c l n e k = record { table = k.table; longer = extends_then a b c e k.longer; there = k.there }
 
   -- no lock has been put
@@ -149,7 +170,9 @@ module _ (s : SchemeView) where
   put_none t is = record { table = is; longer = extends_none t; there = λ l h. absurd h }
 
   -- the next lock of a list is put
-  pub put_next : (a b c : TableView) (locks : List Lock) (i : ℕ) (l : Lock) (n : ℕ) → i < length locks → l ≡ get_or locks i l → AreAllPut s a b (take i locks) → IsNumbered s b c l n → AreAllPut s a c (take (i + 1) locks)
+  pub put_next : (a b c : TableView) (locks : List Lock) (i : ℕ) (l : Lock) (n : ℕ) → i < length locks
+      → l ≡ get_or locks i l → AreAllPut s a b (take i locks) → IsNumbered s b c l n
+      → AreAllPut s a c (take (i + 1) locks)
   put_next a b c locks i l n within is before k = record {
     table = k.table;
     longer = extends_then a b c before.longer k.longer;

@@ -1,5 +1,6 @@
 -- Numbers of locks that others cover.
-use Rattle.std.proofs.Common.{◌≡◌, ◌⊎◌, inl, inr, ℕ, List, [], ◌∷◌, Some, Bool, true, false, not, refl, sym, ap, ◌∙◌, subst, true≢false}
+use Rattle.std.proofs.Common.{◌≡◌, ◌⊎◌, inl, inr, ℕ, List, [], ◌∷◌, Some, Bool, true, false, not, refl, sym, ap, ◌∙◌}
+use Rattle.std.proofs.Common.{subst, true≢false}
 use Rattle.std.specs.Prelude.{slice_get, slice_index_or, ◌||◌}
 use Rattle.std.specs.List.{list_any}
 use Rattle.sect_types.specs.Lists.{Has}
@@ -20,7 +21,8 @@ any_has : {X : Type 0} (p : X → Bool) (xs : List X) → list_any p xs ≡ true
 any_has p [] e = absurd (true≢false (sym e))
 any_has {X} p (x ∷ xs) e = go (p x) refl e (any_has p xs)
   where
-    go : (b : Bool) → p x ≡ b → (b || list_any p xs) ≡ true → (list_any p xs ≡ true → (y : X) × Has xs y × (p y ≡ true)) → (y : X) × Has (x ∷ xs) y × (p y ≡ true)
+    go : (b : Bool) → p x ≡ b → (b || list_any p xs) ≡ true → (list_any p xs ≡ true → (y : X) × Has xs y × (p y ≡ true))
+        → (y : X) × Has (x ∷ xs) y × (p y ≡ true)
     go true is e rest = (x, inl refl, is)
     go false is e rest = (let r = rest e in (r.0, inr r.1, r.2))
 
@@ -36,7 +38,8 @@ any_is {X} p (y ∷ ys) x h e = elim h [
     go true rest = refl
     go false rest = rest
 
-module _ (s : SchemeView) (t : TableView) (is : IsTable s t) (ns : List ℕ) (n : ℕ) (l : Lock) (at : slice_get t.keys n ≡ Some l) where
+module _ (s : SchemeView) (t : TableView) (is : IsTable s t) (ns : List ℕ) (n : ℕ) (l : Lock)
+    (at : slice_get t.keys n ≡ Some l) where
   -- a number that is above that of a lock is that of one that outdoes it
   pub under_is : is_under t.above ns n ≡ true → IsOutdone s (HasLock t.keys ns) l
   under_is e =
@@ -49,4 +52,5 @@ module _ (s : SchemeView) (t : TableView) (is : IsTable s t) (ns : List ℕ) (n 
   is_under_is out =
       let m = (is.told n l at).all out.0 (out.2, out.3) in
       let same = apart_one t.keys m.0 out.1.0 out.0 is.apart m.2 out.1.2 in
-      any_is (has_number ns) (slice_index_or t.above n []) m.0 m.1 ((number_tells ns m.0).1 (subst (Has ns) (sym same) out.1.1))
+      any_is (has_number ns) (slice_index_or t.above n []) m.0 m.1
+      ((number_tells ns m.0).1 (subst (Has ns) (sym same) out.1.1))

@@ -1,5 +1,7 @@
 -- A node is gone over.
-use Rattle.std.proofs.Common.{◌≡◌, ◌↔◌, ◌⊎◌, inl, inr, ℕ, zero, suc, ◌<◌, List, [], ◌∷◌, ◌++◌, Option, Some, None, Bool, true, false, not, ◌-◌, length, length-set, length-append, set, take, drop, refl, sym, ap, ◌∙◌, subst, arith}
+use Rattle.std.proofs.Common.{◌≡◌, ◌↔◌, ◌⊎◌, inl, inr, ℕ, zero, suc, ◌<◌, List, [], ◌∷◌, ◌++◌, Option, Some, None, Bool}
+use Rattle.std.proofs.Common.{true, false, not, ◌-◌, length, length-set, length-append, set, take, drop, refl, sym, ap}
+use Rattle.std.proofs.Common.{◌∙◌, subst, arith}
 use Rattle.std.specs.Prelude.{slice_get, slice_index_or}
 use Rattle.std.proofs.lemmas.Bool.{cases_eq}
 use Rattle.std.proofs.lemmas.List.{get_or-set_same, get_or-set_other, take_all}
@@ -19,23 +21,30 @@ use Rattle.sect_infer.specs.Tables.{TableView, HasLock, AreNumbers, IsFinding, F
 use Rattle.sect_infer.specs.steps.Needs.{need, IsSeed}
 use Rattle.sect_infer.specs.steps.Working.{IsCarried, AreNumbered, IsVisit}
 use Rattle.sect_infer.proofs.Tabling.{extends_lock, extends_back, extends_numbers}
-use Rattle.sect_infer.proofs.Apart.{with_all_has, with_all_apart, apart_join, apart_back, apart_across, apart_filter, Has-filter}
+use Rattle.sect_infer.proofs.Apart.{with_all_has, with_all_apart, apart_join, apart_back, apart_across, apart_filter}
+use Rattle.sect_infer.proofs.Apart.{Has-filter}
 use Rattle.sect_infer.proofs.Undone.{told_by, under_is}
 use Rattle.sect_infer.proofs.Carrying.{CarriedOf, finds_none, finds_as, finds_then}
 
 module _ (s : SchemeView) (t : ℕ) (g : List Node) (j : ℕ) (y : Node) (at : slice_get g j ≡ Some y) where
   module _ (lists : List (List ℕ)) (a : TableView) where
     -- what is carried back to node j is carried back from a successor
-    carried_tells : (keys : List Lock) (r : Lock) → IsCarried s t g keys lists j r ↔ ((m : ℕ) × LeadsTo y m × CarriedOf s t y.label keys (slice_index_or lists m []) r)
+    carried_tells : (keys : List Lock) (r : Lock)
+        → IsCarried s t g keys lists j r
+        ↔ ((m : ℕ) × LeadsTo y m × CarriedOf s t y.label keys (slice_index_or lists m []) r)
     carried_tells keys r = (
-      λ h. (let same = one_at g j h.0 y h.3 at in (h.1, subst (λ z. LeadsTo z h.1) same h.4, (h.2, h.5, subst (λ z. CarriedBack s t z.label h.2 r) same h.6))),
+      λ h. (let same = one_at g j h.0 y h.3 at in
+          (h.1, subst (λ z. LeadsTo z h.1) same h.4, (h.2, h.5, subst (λ z. CarriedBack s t z.label h.2 r) same h.6))),
       λ h. (y, h.0, h.2.0, at, h.1, h.2.1, h.2.2),
     )
 
     -- where control goes on to one node, or to one of two
-    pub carried_next_node : (b : TableView) (ns ms : List ℕ) (next : ℕ) → y.next ≡ Next next → Finds s a ns b ms (CarriedOf s t y.label a.keys (slice_index_or lists next []))
+    pub carried_next_node : (b : TableView) (ns ms : List ℕ) (next : ℕ) → y.next ≡ Next next
+        → Finds s a ns b ms (CarriedOf s t y.label a.keys (slice_index_or lists next []))
         → Finds s a ns b ms (IsCarried s t g a.keys lists j)
-    carried_next_node b ns ms next goes f = finds_as s a b ns ms (CarriedOf s t y.label a.keys (slice_index_or lists next [])) (IsCarried s t g a.keys lists j)
+    carried_next_node b ns ms next goes f =
+        finds_as s a b ns ms (CarriedOf s t y.label a.keys (slice_index_or lists next []))
+        (IsCarried s t g a.keys lists j)
         (λ r. (
           λ h. (let k = (carried_tells a.keys r).0 h in
               let is : k.0 ≡ next = subst (λ o. IsSuccessor o k.0) goes k.1 in
@@ -43,7 +52,8 @@ module _ (s : SchemeView) (t : ℕ) (g : List Node) (j : ℕ) (y : Node) (at : s
           λ h. (carried_tells a.keys r).1 (next, subst (λ o. IsSuccessor o next) (sym goes) refl, h),
         )) f
 
-    pub carried_branch : (b c : TableView) (ns ms os : List ℕ) (holds fails : ℕ) → y.next ≡ Branch holds fails → AreNumbers a.keys (slice_index_or lists fails [])
+    pub carried_branch : (b c : TableView) (ns ms os : List ℕ) (holds fails : ℕ) → y.next ≡ Branch holds fails
+        → AreNumbers a.keys (slice_index_or lists fails [])
         → Finds s a ns b ms (CarriedOf s t y.label a.keys (slice_index_or lists holds []))
         → Finds s b ms c os (CarriedOf s t y.label b.keys (slice_index_or lists fails []))
         → Finds s a ns c os (IsCarried s t g a.keys lists j)
@@ -83,10 +93,13 @@ module _ (s : SchemeView) (t : ℕ) (g : List Node) (j : ℕ) (y : Node) (at : s
     )
 
     -- it generates nothing, or this lock
-    pub own_none : (a : TableView) (ns : List ℕ) → o ≡ None → IsFinding s a ns → Finds s a ns a ns (λ l. IsSeed s t g (need j l))
-    own_none a ns is f = finds_none s a ns (λ l. IsSeed s t g (need j l)) f (λ l h. let e = (seed_is l).0 h in absurd cc)
+    pub own_none : (a : TableView) (ns : List ℕ) → o ≡ None → IsFinding s a ns
+        → Finds s a ns a ns (λ l. IsSeed s t g (need j l))
+    own_none a ns is f = finds_none s a ns (λ l. IsSeed s t g (need j l)) f
+        (λ l h. let e = (seed_is l).0 h in absurd cc)
 
-    pub own_some : (a b : TableView) (ns ms : List ℕ) (l : Lock) → o ≡ Some l → Finds s a ns b ms (λ x. x ≡ l) → Finds s a ns b ms (λ x. IsSeed s t g (need j x))
+    pub own_some : (a b : TableView) (ns ms : List ℕ) (l : Lock) → o ≡ Some l → Finds s a ns b ms (λ x. x ≡ l)
+        → Finds s a ns b ms (λ x. IsSeed s t g (need j x))
     own_some a b ns ms l is f = finds_as s a b ns ms (λ x. x ≡ l) (λ x. IsSeed s t g (need j x))
         (λ x. (λ h. (let e = (seed_is x).0 h in cc), λ e. (seed_is x).1 (is ∙ ap (λ z. Some z) (sym e)))) f
 
@@ -98,7 +111,8 @@ drop_front (x ∷ xs) ys zero e = absurd (omega (arith, e))
 drop_front (x ∷ xs) ys (suc k) e = drop_front xs ys k (omega (arith, e))
 
 -- node j has been gone over: these numbers were found, first those that it had
-module _ (s : SchemeView) (t : ℕ) (g : List Node) (j : ℕ) (a b d : TableView) (lists : List (List ℕ)) (ms os : List ℕ) (known : AreNumbered s g a lists) where
+module _ (s : SchemeView) (t : ℕ) (g : List Node) (j : ℕ) (a b d : TableView) (lists : List (List ℕ)) (ms os : List ℕ)
+    (known : AreNumbered s g a lists) where
   abbrev pub had : List ℕ
   had = slice_index_or lists j []
 
@@ -114,10 +128,12 @@ module _ (s : SchemeView) (t : ℕ) (g : List Node) (j : ℕ) (a b d : TableView
     apart = with_all_apart [] had tt;
   }
 
-  module _ (start : List ℕ) (starts : start ≡ begun) (carried : Finds s a start b ms (IsCarried s t g a.keys lists j)) (own : Finds s b ms d os (λ l. IsSeed s t g (need j l))) where
+  module _ (start : List ℕ) (starts : start ≡ begun) (carried : Finds s a start b ms (IsCarried s t g a.keys lists j))
+      (own : Finds s b ms d os (λ l. IsSeed s t g (need j l))) where
     -- what was found in all
     pub all : Finds s a begun d os (λ l. IsCarried s t g a.keys lists j l ⊎ IsSeed s t g (need j l))
-    all = finds_then s a b d begun ms os (IsCarried s t g a.keys lists j) (λ l. IsSeed s t g (need j l)) (subst (λ ns. Finds s a ns b ms (IsCarried s t g a.keys lists j)) starts carried) own
+    all = finds_then s a b d begun ms os (IsCarried s t g a.keys lists j) (λ l. IsSeed s t g (need j l))
+        (subst (λ ns. Finds s a ns b ms (IsCarried s t g a.keys lists j)) starts carried) own
 
     -- those that are new
     abbrev pub new : List ℕ
@@ -134,8 +150,10 @@ module _ (s : SchemeView) (t : ℕ) (g : List Node) (j : ℕ) (a b d : TableView
         let long = length-append begun new in
         ap (take (length os - k)) split ∙ take_all (length os - k) new (omega (arith, ap length all.behind.1, long, is))
 
-    pub new_is : (found known : List ℕ) → found ≡ os → known ≡ start → take (length found - length known) (drop (length known) found) ≡ new
-    new_is found known is first = ap (λ f. take (length f - length known) (drop (length known) f)) is ∙ of_os (length known) (ap length (first ∙ starts))
+    pub new_is : (found known : List ℕ) → found ≡ os → known ≡ start
+        → take (length found - length known) (drop (length known) found) ≡ new
+    new_is found known is first = ap (λ f. take (length f - length known) (drop (length known) f)) is
+        ∙ of_os (length known) (ap length (first ∙ starts))
 
     -- the table tells of them
     new_there : (n : ℕ) → Has new n → n < length d.keys
@@ -146,19 +164,27 @@ module _ (s : SchemeView) (t : ℕ) (g : List Node) (j : ℕ) (a b d : TableView
 
     -- they were found
     fresh_there : (n : ℕ) → Has fresh n → Has os n
-    fresh_there n h = subst (λ xs. Has xs n) (sym all.behind.1) (Has-right begun new n ((Has-filter (λ m. not (is_under d.above os m)) new n).0 h).0)
+    fresh_there n h = subst (λ xs. Has xs n) (sym all.behind.1)
+        (Has-right begun new n ((Has-filter (λ m. not (is_under d.above os m)) new n).0 h).0)
 
     -- each that was found is kept, or another outdoes it
     kept : (x : Lock) → HasLock d.keys os x → HasLock d.keys (had ++ fresh) x ⊎ IsOutdone s (HasLock d.keys os) x
     kept x h = elim (Has-cases begun new h.0 (subst (λ xs. Has xs h.0) all.behind.1 h.1)) [
-      | inl old ↦ elim ((with_all_has [] had h.0).0 old) [ inl none ↦ absurd none | inr k ↦ inl (h.0, Has-left had fresh h.0 k, h.2) ]
+      | inl old ↦ elim ((with_all_has [] had h.0).0 old)
+          [ inl none ↦ absurd none | inr k ↦ inl (h.0, Has-left had fresh h.0 k, h.2) ]
       | inr more ↦ elim (told_by (is_under d.above os h.0)) [
         | inl under ↦ inr (under_is s d all.finding.table os h.0 x h.2 under)
-        | inr free ↦ inl (h.0, Has-right had fresh h.0 ((Has-filter (λ m. not (is_under d.above os m)) new h.0).1 (more, free)), h.2)
+        | inr free ↦ inl (
+          h.0,
+          Has-right had fresh h.0
+              ((Has-filter (λ m. not (is_under d.above os m)) new h.0).1 (more, free)),
+          h.2,
+        )
       ]
     ]
 
-    module _ (there : j < length lists) (after : List (List ℕ)) (any : Bool) (is : after ≡ set lists j (had ++ fresh)) (none : any ≡ false → fresh ≡ []) (some : any ≡ true → 0 < length fresh) where
+    module _ (there : j < length lists) (after : List (List ℕ)) (any : Bool) (is : after ≡ set lists j (had ++ fresh))
+        (none : any ≡ false → fresh ≡ []) (some : any ≡ true → 0 < length fresh) where
       -- the node has its own and the fresh ones
       here : slice_index_or after j [] ≡ had ++ fresh
       here = ap (λ ls. slice_index_or ls j []) is ∙ get_or-set_same lists j (had ++ fresh) [] there
@@ -168,7 +194,8 @@ module _ (s : SchemeView) (t : ℕ) (g : List Node) (j : ℕ) (a b d : TableView
       other i n = ap (λ ls. slice_index_or ls i []) is ∙ get_or-set_other lists j i (had ++ fresh) [] n
 
       -- what holds of the numbers of node j and of those of the others
-      each : (P : List ℕ → Type 0) → P (had ++ fresh) → ((i : ℕ) → P (slice_index_or lists i [])) → (i : ℕ) → P (slice_index_or after i [])
+      each : (P : List ℕ → Type 0) → P (had ++ fresh) → ((i : ℕ) → P (slice_index_or lists i [])) → (i : ℕ)
+          → P (slice_index_or after i [])
       each P at_j at_other i = elim (cases_eq i j) [
         | inl e ↦ subst P (sym (ap (λ k. slice_index_or after k []) e ∙ here)) at_j
         | inr n ↦ subst P (sym (other i n)) (at_other i)
@@ -184,8 +211,10 @@ module _ (s : SchemeView) (t : ℕ) (g : List Node) (j : ℕ) (a b d : TableView
       apart : AreApart (had ++ fresh)
       apart =
           let both = subst AreApart all.behind.1 all.finding.apart in
-          apart_join had fresh (known.apart j) (apart_filter (λ m. not (is_under d.above os m)) new (apart_back begun new both))
-          (λ n h k. apart_across begun new both n ((with_all_has [] had n).1 (inr h)) ((Has-filter (λ m. not (is_under d.above os m)) new n).0 k).0)
+          apart_join had fresh (known.apart j)
+          (apart_filter (λ m. not (is_under d.above os m)) new (apart_back begun new both))
+          (λ n h k. apart_across begun new both n ((with_all_has [] had n).1 (inr h))
+          ((Has-filter (λ m. not (is_under d.above os m)) new n).0 k).0)
 
       -- so the node has been gone over
       pub visit_is : IsVisit s t g a lists d after j any
@@ -193,7 +222,8 @@ module _ (s : SchemeView) (t : ℕ) (g : List Node) (j : ℕ) (a b d : TableView
         numbered = record {
           table = all.finding.table;
           count = ap length is ∙ length-set lists j (had ++ fresh) ∙ known.count;
-          numbers = each (AreNumbers d.keys) numbers (λ i. extends_numbers a d all.longer (slice_index_or lists i []) (known.numbers i));
+          numbers = each (AreNumbers d.keys) numbers
+              (λ i. extends_numbers a d all.longer (slice_index_or lists i []) (known.numbers i));
           apart = each AreApart apart known.apart;
         };
         longer = all.longer;
@@ -206,11 +236,16 @@ module _ (s : SchemeView) (t : ℕ) (g : List Node) (j : ℕ) (a b d : TableView
         only = λ l h. elim (Has-cases had fresh h.0 (subst (λ xs. Has xs h.0) here h.1)) [
           | inl k ↦ inl (extends_back a d all.longer had (known.numbers j) l (h.0, k, h.2))
           | inr k ↦ elim (all.only l (h.0, fresh_there h.0 k, h.2)) [
-            | inl old ↦ inl (old.0, elim ((with_all_has [] had old.0).0 old.1) [ inl none ↦ absurd none | inr m ↦ m ], old.2)
+            | inl old ↦ inl (
+              old.0,
+              elim ((with_all_has [] had old.0).0 old.1) [ inl none ↦ absurd none | inr m ↦ m ],
+              old.2,
+            )
             | inr due ↦ elim due [ inl c ↦ inr (inr c) | inr o ↦ inr (inl o) ]
           ]
         ];
         put = λ l due.
-            let over = covered s (HasLock d.keys os) (HasLock d.keys (had ++ fresh)) kept l (all.each l (elim due [ inl o ↦ inr o | inr c ↦ inl c ])) in
+            let over = covered s (HasLock d.keys os) (HasLock d.keys (had ++ fresh)) kept l
+            (all.each l (elim due [ inl o ↦ inr o | inr c ↦ inl c ])) in
             (over.0, subst (λ ns. HasLock d.keys ns over.0) (sym here) over.1, over.2);
       }

@@ -1,5 +1,6 @@
 -- Which locks stand above a lock.
-use Rattle.std.proofs.Common.{◌≡◌, ◌↔◌, ◌⊎◌, inl, inr, ℕ, ◌≤◌, List, [], ◌∷◌, ◌++◌, Option, Some, None, take, length, refl, sym, ap, ◌∙◌, subst, arith}
+use Rattle.std.proofs.Common.{◌≡◌, ◌↔◌, ◌⊎◌, inl, inr, ℕ, ◌≤◌, List, [], ◌∷◌, ◌++◌, Option, Some, None, take, length}
+use Rattle.std.proofs.Common.{refl, sym, ap, ◌∙◌, subst, arith}
 use Rattle.std.proofs.lemmas.List.{take-append-le, take_all}
 use Rattle.std.proofs.lemmas.Option.{slice_get_within}
 use Rattle.sect_types.specs.Lists.{Has}
@@ -30,7 +31,8 @@ module _ (s : SchemeView) where
   above_written c (lock.Path p e) h = absurd h.0
 
   -- above one on a class stands at most that on all and that to write it
-  above_class : (c : ℕ) (r : Right) (big : Lock) → IsAbove s big (lock.Class c r) → (big ≡ lock.All) ⊎ (big ≡ lock.Class c right.Write)
+  above_class : (c : ℕ) (r : Right) (big : Lock) → IsAbove s big (lock.Class c r)
+      → (big ≡ lock.All) ⊎ (big ≡ lock.Class c right.Write)
   above_class c r lock.All h = inl refl
   above_class c r (lock.Class d right.Write) h = inr (ap (λ n. lock.Class n right.Write) h.0.0)
   above_class c right.Read (lock.Class d right.Read) h = absurd (h.1 (ap (λ n. lock.Class n right.Read) h.0.0))
@@ -43,7 +45,9 @@ module _ (s : SchemeView) where
 
   -- above one on a path stand at most that on all, those on its class, and that to write it
   above_path : (p : PathView) (e : Effect) (big : Lock) → IsAbove s big (lock.Path p e)
-      → (big ≡ lock.All) ⊎ ((c : ℕ) × HasClass s.classes p c × ((big ≡ lock.Class c right.Write) ⊎ ((e ≡ effect.Read) × (big ≡ lock.Class c right.Read)))) ⊎ ((e ≡ effect.Read) × (big ≡ lock.Path p effect.Write))
+      → (big ≡ lock.All) ⊎ ((c : ℕ) × HasClass s.classes p c
+      × ((big ≡ lock.Class c right.Write) ⊎ ((e ≡ effect.Read) × (big ≡ lock.Class c right.Read))))
+      ⊎ ((e ≡ effect.Read) × (big ≡ lock.Path p effect.Write))
   above_path p e lock.All h = inl refl
   above_path p e (lock.Class c right.Write) h = inr (inl (c, h.0.0, inl refl))
   above_path p effect.Read (lock.Class c right.Read) h = inr (inl (c, h.0.0, inr (refl, refl)))
@@ -57,11 +61,13 @@ module _ (s : SchemeView) where
   none_behind : AreBehind s []
   none_behind i c at = absurd cc
 
-  more_behind : (locks : List Lock) (l : Lock) → AreBehind s locks → ((big : Lock) → IsAbove s big l → Has locks big) → AreBehind s (locks ++ l ∷ [])
+  more_behind : (locks : List Lock) (l : Lock) → AreBehind s locks → ((big : Lock) → IsAbove s big l → Has locks big)
+      → AreBehind s (locks ++ l ∷ [])
   more_behind locks l before over i c at big h = elim (pushed_at locks l c i at) [
     | inl e ↦
         let past : length locks ≤ i = omega (arith, e.0) in
-        let front : take i (locks ++ l ∷ []) ≡ locks = take-append-le i locks (l ∷ []) (omega (arith, e.0)) ∙ take_all i locks past in
+        let front : take i (locks ++ l ∷ []) ≡ locks = take-append-le i locks (l ∷ []) (omega (arith, e.0))
+        ∙ take_all i locks past in
         subst (λ ls. Has ls big) (sym front) (over big (subst (IsAbove s big) (sym e.1) h))
     | inr k ↦
         let within = slice_get_within locks i c k in
@@ -84,17 +90,23 @@ module _ (s : SchemeView) where
   behind_write c = more_behind on_all (lock.Class c right.Write) behind_all (λ big h. inl (sym (above_written c big h)))
 
   behind_read : (c : ℕ) → AreBehind s (to_read c)
-  behind_read c = more_behind (to_write c) (lock.Class c right.Read) (behind_write c) (λ big h. elim (above_class c right.Read big h) [ inl e ↦ inl (sym e) | inr e ↦ inr (inl (sym e)) ])
+  behind_read c = more_behind (to_write c) (lock.Class c right.Read) (behind_write c)
+      (λ big h. elim (above_class c right.Read big h) [ inl e ↦ inl (sym e) | inr e ↦ inr (inl (sym e)) ])
 
   is_above : (big b l : Lock) → IsAbove s b l → b ≡ big → IsAbove s big l
   is_above big b l h e = subst (λ x. IsAbove s x l) e h
 
-  part_coverers : (c : ℕ) (r : Right) → IsAbove s (lock.Class c right.Write) (lock.Class c r) → AreCoverers s (lock.Class c r) (to_write c)
+  part_coverers : (c : ℕ) (r : Right) → IsAbove s (lock.Class c right.Write) (lock.Class c r)
+      → AreCoverers s (lock.Class c r) (to_write c)
   part_coverers c r over = record {
     all = λ big. (
       λ h. elim h [
         | inl e ↦ is_above big lock.All (lock.Class c r) (tt, λ e. cc) e
-        | inr k ↦ elim k [ inl e ↦ is_above big (lock.Class c right.Write) (lock.Class c r) over e | inr none ↦ absurd none ]
+        | inr k ↦ elim k [
+          | inl e ↦ is_above big (lock.Class c right.Write) (lock.Class c r) over e
+          | inr none ↦
+              absurd none
+        ]
       ],
       λ h. elim (above_class c r big h) [ inl e ↦ inl (sym e) | inr e ↦ inr (inl (sym e)) ],
     );
@@ -118,15 +130,20 @@ module _ (s : SchemeView) where
   module _ (p : PathView) where
     module _ (unclassed : (n : ℕ) → HasClass s.classes p n → ⊥) where
       bare_behind : AreBehind s (lock.All ∷ lock.Path p effect.Write ∷ [])
-      bare_behind = more_behind on_all (lock.Path p effect.Write) behind_all (λ big h. elim (above_path p effect.Write big h) [
-        | inl e ↦ inl (sym e)
-        | inr k ↦ elim k [ inl c ↦ absurd (unclassed c.0 c.1) | inr e ↦ (let f = e.0 in absurd cc) ]
-      ])
+      bare_behind = more_behind on_all (lock.Path p effect.Write) behind_all
+          (λ big h. elim (above_path p effect.Write big h) [
+            | inl e ↦ inl (sym e)
+            | inr k ↦ elim k [ inl c ↦ absurd (unclassed c.0 c.1) | inr e ↦ (let f = e.0 in absurd cc) ]
+          ])
 
       pub bare_coverers : (e : Effect) → AreCoverers s (lock.Path p e) (over_path None p e)
       bare_coverers effect.Write = record {
         all = λ big. (
-          λ h. elim h [ inl e ↦ is_above big lock.All (lock.Path p effect.Write) (tt, λ e. cc) e | inr none ↦ absurd none ],
+          λ h. elim h [
+            | inl e ↦ is_above big lock.All (lock.Path p effect.Write) (tt, λ e. cc) e
+            | inr none ↦
+                absurd none
+          ],
           λ h. elim (above_path p effect.Write big h) [
             | inl e ↦ inl (sym e)
             | inr k ↦ elim k [ inl c ↦ absurd (unclassed c.0 c.1) | inr e ↦ (let f = e.0 in absurd cc) ]
@@ -138,7 +155,11 @@ module _ (s : SchemeView) where
         all = λ big. (
           λ h. elim h [
             | inl e ↦ is_above big lock.All (lock.Path p effect.Read) (tt, λ e. cc) e
-            | inr k ↦ elim k [ inl e ↦ is_above big (lock.Path p effect.Write) (lock.Path p effect.Read) ((refl, tt), λ e. cc) e | inr none ↦ absurd none ]
+            | inr k ↦ elim k [
+              | inl e ↦ is_above big (lock.Path p effect.Write) (lock.Path p effect.Read)
+                  ((refl, tt), λ e. cc) e
+              | inr none ↦ absurd none
+            ]
           ],
           λ h. elim (above_path p effect.Read big h) [
             | inl e ↦ inl (sym e)
@@ -153,23 +174,32 @@ module _ (s : SchemeView) where
       written_above big h = elim (above_path p effect.Write big h) [
         | inl e ↦ inl (sym e)
         | inr k ↦ elim k [
-          | inl d ↦ elim d.2 [ inl e ↦ inr (inl (sym (e ∙ ap (λ n. lock.Class n right.Write) (only d.0 d.1)))) | inr f ↦ (let g = f.0 in absurd cc) ]
+          | inl d ↦ elim d.2 [
+            | inl e ↦ inr (inl (sym (e ∙ ap (λ n. lock.Class n right.Write) (only d.0 d.1))))
+            | inr f ↦
+                (let g = f.0 in absurd cc)
+          ]
           | inr e ↦ (let f = e.0 in absurd cc)
         ]
       ]
 
       four_behind : AreBehind s (over_path (Some c) p effect.Read)
-      four_behind = more_behind (to_read c) (lock.Path p effect.Write) (behind_read c) (λ big h. elim (written_above big h) [
-        | inl e ↦ inl e
-        | inr k ↦ elim k [ inl e ↦ inr (inl e) | inr none ↦ absurd none ]
-      ])
+      four_behind = more_behind (to_read c) (lock.Path p effect.Write) (behind_read c)
+          (λ big h. elim (written_above big h) [
+            | inl e ↦ inl e
+            | inr k ↦ elim k [ inl e ↦ inr (inl e) | inr none ↦ absurd none ]
+          ])
 
       pub path_coverers : (e : Effect) → AreCoverers s (lock.Path p e) (over_path (Some c) p e)
       path_coverers effect.Write = record {
         all = λ big. (
           λ h. elim h [
             | inl e ↦ is_above big lock.All (lock.Path p effect.Write) (tt, λ e. cc) e
-            | inr k ↦ elim k [ inl e ↦ is_above big (lock.Class c right.Write) (lock.Path p effect.Write) ((of, tt), λ e. cc) e | inr none ↦ absurd none ]
+            | inr k ↦ elim k [
+              | inl e ↦ is_above big (lock.Class c right.Write) (lock.Path p effect.Write)
+                  ((of, tt), λ e. cc) e
+              | inr none ↦ absurd none
+            ]
           ],
           λ h. written_above big h,
         );
@@ -183,7 +213,11 @@ module _ (s : SchemeView) where
               | inl e ↦ is_above big (lock.Class c right.Write) (lock.Path p effect.Read) ((of, tt), λ e. cc) e
               | inr m ↦ elim m [
                 | inl e ↦ is_above big (lock.Class c right.Read) (lock.Path p effect.Read) ((of, tt), λ e. cc) e
-                | inr o ↦ elim o [ inl e ↦ is_above big (lock.Path p effect.Write) (lock.Path p effect.Read) ((refl, tt), λ e. cc) e | inr none ↦ absurd none ]
+                | inr o ↦ elim o [
+                  | inl e ↦ is_above big (lock.Path p effect.Write) (lock.Path p effect.Read)
+                      ((refl, tt), λ e. cc) e
+                  | inr none ↦ absurd none
+                ]
               ]
             ]
           ],
@@ -202,6 +236,7 @@ module _ (s : SchemeView) where
       }
 
     -- the locks above one on a path, whose class is told
-    pub coverers_of_path : (o : Option ℕ) → ((n : ℕ) → (o ≡ Some n) ↔ HasClass s.classes p n) → (e : Effect) → AreCoverers s (lock.Path p e) (over_path o p e)
+    pub coverers_of_path : (o : Option ℕ) → ((n : ℕ) → (o ≡ Some n) ↔ HasClass s.classes p n) → (e : Effect)
+        → AreCoverers s (lock.Path p e) (over_path o p e)
     coverers_of_path None told e = bare_coverers (λ n h. let is = (told n).1 h in absurd cc) e
     coverers_of_path (Some c) told e = path_coverers c ((told c).0 refl) (λ n h. let is = (told n).1 h in cc) e

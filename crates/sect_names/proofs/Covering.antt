@@ -82,9 +82,11 @@ module _ (s : SchemeView) where
   covers_trans (lock.Path p e) (lock.Path q f) (lock.Path o g) h k = (h.0 ∙ k.0, allows_trans e f g h.1 k.1)
   covers_trans (lock.Path p e) (lock.Path q f) (lock.Class d r) h k = absurd k
   covers_trans (lock.Path p e) (lock.Class c r) z h k = absurd h
-  covers_trans (lock.Class c r) (lock.Path q f) (lock.Path o g) h k = (subst (λ p. HasClass s.classes p c) k.0 h.0, grants_less r f g h.1 k.1)
+  covers_trans (lock.Class c r) (lock.Path q f) (lock.Path o g) h k =
+      (subst (λ p. HasClass s.classes p c) k.0 h.0, grants_less r f g h.1 k.1)
   covers_trans (lock.Class c r) (lock.Path q f) (lock.Class d o) h k = absurd k
-  covers_trans (lock.Class c r) (lock.Class d q) (lock.Path o g) h k = (subst (HasClass s.classes o) (sym h.0) k.0, includes_grants r q g h.1 k.1)
+  covers_trans (lock.Class c r) (lock.Class d q) (lock.Path o g) h k =
+      (subst (HasClass s.classes o) (sym h.0) k.0, includes_grants r q g h.1 k.1)
   covers_trans (lock.Class c r) (lock.Class d q) (lock.Class e o) h k = (h.0 ∙ k.0, includes_trans r q o h.1 k.1)
 
   pub covers_antisym : (x y : Lock) → Covers s x y → Covers s y x → x ≡ y
@@ -93,10 +95,12 @@ module _ (s : SchemeView) where
   covers_antisym lock.All (lock.Class d q) h k = absurd k
   covers_antisym (lock.Path p e) lock.All h k = absurd h
   covers_antisym (lock.Class c r) lock.All h k = absurd h
-  covers_antisym (lock.Path p e) (lock.Path q f) h k = ap (λ o. lock.Path o e) h.0 ∙ ap (lock.Path q) (allows_antisym e f h.1 k.1)
+  covers_antisym (lock.Path p e) (lock.Path q f) h k = ap (λ o. lock.Path o e) h.0
+      ∙ ap (lock.Path q) (allows_antisym e f h.1 k.1)
   covers_antisym (lock.Path p e) (lock.Class d r) h k = absurd h
   covers_antisym (lock.Class c r) (lock.Path q f) h k = absurd k
-  covers_antisym (lock.Class c r) (lock.Class d q) h k = ap (λ o. lock.Class o r) h.0 ∙ ap (lock.Class d) (includes_antisym r q h.1 k.1)
+  covers_antisym (lock.Class c r) (lock.Class d q) h k = ap (λ o. lock.Class o r) h.0
+      ∙ ap (lock.Class d) (includes_antisym r q h.1 k.1)
 
   pub cover_order : IsCoverOrder s
   cover_order = record { itself = covers_refl; along = covers_trans; back = covers_antisym }

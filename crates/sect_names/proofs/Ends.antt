@@ -24,4 +24,5 @@ module _ (s : SchemeView) (t i : ℕ) where
 
 -- and no path is needed there, so none has a beginning
 pub end_reads : (s : SchemeView) (i : ℕ) → ReadsBeginnings s (Has (end_of s i))
-end_reads s i p q f e h goes = let is = only_all (slice_index_or s.program.lockings i locking.Inferred) (lock.Path p e) h in absurd cc
+end_reads s i p q f e h goes = let is =
+    only_all (slice_index_or s.program.lockings i locking.Inferred) (lock.Path p e) h in absurd cc

@@ -1,5 +1,6 @@
 -- The sets of a scheme as a list of facts.
-use Rattle.std.proofs.Common.{◌≡◌, ◌↔◌, ◌⊎◌, inl, inr, ℕ, ◌+◌, ◌*◌, ◌<◌, ◌/◌, ◌%◌, List, [], ◌∷◌, ◌++◌, map, length, refl, ap, subst, arith}
+use Rattle.std.proofs.Common.{◌≡◌, ◌↔◌, ◌⊎◌, inl, inr, ℕ, ◌+◌, ◌*◌, ◌<◌, ◌/◌, ◌%◌, List, [], ◌∷◌, ◌++◌, map, length}
+use Rattle.std.proofs.Common.{refl, ap, subst, arith}
 use Rattle.std.specs.Prelude.{slice_index, slice_index_or}
 use Rattle.std.specs.Int.{bit_at}
 use Rattle.std.specs.List.{flat_map}
@@ -31,7 +32,8 @@ there_so (inl q) x y h = elim h [ inl e ↦ (q, e) | inr none ↦ absurd none ]
 there_so (inr n) x y h = absurd h
 
 -- what a list has that is made from lists, one of them has
-from_flat : {A B : Type 0} (f : A → List B) (xs : List A) (y : B) → Has (flat_map f xs) y → (x : A) × Has xs x × Has (f x) y
+from_flat : {A B : Type 0} (f : A → List B) (xs : List A) (y : B) → Has (flat_map f xs) y
+    → (x : A) × Has xs x × Has (f x) y
 from_flat f [] y h = absurd h
 from_flat f (x ∷ xs) y h = elim (Has-cases (f x) (flat_map f xs) y h) [
   | inl a ↦ (x, inl refl, a)
@@ -40,9 +42,12 @@ from_flat f (x ∷ xs) y h = elim (Has-cases (f x) (flat_map f xs) y h) [
 
 module _ (sets : PointsToView) where
   in_or_not : (h : Holder) (s : ℕ) → InSets sets h s ⊎ (InSets sets h s → ⊥)
-  in_or_not (Local t x) s = cases_eq (bit_at (slice_index (slice_index_or (rows_of sets t) x no_sites).words (s / 64)) (s % 64)) 1
+  in_or_not (Local t x) s = cases_eq
+      (bit_at (slice_index (slice_index_or (rows_of sets t) x no_sites).words (s / 64)) (s % 64)) 1
   in_or_not (Slot o f) s = elim (cases_lt f 16) [
-    | inl few ↦ elim (cases_eq (bit_at (slice_index (slice_index_or sets.slots (o * 16 + f) no_sites).words (s / 64)) (s % 64)) 1) [ inl e ↦ inl (few, e) | inr n ↦ inr (λ h. n h.1) ]
+    | inl few ↦
+        elim (cases_eq (bit_at (slice_index (slice_index_or sets.slots (o * 16 + f) no_sites).words (s / 64)) (s % 64))
+        1) [ inl e ↦ inl (few, e) | inr n ↦ inr (λ h. n h.1) ]
     | inr past ↦ inr (λ h. omega (arith, h.0, past))
   ]
 
@@ -65,22 +70,27 @@ module _ (sets : PointsToView) where
 
   holder_there : AreSlotsOfSites sets → (h : Holder) (s : ℕ) → InSets sets h s → Has holders h
   holder_there slots (Local t x) s h =
-      let column : x < length (rows_of sets t) = elim (cases_lt x (length (rows_of sets t))) [ inl a ↦ a | inr past ↦ absurd (row_past (rows_of sets t) x s past h) ] in
+      let column : x < length (rows_of sets t) =
+      elim (cases_lt x (length (rows_of sets t)))
+      [ inl a ↦ a | inr past ↦ absurd (row_past (rows_of sets t) x s past h) ] in
       let row : t < length sets.locals =
-      elim (cases_lt t (length sets.locals)) [ inl a ↦ a | inr past ↦ absurd (omega (arith, column, ap length (get_or_past sets.locals t [] past))) ] in
+      elim (cases_lt t (length sets.locals))
+      [ inl a ↦ a | inr past ↦ absurd (omega (arith, column, ap length (get_or_past sets.locals t [] past))) ] in
       Has-left (flat_map locals_of (below (length sets.locals))) (flat_map slots_of (below sets.sites)) (Local t x)
       (Has-flat_map locals_of (below (length sets.locals)) t (Local t x) (Has-below (length sets.locals) t row)
       (Has-map (Local t) (below (length (rows_of sets t))) x (Has-below (length (rows_of sets t)) x column)))
   holder_there slots (Slot o f) s h =
       Has-right (flat_map locals_of (below (length sets.locals))) (flat_map slots_of (below sets.sites)) (Slot o f)
-      (Has-flat_map slots_of (below sets.sites) o (Slot o f) (Has-below sets.sites o (slots o f s h)) (Has-map (Slot o) (below 16) f (Has-below 16 f h.0)))
+      (Has-flat_map slots_of (below sets.sites) o (Slot o f) (Has-below sets.sites o (slots o f s h))
+      (Has-map (Slot o) (below 16) f (Has-below 16 f h.0)))
 
   -- the sets have just these facts
   pub facts_tell : AreBelow sets → AreSlotsOfSites sets → (h : Holder) (s : ℕ) → InSets sets h s ↔ Has facts (fact h s)
   unfolding facts
   facts_tell low slots h s = (
     λ i. Has-flat_map held_by holders h (fact h s) (holder_there slots h s i)
-        (Has-flat_map (λ x. where_so (in_or_not h x) (fact h x)) (below sets.sites) s (fact h s) (Has-below sets.sites s (low h s i)) (so_there (in_or_not h s) (fact h s) i)),
+        (Has-flat_map (λ x. where_so (in_or_not h x) (fact h x)) (below sets.sites) s (fact h s)
+        (Has-below sets.sites s (low h s i)) (so_there (in_or_not h s) (fact h s) i)),
     λ k.
         let a = from_flat held_by holders (fact h s) k in
         let b = from_flat (λ x. where_so (in_or_not a.0 x) (fact a.0 x)) (below sets.sites) (fact h s) a.2 in

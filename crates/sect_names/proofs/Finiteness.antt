@@ -1,5 +1,6 @@
 -- The locks of a program are finitely many.
-use Rattle.std.proofs.Common.{ℕ, zero, suc, ◌<◌, ◌≤◌, List, [], ◌∷◌, ◌++◌, map, length, refl, sym, ap, subst, inl, inr, arith}
+use Rattle.std.proofs.Common.{ℕ, zero, suc, ◌<◌, ◌≤◌, List, [], ◌∷◌, ◌++◌, map, length, refl, sym, ap, subst, inl, inr}
+use Rattle.std.proofs.Common.{arith}
 use Rattle.std.specs.Prelude.{slice_index_or}
 use Rattle.std.specs.List.{flat_map}
 use Rattle.std.proofs.lemmas.Bool.{cases_eq}
@@ -23,7 +24,8 @@ pub Has-map : {X Y : Type 0} (f : X → Y) (xs : List X) (x : X) → Has xs x �
 Has-map f [] x h = absurd h
 Has-map f (y ∷ xs) x h = elim h [ inl e ↦ inl (ap f e) | inr k ↦ inr (Has-map f xs x k) ]
 
-pub Has-flat_map : {X Y : Type 0} (f : X → List Y) (xs : List X) (x : X) (y : Y) → Has xs x → Has (f x) y → Has (flat_map f xs) y
+pub Has-flat_map : {X Y : Type 0} (f : X → List Y) (xs : List X) (x : X) (y : Y) → Has xs x → Has (f x) y
+    → Has (flat_map f xs) y
 Has-flat_map f [] x y h k = absurd h
 Has-flat_map f (z ∷ xs) x y h k = elim h [
   | inl e ↦ Has-left (f z) (flat_map f xs) y (subst (λ w. Has (f w) y) (sym e) k)
@@ -47,11 +49,15 @@ abbrev all_variables : ProgramView → List Variable
 all_variables p = map Global (below (length p.globals)) ++ flat_map (locals_of_thread p) (below (length p.locals))
 
 Has-variables : (p : ProgramView) (v : Variable) → IsVariable p v → Has (all_variables p) v
-Has-variables p (Global g) h = Has-left (map Global (below (length p.globals))) (flat_map (locals_of_thread p) (below (length p.locals))) (Global g) (Has-map Global (below (length p.globals)) g (Has-below (length p.globals) g h))
+Has-variables p (Global g) h =
+    Has-left (map Global (below (length p.globals))) (flat_map (locals_of_thread p) (below (length p.locals)))
+    (Global g) (Has-map Global (below (length p.globals)) g (Has-below (length p.globals) g h))
 Has-variables p (Local t x) (there, h) =
-    Has-right (map Global (below (length p.globals))) (flat_map (locals_of_thread p) (below (length p.locals))) (Local t x)
+    Has-right (map Global (below (length p.globals))) (flat_map (locals_of_thread p) (below (length p.locals)))
+    (Local t x)
     (Has-flat_map (locals_of_thread p) (below (length p.locals)) t (Local t x) (Has-below (length p.locals) t there)
-    (Has-map (Local t) (below (length (slice_index_or p.locals t []))) x (Has-below (length (slice_index_or p.locals t [])) x h)))
+    (Has-map (Local t) (below (length (slice_index_or p.locals t []))) x
+    (Has-below (length (slice_index_or p.locals t [])) x h)))
 
 -- the fields of its records
 abbrev field_at : ℕ → ℕ → Field
@@ -65,9 +71,12 @@ all_fields p = flat_map (fields_of_record p) (below (length p.records))
 
 Has-fields : (p : ProgramView) (f : Field) → IsField p f → Has (all_fields p) f
 Has-fields p f (ts, at, h) =
-    let within : f.number < length (slice_index_or p.records f.of []) = omega (arith, h, ap length (get_or_from_slice_get p.records f.of ts [] at)) in
-    Has-flat_map (fields_of_record p) (below (length p.records)) f.of f (Has-below (length p.records) f.of (slice_get_within p.records f.of ts at))
-    (Has-map (field_at f.of) (below (length (slice_index_or p.records f.of []))) f.number (Has-below (length (slice_index_or p.records f.of [])) f.number within))
+    let within : f.number < length (slice_index_or p.records f.of []) =
+    omega (arith, h, ap length (get_or_from_slice_get p.records f.of ts [] at)) in
+    Has-flat_map (fields_of_record p) (below (length p.records)) f.of f
+    (Has-below (length p.records) f.of (slice_get_within p.records f.of ts at))
+    (Has-map (field_at f.of) (below (length (slice_index_or p.records f.of []))) f.number
+    (Has-below (length (slice_index_or p.records f.of [])) f.number within))
 
 -- its paths of at most k fields
 abbrev longer_by : List Field → PathView → List PathView
@@ -81,10 +90,12 @@ Has-paths : (p : ProgramView) (k : ℕ) (q : PathView) → IsPathOf p q → dept
 Has-paths p zero (var v) h few = Has-map var (all_variables p) v (Has-variables p v h)
 Has-paths p zero (dot q f) h few = absurd (omega arith)
 Has-paths p (suc k) (var v) h few =
-    Has-left (map var (all_variables p)) (flat_map (longer_by (all_fields p)) (all_paths p k)) (var v) (Has-map var (all_variables p) v (Has-variables p v h))
+    Has-left (map var (all_variables p)) (flat_map (longer_by (all_fields p)) (all_paths p k)) (var v)
+    (Has-map var (all_variables p) v (Has-variables p v h))
 Has-paths p (suc k) (dot q f) h few =
     Has-right (map var (all_variables p)) (flat_map (longer_by (all_fields p)) (all_paths p k)) (dot q f)
-    (Has-flat_map (longer_by (all_fields p)) (all_paths p k) q (dot q f) (Has-paths p k q h.0 (omega arith)) (Has-map (dot q) (all_fields p) f (Has-fields p f h.1)))
+    (Has-flat_map (longer_by (all_fields p)) (all_paths p k) q (dot q f) (Has-paths p k q h.0 (omega arith))
+    (Has-map (dot q) (all_fields p) f (Has-fields p f h.1)))
 
 abbrev on_path : PathView → List Lock
 on_path q = lock.Path q effect.Read ∷ lock.Path q effect.Write ∷ []
@@ -96,7 +107,8 @@ on_class c = lock.Class c right.Read ∷ lock.Class c right.Write ∷ lock.Class
 pub all_locks : SchemeView → List Lock
 all_locks s = lock.All ∷ flat_map on_path (all_paths s.program s.most) ++ flat_map on_class s.classes.numbers
 
-on_paths : (s : SchemeView) (q : PathView) (l : Lock) → IsPathOf s.program q → depth q ≤ s.most → Has (on_path q) l → Has (all_locks s) l
+on_paths : (s : SchemeView) (q : PathView) (l : Lock) → IsPathOf s.program q → depth q ≤ s.most → Has (on_path q) l
+    → Has (all_locks s) l
 unfolding all_locks
 on_paths s q l there short h =
     inr (Has-left (flat_map on_path (all_paths s.program s.most)) (flat_map on_class s.classes.numbers) l
@@ -114,8 +126,10 @@ first s = inl refl
 
 pub finite_locks : (s : SchemeView) (t : ℕ) (l : Lock) → IsLockOf s t l → Has (all_locks s) l
 finite_locks s t lock.All h = first s
-finite_locks s t (lock.Path q effect.Read) h = on_paths s q (lock.Path q effect.Read) (path_there s.program q h.of h.refers) h.short (inl refl)
-finite_locks s t (lock.Path q effect.Write) h = on_paths s q (lock.Path q effect.Write) (path_there s.program q h.of h.refers) h.short (inr (inl refl))
+finite_locks s t (lock.Path q effect.Read) h =
+    on_paths s q (lock.Path q effect.Read) (path_there s.program q h.of h.refers) h.short (inl refl)
+finite_locks s t (lock.Path q effect.Write) h =
+    on_paths s q (lock.Path q effect.Write) (path_there s.program q h.of h.refers) h.short (inr (inl refl))
 finite_locks s t (lock.Class c right.Read) h = on_classes s c (lock.Class c right.Read) h (inl refl)
 finite_locks s t (lock.Class c right.Write) h = on_classes s c (lock.Class c right.Write) h (inr (inl refl))
 finite_locks s t (lock.Class c right.Make) h = on_classes s c (lock.Class c right.Make) h (inr (inr (inl refl)))

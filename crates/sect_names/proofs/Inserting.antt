@@ -1,5 +1,6 @@
 -- Lists that grow by an element behind them.
-use Rattle.std.proofs.Common.{◌≡◌, ◌↔◌, ◌⊎◌, List, [], ◌∷◌, ◌++◌, Bool, true, false, Less, Equal, Greater, inl, inr, refl, sym, ◌∙◌, subst}
+use Rattle.std.proofs.Common.{◌≡◌, ◌↔◌, ◌⊎◌, List, [], ◌∷◌, ◌++◌, Bool, true, false, Less, Equal, Greater, inl, inr}
+use Rattle.std.proofs.Common.{refl, sym, ◌∙◌, subst}
 use Rattle.std.specs.declared.cmp.Ordering.{Ordering}
 use Rattle.std.specs.Ordering.{match_ordering}
 use Rattle.std.specs.BTreeSet.{insert_key}
@@ -18,7 +19,8 @@ behind xs x y = (
 )
 
 -- an element that is inserted where it isn't there
-pub inserted : {X : Type 0} (eq : X → X → Bool) → ((x y : X) → Decides (eq x y) (x ≡ y)) → (xs : List X) (x y : X) → Has (if list_any (eq x) xs then xs else xs ++ x ∷ []) y ↔ (Has xs y ⊎ (y ≡ x))
+pub inserted : {X : Type 0} (eq : X → X → Bool) → ((x y : X) → Decides (eq x y) (x ≡ y)) → (xs : List X) (x y : X)
+    → Has (if list_any (eq x) xs then xs else xs ++ x ∷ []) y ↔ (Has xs y ⊎ (y ≡ x))
 inserted {X} eq tells xs x y = go (list_any (eq x) xs) (any_tells eq tells xs x)
   where
     go : (b : Bool) → ((b ≡ true) ↔ Has xs x) → Has (if b then xs else xs ++ x ∷ []) y ↔ (Has xs y ⊎ (y ≡ x))
@@ -26,12 +28,20 @@ inserted {X} eq tells xs x y = go (list_any (eq x) xs) (any_tells eq tells xs x)
     go false t = behind xs x y
 
 -- an element that is put into a sorted list is there beside the others
-pub put_key : {X : Type 0} (cmp : X → X → Ordering) → ((x y : X) → cmp x y ≡ Equal → x ≡ y) → (xs : List X) (l m : X) → Has (insert_key cmp xs l) m ↔ (Has xs m ⊎ (m ≡ l))
-put_key cmp level [] l m = (λ h. elim h [ inl e ↦ inr (sym e) | inr k ↦ absurd k ], λ h. elim h [ inl k ↦ absurd k | inr e ↦ inl (sym e) ])
+pub put_key : {X : Type 0} (cmp : X → X → Ordering) → ((x y : X) → cmp x y ≡ Equal → x ≡ y) → (xs : List X) (l m : X)
+    → Has (insert_key cmp xs l) m ↔ (Has xs m ⊎ (m ≡ l))
+put_key cmp level [] l m = (
+  λ h. elim h [ inl e ↦ inr (sym e) | inr k ↦ absurd k ],
+  λ h. elim h [ inl k ↦ absurd k | inr e ↦ inl (sym e) ],
+)
 put_key {X} cmp level (x ∷ xs) l m = go (cmp l x) refl (put_key cmp level xs l m)
   where
-    go : (o : Ordering) → cmp l x ≡ o → (Has (insert_key cmp xs l) m ↔ (Has xs m ⊎ (m ≡ l))) → Has (match_ordering o (l ∷ x ∷ xs) (x ∷ xs) (x ∷ insert_key cmp xs l)) m ↔ (Has (x ∷ xs) m ⊎ (m ≡ l))
-    go Less e rest = (λ h. elim h [ inl a ↦ inr (sym a) | inr k ↦ inl k ], λ h. elim h [ inl k ↦ inr k | inr a ↦ inl (sym a) ])
+    go : (o : Ordering) → cmp l x ≡ o → (Has (insert_key cmp xs l) m ↔ (Has xs m ⊎ (m ≡ l)))
+        → Has (match_ordering o (l ∷ x ∷ xs) (x ∷ xs) (x ∷ insert_key cmp xs l)) m ↔ (Has (x ∷ xs) m ⊎ (m ≡ l))
+    go Less e rest = (
+      λ h. elim h [ inl a ↦ inr (sym a) | inr k ↦ inl k ],
+      λ h. elim h [ inl k ↦ inr k | inr a ↦ inl (sym a) ],
+    )
     go Equal e rest = (λ h. inl h, λ h. elim h [ inl k ↦ k | inr a ↦ inl (sym (level l x e) ∙ sym a) ])
     go Greater e rest = (
       λ h. elim h [ inl a ↦ inl (inl a) | inr k ↦ elim (rest.0 k) [ inl b ↦ inl (inr b) | inr a ↦ inr a ] ],

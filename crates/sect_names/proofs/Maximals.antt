@@ -1,5 +1,6 @@
 -- The locks that are kept are the maximal ones.
-use Rattle.std.proofs.Common.{◌≡◌, ◌↔◌, ◌⊎◌, inl, inr, ℕ, zero, suc, ◌+◌, ◌<◌, ◌≤◌, List, refl, subst, sym, ap, ◌∙◌, arith}
+use Rattle.std.proofs.Common.{◌≡◌, ◌↔◌, ◌⊎◌, inl, inr, ℕ, zero, suc, ◌+◌, ◌<◌, ◌≤◌, List, refl, subst, sym, ap, ◌∙◌}
+use Rattle.std.proofs.Common.{arith}
 use Rattle.sect_types.specs.Lists.{Has}
 use Rattle.sect_types.specs.Statements.{TextView}
 use Rattle.sect_names.specs.declared.lock.Effect.TheVariants as effect
@@ -56,37 +57,47 @@ climbs s (lock.Class c right.Read) (lock.Path q effect.Write) h n = absurd h.1
 climbs s (lock.Class c right.Make) (lock.Path q f) h n = absurd h.1
 climbs s (lock.Class c right.Write) (lock.Path q effect.Read) h n = omega arith
 climbs s (lock.Class c right.Write) (lock.Path q effect.Write) h n = omega arith
-climbs s (lock.Class c right.Read) (lock.Class d right.Read) h n = absurd (class_climbs c d right.Read right.Read h.0 n refl)
+climbs s (lock.Class c right.Read) (lock.Class d right.Read) h n =
+    absurd (class_climbs c d right.Read right.Read h.0 n refl)
 climbs s (lock.Class c right.Read) (lock.Class d right.Write) h n = absurd h.1
 climbs s (lock.Class c right.Read) (lock.Class d right.Make) h n = absurd h.1
-climbs s (lock.Class c right.Make) (lock.Class d right.Make) h n = absurd (class_climbs c d right.Make right.Make h.0 n refl)
+climbs s (lock.Class c right.Make) (lock.Class d right.Make) h n =
+    absurd (class_climbs c d right.Make right.Make h.0 n refl)
 climbs s (lock.Class c right.Make) (lock.Class d right.Read) h n = absurd h.1
 climbs s (lock.Class c right.Make) (lock.Class d right.Write) h n = absurd h.1
 climbs s (lock.Class c right.Write) (lock.Class d right.Read) h n = omega arith
 climbs s (lock.Class c right.Write) (lock.Class d right.Make) h n = omega arith
-climbs s (lock.Class c right.Write) (lock.Class d right.Write) h n = absurd (class_climbs c d right.Write right.Write h.0 n refl)
+climbs s (lock.Class c right.Write) (lock.Class d right.Write) h n =
+    absurd (class_climbs c d right.Write right.Write h.0 n refl)
 
 -- above each lock with one property stands one with another, where each of the first has the second or is outdone
-module _ (s : SchemeView) (Given Kept : Lock → Type 0) (told : (x : Lock) → Given x → Kept x ⊎ IsOutdone s Given x) where
-  climb : (n : ℕ) (l : Lock) → 4 ≤ rank l + n → Given l → (big : Lock) × Kept big × Covers s big l
-  climb zero l high h = elim (told l h) [
-    | inl k ↦ (l, k, covers_refl s l)
-    | inr out ↦ absurd (omega (arith, high, climbs s out.0 l out.2 out.3, rank-most out.0))
-  ]
-  climb (suc n) l high h = elim (told l h) [
-    | inl k ↦ (l, k, covers_refl s l)
-    | inr out ↦
-        let over = climb n out.0 (omega (arith, high, climbs s out.0 l out.2 out.3)) out.1 in
-        (over.0, over.1, covers_trans s over.0 out.0 l over.2 out.2)
-  ]
+module _ (s : SchemeView) (Given Kept : Lock → Type 0) (told : (x : Lock) → Given x → Kept x ⊎ IsOutdone s Given x)
+  where
+    climb : (n : ℕ) (l : Lock) → 4 ≤ rank l + n → Given l → (big : Lock) × Kept big × Covers s big l
+    climb zero l high h = elim (told l h) [
+      | inl k ↦ (l, k, covers_refl s l)
+      | inr out ↦ absurd (omega (arith, high, climbs s out.0 l out.2 out.3, rank-most out.0))
+    ]
+    climb (suc n) l high h = elim (told l h) [
+      | inl k ↦ (l, k, covers_refl s l)
+      | inr out ↦
+          let over = climb n out.0 (omega (arith, high, climbs s out.0 l out.2 out.3)) out.1 in
+          (over.0, over.1, covers_trans s over.0 out.0 l over.2 out.2)
+    ]
 
-  pub covered : (l : Lock) → Given l → (big : Lock) × Kept big × Covers s big l
-  covered l h = climb 4 l (omega arith) h
+    pub covered : (l : Lock) → Given l → (big : Lock) × Kept big × Covers s big l
+    covered l h = climb 4 l (omega arith) h
 
-pub are_maximal : (s : SchemeView) (given kept : List Lock) → ((x : Lock) → Has given x → Has kept x ⊎ IsOutdone s (Has given) x) → Makes (λ (x y : Lock). (y ≡ x) × (IsOutdone s (Has given) x → ⊥)) given kept → AreInOrder kept → AreMaximal s (Has given) kept
+pub are_maximal : (s : SchemeView) (given kept : List Lock)
+    → ((x : Lock) → Has given x → Has kept x ⊎ IsOutdone s (Has given) x)
+    → Makes (λ (x y : Lock). (y ≡ x) × (IsOutdone s (Has given) x → ⊥)) given kept → AreInOrder kept
+    → AreMaximal s (Has given) kept
 are_maximal s given kept told made order = record {
   kept_are = λ l. (
-    λ h. (let m = (made l).0 h in (subst (Has given) (sym m.2.0) m.1, λ out. m.2.1 (subst (IsOutdone s (Has given)) m.2.0 out))),
+    λ h. (let m = (made l).0 h in (
+      subst (Has given) (sym m.2.0) m.1,
+      λ out. m.2.1 (subst (IsOutdone s (Has given)) m.2.0 out),
+    )),
     λ h. (made l).1 (l, h.0, (refl, h.1)),
   );
   covering = λ l h. covered s (Has given) (Has kept) told l h;
@@ -94,7 +105,8 @@ are_maximal s given kept told made order = record {
 }
 
 -- the maximal locks with a property are those with another that says the same
-pub maximal_as : (s : SchemeView) (P Q : Lock → Type 0) (kept : List Lock) → ((l : Lock) → P l ↔ Q l) → AreMaximal s P kept → AreMaximal s Q kept
+pub maximal_as : (s : SchemeView) (P Q : Lock → Type 0) (kept : List Lock) → ((l : Lock) → P l ↔ Q l)
+    → AreMaximal s P kept → AreMaximal s Q kept
 maximal_as s P Q kept same max = record {
   kept_are = λ l. (
     λ h. (let m = (max.kept_are l).0 h in ((same l).0 m.0, λ out. m.1 (out.0, (same out.0).1 out.1, out.2, out.3))),
@@ -105,7 +117,8 @@ maximal_as s P Q kept same max = record {
 }
 
 -- the maximal ones of the locks that a section needs are its least set
-pub maximal_least : (s : SchemeView) (t : ℕ) (last : List Lock) (body : TextView) (kept : List Lock) → AreMaximal s (IsNeeded s t last body) kept → IsLeast s t last body kept
+pub maximal_least : (s : SchemeView) (t : ℕ) (last : List Lock) (body : TextView) (kept : List Lock)
+    → AreMaximal s (IsNeeded s t last body) kept → IsLeast s t last body kept
 maximal_least s t last body kept max = record {
   protects = max.covering;
   least = λ others protects l h. protects l ((max.kept_are l).0 h).0;

@@ -30,11 +30,14 @@ field_there p (dot q g) f is has = elim (Has-cases (fields_of q) (g ∷ []) f ha
 ]
 
 -- each item of a list of the path's fields
-pub item_there : (p : ProgramView) (q : PathView) (fs : List Field) → fs ≡ fields_of q → IsPathOf p q → (i : ℕ) (d : Field) → i < length fs → IsField p (get_or fs i d)
-item_there p q fs are is i d lt = field_there p q (get_or fs i d) is (subst (λ (xs : List Field). Has xs (get_or fs i d)) are (Has-get_or fs i d lt))
+pub item_there : (p : ProgramView) (q : PathView) (fs : List Field) → fs ≡ fields_of q → IsPathOf p q
+    → (i : ℕ) (d : Field) → i < length fs → IsField p (get_or fs i d)
+item_there p q fs are is i d lt =
+    field_there p q (get_or fs i d) is (subst (λ (xs : List Field). Has xs (get_or fs i d)) are (Has-get_or fs i d lt))
 
 -- each lock of a list behind its first
-pub other_there : (p : ProgramView) (first : Lock) (locks others : List Lock) → locks ≡ first ∷ others → AreNamed p locks → (i : ℕ) (x : Lock) → i < length others → x ≡ get_or others i x → IsNamed p x
+pub other_there : (p : ProgramView) (first : Lock) (locks others : List Lock) → locks ≡ first ∷ others
+    → AreNamed p locks → (i : ℕ) (x : Lock) → i < length others → x ≡ get_or others i x → IsNamed p x
 other_there p first locks others are named i x lt is =
     let at : Has others x = subst (Has others) (sym is) (Has-get_or others i x lt) in
     named x (subst (λ (ls : List Lock). Has ls x) (sym are) (inr at))

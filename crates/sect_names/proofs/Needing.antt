@@ -44,7 +44,8 @@ module _ (s : SchemeView) (t : ℕ) where
   ]
 
   -- what such a lock is carried back to over a sound step is one again
-  pub carried_needable : (step : Label) → IsSoundStep s.program t step → (l r : Lock) → IsNeedable s t l → CarriedBack s t step l r → IsNeedable s t r
+  pub carried_needable : (step : Label) → IsSoundStep s.program t step → (l r : Lock) → IsNeedable s t l
+      → CarriedBack s t step l r → IsNeedable s t r
   carried_needable step sound lock.All r h is = subst (IsNeedable s t) (sym is) tt
   carried_needable step sound (lock.Class c w) r h is = subst (IsNeedable s t) (sym is) tt
   carried_needable step sound (lock.Path p e) r (own, (n, to, free)) (q, before, on) =
@@ -54,7 +55,8 @@ module _ (s : SchemeView) (t : ℕ) where
     bare_guard : (r g : ℕ) → guard_of s.guards r ≡ Some g → IsBare (var (Global g))
     bare_guard r g is = let u = scheme.unguarded r g is in (tt, (u.own, u.of_own, u.none))
 
-    access_needable : (b : Base) (r : ℕ) (e : Effect) (l : Lock) → PathTo s.program (var (variable_of t b)) r → Accesses s (variable_of t b) r e l → IsNeedable s t l
+    access_needable : (b : Base) (r : ℕ) (e : Effect) (l : Lock) → PathTo s.program (var (variable_of t b)) r
+        → Accesses s (variable_of t b) r e l → IsNeedable s t l
     access_needable b r e l to (classed, is) = subst (IsNeedable s t) (sym is) (by (guard_of s.guards r) refl)
       where
         by : (o : Option ℕ) → guard_of s.guards r ≡ o → IsBare (var (locked_for o (variable_of t b)))
@@ -68,28 +70,37 @@ module _ (s : SchemeView) (t : ℕ) where
         by None at (n, class, is) = subst (IsNeedable s t) (sym is) tt
         by (Some g) at is = subst (IsNeedable s t) (sym is) (bare_guard r g at)
 
-    action_needable : (a : Action) → IsSoundAction (environment_at s.program t) a → (l : Lock) → GeneratedBy s t a l → IsNeedable s t l
+    action_needable : (a : Action) → IsSoundAction (environment_at s.program t) a → (l : Lock) → GeneratedBy s t a l
+        → IsNeedable s t l
     action_needable (action.Assign x v) sound l h = absurd h
     action_needable (action.Compute x v o w) sound l h = absurd h
     action_needable (action.New x r i) sound l h = making_needable r i l h
-    action_needable (action.Load x b f) sound l h = access_needable b f.of effect.Read l (base_to s.program t b f.of sound.1) h
-    action_needable (action.Store b f v) sound l h = access_needable b f.of effect.Write l (base_to s.program t b f.of sound.1) h
+    action_needable (action.Load x b f) sound l h =
+        access_needable b f.of effect.Read l (base_to s.program t b f.of sound.1) h
+    action_needable (action.Store b f v) sound l h =
+        access_needable b f.of effect.Write l (base_to s.program t b f.of sound.1) h
     action_needable (action.Print v) sound l h = absurd h
 
     -- what a sound step needs of itself is such a lock
-    pub generated_needable : (step : Label) → IsSoundStep s.program t step → (l : Lock) → Generated s t step l → IsNeedable s t l
+    pub generated_needable : (step : Label) → IsSoundStep s.program t step → (l : Lock) → Generated s t step l
+        → IsNeedable s t l
     generated_needable (label.Act a) sound l h = action_needable a sound l h
     generated_needable (label.Test c) sound l h = absurd h
     generated_needable (label.Section i) sound l h = absurd h
 
-    module _ (typed : IsTypedProgram s.program) (last : List Lock) (ends : (l : Lock) → Has last l → IsNeedable s t l) where
-      along_needable : (steps : List Label) → AreProgramSteps s t steps → (l : Lock) → NeededAlong s t last steps l → IsNeedable s t l
-      along_needable [] there l h = ends l h
-      along_needable (step ∷ steps) there l h = elim h [
-        | inl own ↦ generated_needable step (step_sound s typed t step there.0) l own
-        | inr (m, needs, back) ↦ carried_needable step (step_sound s typed t step there.0) m l (along_needable steps there.1 m needs) back
-      ]
+    module _ (typed : IsTypedProgram s.program) (last : List Lock) (ends : (l : Lock) → Has last l → IsNeedable s t l)
+      where
+        along_needable : (steps : List Label) → AreProgramSteps s t steps → (l : Lock) → NeededAlong s t last steps l
+            → IsNeedable s t l
+        along_needable [] there l h = ends l h
+        along_needable (step ∷ steps) there l h = elim h [
+          | inl own ↦ generated_needable step (step_sound s typed t step there.0) l own
+          | inr (m, needs, back) ↦ carried_needable step (step_sound s typed t step there.0) m l
+              (along_needable steps there.1 m needs) back
+        ]
 
-      -- so is all that a text of the thread needs
-      pub needed_needable : (text : TextView) → StandsInThread s t text → (l : Lock) → NeededIn s t last text l → IsNeedable s t l
-      needed_needable text stands l (steps, walk, needed) = along_needable steps (walk_stands s t steps text stands walk) l needed
+        -- so is all that a text of the thread needs
+        pub needed_needable : (text : TextView) → StandsInThread s t text → (l : Lock) → NeededIn s t last text l
+            → IsNeedable s t l
+        needed_needable text stands l (steps, walk, needed) =
+            along_needable steps (walk_stands s t steps text stands walk) l needed

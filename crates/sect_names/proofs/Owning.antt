@@ -28,17 +28,23 @@ module _ (t : ℕ) where
   own_value (value.Local x) u e = let is : Local t x ≡ u = cc in subst (λ y. IsOwn t (var y)) is refl
   own_value (value.Global g) u e = let is : Global g ≡ u = cc in subst (λ y. IsOwn t (var y)) is tt
 
-  replaced_own : (x : Variable) (source : Option PathView) → ((z : PathView) → source ≡ Some z → IsOwn t z) → (p q : PathView) → Replaced x source p q → IsOwn t p → IsOwn t q
+  replaced_own : (x : Variable) (source : Option PathView) → ((z : PathView) → source ≡ Some z → IsOwn t z)
+      → (p q : PathView) → Replaced x source p q → IsOwn t p → IsOwn t q
   replaced_own x source own (var v) q h k = elim h [ inl a ↦ own q a.1 | inr b ↦ subst (IsOwn t) (sym b.1) k ]
-  replaced_own x source own (dot p f) q (r, before, is) k = subst (IsOwn t) (sym is) (replaced_own x source own p r before k)
+  replaced_own x source own (dot p f) q (r, before, is) k =
+      subst (IsOwn t) (sym is) (replaced_own x source own p r before k)
 
-  copied_own : (x : Variable) (source : PathView) → IsOwn t source → (p q : PathView) → Replaced x (Some source) p q → IsOwn t p → IsOwn t q
-  copied_own x source own p q h k = replaced_own x (Some source) (λ z e. (let is : source ≡ z = cc in subst (IsOwn t) is own)) p q h k
+  copied_own : (x : Variable) (source : PathView) → IsOwn t source → (p q : PathView) → Replaced x (Some source) p q
+      → IsOwn t p → IsOwn t q
+  copied_own x source own p q h k =
+      replaced_own x (Some source) (λ z e. (let is : source ≡ z = cc in subst (IsOwn t) is own)) p q h k
 
   gone_own : (x : Variable) (p q : PathView) → Replaced x None p q → IsOwn t p → IsOwn t q
   gone_own x p q h k = replaced_own x None (λ z e. absurd cc) p q h k
 
-  stored_own : (c : ClassesView) (z : Variable) (f : Field) (w : Option Variable) → ((v : Variable) → w ≡ Some v → IsOwn t (var v)) → (p q : PathView) → BeforeStore c z f w p q → IsOwn t p → IsOwn t q
+  stored_own : (c : ClassesView) (z : Variable) (f : Field) (w : Option Variable)
+      → ((v : Variable) → w ≡ Some v → IsOwn t (var v)) → (p q : PathView) → BeforeStore c z f w p q → IsOwn t p
+      → IsOwn t q
   stored_own c z f w own (var v) q is k = subst (IsOwn t) (sym is) k
   stored_own c z f w own (dot p g) q h k = elim h [
     | inl (r, before, goes) ↦ subst (IsOwn t) (sym goes.1) (stored_own c z f w own p r before k)
@@ -56,8 +62,10 @@ module _ (t : ℕ) where
   own_before c (label.Act (action.Assign x v)) p q h k = assigned_own x v p q h k
   own_before c (label.Act (action.Compute x v o w)) p q is k = subst (IsOwn t) (sym is) k
   own_before c (label.Act (action.New x r i)) p q h k = gone_own (Local t x) p q h k
-  own_before c (label.Act (action.Load x b f)) p q h k = copied_own (Local t x) (dot (var (variable_of t b)) f) (own_base b) p q h k
-  own_before c (label.Act (action.Store b f v)) p q h k = stored_own c (variable_of t b) f (variable_in t v) (own_value v) p q h k
+  own_before c (label.Act (action.Load x b f)) p q h k =
+      copied_own (Local t x) (dot (var (variable_of t b)) f) (own_base b) p q h k
+  own_before c (label.Act (action.Store b f v)) p q h k =
+      stored_own c (variable_of t b) f (variable_in t v) (own_value v) p q h k
   own_before c (label.Act (action.Print v)) p q is k = subst (IsOwn t) (sym is) k
   own_before c (label.Test d) p q is k = subst (IsOwn t) (sym is) k
   own_before c (label.Section i) p q is k = subst (IsOwn t) (sym is) k

@@ -27,7 +27,8 @@ fields_of-place v fs xs p e f = f ∙ sym (fields_of-dots (var v) fs) ∙ ap fie
 
 -- two paths are one where their parts are
 pub same_parts : (p q : PathView) → base_of p ≡ base_of q → fields_of p ≡ fields_of q → p ≡ q
-same_parts p q e f = sym (path_of-fields p) ∙ ap (λ v. path_of v (fields_of p)) e ∙ ap (path_of (base_of q)) f ∙ path_of-fields q
+same_parts p q e f = sym (path_of-fields p) ∙ ap (λ v. path_of v (fields_of p)) e ∙ ap (path_of (base_of q)) f
+    ∙ path_of-fields q
 
 pub dots-append : (p : PathView) (fs gs : List Field) → dots p (fs ++ gs) ≡ dots (dots p fs) gs
 dots-append p [] gs = refl

@@ -1,5 +1,6 @@
 -- The derived order of locks is the canonical one.
-use Rattle.std.proofs.Common.{◌≡◌, ◌↔◌, ◌⊎◌, inl, inr, List, [], ◌∷◌, refl, sym, ap, ◌∙◌, subst, rules, arith, true≢false, Less, Equal, Greater}
+use Rattle.std.proofs.Common.{◌≡◌, ◌↔◌, ◌⊎◌, inl, inr, List, [], ◌∷◌, refl, sym, ap, ◌∙◌, subst, rules, arith}
+use Rattle.std.proofs.Common.{true≢false, Less, Equal, Greater}
 use Rattle.std.specs.declared.cmp.Ordering.{Ordering}
 use Rattle.std.specs.Ordering.{ordering_then, is_eq, is_lt}
 use Rattle.std.specs.Cmp.Lexicographic.{slice_cmp}
@@ -59,10 +60,11 @@ fields_before (f ∷ fs) (g ∷ gs) e = elim (then_less (the_field_order.cmp f g
 ]
 
 path_before : (p q : PathView) → path_cmp p q ≡ Less → PathBefore p q
-path_before p q e = elim (then_less (the_variable_order.cmp (base_of p) (base_of q)) (slice_cmp the_field_order.cmp (fields_of p) (fields_of q)) e) [
-  | inl a ↦ inl (variable_before (base_of p) (base_of q) a)
-  | inr b ↦ inr (variable_level (base_of p) (base_of q) b.0, fields_before (fields_of p) (fields_of q) b.1)
-]
+path_before p q e = elim (then_less (the_variable_order.cmp (base_of p) (base_of q))
+    (slice_cmp the_field_order.cmp (fields_of p) (fields_of q)) e) [
+      | inl a ↦ inl (variable_before (base_of p) (base_of q) a)
+      | inr b ↦ inr (variable_level (base_of p) (base_of q) b.0, fields_before (fields_of p) (fields_of q) b.1)
+    ]
 
 path_level : (p q : PathView) → path_cmp p q ≡ Equal → p ≡ q
 path_level p q e = (path_tells p q).0 (path_ties p q ∙ ap is_eq e)
@@ -84,22 +86,34 @@ lock_before (lock.Class c right.Make) (lock.Class d right.Write) e = search rule
 lock_before (lock.Class c right.Make) (lock.Class d right.Make) e = search rules
 lock_before (lock.Class c r) (lock.Path q f) e = tt
 lock_before (lock.Path p e) (lock.Class d q) h = absurd (true≢false (sym (ap is_lt h)))
-lock_before (lock.Path p effect.Read) (lock.Path q effect.Read) h = elim (then_less (path_cmp p q) Equal h) [ inl a ↦ inl (path_before p q a) | inr b ↦ absurd (true≢false (sym (ap is_lt b.1))) ]
-lock_before (lock.Path p effect.Read) (lock.Path q effect.Write) h = elim (then_less (path_cmp p q) Less h) [ inl a ↦ inl (path_before p q a) | inr b ↦ inr (path_level p q b.0, tt) ]
-lock_before (lock.Path p effect.Write) (lock.Path q effect.Read) h = elim (then_less (path_cmp p q) Greater h) [ inl a ↦ inl (path_before p q a) | inr b ↦ absurd (true≢false (sym (ap is_lt b.1))) ]
-lock_before (lock.Path p effect.Write) (lock.Path q effect.Write) h = elim (then_less (path_cmp p q) Equal h) [ inl a ↦ inl (path_before p q a) | inr b ↦ absurd (true≢false (sym (ap is_lt b.1))) ]
+lock_before (lock.Path p effect.Read) (lock.Path q effect.Read) h =
+    elim (then_less (path_cmp p q) Equal h)
+    [ inl a ↦ inl (path_before p q a) | inr b ↦ absurd (true≢false (sym (ap is_lt b.1))) ]
+lock_before (lock.Path p effect.Read) (lock.Path q effect.Write) h =
+    elim (then_less (path_cmp p q) Less h) [ inl a ↦ inl (path_before p q a) | inr b ↦ inr (path_level p q b.0, tt) ]
+lock_before (lock.Path p effect.Write) (lock.Path q effect.Read) h =
+    elim (then_less (path_cmp p q) Greater h)
+    [ inl a ↦ inl (path_before p q a) | inr b ↦ absurd (true≢false (sym (ap is_lt b.1))) ]
+lock_before (lock.Path p effect.Write) (lock.Path q effect.Write) h =
+    elim (then_less (path_cmp p q) Equal h)
+    [ inl a ↦ inl (path_before p q a) | inr b ↦ absurd (true≢false (sym (ap is_lt b.1))) ]
 
 pub lock_level : (l m : Lock) → the_lock_order.cmp l m ≡ Equal → l ≡ m
 lock_level l m e = (lock_tells l m).0 (the_lock_ties l m ∙ ap is_eq e)
 
 all_has : {X : Type 0} (P : X → Type 0) (xs : List X) → All P xs → (x : X) → Has xs x → P x
 all_has P [] a x h = absurd h
-all_has P (y ∷ ys) a x h = elim h [ inl e ↦ subst P e (All-get_or P (y ∷ ys) 0 y (omega arith) a) | inr k ↦ all_has P ys (All-tail P y ys a) x k ]
+all_has P (y ∷ ys) a x h = elim h
+    [ inl e ↦ subst P e (All-get_or P (y ∷ ys) 0 y (omega arith) a) | inr k ↦ all_has P ys (All-tail P y ys a) x k ]
 
 -- what is strictly sorted is in canonical order
 pub in_order : (locks : List Lock) → IsStrictlySortedBy the_lock_order.cmp locks → AreInOrder locks
 in_order [] s = tt
-in_order (l ∷ locks) s = (λ m h. lock_before l m (all_has (λ y. the_lock_order.cmp l y ≡ Less) locks (All-after_first the_lock_order.cmp l locks s) m h), in_order locks (sorted_tail the_lock_order.cmp l locks s))
+in_order (l ∷ locks) s = (
+  λ m h. lock_before l m
+      (all_has (λ y. the_lock_order.cmp l y ≡ Less) locks (All-after_first the_lock_order.cmp l locks s) m h),
+  in_order locks (sorted_tail the_lock_order.cmp l locks s),
+)
 
 -- a lock that is put into a sorted list is there beside the others
 pub put_has : (locks : List Lock) (l m : Lock) → Has (insert_key the_lock_order.cmp locks l) m ↔ (Has locks m ⊎ (m ≡ l))

@@ -9,7 +9,8 @@ use Rattle.sect_types.specs.Environments.{field_types, global_records, local_typ
 use Rattle.sect_types.specs.Lockings.{lockings_of}
 use Rattle.sect_types.specs.Programs.{ProgramView, IsOfTree, numbered_by, texts_of}
 use Rattle.sect_names.specs.declared.fault.SchemeFault.{SchemeFault}
-use Rattle.sect_names.specs.declared.fault.SchemeFault.TheVariants.{Memory, BadK, NoSuchGlobal, GuardIsGuarded, HintTwice}
+use Rattle.sect_names.specs.declared.fault.SchemeFault.TheVariants.{Memory, BadK, NoSuchGlobal, GuardIsGuarded}
+use Rattle.sect_names.specs.declared.fault.SchemeFault.TheVariants.{HintTwice}
 use Rattle.sect_names.specs.Verdicts.{Judges}
 use Rattle.sect_names.specs.declared.refusal.Refusal.{Refusal}
 use Rattle.sect_names.specs.declared.refusal.Refusal.TheVariants as refusal
@@ -21,7 +22,8 @@ given (Ok t) P e p is = tt
 given (Err x) P e p is = subst P (sym is) p
 
 -- a fault of the scheme of a typed text's program is due where k was found to be small
-pub scheme_due : (bytes : List ℕ) (k : ℕ) (p : ProgramView) → k ≤ 3 → IsTypedText bytes p → (fault : SchemeFault) → Judges p k (Err fault) → IsDue bytes k (of_scheme fault)
+pub scheme_due : (bytes : List ℕ) (k : ℕ) (p : ProgramView) → k ≤ 3 → IsTypedText bytes p → (fault : SchemeFault)
+    → Judges p k (Err fault) → IsDue bytes k (of_scheme fault)
 scheme_due bytes k p few text Memory judged = (few, tt)
 scheme_due bytes k p few text BadK judged = (λ e. cc, inr (p, text, judged))
 scheme_due bytes k p few text (NoSuchGlobal r) judged = (λ e. cc, inr (p, text, judged))
@@ -29,13 +31,16 @@ scheme_due bytes k p few text (GuardIsGuarded r) judged = (λ e. cc, inr (p, tex
 scheme_due bytes k p few text (HintTwice r) judged = (λ e. cc, inr (p, text, judged))
 
 -- an answer that is refused for want of memory gives each program, unless memory ran out
-pub gives_memory : (p : ProgramView) (r : Result ProgramView Refusal) (e : Refusal) → e ≡ refusal.Memory → IsErrAnd r (λ x. x ≡ e) → GivesProgram p r
+pub gives_memory : (p : ProgramView) (r : Result ProgramView Refusal) (e : Refusal) → e ≡ refusal.Memory
+    → IsErrAnd r (λ x. x ≡ e) → GivesProgram p r
 gives_memory p (Ok q) e memory is = absurd is
 gives_memory p (Err x) e memory is = is ∙ memory
 
 -- a program has the numbers of its tree
 abbrev numbered : TreeView → ProgramView
-numbered t = numbered_by t (field_types (names_of_records t.records) t.records) (global_records (names_of_records t.records) t.globals) (local_types (names_of_records t.records) t.threads) (texts_of t) (lockings_of t)
+numbered t = numbered_by t (field_types (names_of_records t.records) t.records)
+    (global_records (names_of_records t.records) t.globals) (local_types (names_of_records t.records) t.threads)
+    (texts_of t) (lockings_of t)
 
 is_numbered : (p : ProgramView) → IsOfTree p → p ≡ numbered p.source
 is_numbered p is =

@@ -5,7 +5,8 @@ use Rattle.sect_points.specs.Paths.{PathView, var, dot, dots, base_of, fields_of
 use Rattle.sect_names.specs.Carrying.{Replaced}
 
 -- a path with another base is itself
-pub replaced_other : (x : Variable) (o : Option PathView) (p q : PathView) → (base_of p ≡ x → ⊥) → (q ≡ p) ↔ Replaced x o p q
+pub replaced_other : (x : Variable) (o : Option PathView) (p q : PathView) → (base_of p ≡ x → ⊥)
+    → (q ≡ p) ↔ Replaced x o p q
 replaced_other x o (var v) q other = (λ e. inr (other, e), λ h. elim h [ inl a ↦ absurd (other a.0) | inr b ↦ b.1 ])
 replaced_other x o (dot p f) q other = (
   λ e. (p, (replaced_other x o p p other).0 refl, e),
@@ -18,7 +19,8 @@ replaced_none x (var v) q is h = elim h [ inl a ↦ (let e = a.1 in cc) | inr b 
 replaced_none x (dot p f) q is h = replaced_none x p h.0 is h.1
 
 -- a path with the base that gives way begins with what takes its place
-pub replaced_here : (x : Variable) (s p q : PathView) → base_of p ≡ x → (q ≡ dots s (fields_of p)) ↔ Replaced x (Some s) p q
+pub replaced_here : (x : Variable) (s p q : PathView) → base_of p ≡ x
+    → (q ≡ dots s (fields_of p)) ↔ Replaced x (Some s) p q
 replaced_here x s (var v) q is =
     (λ e. inl (is, ap (λ r. Some r) (sym e)), λ h. elim h [ inl a ↦ (let e = a.1 in cc) | inr b ↦ absurd (b.0 is) ])
 replaced_here x s (dot p f) q is = (

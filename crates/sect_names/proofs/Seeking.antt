@@ -1,5 +1,6 @@
 -- Places at which elements are found.
-use Rattle.std.proofs.Common.{◌≡◌, ℕ, ◌≤◌, List, Option, Some, None, Bool, true, false, length, get_or, refl, sym, ap, ◌∙◌, arith, true≢false}
+use Rattle.std.proofs.Common.{◌≡◌, ℕ, ◌≤◌, List, Option, Some, None, Bool, true, false, length, get_or, refl, sym, ap}
+use Rattle.std.proofs.Common.{◌∙◌, arith, true≢false}
 use Rattle.std.specs.Prelude.{slice_get, position, cond, nat_lt, MatchOption}
 use Rattle.std.specs.Bool.{Decides}
 use Rattle.std.specs.List.{position_or_len}
@@ -19,7 +20,8 @@ none_past i n = go (nat_lt i n) refl
     go false e h = ltb-false i n e
 
 -- the place of an element, by a test that tells which it is
-pub place_tells : {X : Type 0} (eq : X → X → Bool) → ((x y : X) → Decides (eq x y) (x ≡ y)) → (xs : List X) (x : X) → MatchOption (position (eq x) xs) (Has xs x → ⊥) (λ i. slice_get xs i ≡ Some x)
+pub place_tells : {X : Type 0} (eq : X → X → Bool) → ((x y : X) → Decides (eq x y) (x ≡ y)) → (xs : List X) (x : X)
+    → MatchOption (position (eq x) xs) (Has xs x → ⊥) (λ i. slice_get xs i ≡ Some x)
 place_tells {X} eq tells xs x = go (position (eq x) xs) refl
   where
     go : (o : Option ℕ) → position (eq x) xs ≡ o → MatchOption o (Has xs x → ⊥) (λ i. slice_get xs i ≡ Some x)
@@ -31,4 +33,5 @@ place_tells {X} eq tells xs x = go (position (eq x) xs) refl
         let at = slice_get_within xs k.0 x k.1 in
         let here : get_or xs k.0 x ≡ x = get_or_from_slice_get xs k.0 x x k.1 in
         let past = none_past (position_or_len (eq x) xs) (length xs) e in
-        true≢false (sym ((tells x x).1 refl) ∙ ap (eq x) (sym here) ∙ fails_before_first (eq x) xs k.0 x (omega (arith, at, past)))
+        true≢false (sym ((tells x x).1 refl) ∙ ap (eq x) (sym here)
+        ∙ fails_before_first (eq x) xs k.0 x (omega (arith, at, past)))

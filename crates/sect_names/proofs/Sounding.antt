@@ -1,5 +1,6 @@
 -- What a sound step of a thread needs, and what it carries back, are locks that the thread's sections may take.
-use Rattle.std.proofs.Common.{◌≡◌, ℕ, ◌<◌, List, [], length, length-append, Option, Some, None, refl, sym, ap, subst, inl, inr, arith}
+use Rattle.std.proofs.Common.{◌≡◌, ℕ, ◌<◌, List, [], length, length-append, Option, Some, None, refl, sym, ap, subst}
+use Rattle.std.proofs.Common.{inl, inr, arith}
 use Rattle.std.specs.Prelude.{slice_get, slice_index_or}
 use Rattle.std.proofs.lemmas.Bool.{cases_lt}
 use Rattle.std.proofs.lemmas.List.{get_or_past}
@@ -23,7 +24,8 @@ use Rattle.sect_names.specs.declared.lock.Effect.TheVariants as effect
 use Rattle.sect_names.specs.declared.lock.Lock.{Lock}
 use Rattle.sect_names.specs.declared.lock.Lock.TheVariants as lock
 use Rattle.sect_names.specs.Schemes.{SchemeView, IsScheme, guard_of}
-use Rattle.sect_names.specs.Locks.{IsVariable, IsPathOf, VariableTo, FieldTo, PathTo, IsOwn, IsClassed, IsPathIn, IsLockOf}
+use Rattle.sect_names.specs.Locks.{IsVariable, IsPathOf, VariableTo, FieldTo, PathTo, IsOwn, IsClassed, IsPathIn}
+use Rattle.sect_names.specs.Locks.{IsLockOf}
 use Rattle.sect_names.specs.Carrying.{locked_for, Accesses, Makes, GeneratedBy, Generated, LockOn, CarriedBack}
 use Rattle.sect_names.specs.Laws.{IsSoundStep}
 use Rattle.sect_names.proofs.Typing.{base_to, path_to}
@@ -33,13 +35,20 @@ module _ (p : ProgramView) where
   variable_there : (v : Variable) (r : ℕ) → VariableTo p v r → IsVariable p v
   variable_there (Global g) r at = slice_get_within p.globals g r at
   variable_there (Local t x) r at =
-      let within = slice_get_within (slice_index_or p.locals t []) x (Refers r) at in
-      (elim (cases_lt t (length p.locals)) [ inl there ↦ there | inr past ↦ absurd (omega (arith, within, ap length (get_or_past p.locals t [] past))) ], within)
+      let within = slice_get_within (slice_index_or p.locals t []) x (Refers r) at in (
+        elim (cases_lt t (length p.locals)) [
+          | inl there ↦ there
+          | inr past ↦ absurd (omega (arith, within, ap length (get_or_past p.locals t [] past)))
+        ],
+        within,
+      )
 
-  field_there : (q f r : ℕ) → FieldTo p q f r → (ts : List ValueType) × (slice_get p.records q ≡ Some ts) × (f < length ts)
+  field_there : (q f r : ℕ) → FieldTo p q f r → (ts : List ValueType) × (slice_get p.records q ≡ Some ts)
+      × (f < length ts)
   field_there q f r h = by (slice_get p.records q) refl h
     where
-      by : (o : Option (List ValueType)) → slice_get p.records q ≡ o → type_in o f ≡ Some (Refers r) → (ts : List ValueType) × (slice_get p.records q ≡ Some ts) × (f < length ts)
+      by : (o : Option (List ValueType)) → slice_get p.records q ≡ o → type_in o f ≡ Some (Refers r)
+          → (ts : List ValueType) × (slice_get p.records q ≡ Some ts) × (f < length ts)
       by None is h = absurd cc
       by (Some ts) is h = (ts, is, slice_get_within ts f (Refers r) h)
 
@@ -54,11 +63,18 @@ module _ (s : SchemeView) (scheme : IsScheme s) where
   global_classed g there =
       let numbers = s.classes.numbers in
       let within : g < length numbers =
-      omega (arith, there, scheme.parted.sites, scheme.sites, length-append s.program.globals (all_made s.program.texts)) in
+      omega (
+        arith,
+        there,
+        scheme.parted.sites,
+        scheme.sites,
+        length-append s.program.globals (all_made s.program.texts),
+      ) in
       (slice_index_or numbers g 0, (g, refl, slice_get-get_or numbers g 0 within))
 
   module _ (t : ℕ) where
-    variable_in : (v : Variable) (r : ℕ) → IsOwn t (var v) → VariableTo s.program v r → IsClassed s (var v) → IsPathIn s t (var v)
+    variable_in : (v : Variable) (r : ℕ) → IsOwn t (var v) → VariableTo s.program v r → IsClassed s (var v)
+        → IsPathIn s t (var v)
     variable_in v r own to classed = record { own = own; of = r; refers = to; short = omega arith; classed = classed }
 
     guard_in : (r g : ℕ) → guard_of s.guards r ≡ Some g → IsPathIn s t (var (Global g))
@@ -66,7 +82,8 @@ module _ (s : SchemeView) (scheme : IsScheme s) where
         let guard = scheme.unguarded r g is in
         variable_in (Global g) guard.own tt guard.of_own (global_classed g guard.declared)
 
-    access_in : (v : Variable) (r : ℕ) (e : Effect) (l : Lock) → IsOwn t (var v) → VariableTo s.program v r → Accesses s v r e l → IsLockOf s t l
+    access_in : (v : Variable) (r : ℕ) (e : Effect) (l : Lock) → IsOwn t (var v) → VariableTo s.program v r
+        → Accesses s v r e l → IsLockOf s t l
     access_in v r e l own to (classed, is) = subst (IsLockOf s t) (sym is) (by (guard_of s.guards r) refl)
       where
         by : (o : Option ℕ) → guard_of s.guards r ≡ o → IsPathIn s t (var (locked_for o v))
@@ -80,10 +97,12 @@ module _ (s : SchemeView) (scheme : IsScheme s) where
         by None at (n, class, is) = subst (IsLockOf s t) (sym is) (Has-slice_get s.classes.numbers i n class)
         by (Some g) at is = subst (IsLockOf s t) (sym is) (guard_in r g at)
 
-    base_in : (b : Base) (r : ℕ) (e : Effect) (l : Lock) → VariableTo s.program (variable_of t b) r → Accesses s (variable_of t b) r e l → IsLockOf s t l
+    base_in : (b : Base) (r : ℕ) (e : Effect) (l : Lock) → VariableTo s.program (variable_of t b) r
+        → Accesses s (variable_of t b) r e l → IsLockOf s t l
     base_in b r e l to h = access_in (variable_of t b) r e l (own_base t b) to h
 
-    action_in : (a : Action) → IsSoundAction (environment_at s.program t) a → (l : Lock) → GeneratedBy s t a l → IsLockOf s t l
+    action_in : (a : Action) → IsSoundAction (environment_at s.program t) a → (l : Lock) → GeneratedBy s t a l
+        → IsLockOf s t l
     action_in (action.Assign x v) sound l h = absurd h
     action_in (action.Compute x v o w) sound l h = absurd h
     action_in (action.New x r i) sound l h = making_in r i l h
@@ -91,21 +110,26 @@ module _ (s : SchemeView) (scheme : IsScheme s) where
     action_in (action.Store b f v) sound l h = base_in b f.of effect.Write l (base_to s.program t b f.of sound.1) h
     action_in (action.Print v) sound l h = absurd h
 
-    lock_on_path : (e : Effect) (q : PathView) (r : ℕ) (l : Lock) → IsOwn t q → PathTo s.program q r → LockOn s e q l → IsLockOf s t l
+    lock_on_path : (e : Effect) (q : PathView) (r : ℕ) (l : Lock) → IsOwn t q → PathTo s.program q r → LockOn s e q l
+        → IsLockOf s t l
     lock_on_path e q r l own to (n, class, limit) = elim limit [
-      | inl (short, is) ↦ subst (IsLockOf s t) (sym is) (record { own = own; of = r; refers = to; short = short; classed = (n, class) })
+      | inl (short, is) ↦ subst (IsLockOf s t) (sym is)
+          (record { own = own; of = r; refers = to; short = short; classed = (n, class) })
       | inr (long, is) ↦ subst (IsLockOf s t) (sym is) (Has-slice_get s.classes.numbers class.0 n class.2)
     ]
 
   -- what a sound step needs of itself is a lock that the thread's sections may take
-  pub generated_lock : (t : ℕ) (step : Label) → IsSoundStep s.program t step → (l : Lock) → Generated s t step l → IsLockOf s t l
+  pub generated_lock : (t : ℕ) (step : Label) → IsSoundStep s.program t step → (l : Lock) → Generated s t step l
+      → IsLockOf s t l
   generated_lock t (label.Act a) sound l h = action_in t a sound l h
   generated_lock t (label.Test c) sound l h = absurd h
   generated_lock t (label.Section i) sound l h = absurd h
 
   -- what such a lock is carried back to over a sound step is one too
-  pub carried_lock : (t : ℕ) (step : Label) → IsSoundStep s.program t step → (l r : Lock) → IsLockOf s t l → CarriedBack s t step l r → IsLockOf s t r
+  pub carried_lock : (t : ℕ) (step : Label) → IsSoundStep s.program t step → (l r : Lock) → IsLockOf s t l
+      → CarriedBack s t step l r → IsLockOf s t r
   carried_lock t step sound lock.All r h is = subst (IsLockOf s t) (sym is) tt
   carried_lock t step sound (lock.Class c w) r h is = subst (IsLockOf s t) (sym is) h
   carried_lock t step sound (lock.Path p e) r h (q, before, on) =
-      lock_on_path t e q h.of r (own_before t s.classes step p q before h.own) (path_to s.program s.classes t step sound p q h.of before h.refers) on
+      lock_on_path t e q h.of r (own_before t s.classes step p q before h.own)
+      (path_to s.program s.classes t step sound p q h.of before h.refers) on

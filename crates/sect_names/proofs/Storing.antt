@@ -9,8 +9,11 @@ use Rattle.sect_points.specs.Partitions.{ClassesView}
 use Rattle.sect_names.specs.Carrying.{GoesOn, AreOfOneClass, BeforeStore, OverField}
 use Rattle.sect_names.proofs.Making.{one_has}
 
-module _ (c : ClassesView) (z : Variable) (f : Field) (w : Option Variable) (p : PathView) (g : Field) (paths : List PathView) where
-  module _ (longer : List PathView) (goes : (q : PathView) → Has longer q ↔ ((r : PathView) × Has paths r × GoesOn z f g r q)) (o : Option Variable) (reads : (v : Variable) → (o ≡ Some v) ↔ ((g ≡ f) × AreOfOneClass c p (var z) × (w ≡ Some v))) where
+module _ (c : ClassesView) (z : Variable) (f : Field) (w : Option Variable) (p : PathView) (g : Field)
+    (paths : List PathView) where
+  module _ (longer : List PathView)
+      (goes : (q : PathView) → Has longer q ↔ ((r : PathView) × Has paths r × GoesOn z f g r q)) (o : Option Variable)
+      (reads : (v : Variable) → (o ≡ Some v) ↔ ((g ≡ f) × AreOfOneClass c p (var z) × (w ≡ Some v))) where
     -- no value is read through the path
     pub over_none : o ≡ None → (q : PathView) → Has longer q ↔ OverField c z f w p g paths q
     over_none is q = (
@@ -22,7 +25,8 @@ module _ (c : ClassesView) (z : Variable) (f : Field) (w : Option Variable) (p :
     )
 
     -- the value v may be read
-    pub over_value : (v : Variable) → o ≡ Some v → (q : PathView) → Has (longer ++ var v ∷ []) q ↔ OverField c z f w p g paths q
+    pub over_value : (v : Variable) → o ≡ Some v → (q : PathView)
+        → Has (longer ++ var v ∷ []) q ↔ OverField c z f w p g paths q
     over_value v is q = (
       λ h. elim (Has-cases longer (var v ∷ []) q h) [
         | inl a ↦ inl ((goes q).0 a)
@@ -30,12 +34,14 @@ module _ (c : ClassesView) (z : Variable) (f : Field) (w : Option Variable) (p :
       ],
       λ h. elim h [
         | inl a ↦ Has-left longer (var v ∷ []) q ((goes q).1 a)
-        | inr b ↦ (let t = (reads b.2.0).1 (b.0, b.1, b.2.1) in let same : v ≡ b.2.0 = cc in Has-right longer (var v ∷ []) q ((one_has (var v) q).1 (b.2.2 ∙ ap var (sym same))))
+        | inr b ↦ (let t = (reads b.2.0).1 (b.0, b.1, b.2.1) in let same : v ≡ b.2.0 = cc in
+            Has-right longer (var v ∷ []) q ((one_has (var v) q).1 (b.2.2 ∙ ap var (sym same))))
       ],
     )
 
   -- one field more
-  pub over_before : ((q : PathView) → Has paths q ↔ BeforeStore c z f w p q) → (q : PathView) → OverField c z f w p g paths q ↔ BeforeStore c z f w (dot p g) q
+  pub over_before : ((q : PathView) → Has paths q ↔ BeforeStore c z f w p q) → (q : PathView)
+      → OverField c z f w p g paths q ↔ BeforeStore c z f w (dot p g) q
   over_before before q = (
     λ h. elim h [ inl a ↦ inl (a.0, (before a.0).0 a.1, a.2) | inr b ↦ inr b ],
     λ h. elim h [ inl a ↦ inl (a.0, (before a.0).1 a.1, a.2) | inr b ↦ inr b ],

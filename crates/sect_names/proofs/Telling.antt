@@ -1,5 +1,6 @@
 -- The comparisons of paths and locks tell which are one.
-use Rattle.std.proofs.Common.{◌≡◌, ◌↔◌, ◌⊎◌, inl, inr, List, [], ◌∷◌, Bool, true, false, refl, sym, ap, ◌∙◌, rules, true≢false}
+use Rattle.std.proofs.Common.{◌≡◌, ◌↔◌, ◌⊎◌, inl, inr, List, [], ◌∷◌, Bool, true, false, refl, sym, ap, ◌∙◌, rules}
+use Rattle.std.proofs.Common.{true≢false}
 use Rattle.std.specs.Prelude.{◌&&◌, ◌||◌}
 use Rattle.std.specs.Bool.{Decides}
 use Rattle.std.specs.Cmp.{first_so, second_so}
@@ -36,8 +37,13 @@ pub path_tells : (p q : PathView) → Decides (path_eq p q) (p ≡ q)
 path_tells p q =
     let base = variable_tells (base_of p) (base_of q) in
     let fields = pointwise_decides field_tells (fields_of p) (fields_of q) in (
-      λ t. same_parts p q (base.0 (first_so (the_variable_eq.eq (base_of p) (base_of q)) (pointwise the_field_eq.eq (fields_of p) (fields_of q)) t)) (fields.0 (second_so (the_variable_eq.eq (base_of p) (base_of q)) (pointwise the_field_eq.eq (fields_of p) (fields_of q)) t)),
-      λ e. each (the_variable_eq.eq (base_of p) (base_of q)) (pointwise the_field_eq.eq (fields_of p) (fields_of q)) (base.1 (ap base_of e)) (fields.1 (ap fields_of e)),
+      λ t. same_parts p q
+          (base.0 (first_so (the_variable_eq.eq (base_of p) (base_of q))
+          (pointwise the_field_eq.eq (fields_of p) (fields_of q)) t))
+          (fields.0 (second_so (the_variable_eq.eq (base_of p) (base_of q))
+          (pointwise the_field_eq.eq (fields_of p) (fields_of q)) t)),
+      λ e. each (the_variable_eq.eq (base_of p) (base_of q)) (pointwise the_field_eq.eq (fields_of p) (fields_of q))
+          (base.1 (ap base_of e)) (fields.1 (ap fields_of e)),
     )
 
 pub same_variable : (v w : Variable) (b : Bool) → b ≡ the_variable_eq.eq v w → b ≡ true → v ≡ w
@@ -61,13 +67,18 @@ pub link_tells : (a b : Link) → Decides (the_link_eq.eq a b) (a ≡ b)
 link_tells a b = search (rules, lock_tells)
 
 -- a look-up by a comparison that tells which are one finds what the list has
-pub any_tells : {X : Type 0} (eq : X → X → Bool) → ((x y : X) → Decides (eq x y) (x ≡ y)) → (xs : List X) (x : X) → (list_any (eq x) xs ≡ true) ↔ Has xs x
+pub any_tells : {X : Type 0} (eq : X → X → Bool) → ((x y : X) → Decides (eq x y) (x ≡ y)) → (xs : List X) (x : X)
+    → (list_any (eq x) xs ≡ true) ↔ Has xs x
 any_tells eq tells [] x = (λ t. absurd (true≢false (sym t)), λ h. absurd h)
 any_tells {X} eq tells (y ∷ ys) x = go (eq x y) (tells x y) (any_tells eq tells ys x)
   where
-    go : (b : Bool) → Decides b (x ≡ y) → ((list_any (eq x) ys ≡ true) ↔ Has ys x) → ((b || list_any (eq x) ys) ≡ true) ↔ ((y ≡ x) ⊎ Has ys x)
+    go : (b : Bool) → Decides b (x ≡ y) → ((list_any (eq x) ys ≡ true) ↔ Has ys x) → ((b || list_any (eq x) ys) ≡ true)
+        ↔ ((y ≡ x) ⊎ Has ys x)
     go true d rest = (λ t. inl (sym (d.0 refl)), λ h. refl)
-    go false d rest = (λ t. inr (rest.0 t), λ h. elim h [ inl e ↦ absurd (true≢false (sym (d.1 (sym e)))) | inr k ↦ rest.1 k ])
+    go false d rest = (
+      λ t. inr (rest.0 t),
+      λ h. elim h [ inl e ↦ absurd (true≢false (sym (d.1 (sym e)))) | inr k ↦ rest.1 k ],
+    )
 
 -- two locks are one or not
 pub lock_cases : (l m : Lock) → (l ≡ m) ⊎ (l ≡ m → ⊥)

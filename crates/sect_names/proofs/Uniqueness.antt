@@ -15,7 +15,8 @@ use Rattle.sect_names.specs.declared.lock.Lock.TheVariants as lock
 use Rattle.sect_names.specs.Schemes.{SchemeView}
 use Rattle.sect_names.specs.Locks.{Covers}
 use Rattle.sect_names.specs.Needed.{IsLeast}
-use Rattle.sect_names.specs.Order.{VariableBefore, FieldBefore, FieldsBefore, PathBefore, EffectBefore, RightBefore, LockBefore, AreInOrder}
+use Rattle.sect_names.specs.Order.{VariableBefore, FieldBefore, FieldsBefore, PathBefore, EffectBefore, RightBefore}
+use Rattle.sect_names.specs.Order.{LockBefore, AreInOrder}
 use Rattle.sect_names.proofs.Covering.{covers_trans, covers_antisym}
 
 -- the order of pairs of numbers goes one way
@@ -45,8 +46,10 @@ fields_once (f ∷ fs) (g ∷ gs) (inr a) (inr b) = fields_once fs gs a.1 b.1
 
 path_once : (p q : PathView) → PathBefore p q → PathBefore q p → ⊥
 path_once p q (inl a) (inl b) = variable_once (base_of p) (base_of q) a b
-path_once p q (inl a) (inr b) = let c = subst (VariableBefore (base_of p)) b.0 a in variable_once (base_of p) (base_of p) c c
-path_once p q (inr a) (inl b) = let c = subst (VariableBefore (base_of q)) a.0 b in variable_once (base_of q) (base_of q) c c
+path_once p q (inl a) (inr b) = let c = subst (VariableBefore (base_of p)) b.0 a in
+    variable_once (base_of p) (base_of p) c c
+path_once p q (inr a) (inl b) = let c = subst (VariableBefore (base_of q)) a.0 b in
+    variable_once (base_of q) (base_of q) c c
 path_once p q (inr a) (inr b) = fields_once (fields_of p) (fields_of q) a.1 b.1
 
 effect_once : (e f : Effect) → EffectBefore e f → EffectBefore f e → ⊥
@@ -81,13 +84,15 @@ lock_once (lock.Path p e) (lock.Path q f) (inr a) (inl b) = let c = subst (PathB
 lock_once (lock.Path p e) (lock.Path q f) (inr a) (inr b) = effect_once e f a.1 b.1
 
 -- lists in canonical order that have the same locks are one
-pub same_lists : (xs ys : List Lock) → AreInOrder xs → AreInOrder ys → ((l : Lock) → Has xs l → Has ys l) → ((l : Lock) → Has ys l → Has xs l) → xs ≡ ys
+pub same_lists : (xs ys : List Lock) → AreInOrder xs → AreInOrder ys → ((l : Lock) → Has xs l → Has ys l)
+    → ((l : Lock) → Has ys l → Has xs l) → xs ≡ ys
 same_lists [] [] a b to from = refl
 same_lists [] (y ∷ ys) a b to from = absurd (from y (inl refl))
 same_lists (x ∷ xs) [] a b to from = absurd (to x (inl refl))
 same_lists (x ∷ xs) (y ∷ ys) a b to from =
     let first = heads (to x (inl refl)) (from y (inl refl)) in
-    let rest = same_lists xs ys a.1 b.1 (λ l h. tail_to first l h (to l (inr h))) (λ l h. tail_from first l h (from l (inr h))) in
+    let rest = same_lists xs ys a.1 b.1 (λ l h. tail_to first l h (to l (inr h)))
+    (λ l h. tail_from first l h (from l (inr h))) in
     ap (λ z. z ∷ xs) first ∙ ap (λ l. y ∷ l) rest
   where
     heads : (y ≡ x) ⊎ Has ys x → (x ≡ y) ⊎ Has xs y → x ≡ y
@@ -100,7 +105,8 @@ same_lists (x ∷ xs) (y ∷ ys) a b to from =
     tail_to first l h (inr k) = k
 
     tail_from : x ≡ y → (l : Lock) → Has ys l → (x ≡ l) ⊎ Has xs l → Has xs l
-    tail_from first l h (inl e) = let c = subst (LockBefore y) (sym (sym first ∙ e)) (b.0 l h) in absurd (lock_once y y c c)
+    tail_from first l h (inl e) = let c = subst (LockBefore y) (sym (sym first ∙ e)) (b.0 l h) in
+        absurd (lock_once y y c c)
     tail_from first l h (inr k) = k
 
 module _ (s : SchemeView) (t : ℕ) (last : List Lock) (body : TextView) where
@@ -114,5 +120,6 @@ module _ (s : SchemeView) (t : ℕ) (last : List Lock) (body : TextView) where
       let here = covers_antisym s over.0 back.0 (subst (λ z. Covers s over.0 z) (sym same) over.2) back.2 in
       subst (Has ys) (here ∙ same) over.1
 
-  pub one_least : (xs ys : List Lock) → IsLeast s t last body xs → IsLeast s t last body ys → AreInOrder xs → AreInOrder ys → xs ≡ ys
+  pub one_least : (xs ys : List Lock) → IsLeast s t last body xs → IsLeast s t last body ys → AreInOrder xs
+      → AreInOrder ys → xs ≡ ys
   one_least xs ys x y a b = same_lists xs ys a b (within xs ys x y) (within ys xs y x)

@@ -1,5 +1,6 @@
 -- Paths that a statement leaves alone.
-use Rattle.std.proofs.Common.{◌≡◌, ◌↔◌, ℕ, List, [], ◌∷◌, Option, Some, None, Bool, true, false, not, IsTrue, IsFalse, refl, sym, ap, subst, ◌∙◌, inl, inr, arith}
+use Rattle.std.proofs.Common.{◌≡◌, ◌↔◌, ℕ, List, [], ◌∷◌, Option, Some, None, Bool, true, false, not, IsTrue, IsFalse}
+use Rattle.std.proofs.Common.{refl, sym, ap, subst, ◌∙◌, inl, inr, arith}
 use Rattle.std.specs.List.{list_any}
 use Rattle.sect_types.specs.Lists.{Has}
 use Rattle.sect_types.proofs.Membership.{Has-left, Has-right}
@@ -29,17 +30,20 @@ tells_off {P} {b} tells off p =
     absurd cc
 
 -- a path that begins with another variable stays where that gets a value
-pub untouched_base : (x : Variable) (source : Option PathView) (p q : PathView) → (base_of p ≡ x → ⊥) → Replaced x source p q ↔ (q ≡ p)
+pub untouched_base : (x : Variable) (source : Option PathView) (p q : PathView) → (base_of p ≡ x → ⊥)
+    → Replaced x source p q ↔ (q ≡ p)
 untouched_base x source p q other = let tells = replaced_other x source p q other in (λ h. tells.1 h, λ e. tells.0 e)
 
-pub untouched_assignment : (t x : ℕ) (v : Value) (p q : PathView) → (base_of p ≡ Local t x → ⊥) → BeforeAssignment t x v p q ↔ (q ≡ p)
+pub untouched_assignment : (t x : ℕ) (v : Value) (p q : PathView) → (base_of p ≡ Local t x → ⊥)
+    → BeforeAssignment t x v p q ↔ (q ≡ p)
 untouched_assignment t x (value.Number n) p q other = (λ e. e, λ e. e)
 untouched_assignment t x value.Null p q other = untouched_base (Local t x) None p q other
 untouched_assignment t x (value.Local y) p q other = untouched_base (Local t x) (Some (var (Local t y))) p q other
 untouched_assignment t x (value.Global g) p q other = untouched_base (Local t x) (Some (var (Global g))) p q other
 
 -- a path that doesn't follow the field stays over a store to it
-pub untouched_field : (c : ClassesView) (z : Variable) (f : Field) (w : Option Variable) (p q : PathView) → (Has (fields_of p) f → ⊥) → BeforeStore c z f w p q ↔ (q ≡ p)
+pub untouched_field : (c : ClassesView) (z : Variable) (f : Field) (w : Option Variable) (p q : PathView)
+    → (Has (fields_of p) f → ⊥) → BeforeStore c z f w p q ↔ (q ≡ p)
 untouched_field c z f w (var v) q n = (λ h. h, λ e. e)
 untouched_field c z f w (dot p g) q n =
     let less : Has (fields_of p) f → ⊥ = λ h. n (Has-left (fields_of p) (g ∷ []) f h) in
@@ -57,7 +61,8 @@ not_off true h = sym h
 not_off false h = refl
 
 -- the lock on a path that the step leaves alone stays, if it is one of the program's
-pub untouched_lock : (s : SchemeView) (t : ℕ) (step : Label) (p : PathView) (e : Effect) → ((q : PathView) → Before s.classes t step p q ↔ (q ≡ p)) → IsPathIn s t p
+pub untouched_lock : (s : SchemeView) (t : ℕ) (step : Label) (p : PathView) (e : Effect)
+    → ((q : PathView) → Before s.classes t step p q ↔ (q ≡ p)) → IsPathIn s t p
     → (l : Lock) → CarriedBack s t step (lock.Path p e) l ↔ (l ≡ lock.Path p e)
 untouched_lock s t step p e alone there l = (
   λ h. elim (subst (λ q. LockOn s e q l) ((alone h.0).0 h.1) h.2).2 [
@@ -69,10 +74,12 @@ untouched_lock s t step p e alone there l = (
 
 -- a field is among others
 pub has_field : (fs : List Field) (f : Field) → (list_any (λ g. the_field_eq.eq g f) fs ≡ true) ↔ Has fs f
-has_field fs f = any_tells (λ a b. the_field_eq.eq b a) (λ a b. (λ t. sym ((field_tells b a).0 t), λ e. (field_tells b a).1 (sym e))) fs f
+has_field fs f = any_tells (λ a b. the_field_eq.eq b a)
+    (λ a b. (λ t. sym ((field_tells b a).0 t), λ e. (field_tells b a).1 (sym e))) fs f
 
 -- where p alone has a property, the list of a copy of p is the list of all that have it
-pub alone_is : (items : List PathView) (made p : PathView) (P : PathView → Type 0) → made ≡ p → ((q : PathView) → P q ↔ (q ≡ p))
+pub alone_is : (items : List PathView) (made p : PathView) (P : PathView → Type 0) → made ≡ p
+    → ((q : PathView) → P q ↔ (q ≡ p))
     → items ≡ made ∷ [] → (q : PathView) → Has items q ↔ P q
 alone_is items made p P same only is q = (
   λ h. elim (subst (λ ls. Has ls q) is h) [ inl e ↦ (only q).1 (sym e ∙ same) | inr none ↦ absurd none ],

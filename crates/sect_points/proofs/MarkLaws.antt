@@ -1,12 +1,13 @@
 -- Laws of what grows and of what is moved on.
-use Rattle.std.proofs.Common.{◌≡◌, ℕ, ◌+◌, ◌<◌, ◌≤◌, ◌⊎◌, ◌↔◌, Bool, true, false, true≢false, ◌||◌, List, [], ◌∷◌, length, refl, sym, ap, ◌∙◌, subst, inl, inr, arith}
+use Rattle.std.proofs.Common.{◌≡◌, ℕ, ◌+◌, ◌<◌, ◌≤◌, ◌⊎◌, ◌↔◌, Bool, true, false, true≢false, ◌||◌, List, [], ◌∷◌}
+use Rattle.std.proofs.Common.{length, refl, sym, ap, ◌∙◌, subst, inl, inr, arith}
 use Rattle.std.proofs.Common.{◌++◌, take, get_or, ◌/◌, ◌%◌}
 use Rattle.std.specs.Prelude.{slice_index}
 use Rattle.std.specs.Int.{bit_at}
 use Rattle.std.proofs.lemmas.Bool.{cases_eq, cases_lt}
 use Rattle.std.proofs.lemmas.List.{take_more, take_all}
 use Rattle.sect_types.specs.Lists.{Has}
-use Rattle.sect_types.proofs.Membership.{Has-cases, Has-get_or}
+use Rattle.sect_types.proofs.Membership.{Has-cases}
 use Rattle.sect_points.specs.Sites.{HasSite, IsNext}
 use Rattle.sect_types.specs.declared.action.Value.{Value}
 use Rattle.sect_types.specs.declared.action.Value.TheVariants as value
@@ -15,21 +16,21 @@ use Rattle.sect_types.specs.declared.action.Base.TheVariants as base
 use Rattle.sect_types.specs.declared.action.Action.{Action}
 use Rattle.sect_types.specs.declared.action.Action.TheVariants as action
 use Rattle.sect_points.specs.declared.holders.ThreadAction.{ThreadAction}
-use Rattle.sect_points.specs.declared.holders.Fact.{Fact}
 use Rattle.sect_points.specs.declared.holders.Growth.{Growth}
 use Rattle.sect_points.specs.declared.holders.Growth.TheVariants as growth
-use Rattle.sect_points.specs.declared.sites.SiteSet.{SiteSet}
 use Rattle.sect_points.specs.Sites.{InBoth}
 use Rattle.sect_points.specs.Partitions.{AreSlotsOfSites}
-use Rattle.sect_points.specs.Flow.{Family, ValueHas, BaseHas, Within, Moved, IsClosed, IsLeastFlow, family_of}
-use Rattle.sect_points.specs.Sets.{PointsToView, InSets, HasSet, IsEmpty, SameHolders, Adds, sites_for, spread_to, sets_room}
+use Rattle.sect_points.specs.Flow.{Family, ValueHas, BaseHas, Within, Moved, family_of}
+use Rattle.sect_points.specs.Sets.{PointsToView, InSets, HasSet, SameHolders, Adds, sites_for, spread_to}
+use Rattle.sect_points.specs.Sets.{sets_room}
 use Rattle.sect_points.specs.steps.Solving.{FitsBase, FitsAction, AllFit}
 use Rattle.sect_points.specs.Sets.{AreBelow}
 use Rattle.sect_types.specs.declared.action.Field.{Field}
-use Rattle.sect_points.specs.steps.Marks.{IsUntouched, MissesBases, Marked, HasMark, IsMarkable, Suits, Grows, Grown, grown, GrewBy, Reads, ReadsValue, ReadsBase, ReadsGrowth, IsBase, AreBases, MovedBy, IsGrowth, Handles, Covers, IsThere, IsBaseAlone, IsOnlyBase, IsStretch, AreMoved, IsGoing, IsLeft, IsSpan}
-use Rattle.std.proofs.lemmas.List.{get_or_past}
-use Rattle.sect_points.specs.Rows.{RowHas}
-use Rattle.sect_points.proofs.SetLaws.{row_past, both_false, one_true, adds_as, spread_below, spread_more, spread_all}
+use Rattle.sect_points.specs.steps.Marks.{IsUntouched, MissesBases, Marked, HasMark, IsMarkable, Suits, Grows, Grown}
+use Rattle.sect_points.specs.steps.Marks.{grown, GrewBy, Reads, ReadsValue, ReadsBase, ReadsGrowth, IsBase, AreBases}
+use Rattle.sect_points.specs.steps.Marks.{MovedBy, IsGrowth, Handles, Covers, IsThere, IsBaseAlone, IsOnlyBase}
+use Rattle.sect_points.specs.steps.Marks.{IsStretch, IsGoing, IsLeft, IsSpan}
+use Rattle.sect_points.proofs.SetLaws.{both_false, one_true, adds_as, spread_below, spread_more, spread_all}
 use Rattle.sect_points.proofs.SolvingLaws.{moved_more, moved_below, base_below, action_same}
 use Rattle.sect_points.specs.declared.holders.Holder.{Holder}
 use Rattle.sect_points.specs.declared.holders.Holder.TheVariants.{Local, Slot}
@@ -40,8 +41,10 @@ place_back old new (Local t x) same p = (omega (arith, same.locals, p.0), omega 
 place_back old new (Slot o f) same p = (p.0, omega (arith, same.slots, p.1))
 
 -- a holder's set is joined, and the holder marked where it grew
-pub add_marked : (old new : PointsToView) (k : Holder) (sites : List ℕ) (before after : Marked) → Adds old new (sites_for k sites) true → Suits old before
-    → ((h : Holder) → HasMark after h ↔ (HasMark before h ⊎ (h ≡ k))) → ((h : Holder) → IsMarkable before h → IsMarkable after h)
+pub add_marked : (old new : PointsToView) (k : Holder) (sites : List ℕ) (before after : Marked)
+    → Adds old new (sites_for k sites) true → Suits old before
+    → ((h : Holder) → HasMark after h ↔ (HasMark before h ⊎ (h ≡ k)))
+    → ((h : Holder) → IsMarkable before h → IsMarkable after h)
     → Grows old new (sites_for k sites) before after true
 add_marked old new k sites before after a suits marks places = record {
   adds = a;
@@ -51,7 +54,8 @@ add_marked old new k sites before after a suits marks places = record {
   suits = λ h p. places h (suits h (place_back old new h a.places p));
 }
 
-pub add_none : (old new : PointsToView) (T : Family) (marks : Marked) → Adds old new T false → Suits old marks → Grows old new T marks marks false
+pub add_none : (old new : PointsToView) (T : Family) (marks : Marked) → Adds old new T false → Suits old marks
+    → Grows old new T marks marks false
 add_none old new T marks a suits = record {
   adds = a;
   marked = λ h s i. inl (subst (λ x. InSets x h s) (a.same refl) i);
@@ -60,7 +64,8 @@ add_none old new T marks a suits = record {
   suits = λ h p. suits h (place_back old new h a.places p);
 }
 
-pub grows_as : (old new : PointsToView) (T V : Family) (before after : Marked) (grew : Bool) → Grows old new T before after grew → ((h : Holder) (s : ℕ) → V h s ↔ T h s) → Grows old new V before after grew
+pub grows_as : (old new : PointsToView) (T V : Family) (before after : Marked) (grew : Bool)
+    → Grows old new T before after grew → ((h : Holder) (s : ℕ) → V h s ↔ T h s) → Grows old new V before after grew
 grows_as old new T V before after grew g same = record {
   adds = adds_as old new T V grew g.adds same;
   marked = g.marked;
@@ -69,19 +74,24 @@ grows_as old new T V before after grew g same = record {
   suits = g.suits;
 }
 
-pub spread_grows : (n m : ℕ) (old mid new : PointsToView) (bases : List ℕ) (f : ℕ) (sites : List ℕ) (marks0 marks1 marks2 : Marked) (first second grew : Bool) → IsNext (HasSite bases) n m
-    → Grows old mid (spread_below n bases f sites) marks0 marks1 first → Grows mid new (sites_for (Slot m f) sites) marks1 marks2 second → grew ≡ (second || first)
+pub spread_grows : (n m : ℕ) (old mid new : PointsToView) (bases : List ℕ) (f : ℕ) (sites : List ℕ)
+    (marks0 marks1 marks2 : Marked) (first second grew : Bool) → IsNext (HasSite bases) n m
+    → Grows old mid (spread_below n bases f sites) marks0 marks1 first
+    → Grows mid new (sites_for (Slot m f) sites) marks1 marks2 second → grew ≡ (second || first)
     → Grows old new (spread_below (m + 1) bases f sites) marks0 marks2 grew
 spread_grows n m old mid new bases f sites marks0 marks1 marks2 first second grew next a b is = record {
   adds = spread_more n m old mid new bases f sites first second grew next a.adds b.adds is;
-  marked = λ h s i. elim (b.marked h s i) [ inl j ↦ elim (a.marked h s j) [ inl k ↦ inl k | inr k ↦ inr (b.keeps h k) ] | inr k ↦ inr k ];
+  marked = λ h s i. elim (b.marked h s i)
+      [ inl j ↦ elim (a.marked h s j) [ inl k ↦ inl k | inr k ↦ inr (b.keeps h k) ] | inr k ↦ inr k ];
   keeps = λ h k. b.keeps h (a.keeps h k);
   same = λ e. (let f = both_false first second (sym is ∙ e) in b.same f.1 ∙ a.same f.0);
   suits = b.suits;
 }
 
-pub spread_whole : (n : ℕ) (old new : PointsToView) (bases : List ℕ) (f : ℕ) (sites : List ℕ) (before after : Marked) (grew : Bool) → ((o : ℕ) → n ≤ o → HasSite bases o → ⊥)
-    → Grows old new (spread_below n bases f sites) before after grew → Grows old new (spread_to bases f sites) before after grew
+pub spread_whole : (n : ℕ) (old new : PointsToView) (bases : List ℕ) (f : ℕ) (sites : List ℕ) (before after : Marked)
+    (grew : Bool) → ((o : ℕ) → n ≤ o → HasSite bases o → ⊥)
+    → Grows old new (spread_below n bases f sites) before after grew
+    → Grows old new (spread_to bases f sites) before after grew
 spread_whole n old new bases f sites before after grew none g = record {
   adds = spread_all n old new bases f sites grew none g.adds;
   marked = g.marked;
@@ -101,34 +111,55 @@ covers_base : (F G : Family) (t : ℕ) (b : Base) (s : ℕ) → Within F G → B
 covers_base F G t (base.Local x) s sub h = sub _ s h
 covers_base F G t (base.Global g) s sub h = h
 
-pub covers_all : (sets : PointsToView) (g : Grown) (p : ThreadAction) (bases : List ℕ) → ((o : ℕ) → HasSite bases o ↔ IsBase (InSets sets) p.thread p.action o) → Covers sets g p bases
+pub covers_all : (sets : PointsToView) (g : Grown) (p : ThreadAction) (bases : List ℕ)
+    → ((o : ℕ) → HasSite bases o ↔ IsBase (InSets sets) p.thread p.action o) → Covers sets g p bases
 covers_all sets g p bases are before after grew-so sub h s m = inr (by p.action are m)
   where
-    by : (a : Action) → ((o : ℕ) → HasSite bases o ↔ IsBase (InSets sets) p.thread a o) → Moved (InSets after) p.thread a h s → MovedBy (InSets sets) bases p.thread a h s
+    by : (a : Action) → ((o : ℕ) → HasSite bases o ↔ IsBase (InSets sets) p.thread a o)
+        → Moved (InSets after) p.thread a h s → MovedBy (InSets sets) bases p.thread a h s
     by (action.Assign x v) are m = (m.0, covers_value (InSets after) (InSets sets) p.thread v s sub m.1)
     by (action.Compute x v o w) are m = m
     by (action.New x r i) are m = m
-    by (action.Load x b f) are m = (m.0, (m.1.0, (are m.1.0).1 (covers_base (InSets after) (InSets sets) p.thread b m.1.0 sub m.1.1), sub (Slot m.1.0 f.number) s m.1.2))
-    by (action.Store b f v) are m = (m.0, (are m.0).1 (covers_base (InSets after) (InSets sets) p.thread b m.0 sub m.1), m.2, covers_value (InSets after) (InSets sets) p.thread v s sub m.3)
+    by (action.Load x b f) are m = (
+      m.0,
+      (
+        m.1.0,
+        (are m.1.0).1 (covers_base (InSets after) (InSets sets) p.thread b m.1.0 sub m.1.1),
+        sub (Slot m.1.0 f.number) s m.1.2,
+      ),
+    )
+    by (action.Store b f v) are m = (
+      m.0,
+      (are m.0).1 (covers_base (InSets after) (InSets sets) p.thread b m.0 sub m.1),
+      m.2,
+      covers_value (InSets after) (InSets sets) p.thread v s sub m.3,
+    )
     by (action.Print v) are m = m
 
-pub bases_below : (sets : PointsToView) (t : ℕ) (b : Base) (s : ℕ) → AreBelow sets → FitsBase sets t b → BaseHas (InSets sets) t b s → s < sets.sites
+pub bases_below : (sets : PointsToView) (t : ℕ) (b : Base) (s : ℕ) → AreBelow sets → FitsBase sets t b
+    → BaseHas (InSets sets) t b s → s < sets.sites
 bases_below sets t b s below fits h = base_below sets t b s below fits h
 
-pub load_grows : (old new : PointsToView) (t x : ℕ) (b : Base) (f : Field) (bases all : List ℕ) (before after : Marked) (grew : Bool)
+pub load_grows : (old new : PointsToView) (t x : ℕ) (b : Base) (f : Field) (bases all : List ℕ) (before after : Marked)
+    (grew : Bool)
     → ((s : ℕ) → HasSite all s ↔ ((o : ℕ) × HasSite bases o × InSets old (Slot o f.number) s))
-    → Grows old new (sites_for (Local t x) all) before after grew → Grows old new (MovedBy (InSets old) bases t (action.Load x b f)) before after grew
+    → Grows old new (sites_for (Local t x) all) before after grew
+    → Grows old new (MovedBy (InSets old) bases t (action.Load x b f)) before after grew
 load_grows old new t x b f bases all before after grew is g =
     grows_as old new _ _ before after grew g (λ h s. (λ m. (m.0, (is s).1 m.1), λ m. (m.0, (is s).0 m.1)))
 
 -- by new bases alone
-pub covers_new : (sets : PointsToView) (p : ThreadAction) (t x : ℕ) (new bases : List ℕ) → IsOnlyBase p (growth.Local t x) → ((o : ℕ) → HasSite bases o ↔ InBoth new new o) → Covers sets (grown (growth.Local t x) new) p bases
+pub covers_new : (sets : PointsToView) (p : ThreadAction) (t x : ℕ) (new bases : List ℕ)
+    → IsOnlyBase p (growth.Local t x) → ((o : ℕ) → HasSite bases o ↔ InBoth new new o)
+    → Covers sets (grown (growth.Local t x) new) p bases
 covers_new sets p t x new bases (same, alone) both before after grew-so sub h s m = by p.action alone m
   where
     slot_before : (o f r : ℕ) → InSets after (Slot o f) r → InSets before (Slot o f) r
-    slot_before o f r k = elim (grew-so (Slot o f) r k) [ inl j ↦ j | inr j ↦ (let e : Slot o f ≡ Local t x = j.0 in absurd cc) ]
+    slot_before o f r k = elim (grew-so (Slot o f) r k)
+        [ inl j ↦ j | inr j ↦ (let e : Slot o f ≡ Local t x = j.0 in absurd cc) ]
 
-    value_at : (v : Value) (x : ℕ) (r : ℕ) → (v ≡ value.Local x → ⊥) → ((y : ℕ) → (y ≡ x → ⊥) → InSets after (Local p.thread y) r → InSets before (Local p.thread y) r)
+    value_at : (v : Value) (x : ℕ) (r : ℕ) → (v ≡ value.Local x → ⊥)
+        → ((y : ℕ) → (y ≡ x → ⊥) → InSets after (Local p.thread y) r → InSets before (Local p.thread y) r)
         → ValueHas (InSets after) p.thread v r → ValueHas (InSets before) p.thread v r
     value_at (value.Local y) x r apart other k = other y (λ e. apart (ap value.Local e)) k
     value_at (value.Global g) x r apart other k = k
@@ -136,13 +167,16 @@ covers_new sets p t x new bases (same, alone) both before after grew-so sub h s 
     value_at (value.Number n) x r apart other k = k
 
     local_other : (y r : ℕ) → (y ≡ x → ⊥) → InSets after (Local p.thread y) r → InSets before (Local p.thread y) r
-    local_other y r apart k = elim (grew-so (Local p.thread y) r k) [ inl j ↦ j | inr j ↦ (let e : Local p.thread y ≡ Local t x = j.0 in absurd (apart cc)) ]
+    local_other y r apart k = elim (grew-so (Local p.thread y) r k)
+        [ inl j ↦ j | inr j ↦ (let e : Local p.thread y ≡ Local t x = j.0 in absurd (apart cc)) ]
 
-    base_new : (b : Base) (o : ℕ) → b ≡ base.Local x → BaseHas (InSets after) p.thread b o → BaseHas (InSets before) p.thread b o ⊎ HasSite new o
+    base_new : (b : Base) (o : ℕ) → b ≡ base.Local x → BaseHas (InSets after) p.thread b o
+        → BaseHas (InSets before) p.thread b o ⊎ HasSite new o
     base_new (base.Local y) o is k = elim (grew-so (Local p.thread y) o k) [ inl j ↦ inl j | inr j ↦ inr j.1 ]
     base_new (base.Global g) o is k = inl k
 
-    by : (a : Action) → IsBaseAlone a x → Moved (InSets after) p.thread a h s → Moved (InSets before) p.thread a h s ⊎ MovedBy (InSets sets) bases p.thread a h s
+    by : (a : Action) → IsBaseAlone a x → Moved (InSets after) p.thread a h s → Moved (InSets before) p.thread a h s
+        ⊎ MovedBy (InSets sets) bases p.thread a h s
     by (action.Assign y v) alone m = absurd alone
     by (action.Compute y v o w) alone m = absurd alone
     by (action.New y r i) alone m = absurd alone
@@ -157,12 +191,14 @@ covers_new sets p t x new bases (same, alone) both before after grew-so sub h s 
     by (action.Print v) alone m = absurd alone
 
 -- by the bases whose field grew
-pub covers_field : (sets : PointsToView) (p : ThreadAction) (f : ℕ) (new all bases : List ℕ) → ((o : ℕ) → HasSite all o ↔ IsBase (InSets sets) p.thread p.action o)
+pub covers_field : (sets : PointsToView) (p : ThreadAction) (f : ℕ) (new all bases : List ℕ)
+    → ((o : ℕ) → HasSite all o ↔ IsBase (InSets sets) p.thread p.action o)
     → ((o : ℕ) → HasSite bases o ↔ InBoth all new o) → Covers sets (grown (growth.Field f) new) p bases
 covers_field sets p f new all bases are both before after grew-so sub h s m = by p.action are m
   where
     local_before : (y r : ℕ) → InSets after (Local p.thread y) r → InSets before (Local p.thread y) r
-    local_before y r k = elim (grew-so (Local p.thread y) r k) [ inl j ↦ j | inr (o, is, j) ↦ (let e : Local p.thread y ≡ Slot o f = is in absurd cc) ]
+    local_before y r k = elim (grew-so (Local p.thread y) r k)
+        [ inl j ↦ j | inr (o, is, j) ↦ (let e : Local p.thread y ≡ Slot o f = is in absurd cc) ]
 
     base_before : (b : Base) (o : ℕ) → BaseHas (InSets after) p.thread b o → BaseHas (InSets before) p.thread b o
     base_before (base.Local y) o k = local_before y o k
@@ -174,7 +210,9 @@ covers_field sets p f new all bases are both before after grew-so sub h s m = by
     value_before value.Null r k = k
     value_before (value.Number n) r k = k
 
-    by : (a : Action) → ((o : ℕ) → HasSite all o ↔ IsBase (InSets sets) p.thread a o) → Moved (InSets after) p.thread a h s → Moved (InSets before) p.thread a h s ⊎ MovedBy (InSets sets) bases p.thread a h s
+    by : (a : Action) → ((o : ℕ) → HasSite all o ↔ IsBase (InSets sets) p.thread a o)
+        → Moved (InSets after) p.thread a h s → Moved (InSets before) p.thread a h s
+        ⊎ MovedBy (InSets sets) bases p.thread a h s
     by (action.Assign y v) are m = inl (m.0, value_before v s m.1)
     by (action.Compute y v o w) are m = inl m
     by (action.New y r i) are m = inl m
@@ -183,24 +221,38 @@ covers_field sets p f new all bases are both before after grew-so sub h s m = by
       | inr (o, is, k) ↦
           let e : Slot m.1.0 g.number ≡ Slot o f = is in
           let same : o ≡ m.1.0 = cc in
-          inr (m.0, (m.1.0, (both m.1.0).1 ((are m.1.0).1 (covers_base (InSets after) (InSets sets) p.thread b m.1.0 sub m.1.1), subst (HasSite new) same k), sub (Slot m.1.0 g.number) s m.1.2))
+          inr (
+            m.0,
+            (
+              m.1.0,
+              (both m.1.0).1 (
+                (are m.1.0).1
+                    (covers_base (InSets after) (InSets sets) p.thread b m.1.0 sub m.1.1),
+                subst (HasSite new) same k,
+              ),
+              sub (Slot m.1.0 g.number) s m.1.2,
+            ),
+          )
     ]
     by (action.Store b g v) are m = inl (m.0, base_before b m.0 m.1, m.2, value_before v s m.3)
     by (action.Print v) are m = inl m
 
 -- by the growth of a field of other sites a load moves nothing
-untouched : (sets : PointsToView) (p : ThreadAction) (g : Growth) (new : List ℕ) → IsUntouched sets p g new → Handles sets sets (grown g new) p
+untouched : (sets : PointsToView) (p : ThreadAction) (g : Growth) (new : List ℕ) → IsUntouched sets p g new
+    → Handles sets sets (grown g new) p
 untouched sets p (growth.Local t x) new none before after grew-so sub h s m = absurd none
 untouched sets p (growth.Field f) new none before after grew-so sub h s m = inl (by p.action none m)
   where
     local_before : (y r : ℕ) → InSets after (Local p.thread y) r → InSets before (Local p.thread y) r
-    local_before y r k = elim (grew-so (Local p.thread y) r k) [ inl j ↦ j | inr (o, is, j) ↦ (let e : Local p.thread y ≡ Slot o f = is in absurd cc) ]
+    local_before y r k = elim (grew-so (Local p.thread y) r k)
+        [ inl j ↦ j | inr (o, is, j) ↦ (let e : Local p.thread y ≡ Slot o f = is in absurd cc) ]
 
     base_before : (b : Base) (o : ℕ) → BaseHas (InSets after) p.thread b o → BaseHas (InSets before) p.thread b o
     base_before (base.Local y) o k = local_before y o k
     base_before (base.Global g) o k = k
 
-    by : (a : Action) → MissesBases (InSets sets) p.thread a new → Moved (InSets after) p.thread a h s → Moved (InSets before) p.thread a h s
+    by : (a : Action) → MissesBases (InSets sets) p.thread a new → Moved (InSets after) p.thread a h s
+        → Moved (InSets before) p.thread a h s
     by (action.Assign y v) none m = absurd none
     by (action.Compute y v o w) none m = absurd none
     by (action.New y r i) none m = absurd none
@@ -209,17 +261,20 @@ untouched sets p (growth.Field f) new none before after grew-so sub h s m = inl 
       | inr (o, is, k) ↦
           let e : Slot m.1.0 g.number ≡ Slot o f = is in
           let same : o ≡ m.1.0 = cc in
-          absurd (none m.1.0 (covers_base (InSets after) (InSets sets) p.thread b m.1.0 sub m.1.1) (subst (HasSite new) same k))
+          absurd (none m.1.0 (covers_base (InSets after) (InSets sets) p.thread b m.1.0 sub m.1.1)
+          (subst (HasSite new) same k))
     ]
     by (action.Store b g v) none m = absurd none
     by (action.Print v) none m = absurd none
 
 -- a new base is one
-pub only_bases : (sets : PointsToView) (p : ThreadAction) (t x : ℕ) (new : List ℕ) → IsOnlyBase p (growth.Local t x) → IsThere (growth.Local t x) new sets → AreBases (InSets sets) p new
+pub only_bases : (sets : PointsToView) (p : ThreadAction) (t x : ℕ) (new : List ℕ) → IsOnlyBase p (growth.Local t x)
+    → IsThere (growth.Local t x) new sets → AreBases (InSets sets) p new
 only_bases sets p t x new (same, alone) there o k = by p.action alone
   where
     at : (b : Base) → b ≡ base.Local x → BaseHas (InSets sets) p.thread b o
-    at b is = subst (λ c. BaseHas (InSets sets) p.thread c o) (sym is) (subst (λ u. InSets sets (Local u x) o) (sym same) (there o k))
+    at b is = subst (λ c. BaseHas (InSets sets) p.thread c o) (sym is)
+        (subst (λ u. InSets sets (Local u x) o) (sym same) (there o k))
 
     by : (a : Action) → IsBaseAlone a x → IsBase (InSets sets) p.thread a o
     by (action.Assign y v) alone = absurd alone
@@ -230,7 +285,8 @@ only_bases sets p t x new (same, alone) there o k = by p.action alone
     by (action.Print v) alone = absurd alone
 
 -- nothing is moved
-pub stretch_none : (list : List ThreadAction) (sets : PointsToView) (marks : Marked) → IsStretch list sets sets marks marks false
+pub stretch_none : (list : List ThreadAction) (sets : PointsToView) (marks : Marked)
+    → IsStretch list sets sets marks marks false
 stretch_none list sets marks = record {
   within = λ others closed sub. sub;
   below = λ b. b;
@@ -243,19 +299,24 @@ stretch_none list sets marks = record {
   suits = λ k. k;
 }
 
-stretch_most : (list : List ThreadAction) (old new : PointsToView) (before after : Marked) (grew : Bool) → IsStretch list old new before after grew → sets_room new ≤ sets_room old
+stretch_most : (list : List ThreadAction) (old new : PointsToView) (before after : Marked) (grew : Bool)
+    → IsStretch list old new before after grew → sets_room new ≤ sets_room old
 stretch_most list old new before after true r = omega (arith, r.less refl)
 stretch_most list old new before after false r = omega (arith, ap sets_room (r.same refl).0)
 
-pub stretch_then : (list : List ThreadAction) (old mid new : PointsToView) (marks0 marks1 marks2 : Marked) (first second grew : Bool) → IsStretch list old mid marks0 marks1 first → IsStretch list mid new marks1 marks2 second
+pub stretch_then : (list : List ThreadAction) (old mid new : PointsToView) (marks0 marks1 marks2 : Marked)
+    (first second grew : Bool) → IsStretch list old mid marks0 marks1 first
+    → IsStretch list mid new marks1 marks2 second
     → grew ≡ (second || first) → IsStretch list old new marks0 marks2 grew
 stretch_then list old mid new marks0 marks1 marks2 first second grew a b is = record {
   within = λ others closed sub. b.within others closed (a.within others closed sub);
   below = λ k. b.below (a.below k);
   more = λ h s k. b.more h s (a.more h s k);
-  marked = λ h s i. elim (b.marked h s i) [ inl j ↦ elim (a.marked h s j) [ inl k ↦ inl k | inr k ↦ inr (b.keeps h k) ] | inr k ↦ inr k ];
+  marked = λ h s i. elim (b.marked h s i)
+      [ inl j ↦ elim (a.marked h s j) [ inl k ↦ inl k | inr k ↦ inr (b.keeps h k) ] | inr k ↦ inr k ];
   keeps = λ h k. b.keeps h (a.keeps h k);
-  same = λ e. (let f = both_false first second (sym is ∙ e) in ((b.same f.1).0 ∙ (a.same f.0).0, (b.same f.1).1 ∙ (a.same f.0).1));
+  same = λ e. (let f = both_false first second (sym is ∙ e) in
+      ((b.same f.1).0 ∙ (a.same f.0).0, (b.same f.1).1 ∙ (a.same f.0).1));
   less = λ e. elim (one_true first second (sym is ∙ e)) [
     | inl t ↦ omega (arith, a.less t, stretch_most list mid new marks1 marks2 second b)
     | inr t ↦ omega (arith, b.less t, stretch_most list old mid marks0 marks1 first a)
@@ -270,7 +331,8 @@ stretch_then list old mid new marks0 marks1 marks2 first second grew a b is = re
 }
 
 -- what is moved by some bases is moved
-pub by_moved : (F : Family) (bases : List ℕ) (t : ℕ) (a : Action) → ((o : ℕ) → HasSite bases o → IsBase F t a o) → Within (MovedBy F bases t a) (Moved F t a)
+pub by_moved : (F : Family) (bases : List ℕ) (t : ℕ) (a : Action) → ((o : ℕ) → HasSite bases o → IsBase F t a o)
+    → Within (MovedBy F bases t a) (Moved F t a)
 by_moved F bases t (action.Assign x v) are h s m = m
 by_moved F bases t (action.Compute x v o w) are h s m = m
 by_moved F bases t (action.New x r i) are h s m = m
@@ -278,16 +340,25 @@ by_moved F bases t (action.Load x b f) are h s m = (m.0, (m.1.0, are m.1.0 m.1.1
 by_moved F bases t (action.Store b f v) are h s m = (m.0, are m.0 m.1, m.2, m.3)
 by_moved F bases t (action.Print v) are h s m = m
 
-pub stretch_by : (list : List ThreadAction) (p : ThreadAction) (old new : PointsToView) (bases : List ℕ) (before after : Marked) (grew : Bool) → Has list p → FitsAction old p.thread p.action → AreBases (InSets old) p bases
-    → Grows old new (MovedBy (InSets old) bases p.thread p.action) before after grew → IsStretch list old new before after grew
+pub stretch_by : (list : List ThreadAction) (p : ThreadAction) (old new : PointsToView) (bases : List ℕ)
+    (before after : Marked) (grew : Bool) → Has list p → FitsAction old p.thread p.action
+    → AreBases (InSets old) p bases
+    → Grows old new (MovedBy (InSets old) bases p.thread p.action) before after grew
+    → IsStretch list old new before after grew
 stretch_by list p old new bases before after grew has fits are g = record {
   within = λ others closed sub h s k. elim ((g.adds.has h s).0 k) [
     | inl k ↦ sub h s k
-    | inr m ↦ closed p has h s (moved_more (InSets old) (family_of others) p.thread p.action sub h s (by_moved (InSets old) bases p.thread p.action are h s m))
+    | inr m ↦ closed p has h s (moved_more (InSets old) (family_of others) p.thread p.action sub h s
+        (by_moved (InSets old) bases p.thread p.action are h s m))
   ];
   below = λ below h s k. elim ((g.adds.has h s).0 k) [
     | inl k ↦ omega (arith, below h s k, g.adds.places.sites)
-    | inr m ↦ omega (arith, moved_below old p.thread p.action h s below fits (by_moved (InSets old) bases p.thread p.action are h s m), g.adds.places.sites)
+    | inr m ↦ omega (
+      arith,
+      moved_below old p.thread p.action h s below fits
+          (by_moved (InSets old) bases p.thread p.action are h s m),
+      g.adds.places.sites,
+    )
   ];
   more = λ h s k. (g.adds.has h s).1 (inl k);
   marked = g.marked;
@@ -299,100 +370,137 @@ stretch_by list p old new bases before after grew has fits are g = record {
 }
 
 -- one statement more is handled
-pub handles_by : (p : ThreadAction) (g : Grown) (bases : List ℕ) (old now new : PointsToView) (before after : Marked) (grew : Bool) → Within (InSets old) (InSets now) → Covers now g p bases
+pub handles_by : (p : ThreadAction) (g : Grown) (bases : List ℕ) (old now new : PointsToView) (before after : Marked)
+    (grew : Bool) → Within (InSets old) (InSets now) → Covers now g p bases
     → Grows now new (MovedBy (InSets now) bases p.thread p.action) before after grew → Handles old new g p
 handles_by p g bases old now new before after grew more covers grows b a grew-so sub h s m =
-    elim (covers b a grew-so (λ k r i. more k r (sub k r i)) h s m) [ inl k ↦ inl k | inr k ↦ inr ((grows.adds.has h s).1 (inr k)) ]
+    elim (covers b a grew-so (λ k r i. more k r (sub k r i)) h s m)
+    [ inl k ↦ inl k | inr k ↦ inr ((grows.adds.has h s).1 (inr k)) ]
 
-pub handles_more : (p : ThreadAction) (g : Grown) (old now new : PointsToView) → Within (InSets now) (InSets new) → Handles old now g p → Handles old new g p
-handles_more p g old now new more handles b a grew-so sub h s m = elim (handles b a grew-so sub h s m) [ inl k ↦ inl k | inr k ↦ inr (more h s k) ]
+pub handles_more : (p : ThreadAction) (g : Grown) (old now new : PointsToView) → Within (InSets now) (InSets new)
+    → Handles old now g p → Handles old new g p
+handles_more p g old now new more handles b a grew-so sub h s m =
+    elim (handles b a grew-so sub h s m) [ inl k ↦ inl k | inr k ↦ inr (more h s k) ]
 
-pub handled_more : (i : ℕ) (items : List ThreadAction) (p : ThreadAction) (g : Grown) (bases : List ℕ) (old now new : PointsToView) (before after : Marked) (grew : Bool) → i < length items → p ≡ get_or items i p
-    → Within (InSets old) (InSets now) → Covers now g p bases → Grows now new (MovedBy (InSets now) bases p.thread p.action) before after grew
-    → ((q : ThreadAction) → Has (take i items) q → Handles old now g q) → (q : ThreadAction) → Has (take (i + 1) items) q → Handles old new g q
+pub handled_more : (i : ℕ) (items : List ThreadAction) (p : ThreadAction) (g : Grown) (bases : List ℕ)
+    (old now new : PointsToView) (before after : Marked) (grew : Bool) → i < length items → p ≡ get_or items i p
+    → Within (InSets old) (InSets now) → Covers now g p bases
+    → Grows now new (MovedBy (InSets now) bases p.thread p.action) before after grew
+    → ((q : ThreadAction) → Has (take i items) q → Handles old now g q) → (q : ThreadAction)
+    → Has (take (i + 1) items) q → Handles old new g q
 handled_more i items p g bases old now new before after grew lt is more covers grows handled q h =
-    let next : take (i + 1) items ≡ take i items ++ p ∷ [] = take_more items i p lt ∙ ap (λ r. take i items ++ r ∷ []) (sym is) in
+    let next : take (i + 1) items ≡ take i items ++ p ∷ [] = take_more items i p lt
+    ∙ ap (λ r. take i items ++ r ∷ []) (sym is) in
     elim (Has-cases (take i items) (p ∷ []) q (subst (λ l. Has l q) next h)) [
       | inl k ↦ handles_more q g old now new (λ k s i. (grows.adds.has k s).1 (inl i)) (handled q k)
       | inr k ↦ elim k [
-        | inl same ↦ subst (Handles old new g) same (handles_by p g bases old now new before after grew more covers grows)
+        | inl same ↦ subst (Handles old new g) same
+            (handles_by p g bases old now new before after grew more covers grows)
         | inr k ↦ absurd k
       ]
     ]
 
-pub handled_past : (i : ℕ) (items : List ThreadAction) (p : ThreadAction) (g : Growth) (words : List ℕ) (old now : PointsToView) → i < length items → p ≡ get_or items i p → Within (InSets old) (InSets now) → IsUntouched now p g words
-    → ((q : ThreadAction) → Has (take i items) q → Handles old now (grown g words) q) → (q : ThreadAction) → Has (take (i + 1) items) q → Handles old now (grown g words) q
+pub handled_past : (i : ℕ) (items : List ThreadAction) (p : ThreadAction) (g : Growth) (words : List ℕ)
+    (old now : PointsToView) → i < length items → p ≡ get_or items i p → Within (InSets old) (InSets now)
+    → IsUntouched now p g words
+    → ((q : ThreadAction) → Has (take i items) q → Handles old now (grown g words) q) → (q : ThreadAction)
+    → Has (take (i + 1) items) q → Handles old now (grown g words) q
 handled_past i items p g words old now lt is more none handled q h =
-    let next : take (i + 1) items ≡ take i items ++ p ∷ [] = take_more items i p lt ∙ ap (λ r. take i items ++ r ∷ []) (sym is) in
+    let next : take (i + 1) items ≡ take i items ++ p ∷ [] = take_more items i p lt
+    ∙ ap (λ r. take i items ++ r ∷ []) (sym is) in
     elim (Has-cases (take i items) (p ∷ []) q (subst (λ l. Has l q) next h)) [
       | inl k ↦ handled q k
       | inr k ↦ elim k [
-        | inl same ↦ subst (Handles old now (grown g words)) same (λ before after grew-so sub r s m. untouched now p g words none before after grew-so (λ k t j. more k t (sub k t j)) r s m)
+        | inl same ↦ subst (Handles old now (grown g words)) same
+            (λ before after grew-so sub r s m. untouched now p g words none before after grew-so
+            (λ k t j. more k t (sub k t j)) r s m)
         | inr k ↦ absurd k
       ]
     ]
 
 -- a statement that moves more reads what grew
-reads_or : (before after : PointsToView) (g : Grown) (p : ThreadAction) → IsGrowth before after g → (h : Holder) (s : ℕ) → Moved (InSets after) p.thread p.action h s → Moved (InSets before) p.thread p.action h s ⊎ ReadsGrowth g p
-reads_or before after g p grew-so h s m = elim (by p.action m) [ inl k ↦ inl k | inr (k, r, reads, k') ↦ inr (k, r, reads, k') ]
+reads_or : (before after : PointsToView) (g : Grown) (p : ThreadAction) → IsGrowth before after g → (h : Holder) (s : ℕ)
+    → Moved (InSets after) p.thread p.action h s → Moved (InSets before) p.thread p.action h s ⊎ ReadsGrowth g p
+reads_or before after g p grew-so h s m =
+    elim (by p.action m) [ inl k ↦ inl k | inr (k, r, reads, k') ↦ inr (k, r, reads, k') ]
   where
     R : Action → Type 0
     R a = (k : Holder) × (r : ℕ) × Reads p.thread a k × GrewBy g k r
 
-    value_or : (v : Value) (r : ℕ) → ValueHas (InSets after) p.thread v r → ValueHas (InSets before) p.thread v r ⊎ ((k : Holder) × (q : ℕ) × ReadsValue p.thread v k × GrewBy g k q)
-    value_or (value.Local x) r i = elim (grew-so (Local p.thread x) r i) [ inl j ↦ inl j | inr j ↦ inr (Local p.thread x, r, refl, j) ]
+    value_or : (v : Value) (r : ℕ) → ValueHas (InSets after) p.thread v r → ValueHas (InSets before) p.thread v r
+        ⊎ ((k : Holder) × (q : ℕ) × ReadsValue p.thread v k × GrewBy g k q)
+    value_or (value.Local x) r i =
+        elim (grew-so (Local p.thread x) r i) [ inl j ↦ inl j | inr j ↦ inr (Local p.thread x, r, refl, j) ]
     value_or (value.Global y) r i = inl i
     value_or value.Null r i = inl i
     value_or (value.Number n) r i = inl i
 
-    base_or : (b : Base) (r : ℕ) → BaseHas (InSets after) p.thread b r → BaseHas (InSets before) p.thread b r ⊎ ((k : Holder) × (q : ℕ) × ReadsBase p.thread b k × GrewBy g k q)
-    base_or (base.Local x) r i = elim (grew-so (Local p.thread x) r i) [ inl j ↦ inl j | inr j ↦ inr (Local p.thread x, r, refl, j) ]
+    base_or : (b : Base) (r : ℕ) → BaseHas (InSets after) p.thread b r → BaseHas (InSets before) p.thread b r
+        ⊎ ((k : Holder) × (q : ℕ) × ReadsBase p.thread b k × GrewBy g k q)
+    base_or (base.Local x) r i = elim (grew-so (Local p.thread x) r i)
+        [ inl j ↦ inl j | inr j ↦ inr (Local p.thread x, r, refl, j) ]
     base_or (base.Global y) r i = inl i
 
     by : (a : Action) → Moved (InSets after) p.thread a h s → Moved (InSets before) p.thread a h s ⊎ R a
-    by (action.Assign x v) m = elim (value_or v s m.1) [ inl k ↦ inl (m.0, k) | inr (k, q, reads, j) ↦ inr (k, q, reads, j) ]
+    by (action.Assign x v) m = elim (value_or v s m.1)
+        [ inl k ↦ inl (m.0, k) | inr (k, q, reads, j) ↦ inr (k, q, reads, j) ]
     by (action.Compute x v o w) m = inl m
     by (action.New x r i) m = inl m
     by (action.Load x b f) m = elim (base_or b m.1.0 m.1.1) [
-      | inl k ↦ elim (grew-so (Slot m.1.0 f.number) s m.1.2) [ inl j ↦ inl (m.0, (m.1.0, k, j)) | inr j ↦ inr (Slot m.1.0 f.number, s, inr (m.1.0, refl), j) ]
+      | inl k ↦ elim (grew-so (Slot m.1.0 f.number) s m.1.2)
+          [ inl j ↦ inl (m.0, (m.1.0, k, j)) | inr j ↦ inr (Slot m.1.0 f.number, s, inr (m.1.0, refl), j) ]
       | inr (k, q, reads, j) ↦ inr (k, q, inl reads, j)
     ]
     by (action.Store b f v) m = elim (base_or b m.0 m.1) [
-      | inl k ↦ elim (value_or v s m.3) [ inl j ↦ inl (m.0, k, m.2, j) | inr (i, q, reads, j) ↦ inr (i, q, inr reads, j) ]
+      | inl k ↦ elim (value_or v s m.3)
+          [ inl j ↦ inl (m.0, k, m.2, j) | inr (i, q, reads, j) ↦ inr (i, q, inr reads, j) ]
       | inr (k, q, reads, j) ↦ inr (k, q, inl reads, j)
     ]
     by (action.Print v) m = inl m
 
-pub handled_all : (i : ℕ) (list items : List ThreadAction) (g : Grown) (old new : PointsToView) → length items ≤ i → ((p : ThreadAction) → Has list p → ReadsGrowth g p → Has items p)
-    → ((p : ThreadAction) → Has (take i items) p → Handles old new g p) → (p : ThreadAction) → Has list p → Handles old new g p
-handled_all i list items g old new past each handled p has before after grew-so sub h s m = elim (reads_or before after g p grew-so h s m) [
-  | inl k ↦ inl k
-  | inr reads ↦ handled p (subst (λ l. Has l p) (sym (take_all i items past)) (each p has reads)) before after grew-so sub h s m
-]
+pub handled_all : (i : ℕ) (list items : List ThreadAction) (g : Grown) (old new : PointsToView) → length items ≤ i
+    → ((p : ThreadAction) → Has list p → ReadsGrowth g p → Has items p)
+    → ((p : ThreadAction) → Has (take i items) p → Handles old new g p) → (p : ThreadAction) → Has list p
+    → Handles old new g p
+handled_all i list items g old new past each handled p has before after grew-so sub h s m =
+    elim (reads_or before after g p grew-so h s m) [
+      | inl k ↦ inl k
+      | inr reads ↦ handled p (subst (λ l. Has l p) (sym (take_all i items past)) (each p has reads)) before after
+          grew-so
+          sub h s m
+    ]
 
-pub fits_after : (list : List ThreadAction) (p : ThreadAction) (old new : PointsToView) → AllFit old list → SameHolders old new → Has list p → FitsAction new p.thread p.action
+pub fits_after : (list : List ThreadAction) (p : ThreadAction) (old new : PointsToView) → AllFit old list
+    → SameHolders old new → Has list p → FitsAction new p.thread p.action
 fits_after list p old new fits same has = action_same old new p.thread p.action same (fits p has)
 
-pub covers_alone : (sets : PointsToView) (p : ThreadAction) (g : Growth) (new bases : List ℕ) → IsOnlyBase p g → ((o : ℕ) → HasSite bases o ↔ InBoth new new o) → Covers sets (grown g new) p bases
+pub covers_alone : (sets : PointsToView) (p : ThreadAction) (g : Growth) (new bases : List ℕ) → IsOnlyBase p g
+    → ((o : ℕ) → HasSite bases o ↔ InBoth new new o) → Covers sets (grown g new) p bases
 covers_alone sets p (growth.Local t x) new bases only both = covers_new sets p t x new bases only both
 covers_alone sets p (growth.Field f) new bases only both = absurd only
 
-pub alone_bases : (sets : PointsToView) (p : ThreadAction) (g : Growth) (new bases : List ℕ) → IsOnlyBase p g → ((o : ℕ) → HasSite bases o ↔ InBoth new new o) → IsThere g new sets → AreBases (InSets sets) p bases
-alone_bases sets p (growth.Local t x) new bases only both there o h = only_bases sets p t x new only there o ((both o).0 h).0
+pub alone_bases : (sets : PointsToView) (p : ThreadAction) (g : Growth) (new bases : List ℕ) → IsOnlyBase p g
+    → ((o : ℕ) → HasSite bases o ↔ InBoth new new o) → IsThere g new sets → AreBases (InSets sets) p bases
+alone_bases sets p (growth.Local t x) new bases only both there o h =
+    only_bases sets p t x new only there o ((both o).0 h).0
 alone_bases sets p (growth.Field f) new bases only both there o h = absurd only
 
-pub there_after : (g : Growth) (words : List ℕ) (old new : PointsToView) → Within (InSets old) (InSets new) → IsThere g words old → IsThere g words new
+pub there_after : (g : Growth) (words : List ℕ) (old new : PointsToView) → Within (InSets old) (InSets new)
+    → IsThere g words old → IsThere g words new
 there_after (growth.Local t x) words old new more there = λ s h. more (Local t x) s (there s h)
 there_after (growth.Field f) words old new more there = tt
 
 -- what is moved on by all statements
-pub going_on : (list : List ThreadAction) (g : Grown) (old new moved moved' : PointsToView) (marks marks' : Marked) (grew : Bool) → IsGoing list old moved marks → IsStretch list old new marks marks' grew
-    → ((p : ThreadAction) → Has list p → Handles old new g p) → IsGrowth moved moved' g → Within (InSets moved') (InSets old) → SameHolders moved moved' → IsGoing list new moved' marks'
+pub going_on : (list : List ThreadAction) (g : Grown) (old new moved moved' : PointsToView) (marks marks' : Marked)
+    (grew : Bool) → IsGoing list old moved marks → IsStretch list old new marks marks' grew
+    → ((p : ThreadAction) → Has list p → Handles old new g p) → IsGrowth moved moved' g
+    → Within (InSets moved') (InSets old) → SameHolders moved moved' → IsGoing list new moved' marks'
 going_on list g old new moved moved' marks marks' grew going r handled growth part places = record {
   within = λ others closed. r.within others closed (going.within others closed);
   below = r.below going.below;
   part = λ h s k. r.more h s (part h s k);
-  done = λ p has h s m. elim (handled p has moved moved' growth part h s m) [ inl k ↦ r.more h s (going.done p has h s k) | inr k ↦ k ];
+  done = λ p has h s m. elim (handled p has moved moved' growth part h s m)
+      [ inl k ↦ r.more h s (going.done p has h s k) | inr k ↦ k ];
   same = record {
     sites = places.sites ∙ going.same.sites ∙ sym r.places.sites;
     slots = places.slots ∙ going.same.slots ∙ sym r.places.slots;
@@ -402,34 +510,43 @@ going_on list g old new moved moved' marks marks' grew going r handled growth pa
   suits = r.suits going.suits;
 }
 
-pub local_growth : (t x : ℕ) (words : List ℕ) (moved moved' : PointsToView) (grew : Bool) → Adds moved moved' (sites_for (Local t x) words) grew → IsGrowth moved moved' (grown (growth.Local t x) words)
+pub local_growth : (t x : ℕ) (words : List ℕ) (moved moved' : PointsToView) (grew : Bool)
+    → Adds moved moved' (sites_for (Local t x) words) grew → IsGrowth moved moved' (grown (growth.Local t x) words)
 local_growth t x words moved moved' grew a h s k = (a.has h s).0 k
 
-pub local_part : (t x : ℕ) (words : List ℕ) (sets moved moved' : PointsToView) (grew : Bool) → Adds moved moved' (sites_for (Local t x) words) grew → Within (InSets moved) (InSets sets)
+pub local_part : (t x : ℕ) (words : List ℕ) (sets moved moved' : PointsToView) (grew : Bool)
+    → Adds moved moved' (sites_for (Local t x) words) grew → Within (InSets moved) (InSets sets)
     → ((s : ℕ) → HasSite words s → InSets sets (Local t x) s) → Within (InSets moved') (InSets sets)
 local_part t x words sets moved moved' grew a part there h s k = elim ((a.has h s).0 k) [
   | inl j ↦ part h s j
   | inr (is, j) ↦ subst (λ h. InSets sets h s) (sym is) (there s j)
 ]
 
-pub local_here : (t x : ℕ) (all before words : List ℕ) (sets moved moved' : PointsToView) (grew : Bool) → Adds moved moved' (sites_for (Local t x) words) grew
-    → ((s : ℕ) → HasSite all s ↔ InSets sets (Local t x) s) → ((s : ℕ) → HasSite before s ↔ InSets moved (Local t x) s) → ((s : ℕ) → HasSite words s ↔ (HasSite all s × (HasSite before s → ⊥)))
+pub local_here : (t x : ℕ) (all before words : List ℕ) (sets moved moved' : PointsToView) (grew : Bool)
+    → Adds moved moved' (sites_for (Local t x) words) grew
+    → ((s : ℕ) → HasSite all s ↔ InSets sets (Local t x) s) → ((s : ℕ) → HasSite before s ↔ InSets moved (Local t x) s)
+    → ((s : ℕ) → HasSite words s ↔ (HasSite all s × (HasSite before s → ⊥)))
     → (s : ℕ) → InSets sets (Local t x) s → InSets moved' (Local t x) s
-local_here t x all before words sets moved moved' grew a is_all is_before is s h = (a.has (Local t x) s).1 (elim (cases_eq (bit_at (slice_index before (s / 64)) (s % 64)) 1) [
-  | inl one ↦ inl ((is_before s).0 one)
-  | inr zero ↦ inr (refl, (is s).1 ((is_all s).1 h, zero))
-])
+local_here t x all before words sets moved moved' grew a is_all is_before is s h =
+    (a.has (Local t x) s).1 (elim (cases_eq (bit_at (slice_index before (s / 64)) (s % 64)) 1) [
+      | inl one ↦ inl ((is_before s).0 one)
+      | inr zero ↦ inr (refl, (is s).1 ((is_all s).1 h, zero))
+    ])
 
 -- nothing new: all was moved on
 pub none_new : (t x : ℕ) (all before words : List ℕ) (sets moved : PointsToView) → ((s : ℕ) → HasSite words s → ⊥)
-    → ((s : ℕ) → HasSite all s ↔ InSets sets (Local t x) s) → ((s : ℕ) → HasSite before s ↔ InSets moved (Local t x) s) → ((s : ℕ) → HasSite words s ↔ (HasSite all s × (HasSite before s → ⊥)))
+    → ((s : ℕ) → HasSite all s ↔ InSets sets (Local t x) s) → ((s : ℕ) → HasSite before s ↔ InSets moved (Local t x) s)
+    → ((s : ℕ) → HasSite words s ↔ (HasSite all s × (HasSite before s → ⊥)))
     → (s : ℕ) → InSets sets (Local t x) s → InSets moved (Local t x) s
-none_new t x all before words sets moved none is_all is_before is s h = elim (cases_eq (bit_at (slice_index before (s / 64)) (s % 64)) 1) [
-  | inl one ↦ (is_before s).0 one
-  | inr zero ↦ absurd (none s ((is s).1 ((is_all s).1 h, zero)))
-]
+none_new t x all before words sets moved none is_all is_before is s h =
+    elim (cases_eq (bit_at (slice_index before (s / 64)) (s % 64)) 1) [
+      | inl one ↦ (is_before s).0 one
+      | inr zero ↦ absurd (none s ((is s).1 ((is_all s).1 h, zero)))
+    ]
 
-pub span_taken : (list : List ThreadAction) (old new : PointsToView) (marks0 marks1 marks2 : Marked) (grew : Bool) → ((h : Holder) → HasMark marks1 h → HasMark marks0 h) → IsStretch list old new marks1 marks2 grew → IsSpan old new marks0 marks2 grew
+pub span_taken : (list : List ThreadAction) (old new : PointsToView) (marks0 marks1 marks2 : Marked) (grew : Bool)
+    → ((h : Holder) → HasMark marks1 h → HasMark marks0 h) → IsStretch list old new marks1 marks2 grew
+    → IsSpan old new marks0 marks2 grew
 span_taken list old new marks0 marks1 marks2 grew fewer r = record {
   same = λ e. (r.same e).0;
   fewer = λ e h k. fewer h (subst (λ m. HasMark m h) (r.same e).1 k);
@@ -437,34 +554,41 @@ span_taken list old new marks0 marks1 marks2 grew fewer r = record {
   places = r.places;
 }
 
-pub gone_taken : (list : List ThreadAction) (old new : PointsToView) (before after : Marked) (grew : Bool) (k : Holder) → IsStretch list old new before after grew → (HasMark before k → ⊥) → grew ≡ false → HasMark after k → ⊥
+pub gone_taken : (list : List ThreadAction) (old new : PointsToView) (before after : Marked) (grew : Bool) (k : Holder)
+    → IsStretch list old new before after grew → (HasMark before k → ⊥) → grew ≡ false → HasMark after k → ⊥
 gone_taken list old new before after grew k r none e h = none (subst (λ m. HasMark m k) (r.same e).1 h)
 
 -- the next marked local is moved on
-pub left_more : (from x t : ℕ) (words : List ℕ) (list : List ThreadAction) (now new moved moved' : PointsToView) (before after : Marked) (grew : Bool) → IsNext (HasSite words) from x
-    → IsLeft now moved before (λ h. (y : ℕ) × (from ≤ y) × (h ≡ Local t y) × HasSite words y) → IsStretch list now new before after grew
+pub left_more : (from x t : ℕ) (words : List ℕ) (list : List ThreadAction) (now new moved moved' : PointsToView)
+    (before after : Marked) (grew : Bool) → IsNext (HasSite words) from x
+    → IsLeft now moved before (λ h. (y : ℕ) × (from ≤ y) × (h ≡ Local t y) × HasSite words y)
+    → IsStretch list now new before after grew
     → Within (InSets moved) (InSets moved') → ((s : ℕ) → InSets now (Local t x) s → InSets moved' (Local t x) s)
     → IsLeft new moved' after (λ h. (y : ℕ) × (x + 1 ≤ y) × (h ≡ Local t y) × HasSite words y)
-left_more from x t words list now new moved moved' before after grew next left r more here h s k = elim (r.marked h s k) [
-  | inr m ↦ inr (inl m)
-  | inl old ↦ elim (left h s old) [
-    | inl j ↦ inl (more h s j)
-    | inr j ↦ elim j [
-      | inl m ↦ inr (inl (r.keeps h m))
-      | inr (y, le, is, has) ↦ elim (cases_eq y x) [
-        | inl same ↦ inl (subst (λ h. InSets moved' h s) (sym (is ∙ ap (λ z. Local t z) same)) (here s (subst (λ h. InSets now h s) (is ∙ ap (λ z. Local t z) same) old)))
-        | inr apart ↦ elim (cases_lt y x) [
-          | inl lt ↦ absurd (next.3 y le lt has)
-          | inr ge ↦ inr (inr (y, omega arith, is, has))
+left_more from x t words list now new moved moved' before after grew next left r more here h s k =
+    elim (r.marked h s k) [
+      | inr m ↦ inr (inl m)
+      | inl old ↦ elim (left h s old) [
+        | inl j ↦ inl (more h s j)
+        | inr j ↦ elim j [
+          | inl m ↦ inr (inl (r.keeps h m))
+          | inr (y, le, is, has) ↦ elim (cases_eq y x) [
+            | inl same ↦ inl (subst (λ h. InSets moved' h s) (sym (is ∙ ap (λ z. Local t z) same))
+                (here s (subst (λ h. InSets now h s) (is ∙ ap (λ z. Local t z) same) old)))
+            | inr apart ↦ elim (cases_lt y x) [
+              | inl lt ↦ absurd (next.3 y le lt has)
+              | inr ge ↦ inr (inr (y, omega arith, is, has))
+            ]
+          ]
         ]
       ]
     ]
-  ]
-]
 
 -- past the last marked local
-pub left_all : (from t : ℕ) (words : List ℕ) (now moved : PointsToView) (marks : Marked) → ((y : ℕ) → from ≤ y → HasSite words y → ⊥)
-    → IsLeft now moved marks (λ h. (y : ℕ) × (from ≤ y) × (h ≡ Local t y) × HasSite words y) → IsLeft now moved marks (λ h. ⊥)
+pub left_all : (from t : ℕ) (words : List ℕ) (now moved : PointsToView) (marks : Marked)
+    → ((y : ℕ) → from ≤ y → HasSite words y → ⊥)
+    → IsLeft now moved marks (λ h. (y : ℕ) × (from ≤ y) × (h ≡ Local t y) × HasSite words y)
+    → IsLeft now moved marks (λ h. ⊥)
 left_all from t words now moved marks none left h s k = elim (left h s k) [
   | inl j ↦ inl j
   | inr j ↦ elim j [ inl m ↦ inr (inl m) | inr (y, le, is, has) ↦ absurd (none y le has) ]
@@ -487,14 +611,18 @@ none_taken f words sets old = record {
   places = record { sites = refl; slots = refl; locals = refl; rows = λ t. refl };
 }
 
-pub taking_more : (n m f : ℕ) (words row : List ℕ) (sets old mid new : PointsToView) (grew : Bool) → IsNext (HasSite words) n m → ((s : ℕ) → HasSite row s ↔ InSets sets (Slot m f) s)
-    → Adds mid new (sites_for (Slot m f) row) grew → IsTaking n f words sets old mid → IsTaking (m + 1) f words sets old new
+pub taking_more : (n m f : ℕ) (words row : List ℕ) (sets old mid new : PointsToView) (grew : Bool)
+    → IsNext (HasSite words) n m → ((s : ℕ) → HasSite row s ↔ InSets sets (Slot m f) s)
+    → Adds mid new (sites_for (Slot m f) row) grew → IsTaking n f words sets old mid
+    → IsTaking (m + 1) f words sets old new
 taking_more n m f words row sets old mid new grew next is a h = record {
   growth = λ k s i. elim ((a.has k s).0 i) [ inl j ↦ h.growth k s j | inr j ↦ inr (m, j.0, next.2) ];
   more = λ k s i. (a.has k s).1 (inl (h.more k s i));
-  part = λ p k s i. elim ((a.has k s).0 i) [ inl j ↦ h.part p k s j | inr j ↦ subst (λ q. InSets sets q s) (sym j.0) ((is s).0 j.1) ];
+  part = λ p k s i. elim ((a.has k s).0 i)
+      [ inl j ↦ h.part p k s j | inr j ↦ subst (λ q. InSets sets q s) (sym j.0) ((is s).0 j.1) ];
   here = λ o s lt has i. elim (cases_eq o m) [
-    | inl same ↦ (a.has (Slot o f) s).1 (inr (ap (λ q. Slot q f) same, (is s).1 (subst (λ q. InSets sets (Slot q f) s) same i)))
+    | inl same ↦ (a.has (Slot o f) s).1
+        (inr (ap (λ q. Slot q f) same, (is s).1 (subst (λ q. InSets sets (Slot q f) s) same i)))
     | inr apart ↦ elim (cases_lt o n) [
       | inl below ↦ (a.has (Slot o f) s).1 (inl (h.here o s below has i))
       | inr past ↦ absurd (next.3 o past (omega arith) has)
@@ -509,7 +637,8 @@ taking_more n m f words row sets old mid new grew next is a h = record {
 }
 
 -- what is no site has nothing
-pub taking_past : (n m f : ℕ) (words : List ℕ) (sets old new : PointsToView) → IsNext (HasSite words) n m → AreSlotsOfSites sets → sets.sites ≤ m → IsTaking n f words sets old new → IsTaking (m + 1) f words sets old new
+pub taking_past : (n m f : ℕ) (words : List ℕ) (sets old new : PointsToView) → IsNext (HasSite words) n m
+    → AreSlotsOfSites sets → sets.sites ≤ m → IsTaking n f words sets old new → IsTaking (m + 1) f words sets old new
 taking_past n m f words sets old new next slots past h = record {
   growth = h.growth;
   more = h.more;
@@ -525,188 +654,26 @@ taking_past n m f words sets old new next slots past h = record {
 }
 
 -- what was marked in the field is moved on
-pub left_field : (n f : ℕ) (words : List ℕ) (list : List ThreadAction) (old new moved moved' : PointsToView) (before taken after : Marked) (grew : Bool) → ((o : ℕ) → n ≤ o → HasSite words o → ⊥)
-    → IsLeft old moved before (λ h. ⊥) → ((h : Holder) → HasMark before h → HasMark taken h ⊎ ((o : ℕ) × (h ≡ Slot o f) × HasSite words o))
+pub left_field : (n f : ℕ) (words : List ℕ) (list : List ThreadAction) (old new moved moved' : PointsToView)
+    (before taken after : Marked) (grew : Bool) → ((o : ℕ) → n ≤ o → HasSite words o → ⊥)
+    → IsLeft old moved before (λ h. ⊥)
+    → ((h : Holder) → HasMark before h → HasMark taken h ⊎ ((o : ℕ) × (h ≡ Slot o f) × HasSite words o))
     → IsTaking n f words old moved moved' → IsStretch list old new taken after grew → IsLeft new moved' after (λ h. ⊥)
-left_field n f words list old new moved moved' before taken after grew none left marks taking r h s k = elim (r.marked h s k) [
-  | inr m ↦ inr (inl m)
-  | inl i ↦ elim (left h s i) [
-    | inl j ↦ inl (taking.more h s j)
-    | inr j ↦ elim j [
-      | inl m ↦ elim (marks h m) [
-        | inl t ↦ inr (inl (r.keeps h t))
-        | inr (o, is, has) ↦ elim (cases_lt o n) [
-          | inl lt ↦ inl (subst (λ q. InSets moved' q s) (sym is) (taking.here o s lt has (subst (λ q. InSets old q s) is i)))
-          | inr ge ↦ absurd (none o ge has)
+left_field n f words list old new moved moved' before taken after grew none left marks taking r h s k =
+    elim (r.marked h s k) [
+      | inr m ↦ inr (inl m)
+      | inl i ↦ elim (left h s i) [
+        | inl j ↦ inl (taking.more h s j)
+        | inr j ↦ elim j [
+          | inl m ↦ elim (marks h m) [
+            | inl t ↦ inr (inl (r.keeps h t))
+            | inr (o, is, has) ↦ elim (cases_lt o n) [
+              | inl lt ↦ inl (subst (λ q. InSets moved' q s) (sym is)
+                  (taking.here o s lt has (subst (λ q. InSets old q s) is i)))
+              | inr ge ↦ absurd (none o ge has)
+            ]
+          ]
+          | inr e ↦ absurd e
         ]
       ]
-      | inr e ↦ absurd e
     ]
-  ]
-]
-
--- the locals of the first t threads and the first f fields had their turns
-pub record IsRounding (t f : ℕ) (list : List ThreadAction) (old now moved : PointsToView) (marks : Marked) (grew : Bool) : Type 0 where
-  pub going : IsGoing list now moved marks
-  pub left : IsLeft now moved marks (λ h. ⊥)
-  pub less : grew ≡ true → sets_room now < sets_room old
-  pub most : sets_room now ≤ sets_room old
-  pub places : SameHolders old now
-  pub locals : grew ≡ false → (u x : ℕ) → u < t → HasMark marks (Local u x) → ⊥
-  pub slots : grew ≡ false → (o g : ℕ) → g < f → HasMark marks (Slot o g) → ⊥
-
-pub rounding_none : (list : List ThreadAction) (old moved : PointsToView) (marks : Marked) → IsGoing list old moved marks → IsLeft old moved marks (λ h. ⊥) → IsRounding 0 0 list old old moved marks false
-rounding_none list old moved marks going left = record {
-  going = going;
-  left = left;
-  less = λ e. absurd (true≢false (sym e));
-  most = omega arith;
-  places = record { sites = refl; slots = refl; locals = refl; rows = λ t. refl };
-  locals = λ e u x lt. absurd (omega arith);
-  slots = λ e o g lt. absurd (omega arith);
-}
-
-span_most : (old new : PointsToView) (before after : Marked) (grew : Bool) → IsSpan old new before after grew → sets_room new ≤ sets_room old
-span_most old new before after true r = omega (arith, r.less refl)
-span_most old new before after false r = omega (arith, ap sets_room (r.same refl))
-
-rounding_step : (t f t' f' : ℕ) (list : List ThreadAction) (old now new moved moved' : PointsToView) (marks marks' : Marked) (grew second both : Bool) → IsRounding t f list old now moved marks grew
-    → IsSpan now new marks marks' second → IsGoing list new moved' marks' → IsLeft new moved' marks' (λ h. ⊥) → both ≡ (second || grew)
-    → (both ≡ false → (u x : ℕ) → u < t' → HasMark marks' (Local u x) → ⊥) → (both ≡ false → (o g : ℕ) → g < f' → HasMark marks' (Slot o g) → ⊥)
-    → IsRounding t' f' list old new moved' marks' both
-rounding_step t f t' f' list old now new moved moved' marks marks' grew second both r span going left is locals slots = record {
-  going = going;
-  left = left;
-  less = λ e. elim (one_true grew second (sym is ∙ e)) [
-    | inl g ↦ omega (arith, r.less g, span_most now new marks marks' second span)
-    | inr g ↦ omega (arith, span.less g, r.most)
-  ];
-  most = omega (arith, r.most, span_most now new marks marks' second span);
-  places = record {
-    sites = span.places.sites ∙ r.places.sites;
-    slots = span.places.slots ∙ r.places.slots;
-    locals = span.places.locals ∙ r.places.locals;
-    rows = λ t. span.places.rows t ∙ r.places.rows t;
-  };
-  locals = locals;
-  slots = slots;
-}
-
-pub rounding_local : (t : ℕ) (list : List ThreadAction) (old now new moved moved' : PointsToView) (marks marks' : Marked) (grew second both : Bool) → IsRounding t 0 list old now moved marks grew
-    → IsSpan now new marks marks' second → IsGoing list new moved' marks' → IsLeft new moved' marks' (λ h. ⊥) → (second ≡ false → (x : ℕ) → HasMark marks' (Local t x) → ⊥) → both ≡ (second || grew)
-    → IsRounding (t + 1) 0 list old new moved' marks' both
-rounding_local t list old now new moved moved' marks marks' grew second both r span going left gone is =
-    rounding_step t 0 (t + 1) 0 list old now new moved moved' marks marks' grew second both r span going left is
-    (λ e u x lt m. let f = both_false grew second (sym is ∙ e) in elim (cases_eq u t) [
-      | inl same ↦ gone f.1 x (subst (λ v. HasMark marks' (Local v x)) same m)
-      | inr apart ↦ r.locals f.0 u x (omega arith) (span.fewer f.1 (Local u x) m)
-    ])
-    (λ e o g lt. absurd (omega arith))
-
-pub rounding_slot : (t f : ℕ) (list : List ThreadAction) (old now new moved moved' : PointsToView) (marks marks' : Marked) (grew second both : Bool) → IsRounding t f list old now moved marks grew
-    → IsSpan now new marks marks' second → IsGoing list new moved' marks' → IsLeft new moved' marks' (λ h. ⊥) → (second ≡ false → (o : ℕ) → HasMark marks' (Slot o f) → ⊥) → both ≡ (second || grew)
-    → IsRounding t (f + 1) list old new moved' marks' both
-rounding_slot t f list old now new moved moved' marks marks' grew second both r span going left gone is =
-    rounding_step t f t (f + 1) list old now new moved moved' marks marks' grew second both r span going left is
-    (λ e u x lt m. let n = both_false grew second (sym is ∙ e) in r.locals n.0 u x lt (span.fewer n.1 (Local u x) m))
-    (λ e o g lt m. let n = both_false grew second (sym is ∙ e) in elim (cases_eq g f) [
-      | inl same ↦ gone n.1 o (subst (λ v. HasMark marks' (Slot o v)) same m)
-      | inr apart ↦ r.slots n.0 o g (omega arith) (span.fewer n.1 (Slot o g) m)
-    ])
-
--- where nothing grew, all has been moved on
-pub rounding_all : (t f : ℕ) (list : List ThreadAction) (old now moved : PointsToView) (marks : Marked) → IsRounding t f list old now moved marks false → length old.locals ≤ t → 16 ≤ f → Within (InSets now) (InSets moved)
-rounding_all t f list old now moved marks r few all (Slot o g) s k = elim (r.left (Slot o g) s k) [
-  | inl j ↦ j
-  | inr j ↦ elim j [ inl m ↦ absurd (r.slots refl o g (omega (arith, k.0)) m) | inr e ↦ absurd e ]
-]
-rounding_all t f list old now moved marks r few all (Local u x) s k = elim (r.left (Local u x) s k) [
-  | inl j ↦ j
-  | inr j ↦ elim j [
-    | inl m ↦ elim (cases_lt u (length now.locals)) [
-      | inl lt ↦ absurd (r.locals refl u x (omega (arith, lt, r.places.locals)) m)
-      | inr past ↦ absurd (row_past [] x s (omega arith) (subst (λ rows. RowHas rows x s) (get_or_past now.locals u [] past) k))
-    ]
-    | inr e ↦ absurd e
-  ]
-]
-
--- marks are taken
-pub going_taken : (list : List ThreadAction) (now moved : PointsToView) (before after : Marked) → ((h : Holder) → IsMarkable before h → IsMarkable after h) → IsGoing list now moved before → IsGoing list now moved after
-going_taken list now moved before after places going = record {
-  within = going.within;
-  below = going.below;
-  part = going.part;
-  done = going.done;
-  same = going.same;
-  suits = λ h p. places h (going.suits h p);
-}
-
--- the first i statements moved what they move
-pub record IsStarting (i : ℕ) (list : List ThreadAction) (old now moved : PointsToView) (before after : Marked) : Type 0 where
-  pub stretch : (grew : Bool) × IsStretch list old now before after grew
-  pub done : (p : ThreadAction) → Has (take i list) p → Within (Moved (InSets moved) p.thread p.action) (InSets now)
-
-pub starting_none : (list : List ThreadAction) (old moved : PointsToView) (marks : Marked) → IsStarting 0 list old old moved marks marks
-starting_none list old moved marks = record { stretch = (false, stretch_none list old marks); done = λ p h. absurd h }
-
-pub starting_more : (i : ℕ) (list : List ThreadAction) (p : ThreadAction) (bases : List ℕ) (old now new moved : PointsToView) (marks0 marks1 marks2 : Marked) (grew : Bool) → i < length list → p ≡ get_or list i p → AllFit old list
-    → IsEmpty moved → ((o : ℕ) → HasSite bases o ↔ IsBase (InSets now) p.thread p.action o) → Grows now new (MovedBy (InSets now) bases p.thread p.action) marks1 marks2 grew
-    → IsStarting i list old now moved marks0 marks1 → IsStarting (i + 1) list old new moved marks0 marks2
-starting_more i list p bases old now new moved marks0 marks1 marks2 grew lt is fits empty are g s =
-    let has : Has list p = subst (Has list) (sym is) (Has-get_or list i p lt) in
-    let one = stretch_by list p now new bases marks1 marks2 grew has (fits_after list p old now fits s.stretch.1.places has) (λ o. (are o).0) g in
-    let next : take (i + 1) list ≡ take i list ++ p ∷ [] = take_more list i p lt ∙ ap (λ r. take i list ++ r ∷ []) (sym is) in
-    let here : Within (Moved (InSets moved) p.thread p.action) (InSets new) = λ h r m.
-    elim (covers_all now (grown (growth.Field 0) bases) p bases are moved moved (λ k q j. inl j) (λ k q j. absurd (empty k q j)) h r m) [
-      | inl j ↦ (g.adds.has h r).1 (inr (by_all now p bases are h r (moved_more (InSets moved) (InSets now) p.thread p.action (λ k q j. absurd (empty k q j)) h r j)))
-      | inr j ↦ (g.adds.has h r).1 (inr j)
-    ] in
-    record {
-      stretch = (grew || s.stretch.0, stretch_then list old now new marks0 marks1 marks2 s.stretch.0 grew (grew || s.stretch.0) s.stretch.1 one refl);
-      done = λ q h. elim (Has-cases (take i list) (p ∷ []) q (subst (λ l. Has l q) next h)) [
-        | inl k ↦ λ k' r m. (g.adds.has k' r).1 (inl (s.done q k k' r m))
-        | inr k ↦ elim k [
-          | inl same ↦ subst (λ (x : ThreadAction). Within (Moved (InSets moved) x.thread x.action) (InSets new)) same here
-          | inr k ↦ absurd k
-        ]
-      ];
-    }
-  where
-    by_all : (sets : PointsToView) (p : ThreadAction) (bases : List ℕ) → ((o : ℕ) → HasSite bases o ↔ IsBase (InSets sets) p.thread p.action o) → Within (Moved (InSets sets) p.thread p.action) (MovedBy (InSets sets) bases p.thread p.action)
-    by_all sets p bases are h r m = elim (covers_all sets (grown (growth.Field 0) bases) p bases are sets sets (λ k q j. inl j) (λ k q j. j) h r m) [ inl j ↦ move p.action are j | inr j ↦ j ]
-      where
-        move : (a : Action) → ((o : ℕ) → HasSite bases o ↔ IsBase (InSets sets) p.thread a o) → Moved (InSets sets) p.thread a h r → MovedBy (InSets sets) bases p.thread a h r
-        move (action.Assign x v) are m = m
-        move (action.Compute x v o w) are m = m
-        move (action.New x q i) are m = m
-        move (action.Load x b f) are m = (m.0, (m.1.0, (are m.1.0).1 m.1.1, m.1.2))
-        move (action.Store b f v) are m = (m.0, (are m.0).1 m.1, m.2, m.3)
-        move (action.Print v) are m = m
-
-pub started : (i : ℕ) (list : List ThreadAction) (old now moved : PointsToView) (before after : Marked) → length list ≤ i → IsEmpty old → IsEmpty moved → SameHolders old moved → Suits old before
-    → IsStarting i list old now moved before after → IsGoing list now moved after × IsLeft now moved after (λ h. ⊥)
-started i list old now moved before after past empty unmoved same suits s =
-    let r = s.stretch.1 in (
-      record {
-        within = λ others closed. r.within others closed (λ h q k. absurd (empty h q k));
-        below = r.below (λ h q k. absurd (empty h q k));
-        part = λ h q k. absurd (unmoved h q k);
-        done = λ p has. s.done p (subst (λ l. Has l p) (sym (take_all i list past)) has);
-        same = record {
-          sites = same.sites ∙ sym r.places.sites;
-          slots = same.slots ∙ sym r.places.slots;
-          locals = same.locals ∙ sym r.places.locals;
-          rows = λ t. same.rows t ∙ sym (r.places.rows t);
-        };
-        suits = r.suits suits;
-      },
-      λ h q k. elim (r.marked h q k) [ inl j ↦ absurd (empty h q j) | inr m ↦ inr (inl m) ],
-    )
-
--- all is moved on: the sets are the least
-pub arrived : (list : List ThreadAction) (now moved : PointsToView) (marks : Marked) → IsGoing list now moved marks → Within (InSets now) (InSets moved) → IsLeastFlow (InSets now) list
-arrived list now moved marks going still = record {
-  closed = λ p has h s m. going.done p has h s (moved_more (InSets now) (InSets moved) p.thread p.action still h s m);
-  within = going.within;
-}

@@ -1,5 +1,6 @@
 -- TextView are found by what they read.
-use Rattle.std.proofs.Common.{◌≡◌, ◌≢◌, inl, inr, ℕ, zero, suc, ◌+◌, ◌*◌, ◌%◌, ◌<◌, ◌≤◌, List, [], ◌∷◌, ◌++◌, length, length-append, get_or, set, take, refl, sym, ◌∙◌, ap, subst, arith}
+use Rattle.std.proofs.Common.{◌≡◌, ◌≢◌, inl, inr, ℕ, zero, suc, ◌+◌, ◌*◌, ◌%◌, ◌<◌, ◌≤◌, List, [], ◌∷◌, ◌++◌, length}
+use Rattle.std.proofs.Common.{length-append, get_or, set, take, refl, sym, ◌∙◌, ap, subst, arith}
 use Rattle.std.specs.Prelude.{◌⊎◌, Result, Ok, Err, OnOk}
 use Rattle.std.proofs.lemmas.List.{take_more, take_all, get_or-set_other, get_or-set_same, length-set}
 use Rattle.std.proofs.lemmas.Bool.{cases_eq}
@@ -17,7 +18,8 @@ use Rattle.sect_points.specs.declared.holders.Growth.{Growth}
 use Rattle.sect_points.specs.declared.holders.Growth.TheVariants as growth
 use Rattle.sect_points.specs.declared.holders.ThreadAction.{ThreadAction}
 use Rattle.sect_points.specs.steps.Marks.{Reads, ReadsValue, ReadsBase, ReadsGrowth, grown}
-use Rattle.sect_points.specs.steps.Readers.{local_row_of, field_row_of, row_of, value_rows, base_rows, rows_read, row_at, AreFiled, IsPut, AreNoRows}
+use Rattle.sect_points.specs.steps.Readers.{local_row_of, field_row_of, row_of, value_rows, base_rows, rows_read}
+use Rattle.sect_points.specs.steps.Readers.{row_at, AreFiled, IsPut, AreNoRows}
 
 -- a statement that reads a local or a field has the row of it
 value_reads : (t : ℕ) (v : Value) (u x : ℕ) → ReadsValue t v (Local u x) → Has (value_rows t v) (local_row_of u x)
@@ -60,39 +62,52 @@ field_reads t (action.Compute y v p w) o f h = absurd h
 field_reads t (action.New y r i) o f h = absurd h
 field_reads t (action.Load y b g) o f h = elim h [
   | inl k ↦ absurd (no_slot_base t b o f k)
-  | inr k ↦ Has-right (base_rows t b) (field_row_of g.number ∷ []) (field_row_of f) (inl (let e = k.1 in let same : field_row_of g.number ≡ field_row_of f = cc in same))
+  | inr k ↦ Has-right (base_rows t b) (field_row_of g.number ∷ []) (field_row_of f)
+      (inl (let e = k.1 in let same : field_row_of g.number ≡ field_row_of f = cc in same))
 ]
-field_reads t (action.Store b g v) o f h = elim h [ inl k ↦ absurd (no_slot_base t b o f k) | inr k ↦ absurd (no_slot_value t v o f k) ]
+field_reads t (action.Store b g v) o f h =
+    elim h [ inl k ↦ absurd (no_slot_base t b o f k) | inr k ↦ absurd (no_slot_value t v o f k) ]
 field_reads t (action.Print v) o f h = absurd h
 
-growth_reads : (g : Growth) (new : List ℕ) (p : ThreadAction) → ReadsGrowth (grown g new) p → Has (rows_read p.thread p.action) (row_of g)
+growth_reads : (g : Growth) (new : List ℕ) (p : ThreadAction) → ReadsGrowth (grown g new) p
+    → Has (rows_read p.thread p.action) (row_of g)
 growth_reads (growth.Local t x) new p r = local_reads p.thread p.action t x (subst (Reads p.thread p.action) r.3.0 r.2)
-growth_reads (growth.Field f) new p r = field_reads p.thread p.action r.3.0 f (subst (Reads p.thread p.action) r.3.1 r.2)
+growth_reads (growth.Field f) new p r =
+    field_reads p.thread p.action r.3.0 f (subst (Reads p.thread p.action) r.3.1 r.2)
 
 -- what reads the growth stands in its row
-pub found_each : (all : List ThreadAction) (rows : List (List ThreadAction)) → AreFiled all rows → (g : Growth) (new : List ℕ) (p : ThreadAction) → Has all p → ReadsGrowth (grown g new) p → Has (row_at rows (row_of g)) p
+pub found_each : (all : List ThreadAction) (rows : List (List ThreadAction)) → AreFiled all rows
+    → (g : Growth) (new : List ℕ) (p : ThreadAction) → Has all p → ReadsGrowth (grown g new) p
+    → Has (row_at rows (row_of g)) p
 found_each all rows filed g new p has r = filed.each p has (row_of g) (growth_reads g new p r)
 
-same_item : (rows : List (List ThreadAction)) (k : ℕ) (x y : List ThreadAction) → k < length rows → get_or rows k x ≡ get_or rows k y
+same_item : (rows : List (List ThreadAction)) (k : ℕ) (x y : List ThreadAction) → k < length rows
+    → get_or rows k x ≡ get_or rows k y
 same_item [] k x y lt = absurd (omega (arith, lt))
 same_item (row ∷ rows) zero x y lt = refl
 same_item (row ∷ rows) (suc k) x y lt = same_item rows k x y (omega (arith, lt))
 
 -- one row gets one statement more
-pub put_one : (rows : List (List ThreadAction)) (row : ℕ) (p : ThreadAction) → row < length rows → IsPut rows (set rows row (row_at rows row ++ p ∷ [])) (row ∷ []) p
+pub put_one : (rows : List (List ThreadAction)) (row : ℕ) (p : ThreadAction) → row < length rows
+    → IsPut rows (set rows row (row_at rows row ++ p ∷ [])) (row ∷ []) p
 put_one rows row p lt = record {
   long = length-set rows row (row_at rows row ++ p ∷ []);
   there = λ r h. elim h [
-    | inl e ↦ subst (λ k. Has (row_at (set rows row (row_at rows row ++ p ∷ [])) k) p) e (subst (λ l. Has l p) (sym (get_or-set_same rows row (row_at rows row ++ p ∷ []) [] lt)) (Has-right (row_at rows row) (p ∷ []) p (inl refl)))
+    | inl e ↦ subst (λ k. Has (row_at (set rows row (row_at rows row ++ p ∷ [])) k) p) e
+        (subst (λ l. Has l p) (sym (get_or-set_same rows row (row_at rows row ++ p ∷ []) [] lt))
+        (Has-right (row_at rows row) (p ∷ []) p (inl refl)))
     | inr h ↦ absurd h
   ];
   keeps = λ r q h. (elim (cases_eq r row) [
     | inl e ↦ subst (λ k. Has (row_at (set rows row (row_at rows row ++ p ∷ [])) k) q) (sym e)
-        (subst (λ l. Has l q) (sym (get_or-set_same rows row (row_at rows row ++ p ∷ []) [] lt)) (Has-left (row_at rows row) (p ∷ []) q (subst (λ k. Has (row_at rows k) q) e h)))
+        (subst (λ l. Has l q) (sym (get_or-set_same rows row (row_at rows row ++ p ∷ []) [] lt))
+        (Has-left (row_at rows row) (p ∷ []) q (subst (λ k. Has (row_at rows k) q) e h)))
     | inr ne ↦ subst (λ l. Has l q) (sym (get_or-set_other rows row r (row_at rows row ++ p ∷ []) [] ne)) h
   ]);
   only = λ r q h. (elim (cases_eq r row) [
-    | inl e ↦ (let at : Has (row_at rows row ++ p ∷ []) q = subst (λ l. Has l q) (get_or-set_same rows row (row_at rows row ++ p ∷ []) [] lt) (subst (λ k. Has (row_at (set rows row (row_at rows row ++ p ∷ [])) k) q) e h) in
+    | inl e ↦ (let at : Has (row_at rows row ++ p ∷ []) q =
+        subst (λ l. Has l q) (get_or-set_same rows row (row_at rows row ++ p ∷ []) [] lt)
+        (subst (λ k. Has (row_at (set rows row (row_at rows row ++ p ∷ [])) k) q) e h) in
         elim (Has-cases (row_at rows row) (p ∷ []) q at) [
           | inl k ↦ inl (subst (λ k. Has (row_at rows k) q) (sym e) k)
           | inr k ↦ elim k [ inl same ↦ inr same | inr k ↦ absurd k ]
@@ -105,7 +120,8 @@ pub put_none : (rows : List (List ThreadAction)) (p : ThreadAction) → IsPut ro
 put_none rows p = record { long = refl; there = λ r h. absurd h; keeps = λ r q h. h; only = λ r q h. inl h }
 
 -- a statement that stands in its row stays there
-pub put_there : (rows : List (List ThreadAction)) (row : ℕ) (p : ThreadAction) (item : List ThreadAction) → row < length rows → item ≡ get_or rows row item → Has item p → IsPut rows rows (row ∷ []) p
+pub put_there : (rows : List (List ThreadAction)) (row : ℕ) (p : ThreadAction) (item : List ThreadAction)
+    → row < length rows → item ≡ get_or rows row item → Has item p → IsPut rows rows (row ∷ []) p
 put_there rows row p item lt is has = record {
   long = refl;
   there = λ r h. elim h [
@@ -116,7 +132,8 @@ put_there rows row p item lt is has = record {
   only = λ r q h. inl h;
 }
 
-pub put_then : (old mid new : List (List ThreadAction)) (xs ys : List ℕ) (p : ThreadAction) → IsPut old mid xs p → IsPut mid new ys p → IsPut old new (xs ++ ys) p
+pub put_then : (old mid new : List (List ThreadAction)) (xs ys : List ℕ) (p : ThreadAction) → IsPut old mid xs p
+    → IsPut mid new ys p → IsPut old new (xs ++ ys) p
 put_then old mid new xs ys p a b = record {
   long = b.long ∙ a.long;
   there = λ r h. (elim (Has-cases xs ys r h) [ inl k ↦ b.keeps r p (a.there r k) | inr k ↦ b.there r k ]);
@@ -128,16 +145,19 @@ put_then old mid new xs ys p a b = record {
 pub filed_none : (rows : List (List ThreadAction)) → AreNoRows 4112 rows → AreFiled [] rows
 filed_none rows h = record { long = h.long; each = λ p has. absurd has; only = λ r p has. absurd (h.none r p has) }
 
-pub filed_more : (i : ℕ) (all : List ThreadAction) (p : ThreadAction) (old new : List (List ThreadAction)) → i < length all → p ≡ get_or all i p → AreFiled (take i all) old → IsPut old new (rows_read p.thread p.action) p
+pub filed_more : (i : ℕ) (all : List ThreadAction) (p : ThreadAction) (old new : List (List ThreadAction))
+    → i < length all → p ≡ get_or all i p → AreFiled (take i all) old → IsPut old new (rows_read p.thread p.action) p
     → AreFiled (take (i + 1) all) new
 filed_more i all p old new lt is a b =
-    let next : take (i + 1) all ≡ take i all ++ p ∷ [] = take_more all i p lt ∙ ap (λ r. take i all ++ r ∷ []) (sym is) in
+    let next : take (i + 1) all ≡ take i all ++ p ∷ [] =
+    take_more all i p lt ∙ ap (λ r. take i all ++ r ∷ []) (sym is) in
     record {
       long = b.long ∙ a.long;
       each = λ q has r reads. (elim (Has-cases (take i all) (p ∷ []) q (subst (λ l. Has l q) next has)) [
         | inl k ↦ b.keeps r q (a.each q k r reads)
         | inr k ↦ elim k [
-          | inl same ↦ subst (λ z. Has (row_at new r) z) same (b.there r (subst (λ (z : ThreadAction). Has (rows_read z.thread z.action) r) (sym same) reads))
+          | inl same ↦ subst (λ z. Has (row_at new r) z) same
+              (b.there r (subst (λ (z : ThreadAction). Has (rows_read z.thread z.action) r) (sym same) reads))
           | inr k ↦ absurd k
         ]
       ]);
@@ -147,24 +167,32 @@ filed_more i all p old new lt is a b =
       ]);
     }
 
-pub filed_all : (i : ℕ) (all : List ThreadAction) (rows : List (List ThreadAction)) → length all ≤ i → AreFiled (take i all) rows → AreFiled all rows
+pub filed_all : (i : ℕ) (all : List ThreadAction) (rows : List (List ThreadAction)) → length all ≤ i
+    → AreFiled (take i all) rows → AreFiled all rows
 filed_all i all rows past a = subst (λ l. AreFiled l rows) (take_all i all past) a
 
 -- one more row in which nothing stands
-none_more : (rows : List (List ThreadAction)) (p : ThreadAction) → ((r : ℕ) → Has (row_at rows r) p → ⊥) → (r : ℕ) → Has (row_at (rows ++ [] ∷ []) r) p → ⊥
+none_more : (rows : List (List ThreadAction)) (p : ThreadAction) → ((r : ℕ) → Has (row_at rows r) p → ⊥) → (r : ℕ)
+    → Has (row_at (rows ++ [] ∷ []) r) p → ⊥
 none_more [] p none zero h = h
 none_more [] p none (suc r) h = h
 none_more (row ∷ rows) p none zero h = none 0 h
 none_more (row ∷ rows) p none (suc r) h = none_more rows p (λ k. none (suc k)) r h
 
 pub no_rows_more : (n : ℕ) (rows : List (List ThreadAction)) → AreNoRows n rows → AreNoRows (n + 1) (rows ++ [] ∷ [])
-no_rows_more n rows h = record { long = omega (arith, h.long, length-append rows ([] ∷ [])); none = λ r p. none_more rows p (λ k. h.none k p) r }
+no_rows_more n rows h = record {
+  long = omega (arith, h.long, length-append rows ([] ∷ []));
+  none =
+      λ r p. none_more rows p (λ k. h.none k p) r;
+}
 
 -- the row that was found
-pub row_found : (rows : List (List ThreadAction)) (k n : ℕ) (item out : List ThreadAction) → k ≡ n → k < length rows → out ≡ item → item ≡ get_or rows k item → row_at rows n ≡ out
+pub row_found : (rows : List (List ThreadAction)) (k n : ℕ) (item out : List ThreadAction) → k ≡ n → k < length rows
+    → out ≡ item → item ≡ get_or rows k item → row_at rows n ≡ out
 row_found rows k n item out e lt o is = ap (row_at rows) (sym e) ∙ (same_item rows k [] item lt ∙ (sym is ∙ sym o))
 
-pub put_into : {A B : Type 0} (r : Result A B) (rows : List (List ThreadAction)) (row : ℕ) (p : ThreadAction) (item new : List ThreadAction) → row < length rows → item ≡ get_or rows row item
+pub put_into : {A B : Type 0} (r : Result A B) (rows : List (List ThreadAction)) (row : ℕ) (p : ThreadAction)
+    (item new : List ThreadAction) → row < length rows → item ≡ get_or rows row item
     → OnOk r (new ≡ item ++ p ∷ []) → OnOk r (IsPut rows (set rows row new) (row ∷ []) p)
 put_into (Ok x) rows row p item new lt is h =
     let at : item ≡ row_at rows row = is ∙ same_item rows row item [] lt in

@@ -60,7 +60,8 @@ module _ (r : RattleType) (below : IsSync r) where
 
   step_layer : IsSync (text_knot.layer-Step r r r r)
   step_layer =
-      variants_sync (text_knot.type-Step r r r r) (search (sendable, below, action.the_sync, condition.the_sync) depth 20)
+      variants_sync (text_knot.type-Step r r r r)
+      (search (sendable, below, action.the_sync, condition.the_sync) depth 20)
 
   text_layer : IsSync (text_knot.layer-Text r)
   text_layer =
@@ -97,7 +98,8 @@ text_at : (p : Parts text_knot.frame) → IsSync (rows text_knot.frame p text_de
     → IsSync (text_knot.at-Text p)
 text_at p below =
     let layer = text_knot.layer-Text (text_knot.at-Step p) in
-    recorded_sync layer _ text_deep.split-Text (split_one layer _ text_deep.split-Text text_deep.join-Text text_deep.joins-Text)
+    recorded_sync layer _ text_deep.split-Text
+    (split_one layer _ text_deep.split-Text text_deep.join-Text text_deep.joins-Text)
     (text_layer (text_knot.at-Step p) (step_at p below))
 
 text_view : (p : Parts text_knot.frame) → IsSync (rows text_knot.frame p text_deep.member-Text)

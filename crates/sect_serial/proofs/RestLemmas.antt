@@ -1,5 +1,6 @@
 -- What is still to run, as its parts change.
-use Rattle.std.proofs.Common.{true≢false, ◌≡◌, ℕ, zero, suc, Bool, true, false, List, [], ◌∷◌, ◌++◌, length, take, Option, Some, None, refl, sym, ap, ◌∙◌, arith, slice_get, slice_set, ◌==◌}
+use Rattle.std.proofs.Common.{true≢false, ◌≡◌, ℕ, zero, suc, Bool, true, false, List, [], ◌∷◌, ◌++◌, length, take}
+use Rattle.std.proofs.Common.{Option, Some, None, refl, sym, ap, ◌∙◌, arith, slice_get, slice_set, ◌==◌}
 use Rattle.std.proofs.lemmas.Bool.Decides.{Decides-eqb}
 use Rattle.sect_types.specs.Statements.{TextView, Stop, Do, Choose, Loop, Section, joined}
 use Rattle.sect_types.specs.Texts.{step_then, statements_of}
@@ -64,7 +65,8 @@ rest_last (x ∷ xs) (suc n) k e g =
     ap (λ r. joined r x) (rest_last xs n k (omega (arith, e)) g) ∙ joined_again k (rest_of (take n xs)) x
 
 -- the last part is replaced
-pub rest_set : (ks : List TextView) (n : ℕ) (k : TextView) → length ks ≡ suc n → rest_of (slice_set ks n k) ≡ joined k (rest_of (take n ks))
+pub rest_set : (ks : List TextView) (n : ℕ) (k : TextView) → length ks ≡ suc n
+    → rest_of (slice_set ks n k) ≡ joined k (rest_of (take n ks))
 rest_set [] n k e = absurd (omega (arith, e))
 rest_set (x ∷ []) zero k e = sym (joined_stop k)
 rest_set (x ∷ y ∷ xs) zero k e = absurd (omega (arith, e))

@@ -1,5 +1,6 @@
 -- What a step keeps, and what it takes.
-use Rattle.std.proofs.Common.{true≢false, ◌≡◌, ◌<◌, ◌≤◌, ℕ, ℤ, zero, suc, Option, Some, None, Bool, true, false, is_some, refl, sym, ap, subst, ◌∙◌, arith, if◌then◌else◌}
+use Rattle.std.proofs.Common.{true≢false, ◌≡◌, ◌<◌, ◌≤◌, ℕ, ℤ, zero, suc, Option, Some, None, Bool, true, false}
+use Rattle.std.proofs.Common.{is_some, refl, sym, ap, subst, ◌∙◌, arith, if◌then◌else◌}
 use Rattle.sect_types.specs.declared.action.Action.{Action}
 use Rattle.sect_types.specs.declared.action.Action.TheVariants as action
 use Rattle.sect_types.specs.Environments.{Environment}
@@ -14,8 +15,11 @@ use Rattle.sect_types.specs.declared.store.Fault.{Fault}
 use Rattle.sect_types.specs.declared.store.Fault.TheVariants as fault
 use Rattle.sect_types.specs.declared.store.End.{End}
 use Rattle.sect_types.specs.Store.{ObjectView, StoreView}
-use Rattle.sect_types.specs.Meaning.{WorkView, Came, Went, Fell, Unchanged, assigned, value_datum, integer_of, result_of, fits, computed, done, paid, one, looks, found_at, Next, On, Off, going, taken, next, is_true, begins_step}
-use Rattle.sect_types.specs.Whole.{Left, Broken, body_of, FrameView, settled, failed, frame_after, begins_section, has_ended, is_standing, ahead}
+use Rattle.sect_types.specs.Meaning.{WorkView, Came, Went, Fell, Unchanged, assigned, value_datum, integer_of}
+use Rattle.sect_types.specs.Meaning.{result_of, fits, computed, done, paid, one, looks, found_at, Next, On, Off, going}
+use Rattle.sect_types.specs.Meaning.{taken, next, is_true, begins_step}
+use Rattle.sect_types.specs.Whole.{Left, Broken, body_of, FrameView, settled, failed, frame_after, begins_section}
+use Rattle.sect_types.specs.Whole.{has_ended, is_standing, ahead}
 use Rattle.sect_serial.specs.steps.Moves.{Stepped, stepped, stepped_by}
 use Rattle.sect_serial.specs.steps.Rests.{is_stop, Begins, after_first}
 use Rattle.sect_serial.specs.steps.Frames.{IsReady}
@@ -25,7 +29,8 @@ use Rattle.sect_types.proofs.Joining.{sound_joined}
 use Rattle.sect_types.proofs.Starts.{settled_text}
 
 -- what follows a step is sound
-pub sound_stepped : (e : Environment) (b : Bool) (p : ProgramView) (t : ℕ) (k : TextView) (found : Option ObjectView) (w : WorkView) (s : StoreView)
+pub sound_stepped : (e : Environment) (b : Bool) (p : ProgramView) (t : ℕ) (k : TextView) (found : Option ObjectView)
+    (w : WorkView) (s : StoreView)
     → IsSound e b k → IsSound e b (stepped_by t k s (next p t k found w)).text
 sound_stepped e b p t Stop found w s h = tt
 sound_stepped e b p t (Do a k) found w s h = by (one p t a found w) where
@@ -53,7 +58,8 @@ abbrev pub Spends : ℕ → Stepped → Type 0
 Spends n r = r.fault ≡ None → r.work.fuel < n
 
 -- a step that comes to no fault leaves less fuel
-pub spends_stepped : (p : ProgramView) (t : ℕ) (k : TextView) (found : Option ObjectView) (w : WorkView) (s : StoreView) → begins_step k ≡ true
+pub spends_stepped : (p : ProgramView) (t : ℕ) (k : TextView) (found : Option ObjectView) (w : WorkView) (s : StoreView)
+    → begins_step k ≡ true
     → Spends w.fuel (stepped_by t k s (next p t k found w))
 spends_stepped p t Stop found w s b = absurd (true≢false (sym b))
 spends_stepped p t (Do a k) found w s b = pay w.fuel where
@@ -63,7 +69,8 @@ spends_stepped p t (Do a k) found w s b = pay w.fuel where
 
   pay : (n : ℕ) → Spends n (stepped_by t (Do a k) s (going k (paid n w (done p t a found))))
   pay zero none = absurd (cc)
-  pay (suc n) none = come n (done p t a found (record w { fuel = n })) (done_leaves p t a found (record w { fuel = n })) none
+  pay (suc n) none = come n (done p t a found (record w { fuel = n })) (done_leaves p t a found (record w { fuel = n }))
+      none
 spends_stepped p t (Choose c y z k) found w s b = pay w.fuel where
   pay : (n : ℕ) → Spends n (stepped_by t (Choose c y z k) s (taken n c (joined y k) (joined z k) w))
   pay zero none = absurd (cc)
@@ -84,13 +91,16 @@ abbrev left_from : ProgramView → ℕ → Stepped → Left
 left_from p t r = left_now p t r.text r.work r.store r.fault
 
 -- the same, seen from the definitions
-left_alike : (p : ProgramView) (t : ℕ) (k : TextView) (s : StoreView) (n : Next) → left_after p t s n ≡ left_from p t (stepped_by t k s n)
+left_alike : (p : ProgramView) (t : ℕ) (k : TextView) (s : StoreView) (n : Next)
+    → left_after p t s n ≡ left_from p t (stepped_by t k s n)
 left_alike p t k s (On rest w c) = refl
 left_alike p t k s (Off why w) = refl
 
 -- a step keeps what statements leave
-pub left_stepped : (p : ProgramView) (t : ℕ) (k : TextView) (w : WorkView) (s : StoreView) (l : TextView) (v : WorkView) (r : StoreView) (f : Option Fault)
-    → stepped l v r f ≡ stepped_by t k s (next p t k (found_at s (looks k w)) w) → body_of p t k w s ≡ left_now p t l v r f
+pub left_stepped : (p : ProgramView) (t : ℕ) (k : TextView) (w : WorkView) (s : StoreView) (l : TextView) (v : WorkView)
+    (r : StoreView) (f : Option Fault)
+    → stepped l v r f ≡ stepped_by t k s (next p t k (found_at s (looks k w)) w)
+    → body_of p t k w s ≡ left_now p t l v r f
 left_stepped p t k w s l v r f e =
     step_keeps p t k w s ∙ left_alike p t k s (next p t k (found_at s (looks k w)) w) ∙ ap (left_from p t) (sym e)
 
@@ -131,18 +141,23 @@ looks_local e (Loop c p k) w h = refl
 looks_local e (Section i p k) w h = refl
 
 -- and leaves the store as it is
-pub store_local : (e : Environment) (p : ProgramView) (t : ℕ) (k : TextView) (found : Option ObjectView) (w : WorkView) (s : StoreView)
+pub store_local : (e : Environment) (p : ProgramView) (t : ℕ) (k : TextView) (found : Option ObjectView) (w : WorkView)
+    (s : StoreView)
     → IsSound e false k → (stepped_by t k s (next p t k found w)).store ≡ s
 store_local e p t Stop found w s h = refl
 store_local e p t (Do a k) found w s h = pay w.fuel where
-  came : (q : TextView) (a : Action) (v : WorkView) → StandsRight false a → (stepped_by t q s (going k (done p t a found v))).store ≡ s
+  came : (q : TextView) (a : Action) (v : WorkView) → StandsRight false a
+      → (stepped_by t q s (going k (done p t a found v))).store ≡ s
   came q (action.Assign x u) v h = refl
-  came q (action.Compute x l o r) v h = by (result_of o (integer_of (value_datum v.locals l)) (integer_of (value_datum v.locals r))) where
-    by : (z : ℤ) → (stepped_by t q s (going k (computed x z v))).store ≡ s
-    by z = fit (fits z) where
-      fit : (b : Bool) → (stepped_by t q s (going k (if b then Went (assigned x (Number z) v) Unchanged else Fell fault.Overflow v))).store ≡ s
-      fit true = refl
-      fit false = refl
+  came q (action.Compute x l o r) v h =
+      by (result_of o (integer_of (value_datum v.locals l)) (integer_of (value_datum v.locals r))) where
+        by : (z : ℤ) → (stepped_by t q s (going k (computed x z v))).store ≡ s
+        by z = fit (fits z) where
+          fit : (b : Bool)
+              → (stepped_by t q s
+              (going k (if b then Went (assigned x (Number z) v) Unchanged else Fell fault.Overflow v))).store ≡ s
+          fit true = refl
+          fit false = refl
   came q (action.New x r site) v h = absurd (true≢false h)
   came q (action.Load x b f) v h = absurd (true≢false h)
   came q (action.Store b f u) v h = absurd (true≢false h)
@@ -176,17 +191,20 @@ frame_alike t k s (On rest w c) = refl
 frame_alike t k s (Off why w) = refl
 
 -- its local code run on is the same after a step of it
-pub ahead_stepped : (e : Environment) (p : ProgramView) (t : ℕ) (f : FrameView) (s : StoreView) (l : TextView) (v : WorkView) (r : StoreView) (why : Option Fault)
+pub ahead_stepped : (e : Environment) (p : ProgramView) (t : ℕ) (f : FrameView) (s : StoreView) (l : TextView)
+    (v : WorkView) (r : StoreView) (why : Option Fault)
     → IsSound e false f.text → f.ended ≡ None → begins_step f.text ≡ true
     → stepped l v r why ≡ stepped_by t f.text s (next p t f.text (found_at s (looks f.text f.work)) f.work)
     → ahead p t (frame_now l v why) ≡ ahead p t f
 ahead_stepped e p t f s l v r why sound none steps is =
-    ap (ahead p t) (ap frame_from (is ∙ ap (λ o. stepped_by t f.text s (next p t f.text (found_at s o) f.work)) (looks_local e f.text f.work sound))
+    ap (ahead p t) (ap frame_from (is
+    ∙ ap (λ o. stepped_by t f.text s (next p t f.text (found_at s o) f.work)) (looks_local e f.text f.work sound))
     ∙ sym (frame_alike t f.text s (next p t f.text None f.work)))
     ∙ ahead_after_local p t f none steps
 
 -- a frame that does not stand has not ended, and has a step next
-pub steps_outside : (f : FrameView) → is_standing f ≡ false → (has_ended f.ended ≡ false → is_stop f.text ≡ false) → (f.ended ≡ None) × (begins_step f.text ≡ true)
+pub steps_outside : (f : FrameView) → is_standing f ≡ false → (has_ended f.ended ≡ false → is_stop f.text ≡ false)
+    → (f.ended ≡ None) × (begins_step f.text ≡ true)
 steps_outside f stands full = by f.text f.ended stands full where
   text : (k : TextView) → begins_section k ≡ false → is_stop k ≡ false → begins_step k ≡ true
   text Stop a b = absurd (true≢false b)
@@ -195,13 +213,15 @@ steps_outside f stands full = by f.text f.ended stands full where
   text (Loop c l r) a b = refl
   text (Section i l r) a b = absurd (true≢false a)
 
-  by : (k : TextView) (o : Option End) → (if has_ended o then true else begins_section k) ≡ false → (has_ended o ≡ false → is_stop k ≡ false)
+  by : (k : TextView) (o : Option End) → (if has_ended o then true else begins_section k) ≡ false
+      → (has_ended o ≡ false → is_stop k ≡ false)
       → (o ≡ None) × (begins_step k ≡ true)
   by k None stands full = (refl, text k stands (full refl))
   by k (Some end) stands full = absurd (true≢false stands)
 
 -- a frame that is settled or has failed is ready
-pub ready_settled : (k : TextView) (w : WorkView) → has_ended (settled k w).ended ≡ false → is_stop (settled k w).text ≡ false
+pub ready_settled : (k : TextView) (w : WorkView) → has_ended (settled k w).ended ≡ false
+    → is_stop (settled k w).text ≡ false
 ready_settled Stop w e = absurd (true≢false e)
 ready_settled (Do a r) w e = refl
 ready_settled (Choose c y z r) w e = refl
@@ -232,7 +252,8 @@ pub record Kept (e : Environment) (p : ProgramView) (t : ℕ) (f g : FrameView) 
   pub less : room g < room f
 
 -- what a step outside sections keeps
-pub kept : (e : Environment) (p : ProgramView) (t : ℕ) (f : FrameView) (s : StoreView) (l : TextView) (v : WorkView) (r : StoreView) (why : Option Fault)
+pub kept : (e : Environment) (p : ProgramView) (t : ℕ) (f : FrameView) (s : StoreView) (l : TextView) (v : WorkView)
+    (r : StoreView) (why : Option Fault)
     → is_standing f ≡ false → IsReady e f
     → stepped l v r why ≡ stepped_by t f.text s (next p t f.text (found_at s (looks f.text f.work)) f.work)
     → Kept e p t f (frame_now l v why)
@@ -258,7 +279,8 @@ kept e p t f s l v r why stands ready is = record {
 
   spends : why ≡ None → v.fuel < f.work.fuel
   spends none =
-      let h = spends_stepped p t f.text (found_at s (looks f.text f.work)) f.work s outside.1 (ap (λ (x : Stepped). x.fault) (sym is) ∙ none) in
+      let h = spends_stepped p t f.text (found_at s (looks f.text f.work)) f.work s outside.1
+      (ap (λ (x : Stepped). x.fault) (sym is) ∙ none) in
       rw (ap (λ (x : Stepped). x.work.fuel) is) h
 
   less : (o : Option Fault) → why ≡ o → room (frame_now l v o) < room f
@@ -266,24 +288,29 @@ kept e p t f s l v r why stands ready is = record {
   less (Some x) some = omega (arith, open_room)
 
 -- what is known once a step of a thread that doesn't stand has been made, where g is the frame before it
-pub record AfterStep (e : Environment) (p : ProgramView) (t : ℕ) (g : FrameView) (s : StoreView) (l : TextView) (v : WorkView) (r : StoreView) (why : Option Fault) : Type 0 where
+pub record AfterStep (e : Environment) (p : ProgramView) (t : ℕ) (g : FrameView) (s : StoreView) (l : TextView)
+    (v : WorkView) (r : StoreView) (why : Option Fault) : Type 0 where
   pub kept : Kept e p t g (frame_now l v why)
   pub none : g.ended ≡ None
   pub store : r ≡ s
 
 -- and so it is, where f is the frame as the code has it
-pub after_step : (e : Environment) (p : ProgramView) (t : ℕ) (f g : FrameView) (s : StoreView) (l : TextView) (v : WorkView) (r : StoreView) (o why : Option Fault) (b : Bool)
+pub after_step : (e : Environment) (p : ProgramView) (t : ℕ) (f g : FrameView) (s : StoreView) (l : TextView)
+    (v : WorkView) (r : StoreView) (o why : Option Fault) (b : Bool)
     → f ≡ g → b ≡ is_standing g → b ≡ false → IsReady e g → o ≡ why
-    → stepped l v r o ≡ stepped_by t f.text s (next p t f.text (found_at s (looks f.text f.work)) f.work) → AfterStep e p t g s l v r why
+    → stepped l v r o ≡ stepped_by t f.text s (next p t f.text (found_at s (looks f.text f.work)) f.work)
+    → AfterStep e p t g s l v r why
 after_step e p t f g s l v r o why b seen tells goes ready same is = record {
   kept = kept e p t g s l v r why stands ready now;
   none = (steps_outside g stands ready.1).0;
-  store = ap (λ (x : Stepped). x.store) now ∙ store_local e p t g.text (found_at s (looks g.text g.work)) g.work s ready.0;
+  store = ap (λ (x : Stepped). x.store) now
+      ∙ store_local e p t g.text (found_at s (looks g.text g.work)) g.work s ready.0;
 } where
   stands : is_standing g ≡ false
   stands = sym tells ∙ goes
 
   now : stepped l v r why ≡ stepped_by t g.text s (next p t g.text (found_at s (looks g.text g.work)) g.work)
   now =
-      subst (λ (x : FrameView). stepped l v r why ≡ stepped_by t x.text s (next p t x.text (found_at s (looks x.text x.work)) x.work)) seen
+      subst (λ (x : FrameView). stepped l v r why ≡ stepped_by t x.text s
+      (next p t x.text (found_at s (looks x.text x.work)) x.work)) seen
       (ap (stepped l v r) (sym same) ∙ is)

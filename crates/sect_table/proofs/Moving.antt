@@ -1,5 +1,7 @@
 -- What a move of one node makes of the table that an arena shows.
-use Rattle.std.proofs.Common.{◌≡◌, ◌≢◌, ◌⊎◌, inl, inr, ℕ, ◌+◌, ◌<◌, List, [], ◌∷◌, ◌++◌, length, map, drop, get_or, set, Bool, true, false, not, Some, refl, sym, ◌∙◌, ap, subst, arith, get_or-set_same, get_or-set_other, length-append}
+use Rattle.std.proofs.Common.{◌≡◌, ◌≢◌, ◌⊎◌, inl, inr, ℕ, ◌+◌, ◌<◌, List, [], ◌∷◌, ◌++◌, length, map, drop, get_or, set}
+use Rattle.std.proofs.Common.{Bool, true, false, not, Some, refl, sym, ◌∙◌, ap, subst, arith, get_or-set_same}
+use Rattle.std.proofs.Common.{get_or-set_other, length-append}
 use Rattle.std.specs.Prelude.{◌==◌, ◌||◌, if◌then◌else◌}
 use Rattle.std.proofs.lemmas.Bool.{cases_eq, cases_lt, eq-eqb}
 use Rattle.std.proofs.lemmas.List.{length-set, get_or_past, map_push}
@@ -8,14 +10,19 @@ use Rattle.sect_modes.specs.declared.key.Key.{Key}
 use Rattle.sect_table.specs.declared.claims.Hold.{Hold}
 use Rattle.sect_table.specs.declared.claims.Claim.{Claim}
 use Rattle.sect_table.specs.declared.claims.Grant.{Grant}
-use Rattle.sect_table.specs.Contents.{Entry, Contents, number_of, entry_of, first_of, put, is_among, AreApart, stay, give, hold_of, claim_of, with_holder, with_waiter, with_grant, without_holder}
+use Rattle.sect_table.specs.Contents.{Entry, Contents, number_of, entry_of, first_of, put, is_among, AreApart, stay}
+use Rattle.sect_table.specs.Contents.{give, hold_of, claim_of, with_holder, with_waiter, with_grant, without_holder}
 use Rattle.sect_table.specs.steps.Keys.{place_in}
-use Rattle.sect_table.specs.steps.Links.{Shape, list_at, label_at, Among, AreDistinct, IsAbsent, ArePlaced, without, moved}
-use Rattle.sect_table.specs.steps.Arena.{node_at, no_node, claims, holds_at, queue_at, chain_at, entry_at, entries_from, held_from, shown, HasRole, IsArena}
+use Rattle.sect_table.specs.steps.Links.{Shape, list_at, label_at, Among, AreDistinct, IsAbsent, ArePlaced, without}
+use Rattle.sect_table.specs.steps.Links.{moved}
+use Rattle.sect_table.specs.steps.Arena.{node_at, no_node, claims, holds_at, queue_at, chain_at, entry_at, entries_from}
+use Rattle.sect_table.specs.steps.Arena.{held_from, shown, HasRole, IsArena}
 use Rattle.sect_table.proofs.Runs.{each_map, without-same, without-other, without_absent}
 use Rattle.sect_table.proofs.Whole.{length-without}
-use Rattle.sect_table.proofs.Shown.{seen, entries-put, entries-kept, held-set, held-kept, queues-seen, chain-seen, one_place}
-use Rattle.sect_table.proofs.Roles.{arena_moved, labelled_first, WaitsFor, waiter_role, HoldsBy, holding_role, free_role}
+use Rattle.sect_table.proofs.Shown.{seen, entries-put, entries-kept, held-set, held-kept, queues-seen, chain-seen}
+use Rattle.sect_table.proofs.Shown.{one_place}
+use Rattle.sect_table.proofs.Roles.{arena_moved, labelled_first, WaitsFor, waiter_role, HoldsBy, holding_role}
+use Rattle.sect_table.proofs.Roles.{free_role}
 
 -- what `move_to` says
 pub record Goes (s s' : Shape) (x to : ℕ) : Type 0 where
@@ -24,10 +31,13 @@ pub record Goes (s s' : Shape) (x to : ℕ) : Type 0 where
   pub labels : s'.labels ≡ set s.labels x to
   pub lists : s'.lists ≡ moved x to s.lists
   pub placed : ArePlaced s'
-  pub places : (from : ℕ) → from < length s.lists → Among x (list_at s.lists from) → map (without x) s.lists ≡ set s.lists from (without x (list_at s.lists from))
+  pub places : (from : ℕ) → from < length s.lists → Among x (list_at s.lists from)
+      → map (without x) s.lists ≡ set s.lists from (without x (list_at s.lists from))
 
-pub goes : (s s' : Shape) (x to : ℕ) → s'.size ≡ s.size → length s'.lists ≡ length s.lists → s'.labels ≡ set s.labels x to → s'.lists ≡ moved x to s.lists → ArePlaced s'
-    → ((from : ℕ) → from < length s.lists → Among x (list_at s.lists from) → map (without x) s.lists ≡ set s.lists from (without x (list_at s.lists from))) → Goes s s' x to
+pub goes : (s s' : Shape) (x to : ℕ) → s'.size ≡ s.size → length s'.lists ≡ length s.lists
+    → s'.labels ≡ set s.labels x to → s'.lists ≡ moved x to s.lists → ArePlaced s'
+    → ((from : ℕ) → from < length s.lists → Among x (list_at s.lists from)
+    → map (without x) s.lists ≡ set s.lists from (without x (list_at s.lists from))) → Goes s s' x to
 goes s s' x to a b c d e f = record { size = a; count = b; labels = c; lists = d; placed = e; places = f }
 
 -- a number goes from one list to the end of another one
@@ -37,58 +47,82 @@ pub record Moved (q q' : List (List ℕ)) (x from to : ℕ) : Type 0 where
   pub came : list_at q' to ≡ list_at q to ++ x ∷ []
   pub others : (l : ℕ) → l ≢ from → l ≢ to → list_at q' l ≡ list_at q l
 
-pub moved_lists : (s s' : Shape) (x from to : ℕ) → ArePlaced s → Goes s s' x to → x < s.size → label_at s x ≡ from → to < length s.lists → from ≢ to → Moved s.lists s'.lists x from to
+pub moved_lists : (s s' : Shape) (x from to : ℕ) → ArePlaced s → Goes s s' x to → x < s.size → label_at s x ≡ from
+    → to < length s.lists → from ≢ to → Moved s.lists s'.lists x from to
 moved_lists s s' x from to p g lt label within apart =
     let q = s.lists in
-    let was : (from < length q) × Among x (list_at q from) = subst (λ l. (l < length q) × Among x (list_at q l)) label (p.there x lt) in
+    let was : (from < length q) × Among x (list_at q from) =
+    subst (λ l. (l < length q) × Among x (list_at q l)) label (p.there x lt) in
     let y : List ℕ = without x (list_at q from) in
     let n : length (set q from y) ≡ length q = length-set q from y in
     let base : map (without x) q ≡ set q from y = g.places from was.0 was.1 in
     let at_to : list_at (set q from y) to ≡ list_at q to = get_or-set_other q from to y [] (λ e. apart (sym e)) in
-    let now : s'.lists ≡ set (set q from y) to (list_at q to ++ x ∷ []) = g.lists ∙ (ap (λ z. set z to (list_at z to ++ x ∷ [])) base ∙ ap (λ z. set (set q from y) to (z ++ x ∷ [])) at_to) in
+    let now : s'.lists ≡ set (set q from y) to (list_at q to ++ x ∷ []) =
+    g.lists ∙ (ap (λ z. set z to (list_at z to ++ x ∷ [])) base
+    ∙ ap (λ z. set (set q from y) to (z ++ x ∷ [])) at_to) in
     record {
       there = was.1;
-      left = ap (λ z. list_at z from) now ∙ (get_or-set_other (set q from y) to from (list_at q to ++ x ∷ []) [] apart ∙ get_or-set_same q from y [] was.0);
+      left = ap (λ z. list_at z from) now
+          ∙ (get_or-set_other (set q from y) to from (list_at q to ++ x ∷ []) [] apart
+          ∙ get_or-set_same q from y [] was.0);
       came = ap (λ z. list_at z to) now ∙ get_or-set_same (set q from y) to (list_at q to ++ x ∷ []) [] (omega arith);
-      others = λ l not_from not_to. ap (λ z. list_at z l) now ∙ (get_or-set_other (set q from y) to l (list_at q to ++ x ∷ []) [] not_to ∙ get_or-set_other q from l y [] not_from);
+      others = λ l not_from not_to. ap (λ z. list_at z l) now
+          ∙ (get_or-set_other (set q from y) to l (list_at q to ++ x ∷ []) [] not_to
+          ∙ get_or-set_other q from l y [] not_from);
     }
 
 -- the first of a list goes
 pub without_first : (x : ℕ) (xs rest : List ℕ) → xs ≡ x ∷ rest → AreDistinct xs → without x xs ≡ rest
-without_first x xs rest is d = let d' : AreDistinct (x ∷ rest) = subst AreDistinct is d in ap (without x) is ∙ (without-same x rest ∙ without_absent x rest d'.0)
+without_first x xs rest is d = let d' : AreDistinct (x ∷ rest) = subst AreDistinct is d in
+    ap (without x) is ∙ (without-same x rest ∙ without_absent x rest d'.0)
 
 -- one call's outcome
-pub record Shows (nodes : List Grant) (keys : List Key) (threads : ℕ) (q c : Shape) (held : List (List Hold)) (entries : List Entry) : Type 0 where
+pub record Shows (nodes : List Grant) (keys : List Key) (threads : ℕ) (q c : Shape) (held : List (List Hold))
+    (entries : List Entry) : Type 0 where
   pub arena : IsArena nodes keys threads q c
   pub held_is : held_from (chain_at nodes c.lists) 0 threads ≡ held
   pub entries_are : entries_from (queue_at nodes q.lists) 0 keys ≡ entries
 
 -- a free node's request is written
-claims_kept : (nodes : List Grant) (x : ℕ) (r : Grant) (xs : List ℕ) → IsAbsent x xs → claims (set nodes x r) xs ≡ claims nodes xs
+claims_kept : (nodes : List Grant) (x : ℕ) (r : Grant) (xs : List ℕ) → IsAbsent x xs
+    → claims (set nodes x r) xs ≡ claims nodes xs
 claims_kept nodes x r [] e = refl
 claims_kept nodes x r (y ∷ ys) e =
-    ap (λ (z : Grant). claim_of z.thread z.mode ∷ claims (set nodes x r) ys) (get_or-set_other nodes x y r no_node e.0) ∙ ap (λ z. claim_of (node_at nodes y).thread (node_at nodes y).mode ∷ z) (claims_kept nodes x r ys e.1)
+    ap (λ (z : Grant). claim_of z.thread z.mode ∷ claims (set nodes x r) ys) (get_or-set_other nodes x y r no_node e.0)
+    ∙ ap (λ z. claim_of (node_at nodes y).thread (node_at nodes y).mode ∷ z) (claims_kept nodes x r ys e.1)
 
-holds_kept : (nodes : List Grant) (x : ℕ) (r : Grant) (xs : List ℕ) → IsAbsent x xs → holds_at (set nodes x r) xs ≡ holds_at nodes xs
+holds_kept : (nodes : List Grant) (x : ℕ) (r : Grant) (xs : List ℕ) → IsAbsent x xs
+    → holds_at (set nodes x r) xs ≡ holds_at nodes xs
 holds_kept nodes x r [] e = refl
 holds_kept nodes x r (y ∷ ys) e =
-    ap (λ (z : Grant). hold_of z.key z.mode ∷ holds_at (set nodes x r) ys) (get_or-set_other nodes x y r no_node e.0) ∙ ap (λ z. hold_of (node_at nodes y).key (node_at nodes y).mode ∷ z) (holds_kept nodes x r ys e.1)
+    ap (λ (z : Grant). hold_of z.key z.mode ∷ holds_at (set nodes x r) ys) (get_or-set_other nodes x y r no_node e.0)
+    ∙ ap (λ z. hold_of (node_at nodes y).key (node_at nodes y).mode ∷ z) (holds_kept nodes x r ys e.1)
 
 -- a node is in no list but its own
 absent_other : (s : Shape) (x l : ℕ) → ArePlaced s → label_at s x ≢ l → IsAbsent x (list_at s.lists l)
 absent_other s x l p ne = elim (cases_lt l (length s.lists)) [
-  | inl lt ↦ each_map (λ i. (i < s.size) × (label_at s i ≡ l)) (λ i. i ≢ x) (λ i h e. ne (ap (label_at s) (sym e) ∙ h.1)) (list_at s.lists l) (p.labelled l lt)
+  | inl lt ↦ each_map (λ i. (i < s.size) × (label_at s i ≡ l)) (λ i. i ≢ x)
+      (λ i h e. ne (ap (label_at s) (sym e) ∙ h.1)) (list_at s.lists l) (p.labelled l lt)
   | inr le ↦ subst (IsAbsent x) (sym (get_or_past s.lists l [] le)) tt
 ]
 
-pub filled : (nodes : List Grant) (keys : List Key) (threads : ℕ) (q c : Shape) (now : Contents) (x : ℕ) (r : Grant) → IsArena nodes keys threads q c → shown nodes keys threads q c ≡ now → x < q.size → label_at q x ≡ 0
+pub filled : (nodes : List Grant) (keys : List Key) (threads : ℕ) (q c : Shape) (now : Contents) (x : ℕ) (r : Grant)
+    → IsArena nodes keys threads q c → shown nodes keys threads q c ≡ now → x < q.size → label_at q x ≡ 0
     → IsArena (set nodes x r) keys threads q c × (shown (set nodes x r) keys threads q c ≡ now)
 filled nodes keys threads q c now x r a is lt label =
     let label_c : label_at c x ≡ 0 = free_role nodes keys threads q c x a lt label in
     let held : held_from (chain_at (set nodes x r) c.lists) 0 threads ≡ held_from (chain_at nodes c.lists) 0 threads
-    = held-kept (chain_at nodes c.lists) (chain_at (set nodes x r) c.lists) 0 threads (λ j le. holds_kept nodes x r (list_at c.lists (j + j + 1)) (absent_other c x (j + j + 1) a.in_chains (λ e. absurd (omega arith)))) in
+    = held-kept (chain_at nodes c.lists) (chain_at (set nodes x r) c.lists) 0 threads
+    (λ j le. holds_kept nodes x r (list_at c.lists (j + j + 1))
+    (absent_other c x (j + j + 1) a.in_chains (λ e. absurd (omega arith)))) in
     let entries : entries_from (queue_at (set nodes x r) q.lists) 0 keys ≡ entries_from (queue_at nodes q.lists) 0 keys
-    = entries-kept (queue_at nodes q.lists) (queue_at (set nodes x r) q.lists) 0 keys (λ j le. (claims_kept nodes x r (list_at q.lists (j + j + 1)) (absent_other q x (j + j + 1) a.in_queues (λ e. absurd (omega arith))), claims_kept nodes x r (list_at q.lists (j + j + 2)) (absent_other q x (j + j + 2) a.in_queues (λ e. absurd (omega arith))))) in (
+    = entries-kept (queue_at nodes q.lists) (queue_at (set nodes x r) q.lists) 0 keys
+    (λ j le. (
+      claims_kept nodes x r (list_at q.lists (j + j + 1))
+          (absent_other q x (j + j + 1) a.in_queues (λ e. absurd (omega arith))),
+      claims_kept nodes x r (list_at q.lists (j + j + 2))
+          (absent_other q x (j + j + 2) a.in_queues (λ e. absurd (omega arith))),
+    )) in (
       record {
         sizes = length-set nodes x r ∙ a.sizes;
         chained = a.chained;
@@ -102,23 +136,42 @@ filled nodes keys threads q c now x r a is lt label =
           | inr ne ↦ role_kept i (sym (get_or-set_other nodes x i r no_node ne)) (a.roles i below)
         ];
       },
-      ap (λ z. record { held = z; entries = entries_from (queue_at (set nodes x r) q.lists) 0 keys; spare = length (list_at q.lists 0) }) held
-          ∙ (ap (λ z. record { held = held_from (chain_at nodes c.lists) 0 threads; entries = z; spare = length (list_at q.lists 0) }) entries ∙ is),
+      ap (λ z. record {
+        held = z;
+        entries = entries_from (queue_at (set nodes x r) q.lists) 0 keys;
+        spare =
+            length (list_at q.lists 0);
+      }) held
+          ∙ (ap (λ z. record {
+            held = held_from (chain_at nodes c.lists) 0 threads;
+            entries = z;
+            spare =
+                length (list_at q.lists 0);
+          }) entries ∙ is),
     )
   where
-    role_kept : (i : ℕ) → node_at nodes i ≡ node_at (set nodes x r) i → HasRole nodes keys threads (label_at q i) (label_at c i) i → HasRole (set nodes x r) keys threads (label_at q i) (label_at c i) i
+    role_kept : (i : ℕ) → node_at nodes i ≡ node_at (set nodes x r) i
+        → HasRole nodes keys threads (label_at q i) (label_at c i) i
+        → HasRole (set nodes x r) keys threads (label_at q i) (label_at c i) i
     role_kept i e (inl free) = inl free
     role_kept i e (inr used) = inr (record {
       known = subst (λ (z : Grant). place_in z.key keys < length keys) e used.known;
       thread = subst (λ (z : Grant). z.thread < threads) e used.thread;
-      place = subst (λ (z : Grant). let k = place_in z.key keys in let t = z.thread in ((label_at q i ≡ k + k + 1) × (label_at c i ≡ t + t + 1)) ⊎ ((label_at q i ≡ k + k + 2) × (label_at c i ≡ t + t + 2))) e used.place;
+      place = subst (λ (z : Grant). let k = place_in z.key keys in let t = z.thread in
+          ((label_at q i ≡ k + k + 1) × (label_at c i ≡ t + t + 1))
+          ⊎ ((label_at q i ≡ k + k + 2) × (label_at c i ≡ t + t + 2))) e used.place;
     })
 
 -- a free node comes to hold a key
-pub holder_added : (nodes : List Grant) (keys : List Key) (threads : ℕ) (q c q' c' : Shape) (now : Contents) (t : ℕ) (m : Mode) (key : Key) (at x : ℕ) (rest : List ℕ)
-    → IsArena nodes keys threads q c → shown nodes keys threads q c ≡ now → t < length now.held → at ≡ number_of key now.entries → at < length now.entries
-    → list_at q.lists 0 ≡ x ∷ rest → node_at nodes x ≡ record { thread = t; key = key; mode = m } → Goes q q' x (at + at + 1) → Goes c c' x (t + t + 1)
-    → Shows nodes keys threads q' c' (give t key m now.held) (put (with_holder (claim_of t m) (entry_of key now.entries)) now.entries) × (length (list_at q'.lists 0) + 1 ≡ now.spare)
+pub holder_added : (nodes : List Grant) (keys : List Key) (threads : ℕ) (q c q' c' : Shape) (now : Contents) (t : ℕ)
+    (m : Mode) (key : Key) (at x : ℕ) (rest : List ℕ)
+    → IsArena nodes keys threads q c → shown nodes keys threads q c ≡ now → t < length now.held
+    → at ≡ number_of key now.entries → at < length now.entries
+    → list_at q.lists 0 ≡ x ∷ rest → node_at nodes x ≡ record { thread = t; key = key; mode = m }
+    → Goes q q' x (at + at + 1) → Goes c c' x (t + t + 1)
+    → Shows nodes keys threads q' c' (give t key m now.held)
+    (put (with_holder (claim_of t m) (entry_of key now.entries)) now.entries)
+    × (length (list_at q'.lists 0) + 1 ≡ now.spare)
 holder_added nodes keys threads q c q' c' now t m key at x rest a is lt number known first node gq gc =
     let s = seen nodes keys threads q c now a is in
     let here = labelled_first q 0 x rest a.in_queues (let n = s.queues in omega arith) first in
@@ -132,40 +185,73 @@ holder_added nodes keys threads q c q' c' now t m key at x rest a is lt number k
     let place : place_in key keys ≡ number_of key now.entries = s.numbers key in
     let node_key : (node_at nodes x).key ≡ key = ap (λ (z : Grant). z.key) node in
     let node_thread : (node_at nodes x).thread ≡ t = ap (λ (z : Grant). z.thread) node in
-    let own_place : place_in (node_at nodes x).key keys ≡ at = ap (λ z. place_in z keys) node_key ∙ (place ∙ sym number) in
-    let mq : Moved q.lists q'.lists x 0 (at + at + 1) = moved_lists q q' x 0 (at + at + 1) a.in_queues gq in_q here.1 (omega arith) (λ e. absurd (omega arith)) in
-    let mc : Moved c.lists c'.lists x 0 (t + t + 1) = moved_lists c c' x 0 (t + t + 1) a.in_chains gc (omega arith) label_c (omega arith) (λ e. absurd (omega arith)) in
-    let entry : entry_of key now.entries ≡ entry_at (queue_at nodes q.lists) key at = queues-seen nodes keys threads q c now key at a is number known in
-    let chain : get_or now.held t [] ≡ chain_at nodes c.lists (t + t + 1) = chain-seen nodes keys threads q c now t a is lt in
-    let claim : claim_of (node_at nodes x).thread (node_at nodes x).mode ≡ claim_of t m = ap (λ (z : Grant). claim_of z.thread z.mode) node in
-    let hold : hold_of (node_at nodes x).key (node_at nodes x).mode ≡ hold_of key m = ap (λ (z : Grant). hold_of z.key z.mode) node in
+    let own_place : place_in (node_at nodes x).key keys ≡ at = ap (λ z. place_in z keys) node_key
+    ∙ (place ∙ sym number) in
+    let mq : Moved q.lists q'.lists x 0 (at + at + 1) =
+    moved_lists q q' x 0 (at + at + 1) a.in_queues gq in_q here.1 (omega arith) (λ e. absurd (omega arith)) in
+    let mc : Moved c.lists c'.lists x 0 (t + t + 1) =
+    moved_lists c c' x 0 (t + t + 1) a.in_chains gc (omega arith) label_c (omega arith)
+    (λ e. absurd (omega arith)) in
+    let entry : entry_of key now.entries ≡ entry_at (queue_at nodes q.lists) key at =
+    queues-seen nodes keys threads q c now key at a is number known in
+    let chain : get_or now.held t [] ≡ chain_at nodes c.lists (t + t + 1) =
+    chain-seen nodes keys threads q c now t a is lt in
+    let claim : claim_of (node_at nodes x).thread (node_at nodes x).mode ≡ claim_of t m =
+    ap (λ (z : Grant). claim_of z.thread z.mode) node in
+    let hold : hold_of (node_at nodes x).key (node_at nodes x).mode ≡ hold_of key m =
+    ap (λ (z : Grant). hold_of z.key z.mode) node in
     let holders : queue_at nodes q'.lists (at + at + 1) ≡ queue_at nodes q.lists (at + at + 1) ++ claim_of t m ∷ []
-    = ap (claims nodes) mq.came ∙ (map_push (λ i. claim_of (node_at nodes i).thread (node_at nodes i).mode) (list_at q.lists (at + at + 1)) x ∙ ap (λ z. queue_at nodes q.lists (at + at + 1) ++ z ∷ []) claim) in
-    let waiters : queue_at nodes q'.lists (at + at + 2) ≡ queue_at nodes q.lists (at + at + 2) = ap (claims nodes) (mq.others (at + at + 2) (λ e. absurd (omega arith)) (λ e. absurd (omega arith))) in
+    = ap (claims nodes) mq.came ∙ (map_push (λ i. claim_of (node_at nodes i).thread (node_at nodes i).mode)
+    (list_at q.lists (at + at + 1)) x ∙ ap (λ z. queue_at nodes q.lists (at + at + 1) ++ z ∷ []) claim) in
+    let waiters : queue_at nodes q'.lists (at + at + 2) ≡ queue_at nodes q.lists (at + at + 2) =
+    ap (claims nodes) (mq.others (at + at + 2) (λ e. absurd (omega arith)) (λ e. absurd (omega arith))) in
     let list : chain_at nodes c'.lists (t + t + 1) ≡ get_or now.held t [] ++ hold_of key m ∷ []
-    = ap (holds_at nodes) mc.came ∙ (map_push (λ i. hold_of (node_at nodes i).key (node_at nodes i).mode) (list_at c.lists (t + t + 1)) x ∙ (ap (λ z. chain_at nodes c.lists (t + t + 1) ++ z ∷ []) hold ∙ ap (λ z. z ++ hold_of key m ∷ []) (sym chain))) in
+    = ap (holds_at nodes) mc.came ∙ (map_push (λ i. hold_of (node_at nodes i).key (node_at nodes i).mode)
+    (list_at c.lists (t + t + 1)) x
+    ∙ (ap (λ z. chain_at nodes c.lists (t + t + 1) ++ z ∷ []) hold
+    ∙ ap (λ z. z ++ hold_of key m ∷ []) (sym chain))) in
     let new : entry_at (queue_at nodes q'.lists) key at ≡ with_holder (claim_of t m) (entry_of key now.entries)
     = ap (λ z. record { key = key; holders = z; waiters = queue_at nodes q'.lists (at + at + 2) }) holders
-    ∙ (ap (λ z. record { key = key; holders = queue_at nodes q.lists (at + at + 1) ++ claim_of t m ∷ []; waiters = z }) waiters
+    ∙ (ap (λ z. record { key = key; holders = queue_at nodes q.lists (at + at + 1) ++ claim_of t m ∷ []; waiters = z })
+    waiters
     ∙ sym (ap (with_holder (claim_of t m)) entry)) in (
       record {
-        arena = arena_moved nodes keys threads q c q' c' x (at + at + 1) (t + t + 1) a in_q gq.size gc.size gq.count gc.count gq.placed gc.placed gq.labels gc.labels
-            (inr (record { known = omega arith; thread = omega arith; place = inl (ap (λ z. z + z + 1) (sym own_place), ap (λ z. z + z + 1) (sym node_thread)) }));
-        held_is = held-set (chain_at nodes c.lists) (chain_at nodes c'.lists) 0 threads t t (omega arith) (omega arith) (λ j ne. ap (holds_at nodes) (mc.others (j + j + 1) (λ e. absurd (omega arith)) (λ e. absurd (omega arith))))
-            ∙ (ap (set (held_from (chain_at nodes c.lists) 0 threads) t) list ∙ ap (λ (z : Contents). set z.held t (get_or now.held t [] ++ hold_of key m ∷ [])) is);
-        entries_are = entries-put (queue_at nodes q.lists) (queue_at nodes q'.lists) 0 key keys at (omega arith) (omega arith)
-            (λ j ne. (ap (claims nodes) (mq.others (j + j + 1) (λ e. absurd (omega arith)) (λ e. absurd (omega arith))), ap (claims nodes) (mq.others (j + j + 2) (λ e. absurd (omega arith)) (λ e. absurd (omega arith)))))
-            ∙ (ap (λ z. put z (entries_from (queue_at nodes q.lists) 0 keys)) new ∙ ap (λ (z : Contents). put (with_holder (claim_of t m) (entry_of key now.entries)) z.entries) is);
+        arena = arena_moved nodes keys threads q c q' c' x (at + at + 1) (t + t + 1) a in_q gq.size gc.size gq.count
+            gc.count gq.placed gc.placed gq.labels gc.labels
+            (inr (record {
+              known = omega arith;
+              thread = omega arith;
+              place =
+                  inl (ap (λ z. z + z + 1) (sym own_place), ap (λ z. z + z + 1) (sym node_thread));
+            }));
+        held_is = held-set (chain_at nodes c.lists) (chain_at nodes c'.lists) 0 threads t t (omega arith) (omega arith)
+            (λ j ne. ap (holds_at nodes) (mc.others (j + j + 1) (λ e. absurd (omega arith))
+            (λ e. absurd (omega arith))))
+            ∙ (ap (set (held_from (chain_at nodes c.lists) 0 threads) t) list
+            ∙ ap (λ (z : Contents). set z.held t (get_or now.held t [] ++ hold_of key m ∷ [])) is);
+        entries_are = entries-put (queue_at nodes q.lists) (queue_at nodes q'.lists) 0 key keys at (omega arith)
+            (omega arith)
+            (λ j ne. (
+              ap (claims nodes) (mq.others (j + j + 1) (λ e. absurd (omega arith)) (λ e. absurd (omega arith))),
+              ap (claims nodes) (mq.others (j + j + 2) (λ e. absurd (omega arith)) (λ e. absurd (omega arith))),
+            ))
+            ∙ (ap (λ z. put z (entries_from (queue_at nodes q.lists) 0 keys)) new
+            ∙ ap (λ (z : Contents). put (with_holder (claim_of t m) (entry_of key now.entries)) z.entries) is);
       },
-      (let fewer : length (without x (list_at q.lists 0)) + 1 ≡ length (list_at q.lists 0) = length-without x (list_at q.lists 0) (a.in_queues.distinct 0 (omega arith)) mq.there in
+      (let fewer : length (without x (list_at q.lists 0)) + 1 ≡ length (list_at q.lists 0) =
+          length-without x (list_at q.lists 0) (a.in_queues.distinct 0 (omega arith)) mq.there in
           ap (λ z. length z + 1) mq.left ∙ (fewer ∙ ap (λ (z : Contents). z.spare) is)),
     )
 
 -- a free node comes to wait for a key
-pub waiter_added : (nodes : List Grant) (keys : List Key) (threads : ℕ) (q c q' c' : Shape) (now : Contents) (t : ℕ) (m : Mode) (key : Key) (at x : ℕ) (rest : List ℕ)
-    → IsArena nodes keys threads q c → shown nodes keys threads q c ≡ now → t < length now.held → at ≡ number_of key now.entries → at < length now.entries
-    → list_at q.lists 0 ≡ x ∷ rest → node_at nodes x ≡ record { thread = t; key = key; mode = m } → Goes q q' x (at + at + 2) → Goes c c' x (t + t + 2)
-    → Shows nodes keys threads q' c' now.held (put (with_waiter (claim_of t m) (entry_of key now.entries)) now.entries) × (length (list_at q'.lists 0) + 1 ≡ now.spare)
+pub waiter_added : (nodes : List Grant) (keys : List Key) (threads : ℕ) (q c q' c' : Shape) (now : Contents) (t : ℕ)
+    (m : Mode) (key : Key) (at x : ℕ) (rest : List ℕ)
+    → IsArena nodes keys threads q c → shown nodes keys threads q c ≡ now → t < length now.held
+    → at ≡ number_of key now.entries → at < length now.entries
+    → list_at q.lists 0 ≡ x ∷ rest → node_at nodes x ≡ record { thread = t; key = key; mode = m }
+    → Goes q q' x (at + at + 2) → Goes c c' x (t + t + 2)
+    → Shows nodes keys threads q' c' now.held (put (with_waiter (claim_of t m) (entry_of key now.entries)) now.entries)
+    × (length (list_at q'.lists 0) + 1 ≡ now.spare)
 waiter_added nodes keys threads q c q' c' now t m key at x rest a is lt number known first node gq gc =
     let s = seen nodes keys threads q c now a is in
     let here = labelled_first q 0 x rest a.in_queues (let n = s.queues in omega arith) first in
@@ -179,28 +265,50 @@ waiter_added nodes keys threads q c q' c' now t m key at x rest a is lt number k
     let place : place_in key keys ≡ number_of key now.entries = s.numbers key in
     let node_key : (node_at nodes x).key ≡ key = ap (λ (z : Grant). z.key) node in
     let node_thread : (node_at nodes x).thread ≡ t = ap (λ (z : Grant). z.thread) node in
-    let own_place : place_in (node_at nodes x).key keys ≡ at = ap (λ z. place_in z keys) node_key ∙ (place ∙ sym number) in
-    let mq : Moved q.lists q'.lists x 0 (at + at + 2) = moved_lists q q' x 0 (at + at + 2) a.in_queues gq in_q here.1 (omega arith) (λ e. absurd (omega arith)) in
-    let mc : Moved c.lists c'.lists x 0 (t + t + 2) = moved_lists c c' x 0 (t + t + 2) a.in_chains gc (omega arith) label_c (omega arith) (λ e. absurd (omega arith)) in
-    let entry : entry_of key now.entries ≡ entry_at (queue_at nodes q.lists) key at = queues-seen nodes keys threads q c now key at a is number known in
-    let claim : claim_of (node_at nodes x).thread (node_at nodes x).mode ≡ claim_of t m = ap (λ (z : Grant). claim_of z.thread z.mode) node in
+    let own_place : place_in (node_at nodes x).key keys ≡ at = ap (λ z. place_in z keys) node_key
+    ∙ (place ∙ sym number) in
+    let mq : Moved q.lists q'.lists x 0 (at + at + 2) =
+    moved_lists q q' x 0 (at + at + 2) a.in_queues gq in_q here.1 (omega arith) (λ e. absurd (omega arith)) in
+    let mc : Moved c.lists c'.lists x 0 (t + t + 2) =
+    moved_lists c c' x 0 (t + t + 2) a.in_chains gc (omega arith) label_c (omega arith)
+    (λ e. absurd (omega arith)) in
+    let entry : entry_of key now.entries ≡ entry_at (queue_at nodes q.lists) key at =
+    queues-seen nodes keys threads q c now key at a is number known in
+    let claim : claim_of (node_at nodes x).thread (node_at nodes x).mode ≡ claim_of t m =
+    ap (λ (z : Grant). claim_of z.thread z.mode) node in
     let waiters : queue_at nodes q'.lists (at + at + 2) ≡ queue_at nodes q.lists (at + at + 2) ++ claim_of t m ∷ []
-    = ap (claims nodes) mq.came ∙ (map_push (λ i. claim_of (node_at nodes i).thread (node_at nodes i).mode) (list_at q.lists (at + at + 2)) x ∙ ap (λ z. queue_at nodes q.lists (at + at + 2) ++ z ∷ []) claim) in
-    let holders : queue_at nodes q'.lists (at + at + 1) ≡ queue_at nodes q.lists (at + at + 1) = ap (claims nodes) (mq.others (at + at + 1) (λ e. absurd (omega arith)) (λ e. absurd (omega arith))) in
+    = ap (claims nodes) mq.came ∙ (map_push (λ i. claim_of (node_at nodes i).thread (node_at nodes i).mode)
+    (list_at q.lists (at + at + 2)) x ∙ ap (λ z. queue_at nodes q.lists (at + at + 2) ++ z ∷ []) claim) in
+    let holders : queue_at nodes q'.lists (at + at + 1) ≡ queue_at nodes q.lists (at + at + 1) =
+    ap (claims nodes) (mq.others (at + at + 1) (λ e. absurd (omega arith)) (λ e. absurd (omega arith))) in
     let new : entry_at (queue_at nodes q'.lists) key at ≡ with_waiter (claim_of t m) (entry_of key now.entries)
     = ap (λ z. record { key = key; holders = z; waiters = queue_at nodes q'.lists (at + at + 2) }) holders
     ∙ (ap (λ z. record { key = key; holders = queue_at nodes q.lists (at + at + 1); waiters = z }) waiters
     ∙ sym (ap (with_waiter (claim_of t m)) entry)) in (
       record {
-        arena = arena_moved nodes keys threads q c q' c' x (at + at + 2) (t + t + 2) a in_q gq.size gc.size gq.count gc.count gq.placed gc.placed gq.labels gc.labels
-            (inr (record { known = omega arith; thread = omega arith; place = inr (ap (λ z. z + z + 2) (sym own_place), ap (λ z. z + z + 2) (sym node_thread)) }));
-        held_is = held-kept (chain_at nodes c.lists) (chain_at nodes c'.lists) 0 threads (λ j le. ap (holds_at nodes) (mc.others (j + j + 1) (λ e. absurd (omega arith)) (λ e. absurd (omega arith))))
+        arena = arena_moved nodes keys threads q c q' c' x (at + at + 2) (t + t + 2) a in_q gq.size gc.size gq.count
+            gc.count gq.placed gc.placed gq.labels gc.labels
+            (inr (record {
+              known = omega arith;
+              thread = omega arith;
+              place =
+                  inr (ap (λ z. z + z + 2) (sym own_place), ap (λ z. z + z + 2) (sym node_thread));
+            }));
+        held_is = held-kept (chain_at nodes c.lists) (chain_at nodes c'.lists) 0 threads
+            (λ j le. ap (holds_at nodes) (mc.others (j + j + 1) (λ e. absurd (omega arith))
+            (λ e. absurd (omega arith))))
             ∙ ap (λ (z : Contents). z.held) is;
-        entries_are = entries-put (queue_at nodes q.lists) (queue_at nodes q'.lists) 0 key keys at (omega arith) (omega arith)
-            (λ j ne. (ap (claims nodes) (mq.others (j + j + 1) (λ e. absurd (omega arith)) (λ e. absurd (omega arith))), ap (claims nodes) (mq.others (j + j + 2) (λ e. absurd (omega arith)) (λ e. absurd (omega arith)))))
-            ∙ (ap (λ z. put z (entries_from (queue_at nodes q.lists) 0 keys)) new ∙ ap (λ (z : Contents). put (with_waiter (claim_of t m) (entry_of key now.entries)) z.entries) is);
+        entries_are = entries-put (queue_at nodes q.lists) (queue_at nodes q'.lists) 0 key keys at (omega arith)
+            (omega arith)
+            (λ j ne. (
+              ap (claims nodes) (mq.others (j + j + 1) (λ e. absurd (omega arith)) (λ e. absurd (omega arith))),
+              ap (claims nodes) (mq.others (j + j + 2) (λ e. absurd (omega arith)) (λ e. absurd (omega arith))),
+            ))
+            ∙ (ap (λ z. put z (entries_from (queue_at nodes q.lists) 0 keys)) new
+            ∙ ap (λ (z : Contents). put (with_waiter (claim_of t m) (entry_of key now.entries)) z.entries) is);
       },
-      (let fewer : length (without x (list_at q.lists 0)) + 1 ≡ length (list_at q.lists 0) = length-without x (list_at q.lists 0) (a.in_queues.distinct 0 (omega arith)) mq.there in
+      (let fewer : length (without x (list_at q.lists 0)) + 1 ≡ length (list_at q.lists 0) =
+          length-without x (list_at q.lists 0) (a.in_queues.distinct 0 (omega arith)) mq.there in
           ap (λ z. length z + 1) mq.left ∙ (fewer ∙ ap (λ (z : Contents). z.spare) is)),
     )
 
@@ -211,8 +319,10 @@ pub record Waiter (nodes : List Grant) (c : Shape) (now : Contents) (k : Key) (r
   pub list : r.thread + r.thread + 1 < length c.lists
   pub first : first_of (entry_of k now.entries).waiters ≡ Some (claim_of r.thread r.mode)
 
-pub first_waiting : (nodes : List Grant) (keys : List Key) (threads : ℕ) (q c : Shape) (now : Contents) (key : Key) (at x : ℕ) (rest : List ℕ) (r : Grant)
-    → IsArena nodes keys threads q c → shown nodes keys threads q c ≡ now → at ≡ number_of key now.entries → at < length now.entries
+pub first_waiting : (nodes : List Grant) (keys : List Key) (threads : ℕ) (q c : Shape) (now : Contents) (key : Key)
+    (at x : ℕ) (rest : List ℕ) (r : Grant)
+    → IsArena nodes keys threads q c → shown nodes keys threads q c ≡ now → at ≡ number_of key now.entries
+    → at < length now.entries
     → list_at q.lists (at + at + 2) ≡ x ∷ rest → r ≡ node_at nodes x → Waiter nodes c now key r
 first_waiting nodes keys threads q c now key at x rest r a is number known first is_r =
     let s = seen nodes keys threads q c now a is in
@@ -230,14 +340,21 @@ first_waiting nodes keys threads q c now key at x rest r a is number known first
       key = ap (λ (z : Grant). z.key) is_r ∙ node_key;
       thread = omega arith;
       list = omega arith;
-      first = ap (λ (e : Entry). first_of e.waiters) (queues-seen nodes keys threads q c now key at a is number known) ∙ (ap (λ z. first_of (claims nodes z)) first ∙ ap (λ (z : Grant). Some (claim_of z.thread z.mode)) (sym is_r));
+      first = ap (λ (e : Entry). first_of e.waiters) (queues-seen nodes keys threads q c now key at a is number known)
+          ∙ (ap (λ z. first_of (claims nodes z)) first
+          ∙ ap (λ (z : Grant). Some (claim_of z.thread z.mode)) (sym is_r));
     }
 
 -- the first waiter comes to hold its key
-pub first_granted : (nodes : List Grant) (keys : List Key) (threads : ℕ) (q c q' c' : Shape) (now : Contents) (key : Key) (at x : ℕ) (rest : List ℕ) (r : Grant)
-    → IsArena nodes keys threads q c → shown nodes keys threads q c ≡ now → at ≡ number_of key now.entries → at < length now.entries
-    → list_at q.lists (at + at + 2) ≡ x ∷ rest → r ≡ node_at nodes x → Goes q q' x (at + at + 1) → Goes c c' x (r.thread + r.thread + 1)
-    → Shows nodes keys threads q' c' (give r.thread key r.mode now.held) (put (with_grant (claim_of r.thread r.mode) (entry_of key now.entries)) now.entries) × (length (list_at q'.lists 0) ≡ now.spare)
+pub first_granted : (nodes : List Grant) (keys : List Key) (threads : ℕ) (q c q' c' : Shape) (now : Contents)
+    (key : Key) (at x : ℕ) (rest : List ℕ) (r : Grant)
+    → IsArena nodes keys threads q c → shown nodes keys threads q c ≡ now → at ≡ number_of key now.entries
+    → at < length now.entries
+    → list_at q.lists (at + at + 2) ≡ x ∷ rest → r ≡ node_at nodes x → Goes q q' x (at + at + 1)
+    → Goes c c' x (r.thread + r.thread + 1)
+    → Shows nodes keys threads q' c' (give r.thread key r.mode now.held)
+    (put (with_grant (claim_of r.thread r.mode) (entry_of key now.entries)) now.entries)
+    × (length (list_at q'.lists 0) ≡ now.spare)
 first_granted nodes keys threads q c q' c' now key at x rest r a is number known first is_r gq gc =
     let s = seen nodes keys threads q c now a is in
     let nq = s.queues in
@@ -255,32 +372,65 @@ first_granted nodes keys threads q c q' c' now key at x rest r a is number known
     let own_place : place_in (node_at nodes x).key keys ≡ at = role.key in
     let node_key : (node_at nodes x).key ≡ key = one_place (node_at nodes x).key key keys (omega arith) (omega arith) in
     let label_c : label_at c x ≡ t + t + 2 = role.label ∙ ap (λ z. z + z + 2) node_thread in
-    let mq : Moved q.lists q'.lists x (at + at + 2) (at + at + 1) = moved_lists q q' x (at + at + 2) (at + at + 1) a.in_queues gq in_q here.1 (omega arith) (λ e. absurd (omega arith)) in
-    let mc : Moved c.lists c'.lists x (t + t + 2) (t + t + 1) = moved_lists c c' x (t + t + 2) (t + t + 1) a.in_chains gc (omega arith) label_c (omega arith) (λ e. absurd (omega arith)) in
-    let entry : entry_of key now.entries ≡ entry_at (queue_at nodes q.lists) key at = queues-seen nodes keys threads q c now key at a is number known in
-    let chain : get_or now.held t [] ≡ chain_at nodes c.lists (t + t + 1) = chain-seen nodes keys threads q c now t a is (omega arith) in
-    let claim : claim_of (node_at nodes x).thread (node_at nodes x).mode ≡ claim_of t r.mode = ap (λ (z : Grant). claim_of z.thread z.mode) (sym is_r) in
-    let hold : hold_of (node_at nodes x).key (node_at nodes x).mode ≡ hold_of key r.mode = ap (λ z. hold_of z (node_at nodes x).mode) node_key ∙ ap (λ (z : Grant). hold_of key z.mode) (sym is_r) in
+    let mq : Moved q.lists q'.lists x (at + at + 2) (at + at + 1) =
+    moved_lists q q' x (at + at + 2) (at + at + 1) a.in_queues gq in_q here.1 (omega arith)
+    (λ e. absurd (omega arith)) in
+    let mc : Moved c.lists c'.lists x (t + t + 2) (t + t + 1) =
+    moved_lists c c' x (t + t + 2) (t + t + 1) a.in_chains gc (omega arith) label_c (omega arith)
+    (λ e. absurd (omega arith)) in
+    let entry : entry_of key now.entries ≡ entry_at (queue_at nodes q.lists) key at =
+    queues-seen nodes keys threads q c now key at a is number known in
+    let chain : get_or now.held t [] ≡ chain_at nodes c.lists (t + t + 1) =
+    chain-seen nodes keys threads q c now t a is (omega arith) in
+    let claim : claim_of (node_at nodes x).thread (node_at nodes x).mode ≡ claim_of t r.mode =
+    ap (λ (z : Grant). claim_of z.thread z.mode) (sym is_r) in
+    let hold : hold_of (node_at nodes x).key (node_at nodes x).mode ≡ hold_of key r.mode =
+    ap (λ z. hold_of z (node_at nodes x).mode) node_key ∙ ap (λ (z : Grant). hold_of key z.mode) (sym is_r) in
     let holders : queue_at nodes q'.lists (at + at + 1) ≡ queue_at nodes q.lists (at + at + 1) ++ claim_of t r.mode ∷ []
-    = ap (claims nodes) mq.came ∙ (map_push (λ i. claim_of (node_at nodes i).thread (node_at nodes i).mode) (list_at q.lists (at + at + 1)) x ∙ ap (λ z. queue_at nodes q.lists (at + at + 1) ++ z ∷ []) claim) in
+    = ap (claims nodes) mq.came ∙ (map_push (λ i. claim_of (node_at nodes i).thread (node_at nodes i).mode)
+    (list_at q.lists (at + at + 1)) x ∙ ap (λ z. queue_at nodes q.lists (at + at + 1) ++ z ∷ []) claim) in
     let waiters : queue_at nodes q'.lists (at + at + 2) ≡ drop 1 (queue_at nodes q.lists (at + at + 2))
-    = ap (claims nodes) (mq.left ∙ without_first x (list_at q.lists (at + at + 2)) rest first (a.in_queues.distinct (at + at + 2) (omega arith))) ∙ sym (ap (λ z. drop 1 (claims nodes z)) first) in
+    = ap (claims nodes) (mq.left ∙ without_first x (list_at q.lists (at + at + 2)) rest first
+    (a.in_queues.distinct (at + at + 2) (omega arith))) ∙ sym (ap (λ z. drop 1 (claims nodes z)) first) in
     let list : chain_at nodes c'.lists (t + t + 1) ≡ get_or now.held t [] ++ hold_of key r.mode ∷ []
-    = ap (holds_at nodes) mc.came ∙ (map_push (λ i. hold_of (node_at nodes i).key (node_at nodes i).mode) (list_at c.lists (t + t + 1)) x ∙ (ap (λ z. chain_at nodes c.lists (t + t + 1) ++ z ∷ []) hold ∙ ap (λ z. z ++ hold_of key r.mode ∷ []) (sym chain))) in
+    = ap (holds_at nodes) mc.came ∙ (map_push (λ i. hold_of (node_at nodes i).key (node_at nodes i).mode)
+    (list_at c.lists (t + t + 1)) x
+    ∙ (ap (λ z. chain_at nodes c.lists (t + t + 1) ++ z ∷ []) hold
+    ∙ ap (λ z. z ++ hold_of key r.mode ∷ []) (sym chain))) in
     let new : entry_at (queue_at nodes q'.lists) key at ≡ with_grant (claim_of t r.mode) (entry_of key now.entries)
     = ap (λ z. record { key = key; holders = z; waiters = queue_at nodes q'.lists (at + at + 2) }) holders
-    ∙ (ap (λ z. record { key = key; holders = queue_at nodes q.lists (at + at + 1) ++ claim_of t r.mode ∷ []; waiters = z }) waiters
+    ∙ (ap (λ z. record {
+      key = key;
+      holders = queue_at nodes q.lists (at + at + 1) ++ claim_of t r.mode ∷ [];
+      waiters =
+          z;
+    }) waiters
     ∙ sym (ap (with_grant (claim_of t r.mode)) entry)) in (
       record {
-        arena = arena_moved nodes keys threads q c q' c' x (at + at + 1) (t + t + 1) a in_q gq.size gc.size gq.count gc.count gq.placed gc.placed gq.labels gc.labels
-            (inr (record { known = omega arith; thread = omega arith; place = inl (ap (λ z. z + z + 1) (sym own_place), ap (λ z. z + z + 1) (sym node_thread)) }));
-        held_is = held-set (chain_at nodes c.lists) (chain_at nodes c'.lists) 0 threads t t (omega arith) (omega arith) (λ j ne. ap (holds_at nodes) (mc.others (j + j + 1) (λ e. absurd (omega arith)) (λ e. absurd (omega arith))))
-            ∙ (ap (set (held_from (chain_at nodes c.lists) 0 threads) t) list ∙ ap (λ (z : Contents). set z.held t (get_or now.held t [] ++ hold_of key r.mode ∷ [])) is);
-        entries_are = entries-put (queue_at nodes q.lists) (queue_at nodes q'.lists) 0 key keys at (omega arith) (omega arith)
-            (λ j ne. (ap (claims nodes) (mq.others (j + j + 1) (λ e. absurd (omega arith)) (λ e. absurd (omega arith))), ap (claims nodes) (mq.others (j + j + 2) (λ e. absurd (omega arith)) (λ e. absurd (omega arith)))))
-            ∙ (ap (λ z. put z (entries_from (queue_at nodes q.lists) 0 keys)) new ∙ ap (λ (z : Contents). put (with_grant (claim_of t r.mode) (entry_of key now.entries)) z.entries) is);
+        arena = arena_moved nodes keys threads q c q' c' x (at + at + 1) (t + t + 1) a in_q gq.size gc.size gq.count
+            gc.count gq.placed gc.placed gq.labels gc.labels
+            (inr (record {
+              known = omega arith;
+              thread = omega arith;
+              place =
+                  inl (ap (λ z. z + z + 1) (sym own_place), ap (λ z. z + z + 1) (sym node_thread));
+            }));
+        held_is = held-set (chain_at nodes c.lists) (chain_at nodes c'.lists) 0 threads t t (omega arith) (omega arith)
+            (λ j ne. ap (holds_at nodes) (mc.others (j + j + 1) (λ e. absurd (omega arith))
+            (λ e. absurd (omega arith))))
+            ∙ (ap (set (held_from (chain_at nodes c.lists) 0 threads) t) list
+            ∙ ap (λ (z : Contents). set z.held t (get_or now.held t [] ++ hold_of key r.mode ∷ [])) is);
+        entries_are = entries-put (queue_at nodes q.lists) (queue_at nodes q'.lists) 0 key keys at (omega arith)
+            (omega arith)
+            (λ j ne. (
+              ap (claims nodes) (mq.others (j + j + 1) (λ e. absurd (omega arith)) (λ e. absurd (omega arith))),
+              ap (claims nodes) (mq.others (j + j + 2) (λ e. absurd (omega arith)) (λ e. absurd (omega arith))),
+            ))
+            ∙ (ap (λ z. put z (entries_from (queue_at nodes q.lists) 0 keys)) new
+            ∙ ap (λ (z : Contents). put (with_grant (claim_of t r.mode) (entry_of key now.entries)) z.entries) is);
       },
-      (ap length (mq.others 0 (λ e. absurd (omega arith)) (λ e. absurd (omega arith))) ∙ ap (λ (z : Contents). z.spare) is),
+      (ap length (mq.others 0 (λ e. absurd (omega arith)) (λ e. absurd (omega arith)))
+          ∙ ap (λ (z : Contents). z.spare) is),
     )
 
 -- a node leaves the holders: its thread's claim goes
@@ -288,49 +438,78 @@ stay-missing : (t : ℕ) (cs : List Claim) → is_among t cs ≡ false → stay 
 stay-missing t [] e = refl
 stay-missing t (c ∷ cs) e = go (c.thread == t) refl e (stay-missing t cs)
   where
-    go : (b : Bool) → (c.thread == t) ≡ b → (b || is_among t cs) ≡ false → (is_among t cs ≡ false → stay t cs ≡ cs) → stay t (c ∷ cs) ≡ c ∷ cs
+    go : (b : Bool) → (c.thread == t) ≡ b → (b || is_among t cs) ≡ false → (is_among t cs ≡ false → stay t cs ≡ cs)
+        → stay t (c ∷ cs) ≡ c ∷ cs
     go true is none rest = absurd (let off : true ≡ false = none in cc)
     go false is none rest = ap (λ b. if not b then c ∷ stay t cs else stay t cs) is ∙ ap (λ z. c ∷ z) (rest none)
 
-missing_node : (nodes : List Grant) (x : ℕ) (xs : List ℕ) → is_among (node_at nodes x).thread (claims nodes xs) ≡ false → IsAbsent x xs
+missing_node : (nodes : List Grant) (x : ℕ) (xs : List ℕ) → is_among (node_at nodes x).thread (claims nodes xs) ≡ false
+    → IsAbsent x xs
 missing_node nodes x [] e = tt
-missing_node nodes x (y ∷ ys) e = go ((node_at nodes y).thread == (node_at nodes x).thread) refl e (missing_node nodes x ys)
+missing_node nodes x (y ∷ ys) e =
+    go ((node_at nodes y).thread == (node_at nodes x).thread) refl e (missing_node nodes x ys)
   where
-    go : (b : Bool) → ((node_at nodes y).thread == (node_at nodes x).thread) ≡ b → (b || is_among (node_at nodes x).thread (claims nodes ys)) ≡ false → (is_among (node_at nodes x).thread (claims nodes ys) ≡ false → IsAbsent x ys) → IsAbsent x (y ∷ ys)
+    go : (b : Bool) → ((node_at nodes y).thread == (node_at nodes x).thread) ≡ b
+        → (b || is_among (node_at nodes x).thread (claims nodes ys)) ≡ false
+        → (is_among (node_at nodes x).thread (claims nodes ys) ≡ false → IsAbsent x ys) → IsAbsent x (y ∷ ys)
     go true is none rest = absurd (let off : true ≡ false = none in cc)
-    go false is none rest = ((λ same. let own : ((node_at nodes y).thread == (node_at nodes x).thread) ≡ true = eq-eqb (node_at nodes y).thread (node_at nodes x).thread (ap (λ z. (node_at nodes z).thread) same) in absurd (let off : true ≡ false = sym own ∙ is in cc)), rest none)
+    go false is none rest = (
+      (λ same. let own : ((node_at nodes y).thread == (node_at nodes x).thread) ≡ true =
+          eq-eqb (node_at nodes y).thread (node_at nodes x).thread (ap (λ z. (node_at nodes z).thread) same) in
+          absurd (let off : true ≡ false = sym own ∙ is in cc)),
+      rest none,
+    )
 
-apart_from : (nodes : List Grant) (y x : ℕ) (ys : List ℕ) → is_among (node_at nodes y).thread (claims nodes ys) ≡ false → Among x ys → ((node_at nodes y).thread == (node_at nodes x).thread) ≡ false
+apart_from : (nodes : List Grant) (y x : ℕ) (ys : List ℕ) → is_among (node_at nodes y).thread (claims nodes ys) ≡ false
+    → Among x ys → ((node_at nodes y).thread == (node_at nodes x).thread) ≡ false
 apart_from nodes y x [] e h = absurd h
-apart_from nodes y x (z ∷ zs) e h = go ((node_at nodes z).thread == (node_at nodes y).thread) refl e h (apart_from nodes y x zs)
+apart_from nodes y x (z ∷ zs) e h =
+    go ((node_at nodes z).thread == (node_at nodes y).thread) refl e h (apart_from nodes y x zs)
   where
-    go : (b : Bool) → ((node_at nodes z).thread == (node_at nodes y).thread) ≡ b → (b || is_among (node_at nodes y).thread (claims nodes zs)) ≡ false → Among x (z ∷ zs) → (is_among (node_at nodes y).thread (claims nodes zs) ≡ false → Among x zs → ((node_at nodes y).thread == (node_at nodes x).thread) ≡ false) → ((node_at nodes y).thread == (node_at nodes x).thread) ≡ false
+    go : (b : Bool) → ((node_at nodes z).thread == (node_at nodes y).thread) ≡ b
+        → (b || is_among (node_at nodes y).thread (claims nodes zs)) ≡ false → Among x (z ∷ zs)
+        → (is_among (node_at nodes y).thread (claims nodes zs) ≡ false → Among x zs
+        → ((node_at nodes y).thread == (node_at nodes x).thread) ≡ false)
+        → ((node_at nodes y).thread == (node_at nodes x).thread) ≡ false
     go true is none h rest = absurd (let off : true ≡ false = none in cc)
-    go false is none (inl here) rest = let other : ((node_at nodes x).thread == (node_at nodes y).thread) ≡ false = subst (λ v. ((node_at nodes v).thread == (node_at nodes y).thread) ≡ false) here is in grind arith
+    go false is none (inl here) rest = let other : ((node_at nodes x).thread == (node_at nodes y).thread) ≡ false =
+        subst (λ v. ((node_at nodes v).thread == (node_at nodes y).thread) ≡ false) here is in grind arith
     go false is none (inr later) rest = rest none later
 
-pub claims-without : (nodes : List Grant) (x : ℕ) (xs : List ℕ) → Among x xs → AreApart (claims nodes xs) → claims nodes (without x xs) ≡ stay (node_at nodes x).thread (claims nodes xs)
+pub claims-without : (nodes : List Grant) (x : ℕ) (xs : List ℕ) → Among x xs → AreApart (claims nodes xs)
+    → claims nodes (without x xs) ≡ stay (node_at nodes x).thread (claims nodes xs)
 claims-without nodes x [] h d = absurd h
 claims-without nodes x (y ∷ ys) h d = elim (cases_eq y x) [
   | inl is ↦
       let d' : AreApart (claims nodes (x ∷ ys)) = subst (λ z. AreApart (claims nodes (z ∷ ys))) is d in
-      let gone : ((node_at nodes x).thread == (node_at nodes x).thread) ≡ true = eq-eqb (node_at nodes x).thread (node_at nodes x).thread refl in
+      let gone : ((node_at nodes x).thread == (node_at nodes x).thread) ≡ true =
+      eq-eqb (node_at nodes x).thread (node_at nodes x).thread refl in
       let right : stay (node_at nodes x).thread (claims nodes (x ∷ ys)) ≡ claims nodes ys
-      = ap (λ b. if not b then claim_of (node_at nodes x).thread (node_at nodes x).mode ∷ stay (node_at nodes x).thread (claims nodes ys) else stay (node_at nodes x).thread (claims nodes ys)) gone ∙ stay-missing (node_at nodes x).thread (claims nodes ys) d'.0 in
-      ap (λ z. claims nodes (without x (z ∷ ys))) is ∙ (ap (claims nodes) (without-same x ys ∙ without_absent x ys (missing_node nodes x ys d'.0)) ∙ sym (ap (λ z. stay (node_at nodes x).thread (claims nodes (z ∷ ys))) is ∙ right))
+      = ap (λ b. if not b then claim_of (node_at nodes x).thread (node_at nodes x).mode ∷ stay (node_at nodes x).thread
+      (claims nodes ys) else stay (node_at nodes x).thread (claims nodes ys)) gone
+      ∙ stay-missing (node_at nodes x).thread (claims nodes ys) d'.0 in
+      ap (λ z. claims nodes (without x (z ∷ ys))) is
+      ∙ (ap (claims nodes) (without-same x ys ∙ without_absent x ys (missing_node nodes x ys d'.0))
+      ∙ sym (ap (λ z. stay (node_at nodes x).thread (claims nodes (z ∷ ys))) is ∙ right))
   | inr ne ↦
       let later : Among x ys = elim h [ inl q ↦ absurd (ne q) | inr k ↦ k ] in
       let kept : ((node_at nodes y).thread == (node_at nodes x).thread) ≡ false = apart_from nodes y x ys d.0 later in
       ap (claims nodes) (without-other x y ys ne)
       ∙ (ap (λ z. claim_of (node_at nodes y).thread (node_at nodes y).mode ∷ z) (claims-without nodes x ys later d.1)
-      ∙ sym (ap (λ b. if not b then claim_of (node_at nodes y).thread (node_at nodes y).mode ∷ stay (node_at nodes x).thread (claims nodes ys) else stay (node_at nodes x).thread (claims nodes ys)) kept))
+      ∙ sym
+      (ap (λ b. if not b then claim_of (node_at nodes y).thread (node_at nodes y).mode ∷ stay (node_at nodes x).thread
+      (claims nodes ys) else stay (node_at nodes x).thread (claims nodes ys)) kept))
 ]
 
 -- the first of a thread's list is free again
-pub first_released : (nodes : List Grant) (keys : List Key) (threads : ℕ) (q c q' c' : Shape) (now : Contents) (t : ℕ) (key : Key) (at x : ℕ) (rest : List ℕ)
-    → IsArena nodes keys threads q c → shown nodes keys threads q c ≡ now → t < length now.held → at ≡ number_of key now.entries → at < length now.entries
-    → list_at c.lists (t + t + 1) ≡ x ∷ rest → (node_at nodes x).key ≡ key → AreApart (entry_of key now.entries).holders → Goes q q' x 0 → Goes c c' x 0
-    → Shows nodes keys threads q' c' (set now.held t (drop 1 (get_or now.held t []))) (put (without_holder t (entry_of key now.entries)) now.entries) × (length (list_at q'.lists 0) ≡ now.spare + 1)
+pub first_released : (nodes : List Grant) (keys : List Key) (threads : ℕ) (q c q' c' : Shape) (now : Contents) (t : ℕ)
+    (key : Key) (at x : ℕ) (rest : List ℕ)
+    → IsArena nodes keys threads q c → shown nodes keys threads q c ≡ now → t < length now.held
+    → at ≡ number_of key now.entries → at < length now.entries
+    → list_at c.lists (t + t + 1) ≡ x ∷ rest → (node_at nodes x).key ≡ key → AreApart (entry_of key now.entries).holders
+    → Goes q q' x 0 → Goes c c' x 0
+    → Shows nodes keys threads q' c' (set now.held t (drop 1 (get_or now.held t [])))
+    (put (without_holder t (entry_of key now.entries)) now.entries) × (length (list_at q'.lists 0) ≡ now.spare + 1)
 first_released nodes keys threads q c q' c' now t key at x rest a is lt number known first node_key apart gq gc =
     let s = seen nodes keys threads q c now a is in
     let nq = s.queues in
@@ -343,29 +522,48 @@ first_released nodes keys threads q c q' c' now t key at x rest a is lt number k
     let in_q : x < q.size = omega arith in
     let role : HoldsBy nodes keys q t x = holding_role nodes keys threads q c t x a in_q here.1 in
     let place : place_in key keys ≡ number_of key now.entries = s.numbers key in
-    let own_place : place_in (node_at nodes x).key keys ≡ at = ap (λ z. place_in z keys) node_key ∙ (place ∙ sym number) in
+    let own_place : place_in (node_at nodes x).key keys ≡ at = ap (λ z. place_in z keys) node_key
+    ∙ (place ∙ sym number) in
     let label_q : label_at q x ≡ at + at + 1 = role.label ∙ ap (λ z. z + z + 1) own_place in
-    let mq : Moved q.lists q'.lists x (at + at + 1) 0 = moved_lists q q' x (at + at + 1) 0 a.in_queues gq in_q label_q (omega arith) (λ e. absurd (omega arith)) in
-    let mc : Moved c.lists c'.lists x (t + t + 1) 0 = moved_lists c c' x (t + t + 1) 0 a.in_chains gc in_c here.1 (omega arith) (λ e. absurd (omega arith)) in
-    let entry : entry_of key now.entries ≡ entry_at (queue_at nodes q.lists) key at = queues-seen nodes keys threads q c now key at a is number known in
-    let chain : get_or now.held t [] ≡ chain_at nodes c.lists (t + t + 1) = chain-seen nodes keys threads q c now t a is lt in
-    let apart' : AreApart (queue_at nodes q.lists (at + at + 1)) = subst (λ (e : Entry). AreApart e.holders) entry apart in
+    let mq : Moved q.lists q'.lists x (at + at + 1) 0 =
+    moved_lists q q' x (at + at + 1) 0 a.in_queues gq in_q label_q (omega arith) (λ e. absurd (omega arith)) in
+    let mc : Moved c.lists c'.lists x (t + t + 1) 0 =
+    moved_lists c c' x (t + t + 1) 0 a.in_chains gc in_c here.1 (omega arith) (λ e. absurd (omega arith)) in
+    let entry : entry_of key now.entries ≡ entry_at (queue_at nodes q.lists) key at =
+    queues-seen nodes keys threads q c now key at a is number known in
+    let chain : get_or now.held t [] ≡ chain_at nodes c.lists (t + t + 1) =
+    chain-seen nodes keys threads q c now t a is lt in
+    let apart' : AreApart (queue_at nodes q.lists (at + at + 1)) =
+    subst (λ (e : Entry). AreApart e.holders) entry apart in
     let holders : queue_at nodes q'.lists (at + at + 1) ≡ stay t (queue_at nodes q.lists (at + at + 1))
-    = ap (claims nodes) mq.left ∙ (claims-without nodes x (list_at q.lists (at + at + 1)) mq.there apart' ∙ ap (λ z. stay z (queue_at nodes q.lists (at + at + 1))) role.thread) in
-    let waiters : queue_at nodes q'.lists (at + at + 2) ≡ queue_at nodes q.lists (at + at + 2) = ap (claims nodes) (mq.others (at + at + 2) (λ e. absurd (omega arith)) (λ e. absurd (omega arith))) in
+    = ap (claims nodes) mq.left ∙ (claims-without nodes x (list_at q.lists (at + at + 1)) mq.there apart'
+    ∙ ap (λ z. stay z (queue_at nodes q.lists (at + at + 1))) role.thread) in
+    let waiters : queue_at nodes q'.lists (at + at + 2) ≡ queue_at nodes q.lists (at + at + 2) =
+    ap (claims nodes) (mq.others (at + at + 2) (λ e. absurd (omega arith)) (λ e. absurd (omega arith))) in
     let list : chain_at nodes c'.lists (t + t + 1) ≡ drop 1 (get_or now.held t [])
-    = ap (holds_at nodes) (mc.left ∙ without_first x (list_at c.lists (t + t + 1)) rest first (a.in_chains.distinct (t + t + 1) (omega arith))) ∙ sym (ap (drop 1) chain ∙ ap (λ z. drop 1 (holds_at nodes z)) first) in
+    = ap (holds_at nodes) (mc.left
+    ∙ without_first x (list_at c.lists (t + t + 1)) rest first (a.in_chains.distinct (t + t + 1) (omega arith)))
+    ∙ sym (ap (drop 1) chain ∙ ap (λ z. drop 1 (holds_at nodes z)) first) in
     let new : entry_at (queue_at nodes q'.lists) key at ≡ without_holder t (entry_of key now.entries)
     = ap (λ z. record { key = key; holders = z; waiters = queue_at nodes q'.lists (at + at + 2) }) holders
     ∙ (ap (λ z. record { key = key; holders = stay t (queue_at nodes q.lists (at + at + 1)); waiters = z }) waiters
     ∙ sym (ap (without_holder t) entry)) in (
       record {
-        arena = arena_moved nodes keys threads q c q' c' x 0 0 a in_q gq.size gc.size gq.count gc.count gq.placed gc.placed gq.labels gc.labels (inl (refl, refl));
-        held_is = held-set (chain_at nodes c.lists) (chain_at nodes c'.lists) 0 threads t t (omega arith) (omega arith) (λ j ne. ap (holds_at nodes) (mc.others (j + j + 1) (λ e. absurd (omega arith)) (λ e. absurd (omega arith))))
-            ∙ (ap (set (held_from (chain_at nodes c.lists) 0 threads) t) list ∙ ap (λ (z : Contents). set z.held t (drop 1 (get_or now.held t []))) is);
-        entries_are = entries-put (queue_at nodes q.lists) (queue_at nodes q'.lists) 0 key keys at (omega arith) (omega arith)
-            (λ j ne. (ap (claims nodes) (mq.others (j + j + 1) (λ e. absurd (omega arith)) (λ e. absurd (omega arith))), ap (claims nodes) (mq.others (j + j + 2) (λ e. absurd (omega arith)) (λ e. absurd (omega arith)))))
-            ∙ (ap (λ z. put z (entries_from (queue_at nodes q.lists) 0 keys)) new ∙ ap (λ (z : Contents). put (without_holder t (entry_of key now.entries)) z.entries) is);
+        arena = arena_moved nodes keys threads q c q' c' x 0 0 a in_q gq.size gc.size gq.count gc.count gq.placed
+            gc.placed gq.labels gc.labels (inl (refl, refl));
+        held_is = held-set (chain_at nodes c.lists) (chain_at nodes c'.lists) 0 threads t t (omega arith) (omega arith)
+            (λ j ne. ap (holds_at nodes) (mc.others (j + j + 1) (λ e. absurd (omega arith))
+            (λ e. absurd (omega arith))))
+            ∙ (ap (set (held_from (chain_at nodes c.lists) 0 threads) t) list
+            ∙ ap (λ (z : Contents). set z.held t (drop 1 (get_or now.held t []))) is);
+        entries_are = entries-put (queue_at nodes q.lists) (queue_at nodes q'.lists) 0 key keys at (omega arith)
+            (omega arith)
+            (λ j ne. (
+              ap (claims nodes) (mq.others (j + j + 1) (λ e. absurd (omega arith)) (λ e. absurd (omega arith))),
+              ap (claims nodes) (mq.others (j + j + 2) (λ e. absurd (omega arith)) (λ e. absurd (omega arith))),
+            ))
+            ∙ (ap (λ z. put z (entries_from (queue_at nodes q.lists) 0 keys)) new
+            ∙ ap (λ (z : Contents). put (without_holder t (entry_of key now.entries)) z.entries) is);
       },
       (ap length mq.came ∙ (length-append (list_at q.lists 0) (x ∷ []) ∙ ap (λ (z : Contents). z.spare + 1) is)),
     )

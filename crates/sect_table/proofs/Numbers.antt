@@ -1,5 +1,6 @@
 -- The numbers of keys.
-use Rattle.std.proofs.Common.{◌≡◌, ℕ, suc, ◌+◌, ◌≤◌, List, [], ◌∷◌, length, Bool, true, false, Some, None, refl, sym, ◌∙◌, ap, arith, rules}
+use Rattle.std.proofs.Common.{◌≡◌, ℕ, suc, ◌+◌, ◌≤◌, List, [], ◌∷◌, length, Bool, true, false, Some, None, refl, sym}
+use Rattle.std.proofs.Common.{◌∙◌, ap, arith, rules}
 use Rattle.std.specs.Prelude.{if◌then◌else◌, nat_lt}
 use Rattle.std.specs.List.{position, position_or_len, list_any}
 use Rattle.std.proofs.lemmas.List.Recursion.{is_position_or_len}
@@ -36,27 +37,34 @@ place_in-le k (x ∷ xs) = elim (is_same_key k x) as (λ b. (if b then 0 else su
 ]
 
 place_in-position : (k : Key) (xs : List Key) → place_in k xs ≡ position_or_len (eq-value.it k) xs
-place_in-position k xs = is_position_or_len (place_in k) (eq-value.it k) refl (λ x ys. step x ys (is_same_key k x) (key_eq-same k x)) xs
+place_in-position k xs = is_position_or_len (place_in k) (eq-value.it k) refl
+    (λ x ys. step x ys (is_same_key k x) (key_eq-same k x)) xs
   where
-    step : (x : Key) (ys : List Key) (b : Bool) → eq-value.it k x ≡ b → (if b then 0 else suc (place_in k ys)) ≡ (if eq-value.it k x then 0 else (1 + place_in k ys))
+    step : (x : Key) (ys : List Key) (b : Bool) → eq-value.it k x ≡ b
+        → (if b then 0 else suc (place_in k ys)) ≡ (if eq-value.it k x then 0 else (1 + place_in k ys))
     step x ys true e = sym (ap (λ z. if z then 0 else (1 + place_in k ys)) e)
-    step x ys false e = let n : suc (place_in k ys) ≡ 1 + place_in k ys = omega arith in n ∙ sym (ap (λ z. if z then 0 else (1 + place_in k ys)) e)
+    step x ys false e = let n : suc (place_in k ys) ≡ 1 + place_in k ys = omega arith in
+        n ∙ sym (ap (λ z. if z then 0 else (1 + place_in k ys)) e)
 
 pub found_place : (k : Key) (xs : List Key) (n : ℕ) → Some n ≡ position (eq-value.it k) xs → n ≡ place_in k xs
 found_place k xs n is = go (nat_lt (position_or_len (eq-value.it k) xs) (length xs)) is ∙ sym (place_in-position k xs)
   where
-    go : (b : Bool) → Some n ≡ (if b then Some (position_or_len (eq-value.it k) xs) else None) → n ≡ position_or_len (eq-value.it k) xs
+    go : (b : Bool) → Some n ≡ (if b then Some (position_or_len (eq-value.it k) xs) else None)
+        → n ≡ position_or_len (eq-value.it k) xs
     go true e = cc
     go false e = cc
 
 pub no_place : (k : Key) (xs : List Key) → None ≡ position (eq-value.it k) xs → place_in k xs ≡ length xs
 no_place k xs is =
-    let past : length xs ≤ position_or_len (eq-value.it k) xs = go (nat_lt (position_or_len (eq-value.it k) xs) (length xs)) refl is in
+    let past : length xs ≤ position_or_len (eq-value.it k) xs =
+    go (nat_lt (position_or_len (eq-value.it k) xs) (length xs)) refl is in
     let same = place_in-position k xs in
     let within = place_in-le k xs in
     omega arith
   where
-    go : (b : Bool) → nat_lt (position_or_len (eq-value.it k) xs) (length xs) ≡ b → None ≡ (if b then Some (position_or_len (eq-value.it k) xs) else None) → length xs ≤ position_or_len (eq-value.it k) xs
+    go : (b : Bool) → nat_lt (position_or_len (eq-value.it k) xs) (length xs) ≡ b
+        → None ≡ (if b then Some (position_or_len (eq-value.it k) xs) else None)
+        → length xs ≤ position_or_len (eq-value.it k) xs
     go true t e = cc
     go false t e = grind arith
 
@@ -64,6 +72,7 @@ pub none_has : (k : Key) (xs : List Key) → place_in k xs ≡ length xs → lis
 none_has k [] is = refl
 none_has k (x ∷ xs) is = go (is_same_key k x) (key_eq-same k x) is (λ p. none_has k xs p)
   where
-    go : (b : Bool) → eq-value.it k x ≡ b → (if b then 0 else suc (place_in k xs)) ≡ suc (length xs) → (place_in k xs ≡ length xs → list_any (eq-value.it k) xs ≡ false) → list_any (eq-value.it k) (x ∷ xs) ≡ false
+    go : (b : Bool) → eq-value.it k x ≡ b → (if b then 0 else suc (place_in k xs)) ≡ suc (length xs)
+        → (place_in k xs ≡ length xs → list_any (eq-value.it k) xs ≡ false) → list_any (eq-value.it k) (x ∷ xs) ≡ false
     go true e p rest = absurd (omega arith)
     go false e p rest = let later = rest (omega arith) in simp (e, later)

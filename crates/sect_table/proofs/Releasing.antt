@@ -1,5 +1,6 @@
 -- Giving keys back, one by one.
-use Rattle.std.proofs.Common.{◌≡◌, ℕ, suc, ◌+◌, ◌<◌, ◌≤◌, List, [], ◌∷◌, ◌++◌, length, map, drop, get_or, set, false, Some, None, refl, sym, ◌∙◌, ap, subst, arith, length-append, get_or-set_same}
+use Rattle.std.proofs.Common.{◌≡◌, ℕ, suc, ◌+◌, ◌<◌, ◌≤◌, List, [], ◌∷◌, ◌++◌, length, map, drop, get_or, set, false}
+use Rattle.std.proofs.Common.{Some, None, refl, sym, ◌∙◌, ap, subst, arith, length-append, get_or-set_same}
 use Rattle.std.specs.Prelude.{◌==◌, is_some}
 use Rattle.std.proofs.lemmas.Bool.{eq-eqb}
 use Rattle.std.proofs.lemmas.List.{length-set, set-set, length-map}
@@ -7,17 +8,22 @@ use Rattle.sect_modes.specs.declared.key.Key.{Key}
 use Rattle.sect_table.specs.declared.claims.Claim.{Claim}
 use Rattle.sect_table.specs.declared.claims.Hold.{Hold}
 use Rattle.sect_table.specs.declared.claims.Grant.{Grant}
-use Rattle.sect_table.specs.Contents.{Entry, Contents, Released, number_of, entry_of, put, held_by, mode_in, is_among, is_waiting, first_hold, grant_of, without_holder, let_in, let_through, give_all, release_key, release_each, AreApart}
-use Rattle.sect_table.specs.Sound.{IsFirstBlocked, AreEntriesApart, claims_by, one_if, waits_of, waiting_count, AreThreadsBelow, AreWaitersBelow, IsSound, IsKept}
+use Rattle.sect_table.specs.Contents.{Entry, Contents, Released, number_of, entry_of, put, held_by, mode_in, is_among}
+use Rattle.sect_table.specs.Contents.{is_waiting, first_hold, grant_of, without_holder, let_in, let_through, give_all}
+use Rattle.sect_table.specs.Contents.{release_key, release_each, AreApart}
+use Rattle.sect_table.specs.Sound.{IsFirstBlocked, AreEntriesApart, claims_by, one_if, waits_of, waiting_count}
+use Rattle.sect_table.specs.Sound.{AreThreadsBelow, AreWaitersBelow, IsSound, IsKept}
 use Rattle.sect_table.specs.steps.Links.{Each, IsAbsent, AreDistinct}
 use Rattle.sect_table.specs.steps.Letting.{Releasing}
 use Rattle.sect_table.proofs.Whole.{few_distinct}
 use Rattle.sect_table.proofs.Shown.{key_itself}
 use Rattle.sect_table.proofs.Entries.{entry_key, put-put, put_apart}
 use Rattle.sect_table.proofs.Claiming.{apart_left, mode_in-here, claims_by-drop, missing-claims_by}
-use Rattle.sect_table.proofs.Sounding.{put_all, waits_of-put, waiting_count-put, waits_at-le, waits_for_none, sound_of, release_sound}
+use Rattle.sect_table.proofs.Sounding.{put_all, waits_of-put, waiting_count-put, waits_at-le, waits_for_none, sound_of}
+use Rattle.sect_table.proofs.Sounding.{release_sound}
 use Rattle.sect_table.proofs.Keeping.{held_known}
-use Rattle.sect_table.proofs.Passing.{length-put, number_of-put, entry-put, among_through, give_all-other, length-give_all, set-give_all}
+use Rattle.sect_table.proofs.Passing.{length-put, number_of-put, entry-put, among_through, give_all-other}
+use Rattle.sect_table.proofs.Passing.{length-give_all, set-give_all}
 
 -- as many wait as there are threads at most
 abbrev times : ℕ → List ℕ → ℕ
@@ -57,15 +63,19 @@ length-all_waiting (e ∷ es) =
 
 absent_of : (x : ℕ) (xs : List ℕ) → times x xs ≡ 0 → IsAbsent x xs
 absent_of x [] e = tt
-absent_of x (y ∷ ys) e =
-    ((λ same. let one : one_if (y == x) ≡ 1 = ap one_if (eq-eqb y x same) in absurd (omega arith)), absent_of x ys (omega arith))
+absent_of x (y ∷ ys) e = (
+  (λ same. let one : one_if (y == x) ≡ 1 = ap one_if (eq-eqb y x same) in absurd (omega arith)),
+  absent_of x ys (omega arith),
+)
 
 distinct_of : (xs : List ℕ) → ((t : ℕ) → times t xs ≤ 1) → AreDistinct xs
 distinct_of [] e = tt
 distinct_of (x ∷ xs) e =
     let one : one_if (x == x) ≡ 1 = ap one_if (eq-eqb x x refl) in
-    let le : one_if (x == x) + times x xs ≤ 1 = e x in
-    (absent_of x xs (omega arith), distinct_of xs (λ t. (let all : one_if (x == t) + times t xs ≤ 1 = e t in omega arith)))
+    let le : one_if (x == x) + times x xs ≤ 1 = e x in (
+      absent_of x xs (omega arith),
+      distinct_of xs (λ t. (let all : one_if (x == t) + times t xs ≤ 1 = e t in omega arith)),
+    )
 
 each_join : (n : ℕ) (xs ys : List ℕ) → Each (λ i. i < n) xs → Each (λ i. i < n) ys → Each (λ i. i < n) (xs ++ ys)
 each_join n [] ys a b = b
@@ -77,21 +87,27 @@ threads_below n (c ∷ cs) b = (b.0, threads_below n cs b.1)
 
 all_below : (n : ℕ) (es : List Entry) → AreWaitersBelow n es → Each (λ i. i < n) (all_waiting es)
 all_below n [] b = tt
-all_below n (e ∷ es) b = each_join n (threads_of e.waiters) (all_waiting es) (threads_below n e.waiters b.0) (all_below n es b.1)
+all_below n (e ∷ es) b = each_join n (threads_of e.waiters) (all_waiting es) (threads_below n e.waiters b.0)
+    (all_below n es b.1)
 
 pub few_waiters : (c : Contents) → IsSound c → waiting_count c.entries ≤ length c.held
 few_waiters c s =
-    let most = few_distinct (length c.held) (all_waiting c.entries) (distinct_of (all_waiting c.entries) (λ t. (let same = times-all_waiting t c.entries in let le : waits_of t c.entries ≤ 1 = s.once t in omega arith))) (all_below (length c.held) c.entries s.threads) in
+    let most = few_distinct (length c.held) (all_waiting c.entries)
+    (distinct_of (all_waiting c.entries)
+    (λ t. (let same = times-all_waiting t c.entries in let le : waits_of t c.entries ≤ 1 = s.once t in
+    omega arith))) (all_below (length c.held) c.entries s.threads) in
     let same = length-all_waiting c.entries in
     omega arith
 
 -- the beginning of a release
-pub releasing_first : (t room : ℕ) (old : Contents) (g : List Grant) → IsKept old → is_waiting t old ≡ false → length old.held ≤ room → g ≡ [] → Releasing t room old old g
+pub releasing_first : (t room : ℕ) (old : Contents) (g : List Grant) → IsKept old → is_waiting t old ≡ false
+    → length old.held ≤ room → g ≡ [] → Releasing t room old old g
 releasing_first t room old g s idle fits none = record {
   apart = s.apart;
   sound = s.sound;
   settled = s.settled;
-  passes = ap (λ z. release_each t (held_by old t) (record { held = set old.held t []; entries = old.entries; grants = z })) none;
+  passes = ap (λ z. release_each t (held_by old t)
+      (record { held = set old.held t []; entries = old.entries; grants = z })) none;
   idle = waits_for_none t old.entries idle;
   count = refl;
   spare = refl;
@@ -103,7 +119,8 @@ next_hold : (hs : List Hold) (h : Hold) → first_hold hs ≡ Some h → (rest :
 next_hold [] h is = absurd (let none : None ≡ Some h = is in cc)
 next_hold (g ∷ gs) h is = (gs, let same : g ≡ h = (cc) in ap (λ z. z ∷ gs) same)
 
-pub first_known : (c : Contents) (t : ℕ) (h : Hold) → IsSound c → first_hold (held_by c t) ≡ Some h → number_of h.key c.entries < length c.entries
+pub first_known : (c : Contents) (t : ℕ) (h : Hold) → IsSound c → first_hold (held_by c t) ≡ Some h
+    → number_of h.key c.entries < length c.entries
 first_known c t h s first =
     let found = next_hold (held_by c t) h first in
     held_known c t h.key s (ap is_some (ap (mode_in h.key) found.1 ∙ mode_in-here h.key h found.0 (key_itself h.key)))
@@ -120,8 +137,10 @@ pub record FirstOut (t : ℕ) (k : Key) (now mid : Contents) : Type 0 where
   pub waiting : waiting_count mid.entries ≡ waiting_count now.entries
   pub idle : waits_of t mid.entries ≡ waits_of t now.entries
 
-pub first_out : (t : ℕ) (h : Hold) (now mid : Contents) → IsSound now → t < length now.held → first_hold (held_by now t) ≡ Some h
-    → mid.held ≡ set now.held t (drop 1 (held_by now t)) → mid.entries ≡ put (without_holder t (entry_of h.key now.entries)) now.entries → FirstOut t h.key now mid
+pub first_out : (t : ℕ) (h : Hold) (now mid : Contents) → IsSound now → t < length now.held
+    → first_hold (held_by now t) ≡ Some h
+    → mid.held ≡ set now.held t (drop 1 (held_by now t))
+    → mid.entries ≡ put (without_holder t (entry_of h.key now.entries)) now.entries → FirstOut t h.key now mid
 first_out t h now mid s lt first held entries =
     let found = next_hold (held_by now t) h first in
     let rest : List Hold = found.0 in
@@ -129,16 +148,22 @@ first_out t h now mid s lt first held entries =
     let e' : Entry = without_holder t e in
     let keyed : e'.key ≡ h.key = entry_key h.key now.entries in
     let known = first_known now t h s first in
-    let own : number_of e'.key now.entries < length now.entries = subst (λ z. number_of z now.entries < length now.entries) (sym keyed) known in
-    let same : length (entry_of e'.key now.entries).waiters ≡ length e.waiters = ap (λ z. length (entry_of z now.entries).waiters) keyed in
-    let same_t : claims_by t (entry_of e'.key now.entries).waiters ≡ claims_by t e.waiters = ap (λ z. claims_by t (entry_of z now.entries).waiters) keyed in
+    let own : number_of e'.key now.entries < length now.entries =
+    subst (λ z. number_of z now.entries < length now.entries) (sym keyed) known in
+    let same : length (entry_of e'.key now.entries).waiters ≡ length e.waiters =
+    ap (λ z. length (entry_of z now.entries).waiters) keyed in
+    let same_t : claims_by t (entry_of e'.key now.entries).waiters ≡ claims_by t e.waiters =
+    ap (λ z. claims_by t (entry_of z now.entries).waiters) keyed in
     let counted = waiting_count-put e' now.entries in
     let waited = waits_of-put t e' now.entries in
     let count : waiting_count mid.entries ≡ waiting_count (put e' now.entries) = ap waiting_count entries in
     let waits : waits_of t mid.entries ≡ waits_of t (put e' now.entries) = ap (waits_of t) entries in
     record {
-      sound = sound_of (record { held = set now.held t rest; entries = put e' now.entries; spare = mid.spare }) mid (held ∙ ap (λ z. set now.held t (drop 1 z)) found.1) entries
-          (release_sound now.held now.entries now.spare mid.spare t h rest (sound_of now (record { held = now.held; entries = now.entries; spare = now.spare }) refl refl s) lt found.1);
+      sound = sound_of (record { held = set now.held t rest; entries = put e' now.entries; spare = mid.spare }) mid
+          (held ∙ ap (λ z. set now.held t (drop 1 z)) found.1) entries
+          (release_sound now.held now.entries now.spare mid.spare t h rest
+          (sound_of now (record { held = now.held; entries = now.entries; spare = now.spare }) refl refl s) lt
+          found.1);
       number = ap (number_of h.key) entries ∙ number_of-put h.key e' now.entries keyed known;
       count = ap length entries ∙ length-put e' now.entries own;
       entry = ap (entry_of h.key) entries ∙ entry-put h.key e' now.entries keyed;
@@ -147,15 +172,20 @@ first_out t h now mid s lt first held entries =
     }
 
 -- one key is given back
-pub releasing_on : (t room : ℕ) (old now mid now' : Contents) (g g' : List Grant) (h : Hold) → Releasing t room old now g → t < length old.held → first_hold (held_by now t) ≡ Some h
-    → mid.held ≡ set now.held t (drop 1 (held_by now t)) → mid.entries ≡ put (without_holder t (entry_of h.key now.entries)) now.entries → mid.spare ≡ now.spare + 1
+pub releasing_on : (t room : ℕ) (old now mid now' : Contents) (g g' : List Grant) (h : Hold)
+    → Releasing t room old now g → t < length old.held → first_hold (held_by now t) ≡ Some h
+    → mid.held ≡ set now.held t (drop 1 (held_by now t))
+    → mid.entries ≡ put (without_holder t (entry_of h.key now.entries)) now.entries → mid.spare ≡ now.spare + 1
     → IsSound now' → IsFirstBlocked (entry_of h.key now'.entries).holders (entry_of h.key now'.entries).waiters
-    → now'.held ≡ give_all h.key (let_through (entry_of h.key mid.entries).holders (entry_of h.key mid.entries).waiters) mid.held
+    → now'.held ≡ give_all h.key (let_through (entry_of h.key mid.entries).holders (entry_of h.key mid.entries).waiters)
+    mid.held
     → now'.entries ≡ put (let_in (entry_of h.key mid.entries)) mid.entries → now'.spare ≡ mid.spare
-    → g' ≡ g ++ map (grant_of h.key) (let_through (entry_of h.key mid.entries).holders (entry_of h.key mid.entries).waiters)
+    → g' ≡ g ++ map (grant_of h.key)
+    (let_through (entry_of h.key mid.entries).holders (entry_of h.key mid.entries).waiters)
     → length g' + waiting_count now'.entries ≤ room
     → Releasing t room old now' g' × (length (held_by now' t) < length (held_by now t))
-releasing_on t room old now mid now' g g' h r lt first held entries spare sound blocked held' entries' spare' is_g fits =
+releasing_on t room old now mid now' g g' h r lt first held entries spare sound blocked held' entries' spare' is_g
+    fits =
     let k : Key = h.key in
     let found = next_hold (held_by now t) h first in
     let rest : List Hold = found.0 in
@@ -164,23 +194,37 @@ releasing_on t room old now mid now' g g' h r lt first held entries spare sound 
     let e : Entry = without_holder t (entry_of k now.entries) in
     let through : List Claim = let_through e.holders e.waiters in
     let keyed : e.key ≡ k = entry_key k now.entries in
-    let same : let_through (entry_of k mid.entries).holders (entry_of k mid.entries).waiters ≡ through = ap (λ (z : Entry). let_through z.holders z.waiters) out.entry in
-    let done : now'.entries ≡ put (let_in e) now.entries = entries' ∙ (ap (λ z. put (let_in z) mid.entries) out.entry ∙ (ap (put (let_in e)) entries ∙ put-put (let_in e) e now.entries refl)) in
+    let same : let_through (entry_of k mid.entries).holders (entry_of k mid.entries).waiters ≡ through =
+    ap (λ (z : Entry). let_through z.holders z.waiters) out.entry in
+    let done : now'.entries ≡ put (let_in e) now.entries =
+    entries' ∙ (ap (λ z. put (let_in z) mid.entries) out.entry
+    ∙ (ap (put (let_in e)) entries ∙ put-put (let_in e) e now.entries refl)) in
     let at_k : entry_of k now'.entries ≡ let_in e = ap (entry_of k) done ∙ entry-put k (let_in e) now.entries keyed in
     let idle : waits_of t now.entries ≡ 0 = r.idle in
     let at_most = waits_at-le t k now.entries in
-    let missing : is_among t through ≡ false = among_through t e.holders e.waiters (missing-claims_by t e.waiters (omega arith)) in
+    let missing : is_among t through ≡ false =
+    among_through t e.holders e.waiters (missing-claims_by t e.waiters (omega arith)) in
     let mid_held : mid.held ≡ set now.held t rest = held ∙ ap (λ z. set now.held t (drop 1 z)) found.1 in
-    let new_held : now'.held ≡ give_all k through (set now.held t rest) = held' ∙ (ap (λ z. give_all k z mid.held) same ∙ ap (give_all k through) mid_held) in
-    let mine : held_by now' t ≡ rest = ap (λ z. get_or z t []) new_held ∙ (give_all-other k t through (set now.held t rest) missing ∙ get_or-set_same now.held t rest [] (omega arith)) in
-    let emptied : set now'.held t [] ≡ give_all k through (set now.held t []) = ap (λ z. set z t []) new_held ∙ (set-give_all k t [] through (set now.held t rest) missing ∙ ap (give_all k through) (set-set now.held t rest [])) in
+    let new_held : now'.held ≡ give_all k through (set now.held t rest) =
+    held' ∙ (ap (λ z. give_all k z mid.held) same ∙ ap (give_all k through) mid_held) in
+    let mine : held_by now' t ≡ rest = ap (λ z. get_or z t []) new_held
+    ∙ (give_all-other k t through (set now.held t rest) missing
+    ∙ get_or-set_same now.held t rest [] (omega arith)) in
+    let emptied : set now'.held t [] ≡ give_all k through (set now.held t []) = ap (λ z. set z t []) new_held
+    ∙ (set-give_all k t [] through (set now.held t rest) missing
+    ∙ ap (give_all k through) (set-set now.held t rest [])) in
     let granted : g' ≡ g ++ map (grant_of k) through = is_g ∙ ap (λ z. g ++ map (grant_of k) z) same in
     let start : Released = record { held = set now.held t []; entries = now.entries; grants = g } in
     let after : Released = record { held = set now'.held t []; entries = now'.entries; grants = g' } in
     let step : after ≡ release_key t k start
     = ap (λ z. record { held = z; entries = now'.entries; grants = g' }) emptied
     ∙ (ap (λ z. record { held = give_all k through (set now.held t []); entries = z; grants = g' }) done
-    ∙ ap (λ z. record { held = give_all k through (set now.held t []); entries = put (let_in e) now.entries; grants = z }) granted) in
+    ∙ ap (λ z. record {
+      held = give_all k through (set now.held t []);
+      entries = put (let_in e) now.entries;
+      grants =
+          z;
+    }) granted) in
     let n1 : length now'.held ≡ length (give_all k through (set now.held t rest)) = ap length new_held in
     let n2 = length-give_all k through (set now.held t rest) in
     let n3 = length-set now.held t rest in
@@ -194,8 +238,10 @@ releasing_on t room old now mid now' g g' h r lt first held entries spare sound 
         apart = subst AreEntriesApart (sym done) (put_apart (let_in e) now.entries r.apart);
         sound = sound;
         settled = subst (λ es. (j : Key) → IsFirstBlocked (entry_of j es).holders (entry_of j es).waiters) (sym done)
-            (put_all (λ z. IsFirstBlocked z.holders z.waiters) (let_in e) now.entries (subst (λ (z : Entry). IsFirstBlocked z.holders z.waiters) at_k blocked) (λ j ne. r.settled j));
-        passes = ap (λ z. release_each t z after) mine ∙ (ap (release_each t rest) step ∙ (sym (ap (λ z. release_each t z start) found.1) ∙ r.passes));
+            (put_all (λ z. IsFirstBlocked z.holders z.waiters) (let_in e) now.entries
+            (subst (λ (z : Entry). IsFirstBlocked z.holders z.waiters) at_k blocked) (λ j ne. r.settled j));
+        passes = ap (λ z. release_each t z after) mine
+            ∙ (ap (release_each t rest) step ∙ (sym (ap (λ z. release_each t z start) found.1) ∙ r.passes));
         idle = omega arith;
         count = omega arith;
         spare = omega arith;

@@ -1,5 +1,6 @@
 -- Where the nodes of an arena stand.
-use Rattle.std.proofs.Common.{◌≡◌, ◌≢◌, inl, inr, ℕ, zero, suc, ◌+◌, ◌<◌, List, [], ◌∷◌, length, get_or, set, Bool, true, false, None, refl, sym, ◌∙◌, ap, subst, arith, get_or-set_same, get_or-set_other}
+use Rattle.std.proofs.Common.{◌≡◌, ◌≢◌, inl, inr, ℕ, zero, suc, ◌+◌, ◌<◌, List, [], ◌∷◌, length, get_or, set, Bool}
+use Rattle.std.proofs.Common.{true, false, None, refl, sym, ◌∙◌, ap, subst, arith, get_or-set_same, get_or-set_other}
 use Rattle.std.specs.Prelude.{◌==◌, ◌||◌, is_some}
 use Rattle.std.specs.List.{list_any}
 use Rattle.std.proofs.lemmas.Bool.{cases_eq, eq-eqb}
@@ -14,9 +15,12 @@ use Rattle.sect_table.proofs.Runs.{each_map}
 use Rattle.sect_table.proofs.Shown.{seen}
 
 -- a move of one node to lists that fit its request
-pub arena_moved : (nodes : List Grant) (keys : List Key) (threads : ℕ) (q c q' c' : Shape) (x l m : ℕ) → IsArena nodes keys threads q c → x < q.size
-    → q'.size ≡ q.size → c'.size ≡ c.size → length q'.lists ≡ length q.lists → length c'.lists ≡ length c.lists → ArePlaced q' → ArePlaced c'
-    → q'.labels ≡ set q.labels x l → c'.labels ≡ set c.labels x m → HasRole nodes keys threads l m x → IsArena nodes keys threads q' c'
+pub arena_moved : (nodes : List Grant) (keys : List Key) (threads : ℕ) (q c q' c' : Shape) (x l m : ℕ)
+    → IsArena nodes keys threads q c → x < q.size
+    → q'.size ≡ q.size → c'.size ≡ c.size → length q'.lists ≡ length q.lists → length c'.lists ≡ length c.lists
+    → ArePlaced q' → ArePlaced c'
+    → q'.labels ≡ set q.labels x l → c'.labels ≡ set c.labels x m → HasRole nodes keys threads l m x
+    → IsArena nodes keys threads q' c'
 arena_moved nodes keys threads q c q' c' x l m a lt sq sc nq nc pq pc lq lc role = record {
   sizes = a.sizes ∙ sym sq;
   chained = sc ∙ (a.chained ∙ sym sq);
@@ -33,16 +37,22 @@ arena_moved nodes keys threads q c q' c' x l m a lt sq sc nq nc pq pc lq lc role
         | inl is ↦
             let at_q : label_at q' x ≡ l = ap (λ z. get_or z x 0) lq ∙ get_or-set_same q.labels x l 0 (omega arith) in
             let at_c : label_at c' x ≡ m = ap (λ z. get_or z x 0) lc ∙ get_or-set_same c.labels x m 0 (omega arith) in
-            subst (λ j. HasRole nodes keys threads (label_at q' j) (label_at c' j) j) (sym is) (subst (λ z. HasRole nodes keys threads z (label_at c' x) x) (sym at_q) (subst (λ z. HasRole nodes keys threads l z x) (sym at_c) role))
+            subst (λ j. HasRole nodes keys threads (label_at q' j) (label_at c' j) j) (sym is)
+            (subst (λ z. HasRole nodes keys threads z (label_at c' x) x) (sym at_q)
+            (subst (λ z. HasRole nodes keys threads l z x) (sym at_c) role))
         | inr ne ↦
-            let at_q : label_at q' i ≡ label_at q i = ap (λ z. get_or z i 0) lq ∙ get_or-set_other q.labels x i l 0 ne in
-            let at_c : label_at c' i ≡ label_at c i = ap (λ z. get_or z i 0) lc ∙ get_or-set_other c.labels x i m 0 ne in
-            subst (λ z. HasRole nodes keys threads z (label_at c' i) i) (sym at_q) (subst (λ z. HasRole nodes keys threads (label_at q i) z i) (sym at_c) (a.roles i (omega arith)))
+            let at_q : label_at q' i ≡ label_at q i = ap (λ z. get_or z i 0) lq
+            ∙ get_or-set_other q.labels x i l 0 ne in
+            let at_c : label_at c' i ≡ label_at c i = ap (λ z. get_or z i 0) lc
+            ∙ get_or-set_other c.labels x i m 0 ne in
+            subst (λ z. HasRole nodes keys threads z (label_at c' i) i) (sym at_q)
+            (subst (λ z. HasRole nodes keys threads (label_at q i) z i) (sym at_c) (a.roles i (omega arith)))
       ];
 }
 
 -- a member of a list has its label
-pub labelled_first : (s : Shape) (l x : ℕ) (rest : List ℕ) → ArePlaced s → l < length s.lists → list_at s.lists l ≡ x ∷ rest → (x < s.size) × (label_at s x ≡ l)
+pub labelled_first : (s : Shape) (l x : ℕ) (rest : List ℕ) → ArePlaced s → l < length s.lists
+    → list_at s.lists l ≡ x ∷ rest → (x < s.size) × (label_at s x ≡ l)
 labelled_first s l x rest p lt is = (subst (Each (λ i. (i < s.size) × (label_at s i ≡ l))) is (p.labelled l lt)).0
 
 -- a node with a thread's label of waiting waits for its key
@@ -51,11 +61,13 @@ pub record WaitsBy (nodes : List Grant) (keys : List Key) (q : Shape) (t x : ℕ
   pub known : place_in (node_at nodes x).key keys < length keys
   pub label : label_at q x ≡ place_in (node_at nodes x).key keys + place_in (node_at nodes x).key keys + 2
 
-pub waiting_role : (nodes : List Grant) (keys : List Key) (threads : ℕ) (q c : Shape) (t x : ℕ) → IsArena nodes keys threads q c → x < q.size → label_at c x ≡ t + t + 2 → WaitsBy nodes keys q t x
+pub waiting_role : (nodes : List Grant) (keys : List Key) (threads : ℕ) (q c : Shape) (t x : ℕ)
+    → IsArena nodes keys threads q c → x < q.size → label_at c x ≡ t + t + 2 → WaitsBy nodes keys q t x
 waiting_role nodes keys threads q c t x a lt label = elim (a.roles x lt) [
   | inl free ↦ let f : label_at c x ≡ 0 = free.1 in absurd (omega arith)
   | inr used ↦ elim used.place [
-    | inl holds ↦ let f : label_at c x ≡ (node_at nodes x).thread + (node_at nodes x).thread + 1 = holds.1 in absurd (omega arith)
+    | inl holds ↦ let f : label_at c x ≡ (node_at nodes x).thread + (node_at nodes x).thread + 1 = holds.1 in
+        absurd (omega arith)
     | inr waits ↦
         let f : label_at c x ≡ (node_at nodes x).thread + (node_at nodes x).thread + 2 = waits.1 in
         record { thread = omega arith; known = used.known; label = waits.0 }
@@ -69,13 +81,16 @@ pub record WaitsFor (nodes : List Grant) (keys : List Key) (threads : ℕ) (c : 
   pub thread : (node_at nodes x).thread < threads
   pub label : label_at c x ≡ (node_at nodes x).thread + (node_at nodes x).thread + 2
 
-pub waiter_role : (nodes : List Grant) (keys : List Key) (threads : ℕ) (q c : Shape) (k x : ℕ) → IsArena nodes keys threads q c → x < q.size → label_at q x ≡ k + k + 2 → WaitsFor nodes keys threads c k x
+pub waiter_role : (nodes : List Grant) (keys : List Key) (threads : ℕ) (q c : Shape) (k x : ℕ)
+    → IsArena nodes keys threads q c → x < q.size → label_at q x ≡ k + k + 2 → WaitsFor nodes keys threads c k x
 waiter_role nodes keys threads q c k x a lt label = elim (a.roles x lt) [
   | inl free ↦ let f : label_at q x ≡ 0 = free.0 in absurd (omega arith)
   | inr used ↦ elim used.place [
-    | inl holds ↦ let f : label_at q x ≡ place_in (node_at nodes x).key keys + place_in (node_at nodes x).key keys + 1 = holds.0 in absurd (omega arith)
+    | inl holds ↦ let f : label_at q x ≡ place_in (node_at nodes x).key keys + place_in (node_at nodes x).key keys + 1 =
+        holds.0 in absurd (omega arith)
     | inr waits ↦
-        let f : label_at q x ≡ place_in (node_at nodes x).key keys + place_in (node_at nodes x).key keys + 2 = waits.0 in
+        let f : label_at q x ≡ place_in (node_at nodes x).key keys + place_in (node_at nodes x).key keys + 2 =
+        waits.0 in
         let known = used.known in
         record { key = omega arith; known = omega arith; thread = used.thread; label = waits.1 }
   ]
@@ -87,24 +102,29 @@ pub record HoldsBy (nodes : List Grant) (keys : List Key) (q : Shape) (t x : ℕ
   pub known : place_in (node_at nodes x).key keys < length keys
   pub label : label_at q x ≡ place_in (node_at nodes x).key keys + place_in (node_at nodes x).key keys + 1
 
-pub holding_role : (nodes : List Grant) (keys : List Key) (threads : ℕ) (q c : Shape) (t x : ℕ) → IsArena nodes keys threads q c → x < q.size → label_at c x ≡ t + t + 1 → HoldsBy nodes keys q t x
+pub holding_role : (nodes : List Grant) (keys : List Key) (threads : ℕ) (q c : Shape) (t x : ℕ)
+    → IsArena nodes keys threads q c → x < q.size → label_at c x ≡ t + t + 1 → HoldsBy nodes keys q t x
 holding_role nodes keys threads q c t x a lt label = elim (a.roles x lt) [
   | inl free ↦ let f : label_at c x ≡ 0 = free.1 in absurd (omega arith)
   | inr used ↦ elim used.place [
     | inl holds ↦
         let f : label_at c x ≡ (node_at nodes x).thread + (node_at nodes x).thread + 1 = holds.1 in
         record { thread = omega arith; known = used.known; label = holds.0 }
-    | inr waits ↦ let f : label_at c x ≡ (node_at nodes x).thread + (node_at nodes x).thread + 2 = waits.1 in absurd (omega arith)
+    | inr waits ↦ let f : label_at c x ≡ (node_at nodes x).thread + (node_at nodes x).thread + 2 = waits.1 in
+        absurd (omega arith)
   ]
 ]
 
 -- a free node
-pub free_role : (nodes : List Grant) (keys : List Key) (threads : ℕ) (q c : Shape) (x : ℕ) → IsArena nodes keys threads q c → x < q.size → label_at q x ≡ 0 → label_at c x ≡ 0
+pub free_role : (nodes : List Grant) (keys : List Key) (threads : ℕ) (q c : Shape) (x : ℕ)
+    → IsArena nodes keys threads q c → x < q.size → label_at q x ≡ 0 → label_at c x ≡ 0
 free_role nodes keys threads q c x a lt label = elim (a.roles x lt) [
   | inl free ↦ free.1
   | inr used ↦ elim used.place [
-    | inl holds ↦ let f : label_at q x ≡ place_in (node_at nodes x).key keys + place_in (node_at nodes x).key keys + 1 = holds.0 in absurd (omega arith)
-    | inr waits ↦ let f : label_at q x ≡ place_in (node_at nodes x).key keys + place_in (node_at nodes x).key keys + 2 = waits.0 in absurd (omega arith)
+    | inl holds ↦ let f : label_at q x ≡ place_in (node_at nodes x).key keys + place_in (node_at nodes x).key keys + 1 =
+        holds.0 in absurd (omega arith)
+    | inr waits ↦ let f : label_at q x ≡ place_in (node_at nodes x).key keys + place_in (node_at nodes x).key keys + 2 =
+        waits.0 in absurd (omega arith)
   ]
 ]
 
@@ -113,37 +133,55 @@ or_true : (b : Bool) → (b || true) ≡ true
 or_true true = refl
 or_true false = refl
 
-pub thread_found : (nodes : List Grant) (t x : ℕ) (xs : List ℕ) → Among x xs → (node_at nodes x).thread ≡ t → is_among t (claims nodes xs) ≡ true
+pub thread_found : (nodes : List Grant) (t x : ℕ) (xs : List ℕ) → Among x xs → (node_at nodes x).thread ≡ t
+    → is_among t (claims nodes xs) ≡ true
 thread_found nodes t x [] h is = absurd h
-thread_found nodes t x (y ∷ ys) (inl h) is = ap (λ b. b || is_among t (claims nodes ys)) (eq-eqb (node_at nodes y).thread t (ap (λ z. (node_at nodes z).thread) h ∙ is))
-thread_found nodes t x (y ∷ ys) (inr h) is = ap (λ b. ((node_at nodes y).thread == t) || b) (thread_found nodes t x ys h is) ∙ or_true ((node_at nodes y).thread == t)
+thread_found nodes t x (y ∷ ys) (inl h) is =
+    ap (λ b. b || is_among t (claims nodes ys))
+    (eq-eqb (node_at nodes y).thread t (ap (λ z. (node_at nodes z).thread) h ∙ is))
+thread_found nodes t x (y ∷ ys) (inr h) is =
+    ap (λ b. ((node_at nodes y).thread == t) || b) (thread_found nodes t x ys h is)
+    ∙ or_true ((node_at nodes y).thread == t)
 
-pub thread_missing : (nodes : List Grant) (t : ℕ) (xs : List ℕ) → Each (λ i. (node_at nodes i).thread ≢ t) xs → is_among t (claims nodes xs) ≡ false
+pub thread_missing : (nodes : List Grant) (t : ℕ) (xs : List ℕ) → Each (λ i. (node_at nodes i).thread ≢ t) xs
+    → is_among t (claims nodes xs) ≡ false
 thread_missing nodes t [] e = refl
-thread_missing nodes t (y ∷ ys) e = let off : ((node_at nodes y).thread == t) ≡ false = grind (arith, e.0) in ap (λ b. b || is_among t (claims nodes ys)) off ∙ thread_missing nodes t ys e.1
+thread_missing nodes t (y ∷ ys) e = let off : ((node_at nodes y).thread == t) ≡ false = grind (arith, e.0) in
+    ap (λ b. b || is_among t (claims nodes ys)) off ∙ thread_missing nodes t ys e.1
 
-waits_at : (t : ℕ) (queue : ℕ → List Claim) (k : ℕ) (keys : List Key) (i j : ℕ) → i < length keys → j ≡ k + i → is_among t (queue (j + j + 2)) ≡ true → list_any (λ e. is_among t e.waiters) (entries_from queue k keys) ≡ true
+waits_at : (t : ℕ) (queue : ℕ → List Claim) (k : ℕ) (keys : List Key) (i j : ℕ) → i < length keys → j ≡ k + i
+    → is_among t (queue (j + j + 2)) ≡ true → list_any (λ e. is_among t e.waiters) (entries_from queue k keys) ≡ true
 waits_at t queue k [] i j lt is h = absurd (omega arith)
 waits_at t queue k (x ∷ xs) zero j lt is h =
     let same : j ≡ k = omega arith in
-    ap (λ b. b || list_any (λ e. is_among t e.waiters) (entries_from queue (suc k) xs)) (subst (λ z. is_among t (queue (z + z + 2)) ≡ true) same h)
+    ap (λ b. b || list_any (λ e. is_among t e.waiters) (entries_from queue (suc k) xs))
+    (subst (λ z. is_among t (queue (z + z + 2)) ≡ true) same h)
 waits_at t queue k (x ∷ xs) (suc i) j lt is h =
-    ap (λ b. is_among t (queue (k + k + 2)) || b) (waits_at t queue (suc k) xs i j (omega arith) (omega arith) h) ∙ or_true (is_among t (queue (k + k + 2)))
+    ap (λ b. is_among t (queue (k + k + 2)) || b) (waits_at t queue (suc k) xs i j (omega arith) (omega arith) h)
+    ∙ or_true (is_among t (queue (k + k + 2)))
 
-waits_nowhere : (t : ℕ) (queue : ℕ → List Claim) (k : ℕ) (keys : List Key) → ((j : ℕ) → j < k + length keys → is_among t (queue (j + j + 2)) ≡ false) → list_any (λ e. is_among t e.waiters) (entries_from queue k keys) ≡ false
+waits_nowhere : (t : ℕ) (queue : ℕ → List Claim) (k : ℕ) (keys : List Key)
+    → ((j : ℕ) → j < k + length keys → is_among t (queue (j + j + 2)) ≡ false)
+    → list_any (λ e. is_among t e.waiters) (entries_from queue k keys) ≡ false
 waits_nowhere t queue k [] none = refl
 waits_nowhere t queue k (x ∷ xs) none =
-    ap (λ b. b || list_any (λ e. is_among t e.waiters) (entries_from queue (suc k) xs)) (none k (omega arith)) ∙ waits_nowhere t queue (suc k) xs (λ j lt. none j (omega arith))
+    ap (λ b. b || list_any (λ e. is_among t e.waiters) (entries_from queue (suc k) xs)) (none k (omega arith))
+    ∙ waits_nowhere t queue (suc k) xs (λ j lt. none j (omega arith))
 
 -- a thread waits exactly where its list of waiting isn't empty
-pub waiting-seen : (nodes : List Grant) (keys : List Key) (threads : ℕ) (q c : Shape) (now : Contents) (t : ℕ) → IsArena nodes keys threads q c → shown nodes keys threads q c ≡ now → t < length now.held → is_some (head_or (list_at c.lists (t + t + 2)) None) ≡ is_waiting t now
+pub waiting-seen : (nodes : List Grant) (keys : List Key) (threads : ℕ) (q c : Shape) (now : Contents) (t : ℕ)
+    → IsArena nodes keys threads q c → shown nodes keys threads q c ≡ now → t < length now.held
+    → is_some (head_or (list_at c.lists (t + t + 2)) None) ≡ is_waiting t now
 waiting-seen nodes keys threads q c now t a is lt =
     go (list_at c.lists (t + t + 2)) refl ∙ ap (λ (z : Contents). is_waiting t z) is
   where
-    go : (xs : List ℕ) → list_at c.lists (t + t + 2) ≡ xs → is_some (head_or xs None) ≡ list_any (λ e. is_among t e.waiters) (entries_from (queue_at nodes q.lists) 0 keys)
+    go : (xs : List ℕ) → list_at c.lists (t + t + 2) ≡ xs
+        → is_some (head_or xs None) ≡ list_any (λ e. is_among t e.waiters)
+        (entries_from (queue_at nodes q.lists) 0 keys)
     go [] none = sym (waits_nowhere t (queue_at nodes q.lists) 0 keys (λ j below.
         let count : length q.lists ≡ length keys + length keys + 1 = a.queues in
-        thread_missing nodes t (list_at q.lists (j + j + 2)) (each_map (λ i. (i < q.size) × (label_at q i ≡ j + j + 2)) (λ i. (node_at nodes i).thread ≢ t) (λ i h by.
+        thread_missing nodes t (list_at q.lists (j + j + 2))
+        (each_map (λ i. (i < q.size) × (label_at q i ≡ j + j + 2)) (λ i. (node_at nodes i).thread ≢ t) (λ i h by.
         let w = waiter_role nodes keys threads q c j i a h.0 h.1 in
         let both : c.size ≡ q.size = a.chained in
         let in_q : i < q.size = h.0 in
@@ -159,4 +197,6 @@ waiting-seen nodes keys threads q c now t a is lt =
         let in_q : x < q.size = omega arith in
         let w = waiting_role nodes keys threads q c t x a in_q at.1 in
         let p : ℕ = place_in (node_at nodes x).key keys in
-        sym (waits_at t (queue_at nodes q.lists) 0 keys p p w.known (omega arith) (thread_found nodes t x (list_at q.lists (p + p + 2)) (subst (λ z. Among x (list_at q.lists z)) w.label (a.in_queues.there x in_q).1) w.thread))
+        sym (waits_at t (queue_at nodes q.lists) 0 keys p p w.known (omega arith)
+        (thread_found nodes t x (list_at q.lists (p + p + 2))
+        (subst (λ z. Among x (list_at q.lists z)) w.label (a.in_queues.there x in_q).1) w.thread))

@@ -1,5 +1,6 @@
 -- What an arena shows of its lists.
-use Rattle.std.proofs.Common.{◌≡◌, ◌≢◌, ◌⊎◌, inl, inr, ℕ, zero, suc, ◌+◌, ◌<◌, ◌≤◌, ◌^◌, List, [], ◌∷◌, length, get_or, set, Bool, true, false, Option, Some, None, refl, sym, ◌∙◌, ap, subst, arith, rules}
+use Rattle.std.proofs.Common.{◌≡◌, ◌≢◌, ◌⊎◌, inl, inr, ℕ, zero, suc, ◌+◌, ◌<◌, ◌≤◌, ◌^◌, List, [], ◌∷◌, length, get_or}
+use Rattle.std.proofs.Common.{set, Bool, true, false, Option, Some, None, refl, sym, ◌∙◌, ap, subst, arith, rules}
 use Rattle.std.specs.Prelude.{if◌then◌else◌, ◌==◌, ◌&&◌, IsSome}
 use Rattle.std.specs.Option.{option_map}
 use Rattle.std.proofs.lemmas.Bool.{eqb-true, eq-eqb}
@@ -9,10 +10,12 @@ use Rattle.sect_modes.specs.Key.{is_same_key}
 use Rattle.sect_table.specs.declared.claims.Hold.{Hold}
 use Rattle.sect_table.specs.declared.claims.Claim.{Claim}
 use Rattle.sect_table.specs.declared.claims.Grant.{Grant}
-use Rattle.sect_table.specs.Contents.{Entry, Contents, number_of, entry_of, no_entry, put, first_of, first_hold, claim_of, hold_of}
+use Rattle.sect_table.specs.Contents.{Entry, Contents, number_of, entry_of, no_entry, put, first_of, first_hold}
+use Rattle.sect_table.specs.Contents.{claim_of, hold_of}
 use Rattle.sect_table.specs.steps.Keys.{place_in}
 use Rattle.sect_table.specs.steps.Links.{Shape, head_or}
-use Rattle.sect_table.specs.steps.Arena.{node_at, claims, holds_at, queue_at, chain_at, entry_at, entries_from, held_from, shown, IsArena}
+use Rattle.sect_table.specs.steps.Arena.{node_at, claims, holds_at, queue_at, chain_at, entry_at, entries_from}
+use Rattle.sect_table.specs.steps.Arena.{held_from, shown, IsArena}
 
 -- the two cases of a test, with what it says
 pub cases_of : (b : Bool) → (b ≡ true) ⊎ (b ≡ false)
@@ -26,7 +29,8 @@ both_true false b h = absurd (let off : false ≡ true = h in cc)
 pub same_key : (a b : Key) → is_same_key a b ≡ true → a ≡ b
 same_key (Class a) (Class b) e = ap Class (eqb-true a b e)
 same_key (Global a) (Global b) e = ap Global (eqb-true a b e)
-same_key (Made t n) (Made u m) e = let p = both_true (t == u) (n == m) e in ap (λ z. Made z n) (eqb-true t u p.0) ∙ ap (Made u) (eqb-true n m p.1)
+same_key (Made t n) (Made u m) e = let p = both_true (t == u) (n == m) e in
+    ap (λ z. Made z n) (eqb-true t u p.0) ∙ ap (Made u) (eqb-true n m p.1)
 same_key All All e = refl
 same_key All (Class _) e = absurd (let off : false ≡ true = e in cc)
 same_key All (Global _) e = absurd (let off : false ≡ true = e in cc)
@@ -45,7 +49,8 @@ pub key_itself : (a : Key) → is_same_key a a ≡ true
 key_itself All = refl
 key_itself (Class a) = eq-eqb a a refl
 key_itself (Global a) = eq-eqb a a refl
-key_itself (Made t n) = let e : (t == t) ≡ true = eq-eqb t t refl in let f : (n == n) ≡ true = eq-eqb n n refl in ap (λ b. b && (n == n)) e ∙ f
+key_itself (Made t n) = let e : (t == t) ≡ true = eq-eqb t t refl in let f : (n == n) ≡ true = eq-eqb n n refl in
+    ap (λ b. b && (n == n)) e ∙ f
 
 -- places of keys
 pub place-here : (k x : Key) (xs : List Key) → is_same_key k x ≡ true → place_in k (x ∷ xs) ≡ 0
@@ -63,12 +68,14 @@ one_place a b (x ∷ xs) lt is = elim (cases_of (is_same_key a x)) [
   ]
   | inr ax ↦ elim (cases_of (is_same_key b x)) [
     | inl bx ↦ let p = place-later a x xs ax in let q = place-here b x xs bx in absurd (omega arith)
-    | inr bx ↦ let p = place-later a x xs ax in let q = place-later b x xs bx in one_place a b xs (omega arith) (omega arith)
+    | inr bx ↦ let p = place-later a x xs ax in let q = place-later b x xs bx in
+        one_place a b xs (omega arith) (omega arith)
   ]
 ]
 
 -- lengths and numbers
-pub length-entries_from : (queue : ℕ → List Claim) (k : ℕ) (keys : List Key) → length (entries_from queue k keys) ≡ length keys
+pub length-entries_from : (queue : ℕ → List Claim) (k : ℕ) (keys : List Key)
+    → length (entries_from queue k keys) ≡ length keys
 length-entries_from queue k [] = refl
 length-entries_from queue k (x ∷ xs) = ap suc (length-entries_from queue (suc k) xs)
 
@@ -76,14 +83,17 @@ pub length-held_from : (chain : ℕ → List Hold) (t n : ℕ) → length (held_
 length-held_from chain t zero = refl
 length-held_from chain t (suc n) = ap suc (length-held_from chain (suc t) n)
 
-pub number_of-entries_from : (key : Key) (queue : ℕ → List Claim) (k : ℕ) (keys : List Key) → number_of key (entries_from queue k keys) ≡ place_in key keys
+pub number_of-entries_from : (key : Key) (queue : ℕ → List Claim) (k : ℕ) (keys : List Key)
+    → number_of key (entries_from queue k keys) ≡ place_in key keys
 number_of-entries_from key queue k [] = refl
-number_of-entries_from key queue k (x ∷ xs) = ap (λ z. if is_same_key key x then 0 else suc z) (number_of-entries_from key queue (suc k) xs)
+number_of-entries_from key queue k (x ∷ xs) =
+    ap (λ z. if is_same_key key x then 0 else suc z) (number_of-entries_from key queue (suc k) xs)
 
 pub entry_of-here : (key : Key) (e : Entry) (es : List Entry) → is_same_key key e.key ≡ true → entry_of key (e ∷ es) ≡ e
 entry_of-here key e es is = ap (λ b. get_or (e ∷ es) (if b then 0 else suc (number_of key es)) (no_entry key)) is
 
-pub entry_of-later : (key : Key) (e : Entry) (es : List Entry) → is_same_key key e.key ≡ false → entry_of key (e ∷ es) ≡ entry_of key es
+pub entry_of-later : (key : Key) (e : Entry) (es : List Entry) → is_same_key key e.key ≡ false
+    → entry_of key (e ∷ es) ≡ entry_of key es
 entry_of-later key e es is = ap (λ b. get_or (e ∷ es) (if b then 0 else suc (number_of key es)) (no_entry key)) is
 
 pub put-here : (e f : Entry) (es : List Entry) → is_same_key e.key f.key ≡ true → put e (f ∷ es) ≡ e ∷ es
@@ -93,42 +103,55 @@ pub put-later : (e f : Entry) (es : List Entry) → is_same_key e.key f.key ≡ 
 put-later e f es is = ap (λ b. if b then e ∷ es else f ∷ put e es) is
 
 -- the entry of a known key
-pub entry-shown : (queue : ℕ → List Claim) (k : ℕ) (key : Key) (keys : List Key) (p : ℕ) → place_in key keys < length keys → p ≡ k + place_in key keys → entry_of key (entries_from queue k keys) ≡ entry_at queue key p
+pub entry-shown : (queue : ℕ → List Claim) (k : ℕ) (key : Key) (keys : List Key) (p : ℕ)
+    → place_in key keys < length keys → p ≡ k + place_in key keys
+    → entry_of key (entries_from queue k keys) ≡ entry_at queue key p
 entry-shown queue k key [] p lt is = absurd (omega arith)
 entry-shown queue k key (x ∷ xs) p lt is = elim (cases_of (is_same_key key x)) [
   | inl here ↦
       let at = place-here key x xs here in
       let same : k ≡ p = omega arith in
-      entry_of-here key (entry_at queue x k) (entries_from queue (suc k) xs) here ∙ (ap (λ z. entry_at queue z k) (sym (same_key key x here)) ∙ ap (entry_at queue key) same)
+      entry_of-here key (entry_at queue x k) (entries_from queue (suc k) xs) here
+      ∙ (ap (λ z. entry_at queue z k) (sym (same_key key x here)) ∙ ap (entry_at queue key) same)
   | inr later ↦
       let at = place-later key x xs later in
-      entry_of-later key (entry_at queue x k) (entries_from queue (suc k) xs) later ∙ entry-shown queue (suc k) key xs p (omega arith) (omega arith)
+      entry_of-later key (entry_at queue x k) (entries_from queue (suc k) xs) later
+      ∙ entry-shown queue (suc k) key xs p (omega arith) (omega arith)
 ]
 
-pub entry-unknown : (queue : ℕ → List Claim) (k : ℕ) (key : Key) (keys : List Key) → place_in key keys ≡ length keys → entry_of key (entries_from queue k keys) ≡ no_entry key
+pub entry-unknown : (queue : ℕ → List Claim) (k : ℕ) (key : Key) (keys : List Key) → place_in key keys ≡ length keys
+    → entry_of key (entries_from queue k keys) ≡ no_entry key
 entry-unknown queue k key [] is = refl
 entry-unknown queue k key (x ∷ xs) is = elim (cases_of (is_same_key key x)) [
   | inl here ↦ let at = place-here key x xs here in absurd (omega arith)
   | inr later ↦
       let at = place-later key x xs later in
-      entry_of-later key (entry_at queue x k) (entries_from queue (suc k) xs) later ∙ entry-unknown queue (suc k) key xs (omega arith)
+      entry_of-later key (entry_at queue x k) (entries_from queue (suc k) xs) later
+      ∙ entry-unknown queue (suc k) key xs (omega arith)
 ]
 
 -- a thread's list
-pub held-shown : (chain : ℕ → List Hold) (t n i j : ℕ) → i < n → j ≡ t + i → get_or (held_from chain t n) i [] ≡ chain (j + j + 1)
+pub held-shown : (chain : ℕ → List Hold) (t n i j : ℕ) → i < n → j ≡ t + i
+    → get_or (held_from chain t n) i [] ≡ chain (j + j + 1)
 held-shown chain t zero i j lt is = absurd (omega arith)
 held-shown chain t (suc n) zero j lt is = let same : t ≡ j = omega arith in ap (λ z. chain (z + z + 1)) same
 held-shown chain t (suc n) (suc i) j lt is = held-shown chain (suc t) n i j (omega arith) (omega arith)
 
 -- the queues of one key change
-pub entries-kept : (queue queue' : ℕ → List Claim) (k : ℕ) (keys : List Key) → ((j : ℕ) → k ≤ j → (queue' (j + j + 1) ≡ queue (j + j + 1)) × (queue' (j + j + 2) ≡ queue (j + j + 2))) → entries_from queue' k keys ≡ entries_from queue k keys
+pub entries-kept : (queue queue' : ℕ → List Claim) (k : ℕ) (keys : List Key)
+    → ((j : ℕ) → k ≤ j → (queue' (j + j + 1) ≡ queue (j + j + 1)) × (queue' (j + j + 2) ≡ queue (j + j + 2)))
+    → entries_from queue' k keys ≡ entries_from queue k keys
 entries-kept queue queue' k [] same = refl
 entries-kept queue queue' k (x ∷ xs) same =
     let here = same k (omega arith) in
-    let first : entry_at queue' x k ≡ entry_at queue x k = ap (λ z. record { key = x; holders = z; waiters = queue' (k + k + 2) }) here.0 ∙ ap (λ z. record { key = x; holders = queue (k + k + 1); waiters = z }) here.1 in
-    ap (λ z. z ∷ entries_from queue' (suc k) xs) first ∙ ap (λ z. entry_at queue x k ∷ z) (entries-kept queue queue' (suc k) xs (λ j le. same j (omega arith)))
+    let first : entry_at queue' x k ≡ entry_at queue x k =
+    ap (λ z. record { key = x; holders = z; waiters = queue' (k + k + 2) }) here.0
+    ∙ ap (λ z. record { key = x; holders = queue (k + k + 1); waiters = z }) here.1 in
+    ap (λ z. z ∷ entries_from queue' (suc k) xs) first
+    ∙ ap (λ z. entry_at queue x k ∷ z) (entries-kept queue queue' (suc k) xs (λ j le. same j (omega arith)))
 
-pub entries-put : (queue queue' : ℕ → List Claim) (k : ℕ) (key : Key) (keys : List Key) (p : ℕ) → place_in key keys < length keys → p ≡ k + place_in key keys
+pub entries-put : (queue queue' : ℕ → List Claim) (k : ℕ) (key : Key) (keys : List Key) (p : ℕ)
+    → place_in key keys < length keys → p ≡ k + place_in key keys
     → ((j : ℕ) → j ≢ p → (queue' (j + j + 1) ≡ queue (j + j + 1)) × (queue' (j + j + 2) ≡ queue (j + j + 2)))
     → entries_from queue' k keys ≡ put (entry_at queue' key p) (entries_from queue k keys)
 entries-put queue queue' k key [] p lt is same = absurd (omega arith)
@@ -136,7 +159,8 @@ entries-put queue queue' k key (x ∷ xs) p lt is same = elim (cases_of (is_same
   | inl here ↦
       let at = place-here key x xs here in
       let same_p : k ≡ p = omega arith in
-      let rest : entries_from queue' (suc k) xs ≡ entries_from queue (suc k) xs = entries-kept queue queue' (suc k) xs (λ j le. same j (λ e. absurd (omega arith))) in
+      let rest : entries_from queue' (suc k) xs ≡ entries_from queue (suc k) xs =
+      entries-kept queue queue' (suc k) xs (λ j le. same j (λ e. absurd (omega arith))) in
       ap (λ z. entry_at queue' z k ∷ entries_from queue' (suc k) xs) (sym (same_key key x here))
       ∙ (ap (λ z. entry_at queue' key z ∷ entries_from queue' (suc k) xs) same_p
       ∙ (ap (λ z. entry_at queue' key p ∷ z) rest
@@ -144,24 +168,33 @@ entries-put queue queue' k key (x ∷ xs) p lt is same = elim (cases_of (is_same
   | inr later ↦
       let at = place-later key x xs later in
       let both = same k (λ e. absurd (omega arith)) in
-      let first : entry_at queue' x k ≡ entry_at queue x k = ap (λ z. record { key = x; holders = z; waiters = queue' (k + k + 2) }) both.0 ∙ ap (λ z. record { key = x; holders = queue (k + k + 1); waiters = z }) both.1 in
+      let first : entry_at queue' x k ≡ entry_at queue x k =
+      ap (λ z. record { key = x; holders = z; waiters = queue' (k + k + 2) }) both.0
+      ∙ ap (λ z. record { key = x; holders = queue (k + k + 1); waiters = z }) both.1 in
       ap (λ z. z ∷ entries_from queue' (suc k) xs) first
       ∙ (ap (λ z. entry_at queue x k ∷ z) (entries-put queue queue' (suc k) key xs p (omega arith) (omega arith) same)
       ∙ sym (put-later (entry_at queue' key p) (entry_at queue x k) (entries_from queue (suc k) xs) later))
 ]
 
 -- one thread's list changes
-pub held-kept : (chain chain' : ℕ → List Hold) (t n : ℕ) → ((j : ℕ) → t ≤ j → chain' (j + j + 1) ≡ chain (j + j + 1)) → held_from chain' t n ≡ held_from chain t n
+pub held-kept : (chain chain' : ℕ → List Hold) (t n : ℕ) → ((j : ℕ) → t ≤ j → chain' (j + j + 1) ≡ chain (j + j + 1))
+    → held_from chain' t n ≡ held_from chain t n
 held-kept chain chain' t zero same = refl
-held-kept chain chain' t (suc n) same = ap (λ z. z ∷ held_from chain' (suc t) n) (same t (omega arith)) ∙ ap (λ z. chain (t + t + 1) ∷ z) (held-kept chain chain' (suc t) n (λ j le. same j (omega arith)))
+held-kept chain chain' t (suc n) same = ap (λ z. z ∷ held_from chain' (suc t) n) (same t (omega arith))
+    ∙ ap (λ z. chain (t + t + 1) ∷ z) (held-kept chain chain' (suc t) n (λ j le. same j (omega arith)))
 
-pub held-set : (chain chain' : ℕ → List Hold) (t n i j : ℕ) → i < n → j ≡ t + i → ((m : ℕ) → m ≢ j → chain' (m + m + 1) ≡ chain (m + m + 1)) → held_from chain' t n ≡ set (held_from chain t n) i (chain' (j + j + 1))
+pub held-set : (chain chain' : ℕ → List Hold) (t n i j : ℕ) → i < n → j ≡ t + i
+    → ((m : ℕ) → m ≢ j → chain' (m + m + 1) ≡ chain (m + m + 1))
+    → held_from chain' t n ≡ set (held_from chain t n) i (chain' (j + j + 1))
 held-set chain chain' t zero i j lt is same = absurd (omega arith)
 held-set chain chain' t (suc n) zero j lt is same =
     let here : t ≡ j = omega arith in
-    ap (λ z. chain' (z + z + 1) ∷ held_from chain' (suc t) n) here ∙ ap (λ z. chain' (j + j + 1) ∷ z) (held-kept chain chain' (suc t) n (λ m le. same m (λ e. absurd (omega arith))))
+    ap (λ z. chain' (z + z + 1) ∷ held_from chain' (suc t) n) here
+    ∙ ap (λ z. chain' (j + j + 1) ∷ z)
+    (held-kept chain chain' (suc t) n (λ m le. same m (λ e. absurd (omega arith))))
 held-set chain chain' t (suc n) (suc i) j lt is same =
-    ap (λ z. z ∷ held_from chain' (suc t) n) (same t (λ e. absurd (omega arith))) ∙ ap (λ z. chain (t + t + 1) ∷ z) (held-set chain chain' (suc t) n i j (omega arith) (omega arith) same)
+    ap (λ z. z ∷ held_from chain' (suc t) n) (same t (λ e. absurd (omega arith)))
+    ∙ ap (λ z. chain (t + t + 1) ∷ z) (held-set chain chain' (suc t) n i j (omega arith) (omega arith) same)
 
 -- the first of a list
 pub uncons : (xs : List ℕ) (x : ℕ) → head_or xs None ≡ Some x → (rest : List ℕ) × (xs ≡ x ∷ rest)
@@ -181,17 +214,21 @@ pub record Seen (keys : List Key) (threads : ℕ) (q c : Shape) (now : Contents)
   pub chains : length c.lists ≡ length now.held + length now.held + 1
   pub numbers : (key : Key) → place_in key keys ≡ number_of key now.entries
 
-pub seen : (nodes : List Grant) (keys : List Key) (threads : ℕ) (q c : Shape) (now : Contents) → IsArena nodes keys threads q c → shown nodes keys threads q c ≡ now → Seen keys threads q c now
+pub seen : (nodes : List Grant) (keys : List Key) (threads : ℕ) (q c : Shape) (now : Contents)
+    → IsArena nodes keys threads q c → shown nodes keys threads q c ≡ now → Seen keys threads q c now
 seen nodes keys threads q c now a is =
-    let n : length keys ≡ length now.entries = sym (length-entries_from (queue_at nodes q.lists) 0 keys) ∙ ap (λ (s : Contents). length s.entries) is in
-    let m : threads ≡ length now.held = sym (length-held_from (chain_at nodes c.lists) 0 threads) ∙ ap (λ (s : Contents). length s.held) is in
+    let n : length keys ≡ length now.entries = sym (length-entries_from (queue_at nodes q.lists) 0 keys)
+    ∙ ap (λ (s : Contents). length s.entries) is in
+    let m : threads ≡ length now.held = sym (length-held_from (chain_at nodes c.lists) 0 threads)
+    ∙ ap (λ (s : Contents). length s.held) is in
     record {
       keys_are = n;
       threads_are = m;
       queues = a.queues ∙ ap (λ z. z + z + 1) n;
       few = a.few;
       chains = a.chains ∙ ap (λ z. z + z + 1) m;
-      numbers = λ key. sym (number_of-entries_from key (queue_at nodes q.lists) 0 keys) ∙ ap (λ (s : Contents). number_of key s.entries) is;
+      numbers = λ key. sym (number_of-entries_from key (queue_at nodes q.lists) 0 keys)
+          ∙ ap (λ (s : Contents). number_of key s.entries) is;
     }
 
 -- the lists of a known key are there, and their numbers are far from the greatest
@@ -200,7 +237,8 @@ pub record KeyLists (q : Shape) (at : ℕ) : Type 0 where
   pub waiters : at + at + 2 < length q.lists
   pub few : at + at + 2 < 2 ^ 60
 
-pub key_lists : (nodes : List Grant) (keys : List Key) (threads : ℕ) (q c : Shape) (now : Contents) (at : ℕ) → IsArena nodes keys threads q c → shown nodes keys threads q c ≡ now → at < length now.entries → KeyLists q at
+pub key_lists : (nodes : List Grant) (keys : List Key) (threads : ℕ) (q c : Shape) (now : Contents) (at : ℕ)
+    → IsArena nodes keys threads q c → shown nodes keys threads q c ≡ now → at < length now.entries → KeyLists q at
 key_lists nodes keys threads q c now at a is known =
     let s = seen nodes keys threads q c now a is in
     let n = s.queues in
@@ -208,34 +246,45 @@ key_lists nodes keys threads q c now at a is known =
     record { holders = omega arith; waiters = omega arith; few = omega arith }
 
 -- the claims on a known key
-pub queues-seen : (nodes : List Grant) (keys : List Key) (threads : ℕ) (q c : Shape) (now : Contents) (key : Key) (at : ℕ) → IsArena nodes keys threads q c → shown nodes keys threads q c ≡ now → at ≡ number_of key now.entries → at < length now.entries → entry_of key now.entries ≡ entry_at (queue_at nodes q.lists) key at
+pub queues-seen : (nodes : List Grant) (keys : List Key) (threads : ℕ) (q c : Shape) (now : Contents) (key : Key)
+    (at : ℕ) → IsArena nodes keys threads q c → shown nodes keys threads q c ≡ now → at ≡ number_of key now.entries
+    → at < length now.entries → entry_of key now.entries ≡ entry_at (queue_at nodes q.lists) key at
 queues-seen nodes keys threads q c now key at a is number known =
     let s = seen nodes keys threads q c now a is in
     let p : place_in key keys ≡ number_of key now.entries = s.numbers key in
     let n : length keys ≡ length now.entries = s.keys_are in
-    sym (ap (λ (z : Contents). entry_of key z.entries) is) ∙ entry-shown (queue_at nodes q.lists) 0 key keys at (omega arith) (omega arith)
+    sym (ap (λ (z : Contents). entry_of key z.entries) is)
+    ∙ entry-shown (queue_at nodes q.lists) 0 key keys at (omega arith) (omega arith)
 
 -- a thread's list
-pub chain-seen : (nodes : List Grant) (keys : List Key) (threads : ℕ) (q c : Shape) (now : Contents) (t : ℕ) → IsArena nodes keys threads q c → shown nodes keys threads q c ≡ now → t < length now.held → get_or now.held t [] ≡ chain_at nodes c.lists (t + t + 1)
+pub chain-seen : (nodes : List Grant) (keys : List Key) (threads : ℕ) (q c : Shape) (now : Contents) (t : ℕ)
+    → IsArena nodes keys threads q c → shown nodes keys threads q c ≡ now → t < length now.held
+    → get_or now.held t [] ≡ chain_at nodes c.lists (t + t + 1)
 chain-seen nodes keys threads q c now t a is lt =
     let s = seen nodes keys threads q c now a is in
     let m : threads ≡ length now.held = s.threads_are in
-    sym (ap (λ (z : Contents). get_or z.held t []) is) ∙ held-shown (chain_at nodes c.lists) 0 threads t t (omega arith) (omega arith)
+    sym (ap (λ (z : Contents). get_or z.held t []) is)
+    ∙ held-shown (chain_at nodes c.lists) 0 threads t t (omega arith) (omega arith)
 
-pub first_claim : (nodes : List Grant) (xs : List ℕ) (x : ℕ) (r : Grant) → head_or xs None ≡ Some x → r ≡ node_at nodes x → (let o : Option Claim = Some (record { thread = r.thread; mode = r.mode }) in o) ≡ first_of (claims nodes xs)
+pub first_claim : (nodes : List Grant) (xs : List ℕ) (x : ℕ) (r : Grant) → head_or xs None ≡ Some x
+    → r ≡ node_at nodes x → (let o : Option Claim = Some (record { thread = r.thread; mode = r.mode }) in o) ≡ first_of
+    (claims nodes xs)
 first_claim nodes xs x r is is_r =
     let found = uncons xs x is in
     ap (λ (z : Grant). Some (claim_of z.thread z.mode)) is_r ∙ sym (ap (λ z. first_of (claims nodes z)) found.1)
 
-pub no_claim : (nodes : List Grant) (xs : List ℕ) → head_or xs None ≡ None → (let o : Option Claim = None in o) ≡ first_of (claims nodes xs)
+pub no_claim : (nodes : List Grant) (xs : List ℕ) → head_or xs None ≡ None
+    → (let o : Option Claim = None in o) ≡ first_of (claims nodes xs)
 no_claim nodes xs is = sym (ap (λ z. first_of (claims nodes z)) (nothing_first xs is))
 
-pub first_held : (nodes : List Grant) (xs : List ℕ) (x : ℕ) (r : Grant) → head_or xs None ≡ Some x → r ≡ node_at nodes x → (let o : Option Hold = Some (record { key = r.key; mode = r.mode }) in o) ≡ first_hold (holds_at nodes xs)
+pub first_held : (nodes : List Grant) (xs : List ℕ) (x : ℕ) (r : Grant) → head_or xs None ≡ Some x → r ≡ node_at nodes x
+    → (let o : Option Hold = Some (record { key = r.key; mode = r.mode }) in o) ≡ first_hold (holds_at nodes xs)
 first_held nodes xs x r is is_r =
     let found = uncons xs x is in
     ap (λ (z : Grant). Some (hold_of z.key z.mode)) is_r ∙ sym (ap (λ z. first_hold (holds_at nodes z)) found.1)
 
-pub no_hold : (nodes : List Grant) (xs : List ℕ) → head_or xs None ≡ None → (let o : Option Hold = None in o) ≡ first_hold (holds_at nodes xs)
+pub no_hold : (nodes : List Grant) (xs : List ℕ) → head_or xs None ≡ None
+    → (let o : Option Hold = None in o) ≡ first_hold (holds_at nodes xs)
 no_hold nodes xs is = sym (ap (λ z. first_hold (holds_at nodes z)) (nothing_first xs is))
 
 -- a list that shows something has a first number
@@ -243,7 +292,9 @@ pub claimed_first : (nodes : List Grant) (xs : List ℕ) → 0 < length (claims 
 claimed_first nodes [] some = absurd (omega arith)
 claimed_first nodes (x ∷ xs) some = search rules
 
-pub held_key : (nodes : List Grant) (xs : List ℕ) (key : Key) → option_map (λ (h : Hold). h.key) (first_hold (holds_at nodes xs)) ≡ Some key → (x : ℕ) × (rest : List ℕ) × (xs ≡ x ∷ rest) × ((node_at nodes x).key ≡ key)
+pub held_key : (nodes : List Grant) (xs : List ℕ) (key : Key)
+    → option_map (λ (h : Hold). h.key) (first_hold (holds_at nodes xs)) ≡ Some key
+    → (x : ℕ) × (rest : List ℕ) × (xs ≡ x ∷ rest) × ((node_at nodes x).key ≡ key)
 held_key nodes [] key is = absurd (let no_key : None ≡ Some key = is in cc)
 held_key nodes (x ∷ xs) key is = (x, xs, refl, let same : (node_at nodes x).key ≡ key = (cc) in same)
 

@@ -1,5 +1,6 @@
 -- Small facts on tests, options and lists.
-use Rattle.std.proofs.Common.{◌≡◌, Bool, true, false, refl, sym, ap, ◌∙◌, subst, ◌⊎◌, inl, inr, true≢false, List, [], ◌∷◌, ◌++◌, length, Option, Some, None, ℕ, zero, suc, ◌<◌, slice_get, if◌then◌else◌, arith}
+use Rattle.std.proofs.Common.{◌≡◌, Bool, true, false, refl, sym, ap, ◌∙◌, subst, ◌⊎◌, inl, inr, true≢false, List, []}
+use Rattle.std.proofs.Common.{◌∷◌, ◌++◌, length, Option, Some, None, ℕ, zero, suc, ◌<◌, slice_get, if◌then◌else◌, arith}
 use Rattle.std.specs.Prelude.{⊤, ◌&&◌, ◌||◌}
 use Rattle.sect_types.specs.Store.{same_number}
 

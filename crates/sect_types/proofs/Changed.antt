@@ -1,5 +1,6 @@
 -- Lists with one element changed.
-use Rattle.std.proofs.Common.{◌≡◌, ◌<◌, ◌≤◌, ℕ, zero, suc, List, [], ◌∷◌, Some, true, false, true≢false, refl, ap, sym, arith, length, slice_get, slice_set, slice_index_or}
+use Rattle.std.proofs.Common.{◌≡◌, ◌<◌, ◌≤◌, ℕ, zero, suc, List, [], ◌∷◌, Some, true, false, true≢false, refl, ap, sym}
+use Rattle.std.proofs.Common.{arith, length, slice_get, slice_set, slice_index_or}
 use Rattle.sect_types.specs.Store.{changed_at, put_at}
 
 -- an element that is set is put there
@@ -10,7 +11,8 @@ set_put zero x (y ∷ xs) = refl
 set_put (suc n) x (y ∷ xs) = ap (λ zs. y ∷ zs) (set_put n x xs)
 
 -- an element is set to what a function gives of it
-pub set_changed : {A : Type 0} → (n : ℕ) (x : A) (g : A → A) (xs : List A) → x ≡ slice_index_or xs n x → slice_set xs n (g x) ≡ changed_at n g xs
+pub set_changed : {A : Type 0} → (n : ℕ) (x : A) (g : A → A) (xs : List A) → x ≡ slice_index_or xs n x
+    → slice_set xs n (g x) ≡ changed_at n g xs
 set_changed zero x g [] e = refl
 set_changed (suc n) x g [] e = refl
 set_changed {A = A} zero x g (y ∷ xs) e = ap (λ (z : A). g z ∷ xs) e
@@ -23,7 +25,8 @@ changed_past zero g (y ∷ xs) le = absurd (omega (arith, le))
 changed_past (suc n) g (y ∷ xs) le = ap (λ zs. y ∷ zs) (changed_past n g xs (omega (arith, le)))
 
 -- what is read below the length is there
-pub get_there : {A : Type 0} → (n : ℕ) (x : A) (xs : List A) → n < length xs → x ≡ slice_index_or xs n x → slice_get xs n ≡ Some x
+pub get_there : {A : Type 0} → (n : ℕ) (x : A) (xs : List A) → n < length xs → x ≡ slice_index_or xs n x
+    → slice_get xs n ≡ Some x
 get_there n x [] le e = absurd (omega (arith, le))
 get_there zero x (y ∷ xs) le e = ap Some (sym e)
 get_there (suc n) x (y ∷ xs) le e = get_there n x xs (omega (arith, le)) e

@@ -21,7 +21,8 @@ pub number_refers : (n : ℤ) (o : ObjectName) → Number n ≡ Refers o → ⊥
 number_refers n o e = none_or_some o (ap name_in e)
 
 -- a field of a fresh object refers to nothing
-pub fresh_refers : (types : List ValueType) (f : ℕ) (o : ObjectName) → datum_or_null (slice_get (map first_datum types) f) ≡ Refers o → ⊥
+pub fresh_refers : (types : List ValueType) (f : ℕ) (o : ObjectName)
+    → datum_or_null (slice_get (map first_datum types) f) ≡ Refers o → ⊥
 fresh_refers [] f o e = null_refers o e
 fresh_refers (type.Int ∷ types) zero o e = number_refers _ o e
 fresh_refers (type.Refers r ∷ types) zero o e = null_refers o e

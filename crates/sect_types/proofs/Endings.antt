@@ -25,5 +25,7 @@ one_ending p s e f a b =
       both h k l = λ i. record { store = h i; output = k i; ends = l i }
 
 -- an order has one ending at most
-pub whole_comes_to_one : (p : ProgramView) (fuel : ℕ) (order : List ℕ) (e f : SerialEndView) → RunsWhole p fuel order e → RunsWhole p fuel order f → e ≡ f
-whole_comes_to_one p fuel order e f a b = one_ending p a.0 e f a.2 (subst (λ (s : RunView). EndsAs p s f) (some_injective b.0 a.0 (sym b.1 ∙ a.1)) b.2)
+pub whole_comes_to_one : (p : ProgramView) (fuel : ℕ) (order : List ℕ) (e f : SerialEndView) → RunsWhole p fuel order e
+    → RunsWhole p fuel order f → e ≡ f
+whole_comes_to_one p fuel order e f a b =
+    one_ending p a.0 e f a.2 (subst (λ (s : RunView). EndsAs p s f) (some_injective b.0 a.0 (sym b.1 ∙ a.1)) b.2)

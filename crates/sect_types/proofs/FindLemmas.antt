@@ -1,5 +1,6 @@
 -- The section of a number is found.
-use Rattle.std.proofs.Common.{◌≡◌, ℕ, zero, suc, ◌+◌, ◌<◌, ◌≤◌, Bool, true, false, List, [], ◌∷◌, drop, get_or, length, Option, Some, None, nat_eq, if◌then◌else◌, refl, sym, ap, ◌∙◌, arith}
+use Rattle.std.proofs.Common.{◌≡◌, ℕ, zero, suc, ◌+◌, ◌<◌, ◌≤◌, Bool, true, false, List, [], ◌∷◌, drop, get_or, length}
+use Rattle.std.proofs.Common.{Option, Some, None, nat_eq, if◌then◌else◌, refl, sym, ap, ◌∙◌, arith}
 use Rattle.std.specs.Option.{option_or}
 use Rattle.sect_types.proofs.Lists.{drop_next}
 use Rattle.std.proofs.lemmas.List.{drop_all}
@@ -17,7 +18,8 @@ or_again None y z = refl
 or_again (Some a) y z = refl
 
 -- a section is this statement or in it, or it follows
-first_or_rest : (n : ℕ) (st : Step) (k : TextView) → section_body n (step_then st k) ≡ option_or (section_body n (step_then st Stop)) (section_body n k)
+first_or_rest : (n : ℕ) (st : Step) (k : TextView)
+    → section_body n (step_then st k) ≡ option_or (section_body n (step_then st Stop)) (section_body n k)
 first_or_rest n (step.Do a) k = refl
 first_or_rest n (step.If t p q) k =
     or_again (section_body n p) (section_body n q) (section_body n k)
@@ -25,11 +27,13 @@ first_or_rest n (step.If t p q) k =
 first_or_rest n (step.While t p) k = ap (λ x. option_or x (section_body n k)) (sym (or_none (section_body n p)))
 first_or_rest n (step.Section i p) k = by (nat_eq i n)
   where
-    by : (b : Bool) → (if b then Some p else section_body n k) ≡ option_or (if b then Some p else None) (section_body n k)
+    by : (b : Bool) → (if b then Some p else section_body n k) ≡ option_or (if b then Some p else None)
+        (section_body n k)
     by true = refl
     by false = refl
 
-pub weight_at : (ss : List Step) (i : ℕ) (d : Step) → i < length ss → weight (step_then (get_or ss i d) Stop) ≤ weight (statements_of ss)
+pub weight_at : (ss : List Step) (i : ℕ) (d : Step) → i < length ss
+    → weight (step_then (get_or ss i d) Stop) ≤ weight (statements_of ss)
 weight_at [] i d h = absurd (omega arith)
 weight_at (step.Do a ∷ ss) zero d h = omega arith
 weight_at (step.If t p q ∷ ss) zero d h = omega arith
@@ -46,7 +50,8 @@ pub record IsSought (n : ℕ) (text : TextView) (ss : List Step) (i : ℕ) : Typ
   pub same : section_body n text ≡ section_body n (statements_of (drop i ss))
 
 next_of : (n : ℕ) (ss : List Step) (i : ℕ) (x : Step) → i < length ss → x ≡ get_or ss i x
-    → section_body n (statements_of (drop i ss)) ≡ option_or (section_body n (step_then x Stop)) (section_body n (statements_of (drop (i + 1) ss)))
+    → section_body n (statements_of (drop i ss)) ≡ option_or (section_body n (step_then x Stop))
+    (section_body n (statements_of (drop (i + 1) ss)))
 next_of n ss i x h e =
     ap (λ l. section_body n (statements_of l)) (drop_next ss i x h e)
     ∙ first_or_rest n x (statements_of (drop (i + 1) ss))
@@ -54,17 +59,22 @@ next_of n ss i x h e =
 pub begins : (n : ℕ) (text : TextView) (ss : List Step) → statements_of ss ≡ text → IsSought n text ss 0
 begins n text ss e = record { whole = e; same = ap (section_body n) (sym e) }
 
-pub not_here : (n : ℕ) (text : TextView) (ss : List Step) (i : ℕ) (x : Step) → i < length ss → x ≡ get_or ss i x → None ≡ section_body n (step_then x Stop)
+pub not_here : (n : ℕ) (text : TextView) (ss : List Step) (i : ℕ) (x : Step) → i < length ss → x ≡ get_or ss i x
+    → None ≡ section_body n (step_then x Stop)
     → IsSought n text ss i → IsSought n text ss (i + 1)
 not_here n text ss i x h e none so_far = record {
   whole = so_far.whole;
-  same = so_far.same ∙ (next_of n ss i x h e ∙ ap (λ y. option_or y (section_body n (statements_of (drop (i + 1) ss)))) (sym none));
+  same = so_far.same ∙ (next_of n ss i x h e
+      ∙ ap (λ y. option_or y (section_body n (statements_of (drop (i + 1) ss)))) (sym none));
 }
 
-pub here : (n : ℕ) (text : TextView) (ss : List Step) (i : ℕ) (x : Step) (body : TextView) → i < length ss → x ≡ get_or ss i x → Some body ≡ section_body n (step_then x Stop)
+pub here : (n : ℕ) (text : TextView) (ss : List Step) (i : ℕ) (x : Step) (body : TextView) → i < length ss
+    → x ≡ get_or ss i x → Some body ≡ section_body n (step_then x Stop)
     → IsSought n text ss i → Some body ≡ section_body n text
 here n text ss i x body h e found so_far =
-    sym (so_far.same ∙ (next_of n ss i x h e ∙ ap (λ y. option_or y (section_body n (statements_of (drop (i + 1) ss)))) (sym found)))
+    sym (so_far.same ∙ (next_of n ss i x h e
+    ∙ ap (λ y. option_or y (section_body n (statements_of (drop (i + 1) ss)))) (sym found)))
 
-pub nowhere : (n : ℕ) (text : TextView) (ss : List Step) (i : ℕ) → length ss ≤ i → IsSought n text ss i → None ≡ section_body n text
+pub nowhere : (n : ℕ) (text : TextView) (ss : List Step) (i : ℕ) → length ss ≤ i → IsSought n text ss i
+    → None ≡ section_body n text
 nowhere n text ss i h so_far = sym (so_far.same ∙ ap (λ l. section_body n (statements_of l)) (drop_all i ss h))

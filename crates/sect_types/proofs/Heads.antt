@@ -1,5 +1,6 @@
 -- What resolving a statement says of the rules.
-use Rattle.std.proofs.Common.{◌≡◌, ℕ, suc, ◌+◌, nat_eq, Bool, true, false, not, ◌&&◌, ◌||◌, List, [], ◌∷◌, Option, Some, None, is_some, if◌then◌else◌, refl, ap, sym, ◌∙◌, cond, nat_lt, length, arith}
+use Rattle.std.proofs.Common.{◌≡◌, ℕ, suc, ◌+◌, nat_eq, Bool, true, false, not, ◌&&◌, ◌||◌, List, [], ◌∷◌, Option, Some}
+use Rattle.std.proofs.Common.{None, is_some, if◌then◌else◌, refl, ap, sym, ◌∙◌, cond, nat_lt, length, arith}
 use Rattle.std.specs.Cmp.Lexicographic.{pointwise}
 use Rattle.std.specs.List.{list_any, prefix_len}
 use Rattle.std.proofs.lemmas.Bool.Decides.{nat_tests}
@@ -19,11 +20,15 @@ use Rattle.sect_types.specs.declared.resolve.Looked.TheVariants as looked
 use Rattle.sect_types.specs.declared.action.Action.{Action}
 use Rattle.sect_types.specs.declared.action.Condition.{Condition}
 use Rattle.sect_types.specs.Sight.{Sight, place, has_name, names_of_records, base_of, operand_of}
-use Rattle.sect_types.specs.Resolve.{well_typed, well_typed_test, same_kind, accepts, comparable, assign_of, compute_of, new_of, load_of, store_of, print_of, condition_of, looked_of, primitive_of, test_of}
+use Rattle.sect_types.specs.Resolve.{well_typed, well_typed_test, same_kind, accepts, comparable, assign_of, compute_of}
+use Rattle.sect_types.specs.Resolve.{new_of, load_of, store_of, print_of, condition_of, looked_of, primitive_of}
+use Rattle.sect_types.specs.Resolve.{test_of}
 use Rattle.sect_front.specs.declared.tree.Record.{Record}
 use Rattle.sect_front.specs.declared.tree.GlobalObject.{GlobalObject}
 use Rattle.sect_types.specs.Items.{PrimitiveHead, TestHead, Item, AStatement}
-use Rattle.sect_types.specs.Rules.{knows_primitive, primitive_agrees, knows_test, compares, has_field, local_accepts, local_is, local_gets, field_accepts, is_int, Counts, rule_of, shares, passes_limit, after, place_of, judge, fault_or, Faulty}
+use Rattle.sect_types.specs.Rules.{knows_primitive, primitive_agrees, knows_test, compares, has_field, local_accepts}
+use Rattle.sect_types.specs.Rules.{local_is, local_gets, field_accepts, is_int, Counts, rule_of, shares, passes_limit}
+use Rattle.sect_types.specs.Rules.{after, place_of, judge, fault_or, Faulty}
 use Rattle.sect_types.specs.steps.Walks.{rule_in, then_rest}
 
 -- 10, else 12, else none
@@ -40,26 +45,32 @@ well_typed_test_law : (b : Bool) (c : Condition) → rule_in (well_typed_test b 
 well_typed_test_law true c = refl
 well_typed_test_law false c = refl
 
-assign_law : (x : Option Denoted) (v : Option Given) → rule_in (assign_of x v) ≡ of_types (is_some x && is_some v) (local_accepts x v)
+assign_law : (x : Option Denoted) (v : Option Given)
+    → rule_in (assign_of x v) ≡ of_types (is_some x && is_some v) (local_accepts x v)
 assign_law (Some (denoted.Local i k)) (Some v) = well_typed_law (accepts k v) _
 assign_law (Some (denoted.Global i r)) (Some v) = refl
 assign_law (Some x) None = refl
 assign_law None v = refl
 
-compute_law : (x : Option Denoted) (v : Option Given) (o : Operator) (w : Option Given) → rule_in (compute_of x v o w) ≡ of_types (is_some x && (is_some v && is_some w)) (local_is x kind.Int && is_int v && is_int w)
-compute_law (Some (denoted.Local i k)) (Some v) o (Some w) = well_typed_law (same_kind k kind.Int && accepts kind.Int v && accepts kind.Int w) _
+compute_law : (x : Option Denoted) (v : Option Given) (o : Operator) (w : Option Given)
+    → rule_in (compute_of x v o w) ≡ of_types (is_some x && (is_some v && is_some w))
+    (local_is x kind.Int && is_int v && is_int w)
+compute_law (Some (denoted.Local i k)) (Some v) o (Some w) =
+    well_typed_law (same_kind k kind.Int && accepts kind.Int v && accepts kind.Int w) _
 compute_law (Some (denoted.Global i r)) (Some v) o (Some w) = refl
 compute_law (Some x) (Some v) o None = refl
 compute_law (Some x) None o w = refl
 compute_law None v o w = refl
 
-new_law : (x : Option Denoted) (r : List ℕ) (n : Option ℕ) (site : ℕ) → rule_in (new_of x r n site) ≡ of_types (is_some x && is_some n) (local_is x (kind.Record r))
+new_law : (x : Option Denoted) (r : List ℕ) (n : Option ℕ) (site : ℕ)
+    → rule_in (new_of x r n site) ≡ of_types (is_some x && is_some n) (local_is x (kind.Record r))
 new_law (Some (denoted.Local i k)) r (Some n) site = well_typed_law (same_kind k (kind.Record r)) _
 new_law (Some (denoted.Global i q)) r (Some n) site = refl
 new_law (Some x) r None site = refl
 new_law None r n site = refl
 
-load_law : (x y : Option Denoted) (f : Looked) → rule_in (load_of x y f) ≡ of_types (is_some x && (is_some y && has_field f)) (local_gets x f)
+load_law : (x y : Option Denoted) (f : Looked)
+    → rule_in (load_of x y f) ≡ of_types (is_some x && (is_some y && has_field f)) (local_gets x f)
 load_law (Some (denoted.Local i k)) (Some y) (looked.At f) = well_typed_law (same_kind k f.kind) _
 load_law (Some (denoted.Global i q)) (Some y) (looked.At f) = refl
 load_law (Some x) (Some y) looked.OfInt = refl
@@ -67,7 +78,8 @@ load_law (Some x) (Some y) looked.Missing = refl
 load_law (Some x) None f = refl
 load_law None y f = refl
 
-store_law : (y : Option Denoted) (f : Looked) (v : Option Given) → rule_in (store_of y f v) ≡ of_types (is_some y && (has_field f && is_some v)) (field_accepts f v)
+store_law : (y : Option Denoted) (f : Looked) (v : Option Given)
+    → rule_in (store_of y f v) ≡ of_types (is_some y && (has_field f && is_some v)) (field_accepts f v)
 store_law (Some y) (looked.At f) (Some v) = well_typed_law (accepts f.kind v) _
 store_law (Some y) looked.OfInt (Some v) = refl
 store_law (Some y) looked.Missing (Some v) = refl
@@ -80,7 +92,8 @@ print_law : (v : Option Given) → rule_in (print_of v) ≡ of_types (is_some v)
 print_law (Some v) = well_typed_law (accepts kind.Int v) _
 print_law None = refl
 
-condition_law : (v : Option Given) (c : Comparison) (w : Option Given) → rule_in (condition_of v c w) ≡ of_types (is_some v && is_some w) (compares c v w)
+condition_law : (v : Option Given) (c : Comparison) (w : Option Given)
+    → rule_in (condition_of v c w) ≡ of_types (is_some v && is_some w) (compares c v w)
 condition_law (Some v) c (Some w) = well_typed_test_law (comparable c v w) _
 condition_law (Some v) c None = refl
 condition_law None c w = refl
@@ -95,53 +108,72 @@ lifts m n k e = grind (arith, nat_tests)
 starts : (n k : ℕ) → k ≡ suc n → nat_lt 0 k ≡ true
 starts n k e = grind (arith, nat_tests)
 
-first_place : (p : List ℕ → Bool) (xs : List (List ℕ)) → nat_lt (prefix_len (λ x. not (p x)) xs) (length xs) ≡ list_any p xs
+first_place : (p : List ℕ → Bool) (xs : List (List ℕ))
+    → nat_lt (prefix_len (λ x. not (p x)) xs) (length xs) ≡ list_any p xs
 first_place p [] = refl
 first_place p (x ∷ xs) = by (p x) (first_place p xs)
   where
-    by : (b : Bool) → nat_lt (prefix_len (λ x. not (p x)) xs) (length xs) ≡ list_any p xs → nat_lt (cond (not b) (1 + prefix_len (λ x. not (p x)) xs) 0) (length (x ∷ xs)) ≡ (b || list_any p xs)
+    by : (b : Bool) → nat_lt (prefix_len (λ x. not (p x)) xs) (length xs) ≡ list_any p xs
+        → nat_lt (cond (not b) (1 + prefix_len (λ x. not (p x)) xs) 0) (length (x ∷ xs)) ≡ (b || list_any p xs)
     by true h = starts (length xs) (length (x ∷ xs)) refl
     by false h = lifts (prefix_len (λ x. not (p x)) xs) (length xs) (length (x ∷ xs)) refl ∙ h
 
 -- a name has a number exactly where it is among them
 pub placed : (x : List ℕ) (names : List (List ℕ)) → is_some (place x names) ≡ has_name x names
-placed x names = shown (nat_lt (prefix_len (λ y. not (pointwise nat_eq x y)) names) (length names)) _ ∙ first_place (pointwise nat_eq x) names
+placed x names = shown (nat_lt (prefix_len (λ y. not (pointwise nat_eq x y)) names) (length names)) _
+    ∙ first_place (pointwise nat_eq x) names
 
-pub primitive_law : (s : Sight) (site : ℕ) (p : leaf.Primitive) → rule_in (primitive_of s site p) ≡ of_types (knows_primitive s p) (primitive_agrees s p)
+pub primitive_law : (s : Sight) (site : ℕ) (p : leaf.Primitive)
+    → rule_in (primitive_of s site p) ≡ of_types (knows_primitive s p) (primitive_agrees s p)
 primitive_law s site (primitive.Assign x v) = assign_law (base_of s x) (operand_of s v)
 primitive_law s site (primitive.Compute x v o w) = compute_law (base_of s x) (operand_of s v) o (operand_of s w)
 primitive_law s site (primitive.New x r) =
     new_law (base_of s x) r (place r (names_of_records s.records)) site
-    ∙ ap (λ b. of_types (is_some (base_of s x) && b) (local_is (base_of s x) (kind.Record r))) (placed r (names_of_records s.records))
+    ∙ ap (λ b. of_types (is_some (base_of s x) && b) (local_is (base_of s x) (kind.Record r)))
+    (placed r (names_of_records s.records))
 primitive_law s site (primitive.Load x y f) = load_law (base_of s x) (base_of s y) (looked_of s (base_of s y) f)
 primitive_law s site (primitive.Store y f v) = store_law (base_of s y) (looked_of s (base_of s y) f) (operand_of s v)
 primitive_law s site (primitive.Print v) = print_law (operand_of s v)
 
-pub test_law : (s : Sight) (t : Test) → rule_in (test_of s t) ≡ of_types (knows_test s t) (compares t.comparison (operand_of s t.left) (operand_of s t.right))
+pub test_law : (s : Sight) (t : Test)
+    → rule_in (test_of s t) ≡ of_types (knows_test s t)
+    (compares t.comparison (operand_of s t.left) (operand_of s t.right))
 test_law s t = condition_law (operand_of s t.left) t.comparison (operand_of s t.right)
 
-pub least_law : (k r o m : Bool) → (if not k then Some Unknown else (if k && not r then Some WrongType else (if o then Some SharedOutside else (if m then Some TooMany else None)))) ≡ then_rest (of_types k r) o m
+pub least_law : (k r o m : Bool)
+    → (if not k then Some Unknown else
+    (if k && not r then Some WrongType else (if o then Some SharedOutside else (if m then Some TooMany else None))))
+    ≡ then_rest (of_types k r) o m
 least_law false r o m = refl
 least_law true true o m = refl
 least_law true false o m = refl
 
 -- a plain statement
 pub primitive_rule : (s : Sight) (c : Counts) (inside : Bool) (p : leaf.Primitive)
-    → rule_of s.records s.globals c (AStatement (PrimitiveHead p) s.locals inside) ≡ then_rest (rule_in (primitive_of s c.sites p)) (shares (PrimitiveHead p) && not inside) (passes_limit c (PrimitiveHead p))
+    → rule_of s.records s.globals c (AStatement (PrimitiveHead p) s.locals inside) ≡ then_rest
+    (rule_in (primitive_of s c.sites p)) (shares (PrimitiveHead p) && not inside) (passes_limit c (PrimitiveHead p))
 primitive_rule s c inside p =
-    least_law (knows_primitive s p) (primitive_agrees s p) (shares (PrimitiveHead p) && not inside) (passes_limit c (PrimitiveHead p))
-    ∙ ap (λ r. then_rest r (shares (PrimitiveHead p) && not inside) (passes_limit c (PrimitiveHead p))) (sym (primitive_law s c.sites p))
+    least_law (knows_primitive s p) (primitive_agrees s p) (shares (PrimitiveHead p) && not inside)
+    (passes_limit c (PrimitiveHead p))
+    ∙ ap (λ r. then_rest r (shares (PrimitiveHead p) && not inside) (passes_limit c (PrimitiveHead p)))
+    (sym (primitive_law s c.sites p))
 
 -- a test
 pub test_rule : (s : Sight) (c : Counts) (inside : Bool) (t : Test)
-    → rule_of s.records s.globals c (AStatement (TestHead t) s.locals inside) ≡ then_rest (rule_in (test_of s t)) false (passes_limit c (TestHead t))
+    → rule_of s.records s.globals c (AStatement (TestHead t) s.locals inside) ≡ then_rest (rule_in (test_of s t)) false
+    (passes_limit c (TestHead t))
 test_rule s c inside t =
-    least_law (knows_test s t) (compares t.comparison (operand_of s t.left) (operand_of s t.right)) false (passes_limit c (TestHead t))
+    least_law (knows_test s t) (compares t.comparison (operand_of s t.left) (operand_of s t.right)) false
+    (passes_limit c (TestHead t))
     ∙ ap (λ r. then_rest r false (passes_limit c (TestHead t))) (sym (test_law s t))
 
 -- an item that breaks nothing is passed, and another is the fault
-pub passed : (rs : List Record) (gs : List GlobalObject) (c d : Counts) (item : Item) → rule_of rs gs c item ≡ None → d ≡ after c item → (w : List Item) → judge rs gs c (item ∷ w) ≡ judge rs gs d w
-passed rs gs c d item e f w = ap (λ r. fault_or r (place_of c) (judge rs gs (after c item) w)) e ∙ ap (λ x. judge rs gs x w) (sym f)
+pub passed : (rs : List Record) (gs : List GlobalObject) (c d : Counts) (item : Item) → rule_of rs gs c item ≡ None
+    → d ≡ after c item → (w : List Item) → judge rs gs c (item ∷ w) ≡ judge rs gs d w
+passed rs gs c d item e f w = ap (λ r. fault_or r (place_of c) (judge rs gs (after c item) w)) e
+    ∙ ap (λ x. judge rs gs x w) (sym f)
 
-pub faulty : (rs : List Record) (gs : List GlobalObject) (c : Counts) (item : Item) (i : ℕ) (r : Rule) → rule_of rs gs c item ≡ Some r → i ≡ place_of c → (w : List Item) → judge rs gs c (item ∷ w) ≡ Faulty i r
-faulty rs gs c item i r e f w = ap (λ x. fault_or x (place_of c) (judge rs gs (after c item) w)) e ∙ ap (λ j. Faulty j r) (sym f)
+pub faulty : (rs : List Record) (gs : List GlobalObject) (c : Counts) (item : Item) (i : ℕ) (r : Rule)
+    → rule_of rs gs c item ≡ Some r → i ≡ place_of c → (w : List Item) → judge rs gs c (item ∷ w) ≡ Faulty i r
+faulty rs gs c item i r e f w = ap (λ x. fault_or x (place_of c) (judge rs gs (after c item) w)) e
+    ∙ ap (λ j. Faulty j r) (sym f)

@@ -21,7 +21,8 @@ joined_again (Loop t p r) l m = ap (Loop t p) (joined_again r l m)
 joined_again (Section i p r) l m = ap (Section i p) (joined_again r l m)
 
 -- sound texts are sound together
-pub sound_joined : (e : Environment) (b : Bool) (k l : TextView) → IsSound e b k → IsSound e b l → IsSound e b (joined k l)
+pub sound_joined : (e : Environment) (b : Bool) (k l : TextView) → IsSound e b k → IsSound e b l
+    → IsSound e b (joined k l)
 sound_joined e b Stop l h m = m
 sound_joined e b (Do a k) l h m = (h.0, h.1, sound_joined e b k l h.2 m)
 sound_joined e b (Choose c p q k) l h m = (h.0, h.1, h.2, sound_joined e b k l h.3 m)

@@ -17,7 +17,8 @@ mutual
   form_keeps (Primitive (primitive.Store y f v)) c = refl
   form_keeps (Primitive (primitive.Print v)) c = refl
   form_keeps (If t a) c = body_keeps a (after_head c (TestHead t))
-  form_keeps (IfElse t a b) c = body_keeps b (after_block (after_head c (TestHead t)) a) ∙ body_keeps a (after_head c (TestHead t))
+  form_keeps (IfElse t a b) c = body_keeps b (after_block (after_head c (TestHead t)) a)
+      ∙ body_keeps a (after_head c (TestHead t))
   form_keeps (While t a) c = body_keeps a (after_head c (TestHead t))
   form_keeps (Atomic l a) c = body_keeps a (after_head c AtomicHead)
 
@@ -25,6 +26,7 @@ mutual
   body_keeps End c = refl
   body_keeps (Then f b) c = body_keeps b (after_statement c f) ∙ form_keeps f c
 
-pub records_keep : (rs : List Record) (c : Counts) → after_records c rs ≡ record c { declared = (after_records c rs).declared }
+pub records_keep : (rs : List Record) (c : Counts)
+    → after_records c rs ≡ record c { declared = (after_records c rs).declared }
 records_keep [] c = refl
 records_keep (r ∷ rs) c = records_keep rs (record c { declared = c.declared + 1 + length r.fields })

@@ -1,5 +1,6 @@
 -- The set of all names of records.
-use Rattle.std.proofs.Common.{◌≡◌, ℕ, ◌+◌, Bool, true, false, ◌||◌, List, [], ◌∷◌, ◌++◌, take, nat_eq, if◌then◌else◌, refl, sym, ap, ◌∙◌}
+use Rattle.std.proofs.Common.{◌≡◌, ℕ, ◌+◌, Bool, true, false, ◌||◌, List, [], ◌∷◌, ◌++◌, take, nat_eq, if◌then◌else◌}
+use Rattle.std.proofs.Common.{refl, sym, ap, ◌∙◌}
 use Rattle.std.specs.Cmp.Lexicographic.{pointwise}
 use Rattle.std.proofs.lemmas.List.{map-append}
 use Rattle.std.proofs.lemmas.List.Folds.{list_any-append}
@@ -13,7 +14,8 @@ or_false true = refl
 or_false false = refl
 
 has_last : (x n : List ℕ) (ks : List (List ℕ)) → has_name x (ks ++ n ∷ []) ≡ (has_name x ks || same_name x n)
-has_last x n ks = list_any-append (pointwise nat_eq x) ks (n ∷ []) ∙ ap (λ b. has_name x ks || b) (or_false (same_name x n))
+has_last x n ks = list_any-append (pointwise nat_eq x) ks (n ∷ [])
+    ∙ ap (λ b. has_name x ks || b) (or_false (same_name x n))
 
 -- a set to which a name was added has the names of the list to which it was added
 has_added : (x n : List ℕ) (ks : List (List ℕ)) → has_name x (added ks n) ≡ (has_name x ks || same_name x n)
@@ -29,7 +31,8 @@ has_added x n ks = by (has_name n ks) refl
     by true e = also (same_name x n) refl e
     by false e = has_last x n ks
 
-pub knows_more : (ks : List (List ℕ)) (rs : List Record) (i : ℕ) (r : Record) → take (i + 1) rs ≡ take i rs ++ r ∷ [] → Knows ks (take i rs) → Knows (added ks r.name) (take (i + 1) rs)
+pub knows_more : (ks : List (List ℕ)) (rs : List Record) (i : ℕ) (r : Record) → take (i + 1) rs ≡ take i rs ++ r ∷ []
+    → Knows ks (take i rs) → Knows (added ks r.name) (take (i + 1) rs)
 knows_more ks rs i r e knows x =
     has_added x r.name ks
     ∙ (ap (λ b. b || same_name x r.name) (knows x)

@@ -10,13 +10,15 @@ use Rattle.sect_types.specs.Sight.{Sight}
 use Rattle.sect_types.specs.Items.{TestHead, AtomicHead}
 use Rattle.sect_types.specs.Rules.{Counts, after_head, sight}
 use Rattle.sect_types.specs.Statements.{TextView, section_bodies}
-use Rattle.sect_types.specs.Numbered.{after_statement, after_block, numbered_statement, numbered_block, numbered_threads, within_thread, after_thread}
+use Rattle.sect_types.specs.Numbered.{after_statement, after_block, numbered_statement, numbered_block}
+use Rattle.sect_types.specs.Numbered.{numbered_threads, within_thread, after_thread}
 use Rattle.sect_types.specs.Sections.{SectionView, sections_from}
 use Rattle.sect_types.specs.Lockings.{statement_lockings, block_lockings, threads_lockings}
 
 mutual
   statement_many : (s : Sight) (c : Counts) (f : StatementView) (k : TextView) (w : List Locking)
-      → length (statement_lockings f w) + length (section_bodies k) ≡ length (section_bodies (numbered_statement s c f k)) + length w
+      → length (statement_lockings f w) + length (section_bodies k) ≡ length
+      (section_bodies (numbered_statement s c f k)) + length w
   statement_many s c (Primitive p) k w = omega arith
   statement_many s c (If t a) k w =
       let p = numbered_block s (after_head c (TestHead t)) a in
@@ -40,10 +42,15 @@ mutual
       → length (block_lockings b w) ≡ length (section_bodies (numbered_block s c b)) + length w
   block_many s c End w = omega arith
   block_many s c (Then f b) w =
-      omega (arith, statement_many s c f (numbered_block s (after_statement c f) b) (block_lockings b w), block_many s (after_statement c f) b w)
+      omega (
+        arith,
+        statement_many s c f (numbered_block s (after_statement c f) b) (block_lockings b w),
+        block_many s (after_statement c f) b w,
+      )
 
 -- the sections of threads have as many entries
-pub threads_many : (rs : List Record) (gs : List GlobalObject) (c : Counts) (ts : List Thread) (n : ℕ) (w : List Locking)
+pub threads_many : (rs : List Record) (gs : List GlobalObject) (c : Counts) (ts : List Thread) (n : ℕ)
+    (w : List Locking)
     → length (threads_lockings ts w) ≡ length (sections_from n (numbered_threads rs gs c ts)) + length w
 threads_many rs gs c [] n w = omega arith
 threads_many rs gs c (t ∷ ts) n w =

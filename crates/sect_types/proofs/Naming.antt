@@ -1,5 +1,6 @@
 -- Places of names, and how many names there are.
-use Rattle.std.proofs.Common.{◌≡◌, ℕ, ◌<◌, ◌≤◌, List, [], Some, None, Bool, true, false, length, get_or, refl, sym, ap, ◌∙◌, arith}
+use Rattle.std.proofs.Common.{◌≡◌, ℕ, ◌<◌, ◌≤◌, List, [], Some, None, Bool, true, false, length, get_or, refl, sym, ap}
+use Rattle.std.proofs.Common.{◌∙◌, arith}
 use Rattle.std.specs.Prelude.{cond, nat_lt, nat_eq, slice_get}
 use Rattle.std.specs.Cmp.Lexicographic.{pointwise}
 use Rattle.std.proofs.lemmas.Bool.{ltb-false, ltb-true}
@@ -35,34 +36,44 @@ passed n = go (nat_lt n n) refl
     go false e = refl
 
 -- the place of a name is the first at which it stands
-pub place_found : (x : List ℕ) (names : List (List ℕ)) (i : ℕ) → i < length names → NoneBefore x names i → pointwise nat_eq x (get_or names i []) ≡ true → Some i ≡ place x names
+pub place_found : (x : List ℕ) (names : List (List ℕ)) (i : ℕ) → i < length names → NoneBefore x names i
+    → pointwise nat_eq x (get_or names i []) ≡ true → Some i ≡ place x names
 place_found x names i within before here =
     let at = position_or_len_is (pointwise nat_eq x) names i [] (omega (arith, within)) before (λ lt. here) in
     sym (ap (λ k. cond (nat_lt k (length names)) (Some k) None) at ∙ chosen i (length names) within)
 
 -- a name that stands nowhere has none
-pub place_missing : (x : List ℕ) (names : List (List ℕ)) (i : ℕ) → length names ≡ i → NoneBefore x names i → None ≡ place x names
+pub place_missing : (x : List ℕ) (names : List (List ℕ)) (i : ℕ) → length names ≡ i → NoneBefore x names i
+    → None ≡ place x names
 place_missing x names i all before =
-    let at = position_or_len_is (pointwise nat_eq x) names (length names) [] (omega arith) (λ k lt. before k (omega (arith, lt, all))) (λ lt. absurd (omega (arith, lt))) in
+    let at = position_or_len_is (pointwise nat_eq x) names (length names) [] (omega arith)
+    (λ k lt. before k (omega (arith, lt, all))) (λ lt. absurd (omega (arith, lt))) in
     sym (ap (λ k. cond (nat_lt k (length names)) (Some k) None) at ∙ passed (length names))
 
 -- a thread has few locals
-pub few_locals : (p : ProgramView) → IsOfTree p → IsWithinLimits p → (t : ℕ) (th : Thread) → t < length p.locals → th ≡ get_or p.source.threads t th → length th.locals ≤ 64
+pub few_locals : (p : ProgramView) → IsOfTree p → IsWithinLimits p → (t : ℕ) (th : Thread) → t < length p.locals
+    → th ≡ get_or p.source.threads t th → length th.locals ≤ 64
 few_locals p tree limits t th within is =
     let names = names_of_records p.source.records in
     let f : Thread → List ValueType = λ (z : Thread). types_of names z.locals in
-    let there : t < length p.source.threads = omega (arith, within, ap length tree.locals_are, length-map p.source.threads f) in
-    let same : get_or p.locals t [] ≡ types_of names th.locals = ap (λ l. get_or l t []) tree.locals_are ∙ get_or-map f p.source.threads t th [] there ∙ ap f (sym is) in
+    let there : t < length p.source.threads =
+    omega (arith, within, ap length tree.locals_are, length-map p.source.threads f) in
+    let same : get_or p.locals t [] ≡ types_of names th.locals = ap (λ l. get_or l t []) tree.locals_are
+    ∙ get_or-map f p.source.threads t th [] there ∙ ap f (sym is) in
     let few = All-get_or (λ (ts : List ValueType). length ts ≤ 64) p.locals t [] within limits.few_locals in
     omega (arith, few, ap length same, length-map th.locals (λ d. type_of names d.kind))
 
 -- a record has few fields
-pub few_fields : (p : ProgramView) → IsOfTree p → IsWithinLimits p → (r : ℕ) (shape : Record) → slice_get p.source.records r ≡ Some shape → length shape.fields ≤ 16
+pub few_fields : (p : ProgramView) → IsOfTree p → IsWithinLimits p → (r : ℕ) (shape : Record)
+    → slice_get p.source.records r ≡ Some shape → length shape.fields ≤ 16
 few_fields p tree limits r shape at =
     let names = names_of_records p.source.records in
     let f : Record → List ValueType = λ (z : Record). types_of names z.fields in
     let there = slice_get_within p.source.records r shape at in
-    let within : r < length p.records = omega (arith, there, ap length tree.records_are, length-map p.source.records f) in
-    let same : get_or p.records r [] ≡ types_of names shape.fields = ap (λ l. get_or l r []) tree.records_are ∙ get_or-map f p.source.records r shape [] there ∙ ap f (get_or_from_slice_get p.source.records r shape shape at) in
+    let within : r < length p.records =
+    omega (arith, there, ap length tree.records_are, length-map p.source.records f) in
+    let same : get_or p.records r [] ≡ types_of names shape.fields = ap (λ l. get_or l r []) tree.records_are
+    ∙ get_or-map f p.source.records r shape [] there
+    ∙ ap f (get_or_from_slice_get p.source.records r shape shape at) in
     let few = All-get_or (λ (ts : List ValueType). length ts ≤ 16) p.records r [] within limits.few_fields in
     omega (arith, few, ap length same, length-map shape.fields (λ d. type_of names d.kind))

@@ -1,5 +1,6 @@
 -- Lists with one element replaced.
-use Rattle.std.proofs.Common.{true≢false, ◌≡◌, ◌≢◌, ◌⊎◌, inl, inr, ℕ, zero, suc, List, [], ◌∷◌, length, map, Option, Some, None, Bool, true, false, refl, sym, ap, ◌∙◌, subst, if◌then◌else◌, slice_get}
+use Rattle.std.proofs.Common.{true≢false, ◌≡◌, ◌≢◌, ◌⊎◌, inl, inr, ℕ, zero, suc, List, [], ◌∷◌, length, map, Option}
+use Rattle.std.proofs.Common.{Some, None, Bool, true, false, refl, sym, ap, ◌∙◌, subst, if◌then◌else◌, slice_get}
 use Rattle.sect_types.specs.Store.{changed_at, put_at, same_number}
 use Rattle.sect_types.proofs.Basics.{some_injective, none_or_some, either_way}
 
@@ -54,28 +55,37 @@ this_or_other t u = by (same_number t u) refl where
   by false is = inr (λ e. true≢false (sym (same_number-refl t) ∙ ap (same_number t) e ∙ is))
 
 -- the element put there
-pub put_same : {A : Type 0} → (t : ℕ) (old new : A) (xs : List A) → slice_get xs t ≡ Some old → slice_get (put_at t new xs) t ≡ Some new
+pub put_same : {A : Type 0} → (t : ℕ) (old new : A) (xs : List A) → slice_get xs t ≡ Some old
+    → slice_get (put_at t new xs) t ≡ Some new
 put_same t old new xs e =
-    get-changed_at t t (λ old. new) xs ∙ ap (λ b. if b then mapped (λ old. new) (slice_get xs t) else slice_get xs t) (same_number-refl t) ∙ ap (mapped (λ old. new)) e
+    get-changed_at t t (λ old. new) xs
+    ∙ ap (λ b. if b then mapped (λ old. new) (slice_get xs t) else slice_get xs t) (same_number-refl t)
+    ∙ ap (mapped (λ old. new)) e
 
 -- each other element stays
-pub put_other : {A : Type 0} → (t u : ℕ) (new : A) (xs : List A) → t ≢ u → slice_get (put_at t new xs) u ≡ slice_get xs u
+pub put_other : {A : Type 0} → (t u : ℕ) (new : A) (xs : List A) → t ≢ u
+    → slice_get (put_at t new xs) u ≡ slice_get xs u
 put_other t u new xs other =
-    get-changed_at t u (λ old. new) xs ∙ ap (λ b. if b then mapped (λ old. new) (slice_get xs u) else slice_get xs u) (same_number-false t u other)
+    get-changed_at t u (λ old. new) xs
+    ∙ ap (λ b. if b then mapped (λ old. new) (slice_get xs u) else slice_get xs u) (same_number-false t u other)
 
 -- what holds of the new element, and of each other one, holds of each element afterwards
-pub each_put : {A : Type 0} → (P : ℕ → A → Type 0) (t : ℕ) (old new : A) (xs : List A) → slice_get xs t ≡ Some old → P t new
-    → ((u : ℕ) (x : A) → t ≢ u → slice_get xs u ≡ Some x → P u x) → (u : ℕ) (x : A) → slice_get (put_at t new xs) u ≡ Some x → P u x
+pub each_put : {A : Type 0} → (P : ℕ → A → Type 0) (t : ℕ) (old new : A) (xs : List A) → slice_get xs t ≡ Some old
+    → P t new
+    → ((u : ℕ) (x : A) → t ≢ u → slice_get xs u ≡ Some x → P u x) → (u : ℕ) (x : A)
+    → slice_get (put_at t new xs) u ≡ Some x → P u x
 each_put {A = A} P t old new xs is own others u x e = by (this_or_other t u) where
   by : (t ≡ u) ⊎ (t ≢ u) → P u x
   by (inl here) =
-      let same : x ≡ new = some_injective x new (sym e ∙ ap (slice_get (put_at t new xs)) (sym here) ∙ put_same t old new xs is) in
+      let same : x ≡ new = some_injective x new
+      (sym e ∙ ap (slice_get (put_at t new xs)) (sym here) ∙ put_same t old new xs is) in
       subst (λ (v : ℕ). P v x) here (subst (P t) (sym same) own)
   by (inr other) = others u x other (sym (put_other t u new xs other) ∙ e)
 
 -- and what holds of each element afterwards held before, where it goes back from the new to the old
 pub each_before : {A : Type 0} → (P Q : ℕ → A → Type 0) (t : ℕ) (old new : A) (xs : List A) → slice_get xs t ≡ Some old
-    → ((u : ℕ) (x : A) → slice_get (put_at t new xs) u ≡ Some x → Q u x) → (Q t new → P t old) → ((u : ℕ) (x : A) → t ≢ u → slice_get xs u ≡ Some x → Q u x → P u x)
+    → ((u : ℕ) (x : A) → slice_get (put_at t new xs) u ≡ Some x → Q u x) → (Q t new → P t old)
+    → ((u : ℕ) (x : A) → t ≢ u → slice_get xs u ≡ Some x → Q u x → P u x)
     → (u : ℕ) (x : A) → slice_get xs u ≡ Some x → P u x
 each_before {A = A} P Q t old new xs is after own others u x e = by (this_or_other t u) where
   by : (t ≡ u) ⊎ (t ≢ u) → P u x
@@ -91,15 +101,17 @@ length-put_at t new xs = length-changed_at t (λ old. new) xs
 -- what stands at a place after one element is replaced: the new one, or what stood there
 pub at-put_at : {A : Type 0} → (n m : ℕ) (y x : A) (xs : List A) → slice_get (put_at n y xs) m ≡ Some x
     → ((n ≡ m) × (y ≡ x)) ⊎ ((n ≢ m) × (slice_get xs m ≡ Some x))
-at-put_at {A = A} n m y x xs e = by (same_number n m) refl (slice_get xs m) refl (sym (get-changed_at n m (λ old. y) xs) ∙ e) where
-  apart : same_number n m ≡ false → n ≢ m
-  apart is same = true≢false (sym (same_number-eq n m same) ∙ is)
+at-put_at {A = A} n m y x xs e =
+    by (same_number n m) refl (slice_get xs m) refl (sym (get-changed_at n m (λ old. y) xs) ∙ e) where
+      apart : same_number n m ≡ false → n ≢ m
+      apart is same = true≢false (sym (same_number-eq n m same) ∙ is)
 
-  by : (b : Bool) → same_number n m ≡ b → (o : Option A) → slice_get xs m ≡ o → (if b then mapped (λ old. y) o else o) ≡ Some x
-      → ((n ≡ m) × (y ≡ x)) ⊎ ((n ≢ m) × (slice_get xs m ≡ Some x))
-  by true is None at e' = absurd (none_or_some x e')
-  by true is (Some z) at e' = inl (same_number-true n m is, some_injective y x e')
-  by false is o at e' = inr (apart is, at ∙ e')
+      by : (b : Bool) → same_number n m ≡ b → (o : Option A) → slice_get xs m ≡ o
+          → (if b then mapped (λ old. y) o else o) ≡ Some x
+          → ((n ≡ m) × (y ≡ x)) ⊎ ((n ≢ m) × (slice_get xs m ≡ Some x))
+      by true is None at e' = absurd (none_or_some x e')
+      by true is (Some z) at e' = inl (same_number-true n m is, some_injective y x e')
+      by false is o at e' = inr (apart is, at ∙ e')
 
 -- an element of a mapped list comes from one of the list
 pub slice_get-map : {A B : Type 0} → (g : A → B) (xs : List A) (n : ℕ) (y : B) → slice_get (map g xs) n ≡ Some y

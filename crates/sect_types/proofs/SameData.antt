@@ -32,4 +32,5 @@ same_tells Null Null = refl
 same_tells Null (Refers m) = refl
 same_tells (Refers n) (Number m) = refl
 same_tells (Refers n) Null = refl
-same_tells (Refers n) (Refers m) = same_from_decides (the_name_eq.eq n m) (same_name n m) (name_tells n m) (same_name_tells n m)
+same_tells (Refers n) (Refers m) =
+    same_from_decides (the_name_eq.eq n m) (same_name n m) (name_tells n m) (same_name_tells n m)

@@ -1,21 +1,26 @@
 -- The section of a number is the one at that index.
-use Rattle.std.proofs.Common.{◌≡◌, ℕ, zero, suc, ◌+◌, ◌<◌, true, false, List, [], ◌∷◌, ◌++◌, map, drop, length, Option, Some, None, slice_get, nat_eq, if◌then◌else◌, refl, sym, ap, ◌∙◌, arith}
+use Rattle.std.proofs.Common.{◌≡◌, ℕ, zero, suc, ◌+◌, ◌<◌, true, false, List, [], ◌∷◌, ◌++◌, map, drop, length, Option}
+use Rattle.std.proofs.Common.{Some, None, slice_get, nat_eq, if◌then◌else◌, refl, sym, ap, ◌∙◌, arith}
 use Rattle.std.specs.Option.{option_or, option_map}
 use Rattle.std.proofs.lemmas.List.{length-map}
 use Rattle.std.proofs.lemmas.Option.{slice_get-map}
 use Rattle.std.proofs.lemmas.Bool.Decides.{nat_tests}
-use Rattle.sect_types.specs.Statements.{TextView, Stop, Do, Choose, Loop, Section as TheSection, section_body, section_bodies}
-use Rattle.sect_types.specs.Sections.{SectionView, sections_from, sections_of, AreNumbered, AllNumbered, found_in, section_from}
+use Rattle.sect_types.specs.Statements.{TextView, Stop, Do, Choose, Loop, Section as TheSection, section_body}
+use Rattle.sect_types.specs.Statements.{section_bodies}
+use Rattle.sect_types.specs.Sections.{SectionView, sections_from, sections_of, AreNumbered, AllNumbered, found_in}
+use Rattle.sect_types.specs.Sections.{section_from}
 use Rattle.sect_types.specs.declared.section.Section.{Section}
 use Rattle.sect_types.specs.steps.Found.{section_shown, section_in}
 
 -- what is found in the first list, and else in the second, is found in both together
-append_at : {A : Type 0} (xs ys : List A) (h : ℕ → Option A) (m j : ℕ) → ((i : ℕ) → h (m + length xs + i) ≡ slice_get ys i)
+append_at : {A : Type 0} (xs ys : List A) (h : ℕ → Option A) (m j : ℕ)
+    → ((i : ℕ) → h (m + length xs + i) ≡ slice_get ys i)
     → option_or (slice_get xs j) (h (m + j)) ≡ slice_get (xs ++ ys) j
 append_at [] ys h m j k = ap h (omega arith) ∙ k j
 append_at (x ∷ xs) ys h m zero k = refl
 append_at (x ∷ xs) ys h m (suc j) k =
-    ap (λ n. option_or (slice_get xs j) (h n)) (omega arith) ∙ append_at xs ys h (m + 1) j (λ i. ap h (omega arith) ∙ k i)
+    ap (λ n. option_or (slice_get xs j) (h n)) (omega arith)
+    ∙ append_at xs ys h (m + 1) j (λ i. ap h (omega arith) ∙ k i)
 
 same_number : (i m j : ℕ) → i ≡ m → nat_eq i (m + 0) ≡ true
 same_number i m j e = grind (arith, nat_tests)
@@ -28,31 +33,48 @@ body_at Stop m j h = refl
 body_at (Do a k) m j h = body_at k m j h
 body_at (Choose c p q k) m j (first, second, rest) =
     ap (λ x. option_or x (option_or (section_body (m + j) q) (section_body (m + j) k))) (body_at p m j first)
-    ∙ append_at (section_bodies p) (section_bodies q ++ section_bodies k) (λ n. option_or (section_body n q) (section_body n k)) m j
+    ∙ append_at (section_bodies p) (section_bodies q ++ section_bodies k)
+    (λ n. option_or (section_body n q) (section_body n k)) m j
     (λ i.
-    ap (λ x. option_or x (section_body (m + length (section_bodies p) + i) k)) (body_at q (m + length (section_bodies p)) i second)
-    ∙ append_at (section_bodies q) (section_bodies k) (λ n. section_body n k) (m + length (section_bodies p)) i (λ n. body_at k (m + length (section_bodies p) + length (section_bodies q)) n rest))
+    ap (λ x. option_or x (section_body (m + length (section_bodies p) + i) k))
+    (body_at q (m + length (section_bodies p)) i second)
+    ∙ append_at (section_bodies q) (section_bodies k) (λ n. section_body n k) (m + length (section_bodies p)) i
+    (λ n. body_at k (m + length (section_bodies p) + length (section_bodies q)) n rest))
 body_at (Loop c p k) m j (first, rest) =
     ap (λ x. option_or x (section_body (m + j) k)) (body_at p m j first)
-    ∙ append_at (section_bodies p) (section_bodies k) (λ n. section_body n k) m j (λ i. body_at k (m + length (section_bodies p)) i rest)
-body_at (TheSection i p k) m zero (same, rest) = ap (λ b. if b then Some p else section_body (m + 0) k) (same_number i m 0 same)
+    ∙ append_at (section_bodies p) (section_bodies k) (λ n. section_body n k) m j
+    (λ i. body_at k (m + length (section_bodies p)) i rest)
+body_at (TheSection i p k) m zero (same, rest) =
+    ap (λ b. if b then Some p else section_body (m + 0) k) (same_number i m 0 same)
 body_at (TheSection i p k) m (suc j) (same, rest) =
-    ap (λ b. if b then Some p else section_body (m + suc j) k) (other_number i m j same) ∙ (ap (λ n. section_body n k) (omega arith) ∙ body_at k (m + 1) j rest)
+    ap (λ b. if b then Some p else section_body (m + suc j) k) (other_number i m j same)
+    ∙ (ap (λ n. section_body n k) (omega arith) ∙ body_at k (m + 1) j rest)
 
-found_or : (t : ℕ) (o : Option TextView) (other : Option SectionView) → found_in t o other ≡ option_or (option_map (λ (b : TextView). record { thread = t; body = b }) o) other
+found_or : (t : ℕ) (o : Option TextView) (other : Option SectionView)
+    → found_in t o other ≡ option_or (option_map (λ (b : TextView). record { thread = t; body = b }) o) other
 found_or t None other = refl
 found_or t (Some b) other = refl
 
-section_at : (ps : List TextView) (t m j : ℕ) → AllNumbered m ps → section_from (m + j) t ps ≡ slice_get (sections_from t ps) j
+section_at : (ps : List TextView) (t m j : ℕ) → AllNumbered m ps
+    → section_from (m + j) t ps ≡ slice_get (sections_from t ps) j
 section_at [] t m j h = refl
 section_at (p ∷ ps) t m j (here, more) =
     ap (λ o. found_in t o (section_from (m + j) (t + 1) ps)) (body_at p m j here)
     ∙ (found_or t (slice_get (section_bodies p) j) (section_from (m + j) (t + 1) ps)
-    ∙ (ap (λ o. option_or o (section_from (m + j) (t + 1) ps)) (sym (slice_get-map (λ (b : TextView). record { thread = t; body = b }) (section_bodies p) j))
-    ∙ append_at (map (λ (b : TextView). record { thread = t; body = b }) (section_bodies p)) (sections_from (t + 1) ps) (λ n. section_from n (t + 1) ps) m j
-    (λ i. ap (λ n. section_from n (t + 1) ps) (omega (arith, length-map {B = SectionView} (section_bodies p) (λ (b : TextView). record { thread = t; body = b }))) ∙ section_at ps (t + 1) (m + length (section_bodies p)) i more)))
+    ∙ (ap (λ o. option_or o (section_from (m + j) (t + 1) ps))
+    (sym (slice_get-map (λ (b : TextView). record { thread = t; body = b }) (section_bodies p) j))
+    ∙ append_at (map (λ (b : TextView). record { thread = t; body = b }) (section_bodies p)) (sections_from (t + 1) ps)
+    (λ n. section_from n (t + 1) ps) m j
+    (λ i. ap (λ n. section_from n (t + 1) ps)
+    (omega (
+      arith,
+      length-map {B = SectionView} (section_bodies p)
+          (λ (b : TextView). record { thread = t; body = b }),
+    ))
+    ∙ section_at ps (t + 1) (m + length (section_bodies p)) i more)))
 
-pub section_of_number : (ps : List TextView) (n : ℕ) → AllNumbered 0 ps → section_from n 0 ps ≡ slice_get (sections_of ps) n
+pub section_of_number : (ps : List TextView) (n : ℕ) → AllNumbered 0 ps
+    → section_from n 0 ps ≡ slice_get (sections_of ps) n
 section_of_number ps n h = ap (λ k. section_from k 0 ps) (omega arith) ∙ section_at ps 0 0 n h
 
 not_past : {A : Type 0} (xs : List A) (n : ℕ) → n < length xs → None ≡ slice_get xs n → ⊥
@@ -61,7 +83,8 @@ not_past (x ∷ xs) zero h e = cc
 not_past (x ∷ xs) (suc n) h e = not_past xs n (omega arith) e
 
 -- what a look through all texts gives for a section's number
-pub found : (ps : List TextView) (n : ℕ) (r : Option Section) → AllNumbered 0 ps → section_in r ≡ section_from n 0 ps → n < length (sections_of ps)
+pub found : (ps : List TextView) (n : ℕ) (r : Option Section) → AllNumbered 0 ps → section_in r ≡ section_from n 0 ps
+    → n < length (sections_of ps)
     → (s : Section) × (r ≡ Some s) × (slice_get (sections_of ps) n ≡ Some (section_shown s))
 found ps n None h e k = absurd (not_past (sections_of ps) n k (e ∙ section_of_number ps n h))
 found ps n (Some s) h e k = (s, refl, sym (e ∙ section_of_number ps n h))

@@ -1,12 +1,15 @@
 -- What a store holds after a write, or after one more object.
-use Rattle.std.proofs.Common.{true≢false, ◌≡◌, ◌≢◌, ℕ, suc, ◌<◌, List, [], ◌∷◌, ◌++◌, length, Option, Some, None, Bool, true, false, ◌&&◌, refl, sym, ap, ◌∙◌, subst, arith, slice_get, if◌then◌else◌}
+use Rattle.std.proofs.Common.{true≢false, ◌≡◌, ◌≢◌, ℕ, suc, ◌<◌, List, [], ◌∷◌, ◌++◌, length, Option, Some, None, Bool}
+use Rattle.std.proofs.Common.{true, false, ◌&&◌, refl, sym, ap, ◌∙◌, subst, arith, slice_get, if◌then◌else◌}
 use Rattle.sect_types.specs.declared.store.ObjectName.{ObjectName}
 use Rattle.sect_types.specs.declared.store.ObjectName.TheVariants.{Global, Made}
 use Rattle.sect_types.specs.declared.store.Datum.{Datum}
-use Rattle.sect_types.specs.Store.{ObjectView, StoreView, changed_at, same_number, same_name, row_in, row, count, object_at, with_field, write, add}
+use Rattle.sect_types.specs.Store.{ObjectView, StoreView, changed_at, same_number, same_name, row_in, row, count}
+use Rattle.sect_types.specs.Store.{object_at, with_field, write, add}
 use Rattle.sect_types.proofs.SoundLemmas.{both}
 use Rattle.sect_types.proofs.Basics.{either_way, is_there, is_past, get-last, same_elements}
-use Rattle.sect_types.proofs.Replaced.{mapped, get-changed_at, length-changed_at, same_number-true, same_number-refl, same_number-false}
+use Rattle.sect_types.proofs.Replaced.{mapped, get-changed_at, length-changed_at, same_number-true, same_number-refl}
+use Rattle.sect_types.proofs.Replaced.{same_number-false}
 
 -- the test of names says that they are equal
 pub same_name-true : (n m : ObjectName) → same_name n m ≡ true → n ≡ m
@@ -33,7 +36,8 @@ object_at-write s (Global g) (Global h) f d = get-changed_at g h (with_field f d
 object_at-write s (Global g) (Made t n) f d = refl
 object_at-write s (Made t n) (Global g) f d = refl
 object_at-write s (Made t n) (Made u m) f d =
-    ap (λ r. slice_get (row_in r) m) (get-changed_at t u (changed_at n (with_field f d)) s.made) ∙ in_row (same_number t u) (slice_get s.made u) where
+    ap (λ r. slice_get (row_in r) m) (get-changed_at t u (changed_at n (with_field f d)) s.made)
+    ∙ in_row (same_number t u) (slice_get s.made u) where
       in_row : (b : Bool) (r : Option (List ObjectView))
           → slice_get (row_in (if b then mapped (changed_at n (with_field f d)) r else r)) m
           ≡ if b && same_number n m then mapped (with_field f d) (slice_get (row_in r) m) else slice_get (row_in r) m
@@ -45,21 +49,22 @@ object_at-write s (Made t n) (Made u m) f d =
 pub object_at-add : (s : StoreView) (t : ℕ) (o : ObjectView) (m : ObjectName) → t < length s.made
     → object_at (add s t o) m ≡ if same_name (Made t (count s t)) m then Some o else object_at s m
 object_at-add s t o (Global h) le = refl
-object_at-add s t o (Made u j) le = ap (λ r. slice_get (row_in r) j) (get-changed_at t u (λ row. row ++ o ∷ []) s.made) ∙ at (same_number t u) refl where
-  at : (b : Bool) → same_number t u ≡ b
-      → slice_get (row_in (if b then mapped (λ row. row ++ o ∷ []) (slice_get s.made u) else slice_get s.made u)) j
-      ≡ if b && same_number (count s t) j then Some o else slice_get (row s u) j
-  at true is = there (slice_get s.made t) refl where
-    there : (r : Option (List ObjectView)) → slice_get s.made t ≡ r
-        → slice_get (row_in (mapped (λ row. row ++ o ∷ []) (slice_get s.made u))) j
-        ≡ if same_number (count s t) j then Some o else slice_get (row s u) j
-    there None e = absurd (is_there s.made t le e)
-    there (Some os) e =
-        let here : slice_get s.made u ≡ Some os = ap (slice_get s.made) (sym (same_number-true t u is)) ∙ e in
-        ap (λ r. slice_get (row_in (mapped (λ row. row ++ o ∷ []) r)) j) here ∙ get-last os o j
-        ∙ ap (λ r. if same_number (length (row_in r)) j then Some o else slice_get os j) (sym e)
-        ∙ ap (λ r. if same_number (count s t) j then Some o else slice_get (row_in r) j) (sym here)
-  at false is = refl
+object_at-add s t o (Made u j) le = ap (λ r. slice_get (row_in r) j) (get-changed_at t u (λ row. row ++ o ∷ []) s.made)
+    ∙ at (same_number t u) refl where
+      at : (b : Bool) → same_number t u ≡ b
+          → slice_get (row_in (if b then mapped (λ row. row ++ o ∷ []) (slice_get s.made u) else slice_get s.made u)) j
+          ≡ if b && same_number (count s t) j then Some o else slice_get (row s u) j
+      at true is = there (slice_get s.made t) refl where
+        there : (r : Option (List ObjectView)) → slice_get s.made t ≡ r
+            → slice_get (row_in (mapped (λ row. row ++ o ∷ []) (slice_get s.made u))) j
+            ≡ if same_number (count s t) j then Some o else slice_get (row s u) j
+        there None e = absurd (is_there s.made t le e)
+        there (Some os) e =
+            let here : slice_get s.made u ≡ Some os = ap (slice_get s.made) (sym (same_number-true t u is)) ∙ e in
+            ap (λ r. slice_get (row_in (mapped (λ row. row ++ o ∷ []) r)) j) here ∙ get-last os o j
+            ∙ ap (λ r. if same_number (length (row_in r)) j then Some o else slice_get os j) (sym e)
+            ∙ ap (λ r. if same_number (count s t) j then Some o else slice_get (row_in r) j) (sym here)
+      at false is = refl
 
 -- before that there is no object of this name
 pub next_is_free : (s : StoreView) (t : ℕ) → object_at s (Made t (count s t)) ≡ None
@@ -69,7 +74,8 @@ next_is_free s t = is_past (row s t)
 pub count-add_own : (s : StoreView) (t : ℕ) (o : ObjectView) → t < length s.made → count (add s t o) t ≡ suc (count s t)
 count-add_own s t o le =
     ap (λ r. length (row_in r)) (get-changed_at t t (λ row. row ++ o ∷ []) s.made
-    ∙ ap (λ b. if b then mapped (λ row. row ++ o ∷ []) (slice_get s.made t) else slice_get s.made t) (same_number-refl t))
+    ∙ ap (λ b. if b then mapped (λ row. row ++ o ∷ []) (slice_get s.made t) else slice_get s.made t)
+    (same_number-refl t))
     ∙ there (slice_get s.made t) refl where
       longer : (os : List ObjectView) → length (os ++ o ∷ []) ≡ suc (length os)
       longer [] = refl
@@ -79,19 +85,22 @@ count-add_own s t o le =
           → length (row_in (mapped (λ row. row ++ o ∷ []) (slice_get s.made t))) ≡ suc (count s t)
       there None e = absurd (is_there s.made t le e)
       there (Some os) e =
-          ap (λ r. length (row_in (mapped (λ row. row ++ o ∷ []) r))) e ∙ longer os ∙ ap (λ r. suc (length (row_in r))) (sym e)
+          ap (λ r. length (row_in (mapped (λ row. row ++ o ∷ []) r))) e ∙ longer os
+          ∙ ap (λ r. suc (length (row_in r))) (sym e)
 
 -- other threads have not
 pub count-add_other : (s : StoreView) (t u : ℕ) (o : ObjectView) → t ≢ u → count (add s t o) u ≡ count s u
 count-add_other s t u o other =
     ap (λ r. length (row_in r)) (get-changed_at t u (λ row. row ++ o ∷ []) s.made
-    ∙ ap (λ b. if b then mapped (λ row. row ++ o ∷ []) (slice_get s.made u) else slice_get s.made u) (same_number-false t u other))
+    ∙ ap (λ b. if b then mapped (λ row. row ++ o ∷ []) (slice_get s.made u) else slice_get s.made u)
+    (same_number-false t u other))
 
 -- a write makes nothing
 pub count-write : (s : StoreView) (n : ObjectName) (f : ℕ) (d : Datum) (t : ℕ) → count (write s n f d) t ≡ count s t
 count-write s (Global g) f d t = refl
 count-write s (Made u n) f d t =
-    ap (λ r. length (row_in r)) (get-changed_at u t (changed_at n (with_field f d)) s.made) ∙ in_row (same_number u t) (slice_get s.made t) where
+    ap (λ r. length (row_in r)) (get-changed_at u t (changed_at n (with_field f d)) s.made)
+    ∙ in_row (same_number u t) (slice_get s.made t) where
       in_row : (b : Bool) (r : Option (List ObjectView))
           → length (row_in (if b then mapped (changed_at n (with_field f d)) r else r)) ≡ length (row_in r)
       in_row true None = refl
@@ -108,17 +117,19 @@ pub rows-add : (s : StoreView) (t : ℕ) (o : ObjectView) → length (add s t o)
 rows-add s t o = length-changed_at t (λ row. row ++ o ∷ []) s.made
 
 -- stores that agree at each name, and have as many rows, are one
-pub same_store : (s r : StoreView) → ((o : ObjectName) → object_at s o ≡ object_at r o) → length s.made ≡ length r.made → s ≡ r
-same_store s r h e = of_one_kind (same_elements s.globals r.globals (λ g. h (Global g))) (rows s.made r.made e (λ t n. h (Made t n))) where
-  of_one_kind : s.globals ≡ r.globals → s.made ≡ r.made → s ≡ r
-  of_one_kind p q = λ i. record { globals = p i; made = q i }
+pub same_store : (s r : StoreView) → ((o : ObjectName) → object_at s o ≡ object_at r o) → length s.made ≡ length r.made
+    → s ≡ r
+same_store s r h e = of_one_kind (same_elements s.globals r.globals (λ g. h (Global g)))
+    (rows s.made r.made e (λ t n. h (Made t n))) where
+      of_one_kind : s.globals ≡ r.globals → s.made ≡ r.made → s ≡ r
+      of_one_kind p q = λ i. record { globals = p i; made = q i }
 
-  rows : (xs ys : List (List ObjectView)) → length xs ≡ length ys
-      → ((t n : ℕ) → slice_get (row_in (slice_get xs t)) n ≡ slice_get (row_in (slice_get ys t)) n) → xs ≡ ys
-  rows [] [] e h = refl
-  rows [] (y ∷ ys) e h = absurd (omega (arith, e))
-  rows (x ∷ xs) [] e h = absurd (omega (arith, e))
-  rows (x ∷ xs) (y ∷ ys) e h =
-      let p : x ≡ y = same_elements x y (h 0) in
-      let q : xs ≡ ys = rows xs ys (omega (arith, e)) (λ t. h (suc t)) in
-      cc
+      rows : (xs ys : List (List ObjectView)) → length xs ≡ length ys
+          → ((t n : ℕ) → slice_get (row_in (slice_get xs t)) n ≡ slice_get (row_in (slice_get ys t)) n) → xs ≡ ys
+      rows [] [] e h = refl
+      rows [] (y ∷ ys) e h = absurd (omega (arith, e))
+      rows (x ∷ xs) [] e h = absurd (omega (arith, e))
+      rows (x ∷ xs) (y ∷ ys) e h =
+          let p : x ≡ y = same_elements x y (h 0) in
+          let q : xs ≡ ys = rows xs ys (omega (arith, e)) (λ t. h (suc t)) in
+          cc

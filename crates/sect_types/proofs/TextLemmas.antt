@@ -5,7 +5,8 @@ use Rattle.sect_types.specs.Texts.{step_then, statements_of}
 use Rattle.sect_types.specs.declared.text.Step.{Step}
 use Rattle.sect_types.specs.declared.text.Step.TheVariants as step
 
-pub statements_of_push : (ss : List Step) (s : Step) → statements_of (ss ++ s ∷ []) ≡ joined (statements_of ss) (step_then s Stop)
+pub statements_of_push : (ss : List Step) (s : Step)
+    → statements_of (ss ++ s ∷ []) ≡ joined (statements_of ss) (step_then s Stop)
 statements_of_push [] s = refl
 statements_of_push (step.Do a ∷ ss) s = ap (Do a) (statements_of_push ss s)
 statements_of_push (step.If t p q ∷ ss) s = ap (Choose t p q) (statements_of_push ss s)

@@ -21,14 +21,17 @@ object site fields = record { site = site; fields = fields }
 
 -- an ending by its objects, output and ends
 abbrev pub ending : List ObjectView → List (List ObjectView) → List ℕ → List End → SerialEndView
-ending globals made output ends = record { store = record { globals = globals; made = made }; output = map pos output; ends = ends }
+ending globals made output ends =
+    record { store = record { globals = globals; made = made }; output = map pos output; ends = ends }
 
 -- with three units of fuel both are through; with two both fail, and nothing is written
-fuel_three : RunsWhole two_bumps 3 (0 ∷ 1 ∷ []) (ending (object 0 (int 2 ∷ []) ∷ []) ([] ∷ [] ∷ []) [] (Done ∷ Done ∷ []))
+fuel_three : RunsWhole two_bumps 3 (0 ∷ 1 ∷ [])
+    (ending (object 0 (int 2 ∷ []) ∷ []) ([] ∷ [] ∷ []) [] (Done ∷ Done ∷ []))
 fuel_three = (_, refl, record { store = refl; output = refl; ends = refl })
 
 -- with two units neither is through
-fuel_two : RunsWhole two_bumps 2 (0 ∷ 1 ∷ []) (ending (object 0 (int 0 ∷ []) ∷ []) ([] ∷ [] ∷ []) [] (Failed fault.Fuel ∷ Failed fault.Fuel ∷ []))
+fuel_two : RunsWhole two_bumps 2 (0 ∷ 1 ∷ [])
+    (ending (object 0 (int 0 ∷ []) ∷ []) ([] ∷ [] ∷ []) [] (Failed fault.Fuel ∷ Failed fault.Fuel ∷ []))
 fuel_two = (_, refl, record { store = refl; output = refl; ends = refl })
 
 -- a text that takes two units
@@ -80,5 +83,7 @@ unfolding ends_after
 section_left = refl
 
 -- what was done before a fault stays
-null_fault : RunsWhole null_after_write 10000 (0 ∷ 1 ∷ []) (ending (object 0 (int 0 ∷ Null ∷ []) ∷ object 1 (int 4 ∷ Null ∷ []) ∷ []) ([] ∷ [] ∷ []) (4 ∷ []) (Failed fault.Null ∷ Done ∷ []))
+null_fault : RunsWhole null_after_write 10000 (0 ∷ 1 ∷ [])
+    (ending (object 0 (int 0 ∷ Null ∷ []) ∷ object 1 (int 4 ∷ Null ∷ []) ∷ []) ([] ∷ [] ∷ []) (4 ∷ [])
+    (Failed fault.Null ∷ Done ∷ []))
 null_fault = (_, refl, record { store = refl; output = refl; ends = refl })

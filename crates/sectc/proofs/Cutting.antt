@@ -1,5 +1,6 @@
 -- The lines of an input, up to the first that is exactly `end`.
-use Rattle.std.proofs.Common.{◌≡◌, ℕ, ◌+◌, ◌-◌, ◌<◌, ◌≤◌, List, [], ◌∷◌, ◌++◌, take, drop, length, get_or, inl, inr, refl, sym, ap, ◌∙◌, subst, arith, append_assoc}
+use Rattle.std.proofs.Common.{◌≡◌, ℕ, ◌+◌, ◌-◌, ◌<◌, ◌≤◌, List, [], ◌∷◌, ◌++◌, take, drop, length, get_or, inl, inr}
+use Rattle.std.proofs.Common.{refl, sym, ap, ◌∙◌, subst, arith, append_assoc}
 use Rattle.std.specs.Prelude.{codes}
 use Rattle.std.specs.List.{slice_range}
 use Rattle.std.proofs.Math.ListN.{drop_of_length-le}
@@ -17,7 +18,8 @@ fed_more (first ∷ lines) line =
     ap (λ l. first ++ 10 ∷ l) (fed_more lines line) ∙ sym (append_assoc first (10 ∷ fed lines) (line ++ 10 ∷ []))
 
 -- two texts that go on from a line without a line feed inside are cut alike
-line_once : (line other x y : List ℕ) → (Has line 10 → ⊥) → (Has other 10 → ⊥) → line ++ 10 ∷ x ≡ other ++ 10 ∷ y → (line ≡ other) × (x ≡ y)
+line_once : (line other x y : List ℕ) → (Has line 10 → ⊥) → (Has other 10 → ⊥) → line ++ 10 ∷ x ≡ other ++ 10 ∷ y
+    → (line ≡ other) × (x ≡ y)
 line_once [] [] x y p q e = (refl, cc)
 line_once [] (b ∷ other) x y p q e = absurd (q (inl cc))
 line_once (a ∷ line) [] x y p q e = absurd (p (inl cc))
@@ -32,16 +34,21 @@ no_line : (rest line y : List ℕ) → (Has rest 10 → ⊥) → rest ≡ line +
 no_line rest line y none e = none (subst (λ l. Has l 10) (sym e) (Has-right line (10 ∷ y) 10 (inl refl)))
 
 -- lines of which none is `end`, before what has no line feed, have no line `end`
-no_end : (lines : List (List ℕ)) (rest : List ℕ) → ((line : List ℕ) → Has lines line → Has line 10 → ⊥) → (Has lines (codes "end") → ⊥) → (Has rest 10 → ⊥)
-    → (others : List (List ℕ)) (more : List ℕ) → ((line : List ℕ) → Has (with_end others) line → Has line 10 → ⊥) → fed lines ++ rest ≡ fed (with_end others) ++ more → ⊥
+no_end : (lines : List (List ℕ)) (rest : List ℕ) → ((line : List ℕ) → Has lines line → Has line 10 → ⊥)
+    → (Has lines (codes "end") → ⊥) → (Has rest 10 → ⊥)
+    → (others : List (List ℕ)) (more : List ℕ) → ((line : List ℕ) → Has (with_end others) line → Has line 10 → ⊥)
+    → fed lines ++ rest ≡ fed (with_end others) ++ more → ⊥
 no_end [] rest whole none feedless [] more whole' e = no_line rest (codes "end") more feedless e
 no_end [] rest whole none feedless (other ∷ others) more whole' e =
-    no_line rest other (fed (with_end others) ++ more) feedless (e ∙ append_assoc other (10 ∷ fed (with_end others)) more)
+    no_line rest other (fed (with_end others) ++ more) feedless
+    (e ∙ append_assoc other (10 ∷ fed (with_end others)) more)
 no_end (line ∷ lines) rest whole none feedless [] more whole' e =
-    let cut = line_once line (codes "end") (fed lines ++ rest) more (whole line (inl refl)) (whole' (codes "end") (inl refl)) (sym (append_assoc line (10 ∷ fed lines) rest) ∙ e) in
+    let cut = line_once line (codes "end") (fed lines ++ rest) more (whole line (inl refl))
+    (whole' (codes "end") (inl refl)) (sym (append_assoc line (10 ∷ fed lines) rest) ∙ e) in
     none (inl cut.0)
 no_end (line ∷ lines) rest whole none feedless (other ∷ others) more whole' e =
-    let cut = line_once line other (fed lines ++ rest) (fed (with_end others) ++ more) (whole line (inl refl)) (whole' other (inl refl))
+    let cut = line_once line other (fed lines ++ rest) (fed (with_end others) ++ more) (whole line (inl refl))
+    (whole' other (inl refl))
     (sym (append_assoc line (10 ∷ fed lines) rest) ∙ e ∙ append_assoc other (10 ∷ fed (with_end others)) more) in
     no_end lines rest (λ l h. whole l (inr h)) (λ h. none (inr h)) feedless others more (λ l h. whole' l (inr h)) cut.1
 
@@ -69,9 +76,11 @@ module _ (input : List ℕ) (start at : ℕ) (within : at < length input) where
   -- the line that has begun, with one byte more
   line_more : start ≤ at → slice_range input start (at + 1) ≡ slice_range input start at ++ get_or input at 0 ∷ []
   line_more order =
-      let here : get_or (drop start input) (at - start) 0 ≡ get_or input at 0 = get_or-drop start input (at - start) 0 ∙ ap (λ i. get_or input i 0) (omega (arith, order)) in
+      let here : get_or (drop start input) (at - start) 0 ≡ get_or input at 0 = get_or-drop start input (at - start) 0
+      ∙ ap (λ i. get_or input i 0) (omega (arith, order)) in
       let there : at - start < length (drop start input) = omega (arith, length-drop start input, within, order) in
-      ap (λ n. take n (drop start input)) (omega (arith, order)) ∙ take_more (drop start input) (at - start) 0 there ∙ ap (λ b. slice_range input start at ++ b ∷ []) here
+      ap (λ n. take n (drop start input)) (omega (arith, order)) ∙ take_more (drop start input) (at - start) 0 there
+      ∙ ap (λ b. slice_range input start at ++ b ∷ []) here
 
   -- what is in front of the next byte is what is in front of the line, and the line so far
   front_is : start ≤ at → take (at + 1) input ≡ take start input ++ slice_range input start (at + 1)
@@ -85,18 +94,21 @@ module _ (input : List ℕ) (start at : ℕ) (within : at < length input) where
     whole = c.whole;
     none = c.none;
     before = c.before;
-    feedless = λ h. elim (Has-cases (slice_range input start at) (get_or input at 0 ∷ []) 10 (subst (λ l. Has l 10) (line_more c.order) h)) [
-      | inl a ↦ c.feedless a
-      | inr b ↦ elim b [ inl e ↦ other e | inr k ↦ k ]
-    ];
+    feedless = λ h. elim (Has-cases (slice_range input start at) (get_or input at 0 ∷ []) 10
+        (subst (λ l. Has l 10) (line_more c.order) h)) [
+          | inl a ↦ c.feedless a
+          | inr b ↦ elim b [ inl e ↦ other e | inr k ↦ k ]
+        ];
   }
 
   module _ (feed : get_or input at 0 ≡ 10) (c : IsCutSo input start at) where
     -- the lines so far, with the one that ends here
     with_line : take (at + 1) input ≡ fed (c.lines ++ slice_range input start at ∷ [])
     with_line =
-        front_is c.order ∙ ap (λ l. take start input ++ l) (line_more c.order ∙ ap (λ b. slice_range input start at ++ b ∷ []) feed)
-        ∙ ap (λ l. l ++ (slice_range input start at ++ 10 ∷ [])) c.before ∙ sym (fed_more c.lines (slice_range input start at))
+        front_is c.order ∙ ap (λ l. take start input ++ l)
+        (line_more c.order ∙ ap (λ b. slice_range input start at ++ b ∷ []) feed)
+        ∙ ap (λ l. l ++ (slice_range input start at ++ 10 ∷ [])) c.before
+        ∙ sym (fed_more c.lines (slice_range input start at))
 
     -- no line feed stands inside those lines
     whole_more : (l : List ℕ) → Has (c.lines ++ slice_range input start at ∷ []) l → Has l 10 → ⊥
@@ -116,7 +128,8 @@ module _ (input : List ℕ) (start at : ℕ) (within : at < length input) where
         | inr b ↦ elim b [ inl e ↦ other e | inr k ↦ k ]
       ];
       before = with_line;
-      feedless = λ h. absurd (subst (λ n. Has (take n (drop (at + 1) input)) 10) (let e : at + 1 - (at + 1) ≡ 0 = omega arith in e) h);
+      feedless = λ h. absurd (subst (λ n. Has (take n (drop (at + 1) input)) 10)
+          (let e : at + 1 - (at + 1) ≡ 0 = omega arith in e) h);
     }
 
     -- the line `end` has ended
@@ -134,32 +147,42 @@ module _ (input : List ℕ) (start at : ℕ) (within : at < length input) where
     }
 
 -- no line was `end`
-pub cut_none : (input : List ℕ) (start at n : ℕ) → n ≡ length input → n ≤ at → at ≤ n → IsCutSo input start at → IsSplit input (take n input) (drop n input)
+pub cut_none : (input : List ℕ) (start at n : ℕ) → n ≡ length input → n ≤ at → at ≤ n → IsCutSo input start at
+    → IsSplit input (take n input) (drop n input)
 cut_none input start at n is past within c = record {
   joined = sym (take-append-drop n input);
   cut = inr (
     λ h.
-        let all : slice_range input start at ≡ drop start input = take_all (at - start) (drop start input) (omega (arith, length-drop start input, is, past, c.order)) in
-        no_end c.lines (drop start input) c.whole c.none (subst (λ l. Has l 10 → ⊥) all c.feedless) h.lines h.rest h.begins.whole
+        let all : slice_range input start at ≡ drop start input =
+        take_all (at - start) (drop start input) (omega (arith, length-drop start input, is, past, c.order)) in
+        no_end c.lines (drop start input) c.whole c.none (subst (λ l. Has l 10 → ⊥) all c.feedless) h.lines h.rest
+        h.begins.whole
         (ap (λ l. l ++ drop start input) (sym c.before) ∙ take-append-drop start input ∙ h.begins.begins),
     drop_of_length-le input (omega (arith, is)),
   );
 }
 
 -- lines that end in their first line `end` are told from what follows
-ended_once : (lines others : List (List ℕ)) (x y : List ℕ) → ((line : List ℕ) → Has (with_end lines) line → Has line 10 → ⊥) → ((line : List ℕ) → Has (with_end others) line → Has line 10 → ⊥)
-    → (Has lines (codes "end") → ⊥) → (Has others (codes "end") → ⊥) → fed (with_end lines) ++ x ≡ fed (with_end others) ++ y → (fed (with_end lines) ≡ fed (with_end others)) × (x ≡ y)
+ended_once : (lines others : List (List ℕ)) (x y : List ℕ)
+    → ((line : List ℕ) → Has (with_end lines) line → Has line 10 → ⊥)
+    → ((line : List ℕ) → Has (with_end others) line → Has line 10 → ⊥)
+    → (Has lines (codes "end") → ⊥) → (Has others (codes "end") → ⊥) → fed (with_end lines) ++ x ≡ fed (with_end others)
+    ++ y → (fed (with_end lines) ≡ fed (with_end others)) × (x ≡ y)
 ended_once [] [] x y whole whole' none none' e = (refl, cc)
 ended_once [] (m ∷ others) x y whole whole' none none' e =
-    let cut = line_once (codes "end") m x (fed (with_end others) ++ y) (whole (codes "end") (inl refl)) (whole' m (inl refl)) (e ∙ append_assoc m (10 ∷ fed (with_end others)) y) in
+    let cut = line_once (codes "end") m x (fed (with_end others) ++ y) (whole (codes "end") (inl refl))
+    (whole' m (inl refl)) (e ∙ append_assoc m (10 ∷ fed (with_end others)) y) in
     absurd (none' (inl (sym cut.0)))
 ended_once (l ∷ lines) [] x y whole whole' none none' e =
-    let cut = line_once l (codes "end") (fed (with_end lines) ++ x) y (whole l (inl refl)) (whole' (codes "end") (inl refl)) (sym (append_assoc l (10 ∷ fed (with_end lines)) x) ∙ e) in
+    let cut = line_once l (codes "end") (fed (with_end lines) ++ x) y (whole l (inl refl))
+    (whole' (codes "end") (inl refl)) (sym (append_assoc l (10 ∷ fed (with_end lines)) x) ∙ e) in
     absurd (none (inl cut.0))
 ended_once (l ∷ lines) (m ∷ others) x y whole whole' none none' e =
-    let cut = line_once l m (fed (with_end lines) ++ x) (fed (with_end others) ++ y) (whole l (inl refl)) (whole' m (inl refl))
+    let cut = line_once l m (fed (with_end lines) ++ x) (fed (with_end others) ++ y) (whole l (inl refl))
+    (whole' m (inl refl))
     (sym (append_assoc l (10 ∷ fed (with_end lines)) x) ∙ e ∙ append_assoc m (10 ∷ fed (with_end others)) y) in
-    let rest = ended_once lines others x y (λ z h. whole z (inr h)) (λ z h. whole' z (inr h)) (λ h. none (inr h)) (λ h. none' (inr h)) cut.1 in
+    let rest = ended_once lines others x y (λ z h. whole z (inr h)) (λ z h. whole' z (inr h)) (λ h. none (inr h))
+    (λ h. none' (inr h)) cut.1 in
     (ap (λ z. z ++ 10 ∷ fed (with_end lines)) cut.0 ∙ ap (λ z. m ++ 10 ∷ z) rest.0, rest.1)
 
 -- what begins with a text that ends in its first line `end` has such a line
@@ -174,7 +197,8 @@ has_end input cert source joined e = record {
 }
 
 -- an input is split in one way
-pub split_once : (input cert source other rest : List ℕ) → IsSplit input cert source → IsSplit input other rest → (cert ≡ other) × (source ≡ rest)
+pub split_once : (input cert source other rest : List ℕ) → IsSplit input cert source → IsSplit input other rest
+    → (cert ≡ other) × (source ≡ rest)
 split_once input cert source other rest a b = elim a.cut [
   | inl p ↦ elim b.cut [
     | inl q ↦

@@ -4,7 +4,8 @@ use Rattle.sect_cert.specs.declared.chain.ChainWord.TheVariants as due
 use Rattle.sect_cert.proofs.chain.steps_of.Given as goal
 
 abbrev pub invariant-loop-word : goal.invariant-loop-word
-invariant-loop-word l = walk_on (chain_state l.steps.items l.spot) l.words ≡ walk_on (chain_state [] due.Node) l.initial.words
+invariant-loop-word l = walk_on (chain_state l.steps.items l.spot) l.words ≡ walk_on (chain_state [] due.Node)
+    l.initial.words
 
 abbrev pub decreases-loop-word : goal.decreases-loop-word
 decreases-loop-word l = length l.words

@@ -10,7 +10,8 @@ returns-in_err-chain_claim c =
     let R = DenotesChain c.args.scheme.now c.args.thread in
     let xs = c.args.chains.now in
     let within : c.loop-chain.chain-index < length xs = omega arith in
-    passes c.from_residual.result c.in_err-chain_claim.field-0.0 (R c.chain-item.result) (AllZip R xs) c.from_residual.ensures.1 c.in_err-chain_claim.ensures
+    passes c.from_residual.result c.in_err-chain_claim.field-0.0 (R c.chain-item.result) (AllZip R xs)
+    c.from_residual.ensures.1 c.in_err-chain_claim.ensures
     (zip_none R xs c.loop-chain.chain-index c.chain-item.result within c.chain-item.is)
 
 pub loop-chain-preserved : goal.loop-chain-preserved
@@ -18,4 +19,5 @@ loop-chain-preserved c =
     let R = DenotesChain c.args.scheme.now c.args.thread in
     let xs = c.args.chains.now in
     let within : c.loop-chain.chain-index < length xs = omega arith in
-    rw c.in_ok-push.ensures.items (zip_more R xs c.loop-chain.chain-index c.chain-item.result c.loop-chain.claims.items c.in_ok-chain_claim.field-0 within c.chain-item.is c.loop-chain.invariant c.in_ok-chain_claim.ensures)
+    rw c.in_ok-push.ensures.items (zip_more R xs c.loop-chain.chain-index c.chain-item.result c.loop-chain.claims.items
+    c.in_ok-chain_claim.field-0 within c.chain-item.is c.loop-chain.invariant c.in_ok-chain_claim.ensures)

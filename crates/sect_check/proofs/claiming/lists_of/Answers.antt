@@ -12,13 +12,16 @@ returns-in_err-locks_of c =
     let R : List CertLock → List Lock → Type 0 = AllZip (Denotes c.args.scheme.now c.args.thread) in
     let xs = c.args.nodes.now in
     let within : c.loop-list.list-index < length xs = omega arith in
-    passes c.from_residual.result c.in_err-locks_of.field-0.0 (R c.as_slice.result.now) (AllZip R xs) c.from_residual.ensures.1 c.in_err-locks_of.ensures
-    (λ bad. zip_none R xs c.loop-list.list-index c.list-item.result within c.list-item.is (subst (λ z. (y : List Lock) → R z y → ⊥) c.as_slice.ensures bad))
+    passes c.from_residual.result c.in_err-locks_of.field-0.0 (R c.as_slice.result.now) (AllZip R xs)
+    c.from_residual.ensures.1 c.in_err-locks_of.ensures
+    (λ bad. zip_none R xs c.loop-list.list-index c.list-item.result within c.list-item.is
+    (subst (λ z. (y : List Lock) → R z y → ⊥) c.as_slice.ensures bad))
 
 pub loop-list-preserved : goal.loop-list-preserved
 loop-list-preserved c =
     let R : List CertLock → List Lock → Type 0 = AllZip (Denotes c.args.scheme.now c.args.thread) in
     let xs = c.args.nodes.now in
     let within : c.loop-list.list-index < length xs = omega arith in
-    rw c.in_ok-push.ensures.items (zip_more R xs c.loop-list.list-index c.list-item.result c.loop-list.lists.items c.in_ok-locks_of.field-0 within c.list-item.is c.loop-list.invariant
+    rw c.in_ok-push.ensures.items (zip_more R xs c.loop-list.list-index c.list-item.result c.loop-list.lists.items
+    c.in_ok-locks_of.field-0 within c.list-item.is c.loop-list.invariant
     (subst (λ z. R z c.in_ok-locks_of.field-0) c.as_slice.ensures c.in_ok-locks_of.ensures))

@@ -10,7 +10,8 @@ returns-in_err-lock_of c =
     let R = Denotes c.args.scheme.now c.args.thread in
     let xs = c.args.list.now in
     let within : c.loop-named.named-index < length xs = omega arith in
-    passes c.from_residual.result c.in_err-lock_of.field-0.0 (R c.named-item.result) (AllZip R xs) c.from_residual.ensures.1 c.in_err-lock_of.ensures
+    passes c.from_residual.result c.in_err-lock_of.field-0.0 (R c.named-item.result) (AllZip R xs)
+    c.from_residual.ensures.1 c.in_err-lock_of.ensures
     (zip_none R xs c.loop-named.named-index c.named-item.result within c.named-item.is)
 
 pub loop-named-preserved : goal.loop-named-preserved
@@ -18,4 +19,5 @@ loop-named-preserved c =
     let R = Denotes c.args.scheme.now c.args.thread in
     let xs = c.args.list.now in
     let within : c.loop-named.named-index < length xs = omega arith in
-    rw c.in_ok-push.ensures.items (zip_more R xs c.loop-named.named-index c.named-item.result c.loop-named.locks.items c.in_ok-lock_of.field-0 within c.named-item.is c.loop-named.invariant c.in_ok-lock_of.ensures)
+    rw c.in_ok-push.ensures.items (zip_more R xs c.loop-named.named-index c.named-item.result c.loop-named.locks.items
+    c.in_ok-lock_of.field-0 within c.named-item.is c.loop-named.invariant c.in_ok-lock_of.ensures)

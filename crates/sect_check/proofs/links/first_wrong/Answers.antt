@@ -15,9 +15,12 @@ pub loop-number-preserved : goal.loop-number-preserved
 loop-number-preserved c =
     let s = c.args.scheme.now in
     let links = c.args.links.now in
-    below_next (λ m. ComesRight s c.args.thread c.args.flow.now links m × EndsRight s c.args.thread (end_locks c.args.locking) c.args.flow.now links m) c.loop-number.number c.loop-number.invariant (c.in_ok-is_right.ensures.0 c.if-not-branch.false)
+    below_next (λ m. ComesRight s c.args.thread c.args.flow.now links m
+    × EndsRight s c.args.thread (end_locks c.args.locking) c.args.flow.now links m) c.loop-number.number
+    c.loop-number.invariant (c.in_ok-is_right.ensures.0 c.if-not-branch.false)
 
 pub returns : goal.returns
 returns c =
-    chain_when c.args.scheme.now c.args.thread (end_locks c.args.locking) c.args.flow.now c.args.lock.now c.args.links.now (c.begins.ensures.0 c.if-not-begins.false)
+    chain_when c.args.scheme.now c.args.thread (end_locks c.args.locking) c.args.flow.now c.args.lock.now
+    c.args.links.now (c.begins.ensures.0 c.if-not-begins.false)
     (λ m lt. c.loop-number.invariant m (omega (arith, lt, c.loop-number-test.false)))

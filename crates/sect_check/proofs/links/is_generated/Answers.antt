@@ -9,10 +9,14 @@ returns-in-Some c =
     let l = c.in-Some.lock in
     let step = c.args.step.now in
     let tells = lock_tells l step.lock in
-    generated_one c.args.scheme.now c.args.thread (end_locks c.args.locking) c.args.flow.now step.node c.generated_at.result c.generated_at.ensures l step.lock c.in-Some.is c.eq.result
+    generated_one c.args.scheme.now c.args.thread (end_locks c.args.locking) c.args.flow.now step.node
+    c.generated_at.result c.generated_at.ensures l step.lock c.in-Some.is c.eq.result
     (λ t. tells.0 (sym c.eq.ensures ∙ t), λ e. c.eq.ensures ∙ tells.1 e)
 
 pub returns-in-None : goal.returns-in-None
 returns-in-None c =
-    let step = c.args.step.now in
-    (λ t. absurd (true≢false (sym t)), λ h. absurd (generated_none c.args.scheme.now c.args.thread (end_locks c.args.locking) c.args.flow.now step.node c.generated_at.result c.generated_at.ensures step.lock c.in-None.is h))
+    let step = c.args.step.now in (
+      λ t. absurd (true≢false (sym t)),
+      λ h. absurd (generated_none c.args.scheme.now c.args.thread (end_locks c.args.locking) c.args.flow.now step.node
+          c.generated_at.result c.generated_at.ensures step.lock c.in-None.is h),
+    )

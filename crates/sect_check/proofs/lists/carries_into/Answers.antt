@@ -16,12 +16,14 @@ returns-then-not-branch c =
     let x = c.lock-item.result in
     let has = item_has locks c.loop-lock.lock-index x within c.lock-item.is in (
       λ t. absurd (true≢false (sym t)),
-      λ all. absurd (true≢false (sym (c.in_ok-is_carried_into.ensures.1 (λ r back. all x r has back)) ∙ c.if-not-branch.true)),
+      λ all. absurd (true≢false (sym (c.in_ok-is_carried_into.ensures.1 (λ r back. all x r has back))
+          ∙ c.if-not-branch.true)),
     )
 
 pub loop-lock-preserved : goal.loop-lock-preserved
 loop-lock-preserved c =
     let locks = c.args.locks.now in
     let within : c.loop-lock.lock-index < length locks = omega arith in
-    carried_more c.args.scheme.now c.args.thread c.args.label c.args.set.now.keys locks c.loop-lock.lock-index c.lock-item.result
+    carried_more c.args.scheme.now c.args.thread c.args.label c.args.set.now.keys locks c.loop-lock.lock-index
+    c.lock-item.result
     within c.lock-item.is c.loop-lock.invariant (c.in_ok-is_carried_into.ensures.0 c.if-not-branch.false)

@@ -8,9 +8,13 @@ pub returns-in-Some : goal.returns-in-Some
 returns-in-Some c =
     let s = c.args.scheme.now in
     let l = c.in-Some.lock in
-    covers_one s c.args.thread (end_locks c.args.locking) c.args.flow.now c.args.node c.generated_at.result c.generated_at.ensures l c.in-Some.is c.args.claims.now c.is_covered.result
+    covers_one s c.args.thread (end_locks c.args.locking) c.args.flow.now c.args.node c.generated_at.result
+    c.generated_at.ensures l c.in-Some.is c.args.claims.now c.is_covered.result
     (subst (λ list. (c.is_covered.result ≡ true) ↔ CoveredBy s list l) c.list_at.ensures c.is_covered.ensures)
 
 pub returns-in-None : goal.returns-in-None
-returns-in-None c =
-    (λ t. covers_none c.args.scheme.now c.args.thread (end_locks c.args.locking) c.args.flow.now c.args.node c.generated_at.result c.generated_at.ensures c.in-None.is c.args.claims.now, λ h. refl)
+returns-in-None c = (
+  λ t. covers_none c.args.scheme.now c.args.thread (end_locks c.args.locking) c.args.flow.now c.args.node
+      c.generated_at.result c.generated_at.ensures c.in-None.is c.args.claims.now,
+  λ h. refl,
+)

@@ -14,8 +14,11 @@ returns-then-not-branch-clause-some c =
     let label = c.action-label.result in
     let same = subst (λ ls. (l : Lock) → Has keys l ↔ Has ls l) c.list_at.ensures c.in_ok-set.ensures in
     let both = c.in_order-first.result in
-    first_is s t c.args.flow.now claims c.args.from label c.succ.result c.action-label.ensures c.succ.ensures keys same both.0 both.1 c.in_order-first.ensures.each c.in_order-first.ensures.order
-    (λ h. true≢false (sym (c.in_ok-carries_into.ensures.1 (subst (AreCarriedInto s t label keys) (sym c.list_at-2.ensures) h)) ∙ c.if-not-branch.true))
+    first_is s t c.args.flow.now claims c.args.from label c.succ.result c.action-label.ensures c.succ.ensures keys same
+    both.0 both.1 c.in_order-first.ensures.each c.in_order-first.ensures.order
+    (λ h. true≢false
+    (sym (c.in_ok-carries_into.ensures.1 (subst (AreCarriedInto s t label keys) (sym c.list_at-2.ensures) h))
+    ∙ c.if-not-branch.true))
 
 pub returns-then-not-branch-2-clause-some : goal.returns-then-not-branch-2-clause-some
 returns-then-not-branch-2-clause-some c =
@@ -26,9 +29,12 @@ returns-then-not-branch-2-clause-some c =
     let label = c.action-label.result in
     let same = subst (λ ls. (l : Lock) → Has keys l ↔ Has ls l) c.list_at.ensures c.in_ok-set.ensures in
     let both = c.in_order-first.result in
-    second_is s t c.args.flow.now claims c.args.from label c.succ.result c.action-label.ensures c.succ.ensures keys same both.0 both.1 c.in_order-first.ensures.each c.in_order-first.ensures.order
+    second_is s t c.args.flow.now claims c.args.from label c.succ.result c.action-label.ensures c.succ.ensures keys same
+    both.0 both.1 c.in_order-first.ensures.each c.in_order-first.ensures.order
     (subst (AreCarriedInto s t label keys) c.list_at-2.ensures (c.in_ok-carries_into.ensures.0 c.if-not-branch.false))
-    (λ h. true≢false (sym (c.in_ok-carries_into-2.ensures.1 (subst (AreCarriedInto s t label keys) (sym c.list_at-3.ensures) h)) ∙ c.if-not-branch-2.true))
+    (λ h. true≢false
+    (sym (c.in_ok-carries_into-2.ensures.1 (subst (AreCarriedInto s t label keys) (sym c.list_at-3.ensures) h))
+    ∙ c.if-not-branch-2.true))
 
 pub returns-clause-none : goal.returns-clause-none
 returns-clause-none c =
@@ -39,9 +45,11 @@ returns-clause-none c =
     let label = c.action-label.result in
     let same = subst (λ ls. (l : Lock) → Has keys l ↔ Has ls l) c.list_at.ensures c.in_ok-set.ensures in
     let both = c.in_order-first.result in
-    all_hold s t c.args.flow.now claims c.args.from label c.succ.result c.action-label.ensures c.succ.ensures keys same both.0 both.1 c.in_order-first.ensures.each c.in_order-first.ensures.order
+    all_hold s t c.args.flow.now claims c.args.from label c.succ.result c.action-label.ensures c.succ.ensures keys same
+    both.0 both.1 c.in_order-first.ensures.each c.in_order-first.ensures.order
     (subst (AreCarriedInto s t label keys) c.list_at-2.ensures (c.in_ok-carries_into.ensures.0 c.if-not-branch.false))
-    (subst (AreCarriedInto s t label keys) c.list_at-3.ensures (c.in_ok-carries_into-2.ensures.0 c.if-not-branch-2.false))
+    (subst (AreCarriedInto s t label keys) c.list_at-3.ensures
+    (c.in_ok-carries_into-2.ensures.0 c.if-not-branch-2.false))
 
 pub returns-then-second-first-clause-none : goal.returns-then-second-first-clause-none
 returns-then-second-first-clause-none c =
@@ -52,23 +60,28 @@ returns-then-second-first-clause-none c =
     let label = c.action-label.result in
     let same = subst (λ ls. (l : Lock) → Has keys l ↔ Has ls l) c.list_at.ensures c.in_ok-set.ensures in
     let both = c.in_order-first.result in
-    one_holds s t c.args.flow.now claims c.args.from label c.succ.result c.action-label.ensures c.succ.ensures keys same both.0 both.1 c.in_order-first.ensures.each c.in_order-first.ensures.order c.if-second-first.true
+    one_holds s t c.args.flow.now claims c.args.from label c.succ.result c.action-label.ensures c.succ.ensures keys same
+    both.0 both.1 c.in_order-first.ensures.each c.in_order-first.ensures.order c.if-second-first.true
     (subst (AreCarriedInto s t label keys) c.list_at-2.ensures (c.in_ok-carries_into.ensures.0 c.if-not-branch.false))
 
 pub list_at-requires-2 : goal.list_at-requires-2
 list_at-requires-2 c =
     let first = c.in_order-first.result.0 in
-    let to = stays c.args.flow.now c.requires.within c.args.from c.succ.result c.succ.ensures first ((c.in_order-first.ensures.each first).1 (inl refl)) in
+    let to = stays c.args.flow.now c.requires.within c.args.from c.succ.result c.succ.ensures first
+    ((c.in_order-first.ensures.each first).1 (inl refl)) in
     omega (arith, to, c.requires.count)
 
 pub list_at-requires-3 : goal.list_at-requires-3
 list_at-requires-3 c =
     let second = c.in_order-first.result.1 in
-    let to = stays c.args.flow.now c.requires.within c.args.from c.succ.result c.succ.ensures second ((c.in_order-first.ensures.each second).1 (inr refl)) in
+    let to = stays c.args.flow.now c.requires.within c.args.from c.succ.result c.succ.ensures second
+    ((c.in_order-first.ensures.each second).1 (inr refl)) in
     omega (arith, to, c.requires.count)
 
 pub carries_into-requires : goal.carries_into-requires
-carries_into-requires c = λ l h. c.requires.lawful c.in_order-first.result.0 l (subst (λ ls. Has ls l) c.list_at-2.ensures h)
+carries_into-requires c = λ l h. c.requires.lawful c.in_order-first.result.0 l
+    (subst (λ ls. Has ls l) c.list_at-2.ensures h)
 
 pub carries_into-requires-2 : goal.carries_into-requires-2
-carries_into-requires-2 c = λ l h. c.requires.lawful c.in_order-first.result.1 l (subst (λ ls. Has ls l) c.list_at-3.ensures h)
+carries_into-requires-2 c = λ l h. c.requires.lawful c.in_order-first.result.1 l
+    (subst (λ ls. Has ls l) c.list_at-3.ensures h)

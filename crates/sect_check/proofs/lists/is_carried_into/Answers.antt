@@ -26,7 +26,8 @@ returns c =
     let s = c.args.scheme.now in
     let keys = c.args.set.now.keys in
     let l = c.args.lock.now in
-    let carried = subst (λ ls. (r : Lock) → Has ls r ↔ CarriedBack s c.args.thread c.args.label.now l r) (sym c.as_slice.ensures.value) c.in_ok-carried.ensures in
+    let carried = subst (λ ls. (r : Lock) → Has ls r ↔ CarriedBack s c.args.thread c.args.label.now l r)
+    (sym c.as_slice.ensures.value) c.in_ok-carried.ensures in
     IfOk-weaker c.are_covered.result (λ (it : Bool). IsTrue it ↔ AreCovered s keys c.as_slice.result.now)
     (λ (it : Bool). IsTrue it ↔ ((r : Lock) → CarriedBack s c.args.thread c.args.label.now l r → CoveredBy s keys r))
     (λ it tells. (

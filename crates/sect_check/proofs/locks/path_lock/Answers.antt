@@ -7,5 +7,7 @@ use Rattle.sect_check.proofs.locks.path_lock.Goals as goal
 pub returns : goal.returns
 returns c =
     let path = c.in_ok-path.path in
-    let stands = subst (λ (p : ProgramView). path_named p c.args.thread c.args.named.now ≡ Some path) c.program.ensures c.in_ok-path.ensures in
-    lock_there c.args.scheme.now c.args.thread c.args.named.now c.args.effect path stands (c.is_offered.ensures.0 c.if-not-is_offered.false)
+    let stands = subst (λ (p : ProgramView). path_named p c.args.thread c.args.named.now ≡ Some path) c.program.ensures
+    c.in_ok-path.ensures in
+    lock_there c.args.scheme.now c.args.thread c.args.named.now c.args.effect path stands
+    (c.is_offered.ensures.0 c.if-not-is_offered.false)

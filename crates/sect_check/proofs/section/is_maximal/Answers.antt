@@ -14,6 +14,7 @@ returns c =
     let kept = c.as_slice.result.now in
     let locks = c.args.locks.now in
     let tells = pointwise_decides lock_tells kept locks in
-    let maximal = subst (λ (ls : List Lock). AreMaximal s (Has keys) ls) (sym c.as_slice.ensures.value) c.in_ok-maximal.ensures in
+    let maximal = subst (λ (ls : List Lock). AreMaximal s (Has keys) ls) (sym c.as_slice.ensures.value)
+    c.in_ok-maximal.ensures in
     let when = kept_when s keys kept locks maximal c.requires in
     (λ t. when.0 (tells.0 (sym c.eq.ensures ∙ t)), λ h. c.eq.ensures ∙ tells.1 (when.1 h))

@@ -14,18 +14,21 @@ lists_of-requires-clause-count c =
     let i = c.args.section in
     let g = c.section.result.now in
     let graph = subst (λ (v : GraphView). slice_get v.sections i ≡ Some g) c.graph.ensures c.section.ensures in
-    nodes_counted c.args.scheme.now i c.args.locks.now c.requires.section c.requires.inferred g graph c.exit-count.result c.exit-count.ensures.number
+    nodes_counted c.args.scheme.now i c.args.locks.now c.requires.section c.requires.inferred g graph
+    c.exit-count.result c.exit-count.ensures.number
 
 pub lists_of-requires-clause-named : goal.lists_of-requires-clause-named
 lists_of-requires-clause-named c = λ list has.
     let s = c.args.scheme.now in
-    subst (λ p. AreNamed p list) (sym c.program-program.ensures) (all_named s c.rules.ensures c.args.section c.args.locks.now c.requires.section c.requires.inferred list has)
+    subst (λ p. AreNamed p list) (sym c.program-program.ensures)
+    (all_named s c.rules.ensures c.args.section c.args.locks.now c.requires.section c.requires.inferred list has)
 
 pub list_of-requires : goal.list_of-requires
 list_of-requires c =
     let s = c.args.scheme.now in
     subst (λ p. AreNamed p c.entry.result.now) (sym c.program-program.ensures)
-    (subst (AreNamed s.program) (sym c.entry.ensures) (entry_named s c.rules.ensures c.args.section c.args.locks.now c.requires.section c.requires.inferred))
+    (subst (AreNamed s.program) (sym c.entry.ensures)
+    (entry_named s c.rules.ensures c.args.section c.args.locks.now c.requires.section c.requires.inferred))
 
 pub returns-clause-good : goal.returns-clause-good
 returns-clause-good c = record {
@@ -37,11 +40,13 @@ returns-clause-good c = record {
       let i = c.args.section in
       let g = c.section.result.now in
       let graph = subst (λ (v : GraphView). slice_get v.sections i ≡ Some g) c.graph.ensures c.section.ensures in
-      let n = nodes_counted c.args.scheme.now i c.args.locks.now c.requires.section c.requires.inferred g graph c.exit-count.result c.exit-count.ensures.number in
+      let n = nodes_counted c.args.scheme.now i c.args.locks.now c.requires.section c.requires.inferred g graph
+      c.exit-count.result c.exit-count.ensures.number in
       omega (arith, most, f, n)
       );
   nodes = c.in_ok-lists_of.ensures.good;
   entry = c.in_ok-list_of.ensures.good;
   chains = c.in_ok-chains_of.ensures.good;
-  rising = subst AreRising (sym c.in_ok-chains_of.ensures.words) (rising c.program-program.result.now.source 0 c.as_slice.result.now);
+  rising = subst AreRising (sym c.in_ok-chains_of.ensures.words)
+      (rising c.program-program.result.now.source 0 c.as_slice.result.now);
 }

@@ -1,4 +1,5 @@
-use Rattle.std.proofs.Common.{◌≡◌, List, Vec, Global, ◌+◌, ◌++◌, ◌∷◌, [], map, ◌<◌, length, arith, take, sym, ap, ◌∙◌, subst}
+use Rattle.std.proofs.Common.{◌≡◌, List, Vec, Global, ◌+◌, ◌++◌, ◌∷◌, [], map, ◌<◌, length, arith, take, sym, ap, ◌∙◌}
+use Rattle.std.proofs.Common.{subst}
 use Rattle.std.proofs.lemmas.List.{map-append}
 use Rattle.sect_infer.specs.Sets.{LocksView}
 use Rattle.sect_types.specs.Lists.{Has}
@@ -35,4 +36,6 @@ loop-locks-preserved c =
     ap (map items) c.in_ok-push.ensures.items ∙ map-append items c.loop-locks.parts.items (part ∷ []) in
     let fixed = subst (λ ls. IsFixedPart s ls part.items) c.entry.ensures c.in_ok-fixed_part.ensures in
     subst (λ xs. AreFixedParts s xs (map items c.push.new.self.items)) (sym sets)
-    (subst (AreFixedParts s (entries_of (take i all) ++ locks.entry ∷ [])) (sym parts) (one_part s (entries_of (take i all)) (map items c.loop-locks.parts.items) locks.entry part.items c.loop-locks.invariant fixed))
+    (subst (AreFixedParts s (entries_of (take i all) ++ locks.entry ∷ [])) (sym parts)
+    (one_part s (entries_of (take i all)) (map items c.loop-locks.parts.items) locks.entry part.items
+    c.loop-locks.invariant fixed))

@@ -11,7 +11,9 @@ pub put_chain-requires : goal.put_chain-requires
 put_chain-requires c =
     let chains = c.as_slice-chain-items.result.now in
     let links = c.chain-item.result in
-    let has = subst (Has chains) (sym c.chain-item.is) (Has-get_or chains c.loop-chain.chain-index links c.loop-chain-test.true) in
-    let named = c.in_ok-chains.ensures.named links (subst (λ (xs : List (List Link)). Has xs links) c.as_slice-chain-items.ensures.value has) in
+    let has = subst (Has chains) (sym c.chain-item.is)
+    (Has-get_or chains c.loop-chain.chain-index links c.loop-chain-test.true) in
+    let named = c.in_ok-chains.ensures.named links
+    (subst (λ (xs : List (List Link)). Has xs links) c.as_slice-chain-items.ensures.value has) in
     let program = c.program-program.ensures ∙ ap (λ (s : SchemeView). s.program) c.scheme-scheme.ensures in
     subst (λ (p : ProgramView). IsChainNamed p links) (sym program) named

@@ -11,5 +11,6 @@ returns-then-is_same c =
     let h = c.index-held.result.now in
     let within : i < length xs = omega arith in
     let same = sym c.is_same.ensures.test ∙ c.if-is_same.true in
-    ap (λ m. slice_set xs i (grip h.key m)) c.join.ensures.value ∙ same_there w xs i h within c.index-held.ensures c.loop-place.invariant.1 same
+    ap (λ m. slice_set xs i (grip h.key m)) c.join.ensures.value
+    ∙ same_there w xs i h within c.index-held.ensures c.loop-place.invariant.1 same
     ∙ ap (λ v. with_grip w v.items) c.loop-place.invariant.0

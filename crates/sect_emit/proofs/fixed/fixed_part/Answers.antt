@@ -11,7 +11,8 @@ add_lock-requires c =
     let locks = c.args.locks.now in
     let place = c.loop-place.place - 1 in
     let within : place < length locks = omega arith in
-    c.requires c.index-locks-place.result (subst (Has locks) (sym c.index-locks-place.is) (Has-get_or locks place c.index-locks-place.result within))
+    c.requires c.index-locks-place.result
+    (subst (Has locks) (sym c.index-locks-place.is) (Has-get_or locks place c.index-locks-place.result within))
 
 pub loop-place-preserved : goal.loop-place-preserved
 loop-place-preserved c =
@@ -22,5 +23,7 @@ loop-place-preserved c =
     let next : place + 1 ≡ c.loop-place.place = omega arith in
     let l = c.index-locks-place.result in
     let part = subst (λ n. IsFixedPart s (drop n locks) c.loop-place.part.items) (sym next) c.loop-place.invariant in
-    subst (λ ls. IsFixedPart s ls c.add_lock.new.part.items) (sym (drop_next locks place l within c.index-locks-place.is))
-    (one_more s l (drop (place + 1) locks) c.loop-place.part.items c.add_lock.new.part.items c.in_ok-add_lock.ensures part)
+    subst (λ ls. IsFixedPart s ls c.add_lock.new.part.items)
+    (sym (drop_next locks place l within c.index-locks-place.is))
+    (one_more s l (drop (place + 1) locks) c.loop-place.part.items c.add_lock.new.part.items c.in_ok-add_lock.ensures
+    part)

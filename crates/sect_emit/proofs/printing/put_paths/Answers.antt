@@ -8,4 +8,5 @@ put_path_lock-requires c =
     let locks = c.args.locks.now in
     let i = c.loop-lock.lock-index in
     let within : i < length locks = omega arith in
-    c.requires c.lock-item.result (subst (Has locks) (sym c.lock-item.is) (Has-get_or locks i c.lock-item.result within))
+    c.requires c.lock-item.result (subst (Has locks) (sym c.lock-item.is)
+    (Has-get_or locks i c.lock-item.result within))

@@ -8,4 +8,5 @@ use Rattle.sect_emit.proofs.printing.put_section.Goals as goal
 pub put_paths-requires : goal.put_paths-requires
 put_paths-requires c =
     let program = c.program-program.ensures ∙ ap (λ (s : SchemeView). s.program) c.scheme-scheme.ensures in
-    subst (λ (p : ProgramView). AreNamed p c.set.result.now) (sym program) (set_named c.args.compiled.now c.rules.ensures.compiled c.args.section c.set.result.now c.set.ensures)
+    subst (λ (p : ProgramView). AreNamed p c.set.result.now) (sym program)
+    (set_named c.args.compiled.now c.rules.ensures.compiled c.args.section c.set.result.now c.set.ensures)

@@ -11,7 +11,8 @@ chain_of-requires c =
     let chains = c.args.chains.now in
     let i = c.loop-lock.lock in
     let within : i < length chains = omega arith in
-    c.requires.named c.index-chains-lock.result (subst (Has chains) (sym c.index-chains-lock.is) (Has-get_or chains i c.index-chains-lock.result within))
+    c.requires.named c.index-chains-lock.result
+    (subst (Has chains) (sym c.index-chains-lock.is) (Has-get_or chains i c.index-chains-lock.result within))
 
 pub loop-lock-preserved : goal.loop-lock-preserved
 loop-lock-preserved c =
@@ -20,6 +21,8 @@ loop-lock-preserved c =
     let within : i < length chains = omega arith in
     let t = c.args.program.now.source in
     let made = c.in_ok-chain_of.field-0 in (
-      next_chain t chains i c.index-chains-lock.result made _ _ within c.index-chains-lock.is c.in_ok-chain_of.ensures.words c.loop-lock.invariant.0 c.in_ok-push.ensures.items,
-      subst (AllByRecursion IsChain) (sym c.in_ok-push.ensures.items) (all_more IsChain c.loop-lock.list.items made c.loop-lock.invariant.1 c.in_ok-chain_of.ensures.good),
+      next_chain t chains i c.index-chains-lock.result made _ _ within c.index-chains-lock.is
+          c.in_ok-chain_of.ensures.words c.loop-lock.invariant.0 c.in_ok-push.ensures.items,
+      subst (AllByRecursion IsChain) (sym c.in_ok-push.ensures.items)
+          (all_more IsChain c.loop-lock.list.items made c.loop-lock.invariant.1 c.in_ok-chain_of.ensures.good),
     )

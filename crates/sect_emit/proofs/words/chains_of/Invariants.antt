@@ -5,4 +5,5 @@ use Rattle.sect_emit.specs.Words.{chains_words}
 use Rattle.sect_emit.proofs.words.chains_of.Given as goal
 
 abbrev pub invariant-loop-lock : goal.invariant-loop-lock
-invariant-loop-lock l = (l.list.items ≡ chains_words l.program.source 0 (take l.lock l.chains)) × AllByRecursion IsChain l.list.items
+invariant-loop-lock l = (l.list.items ≡ chains_words l.program.source 0 (take l.lock l.chains))
+    × AllByRecursion IsChain l.list.items

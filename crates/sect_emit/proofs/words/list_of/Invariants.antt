@@ -5,4 +5,5 @@ use Rattle.sect_emit.specs.Words.{list_words}
 use Rattle.sect_emit.proofs.words.list_of.Given as goal
 
 abbrev pub invariant-loop-lock : goal.invariant-loop-lock
-invariant-loop-lock l = (l.list.items ≡ list_words l.program.source (take l.lock-index l.locks)) × AllByRecursion IsLock l.list.items
+invariant-loop-lock l = (l.list.items ≡ list_words l.program.source (take l.lock-index l.locks))
+    × AllByRecursion IsLock l.list.items

@@ -3,7 +3,8 @@ use Rattle.sect_emit.proofs.words.path_of.Goals as goal
 
 pub field_name-name-requires : goal.field_name-name-requires
 field_name-name-requires c =
-    item_there c.args.program.now c.args.path.now _ c.fields-field-items.ensures.fields c.requires _ _ c.loop-field-test.true
+    item_there c.args.program.now c.args.path.now _ c.fields-field-items.ensures.fields c.requires _ _
+    c.loop-field-test.true
 
 pub variable_name-name-requires : goal.variable_name-name-requires
 variable_name-name-requires c = rw c.base.ensures (base_there c.args.program.now c.args.path.now c.requires)

@@ -5,4 +5,5 @@ use Rattle.sect_names.specs.Printing.{field_name}
 use Rattle.sect_emit.proofs.words.path_of.Given as goal
 
 abbrev pub invariant-loop-field : goal.invariant-loop-field
-invariant-loop-field l = (l.fields.items ≡ map (field_name l.program.source) (take l.field-index l.field-items)) × (list_all is_name l.fields.items ≡ true)
+invariant-loop-field l = (l.fields.items ≡ map (field_name l.program.source) (take l.field-index l.field-items))
+    × (list_all is_name l.fields.items ≡ true)

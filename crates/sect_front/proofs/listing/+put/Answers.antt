@@ -4,5 +4,13 @@ use Rattle.sect_front.proofs.Bodies.{size_at}
 use Rattle.sect_front.proofs.listing.+put.Goals as goal
 
 pub put_block-put_statement-requires : goal.put_block-put_statement-requires
-put_block-put_statement-requires t c =
-    (omega (arith, size_at c.as_slice-s-items.result.now c.loop-s.s-index c.s-item.result (omega arith), ap (λ s. statement_size (statement_of s)) c.s-item.is, ap block_size c.loop-s.invariant.0, c.decreases), tt)
+put_block-put_statement-requires t c = (
+  omega (
+    arith,
+    size_at c.as_slice-s-items.result.now c.loop-s.s-index c.s-item.result (omega arith),
+    ap (λ s. statement_size (statement_of s)) c.s-item.is,
+    ap block_size c.loop-s.invariant.0,
+    c.decreases,
+  ),
+  tt,
+)

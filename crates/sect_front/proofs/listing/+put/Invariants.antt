@@ -15,4 +15,5 @@ decreases-put_braced l = 3 * block_size l.b.now + 2
 
 abbrev pub invariant-put_block-loop-s : goal.invariant-put_block-loop-s
 invariant-put_block-loop-s l =
-    (block_of l.s-items ≡ l.b) × ((w : List Token) → l.out.items ++ block_tokens (block_of (drop l.s-index l.s-items)) w ≡ l.fn.out.items ++ block_tokens l.b w)
+    (block_of l.s-items ≡ l.b) × ((w : List Token)
+    → l.out.items ++ block_tokens (block_of (drop l.s-index l.s-items)) w ≡ l.fn.out.items ++ block_tokens l.b w)

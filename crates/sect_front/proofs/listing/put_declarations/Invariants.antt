@@ -5,4 +5,7 @@ use Rattle.sect_front.proofs.listing.put_declarations.Given as goal
 
 abbrev pub invariant-loop-declaration : goal.invariant-loop-declaration
 invariant-loop-declaration l =
-    (l.declaration-items ≡ l.list) × ((w : List Token) → l.out.items ++ declarations_tokens (drop l.declaration-index l.declaration-items) w ≡ l.fn.out.items ++ declarations_tokens l.list w)
+    (l.declaration-items ≡ l.list)
+    × ((w : List Token) → l.out.items
+    ++ declarations_tokens (drop l.declaration-index l.declaration-items) w ≡ l.fn.out.items
+    ++ declarations_tokens l.list w)

@@ -5,4 +5,5 @@ use Rattle.sect_front.proofs.listing.put_globals.Given as goal
 
 abbrev pub invariant-loop-global : goal.invariant-loop-global
 invariant-loop-global l =
-    (w : List Token) → l.out.items ++ globals_tokens (drop l.global-index l.globals) w ≡ l.fn.out.items ++ globals_tokens l.globals w
+    (w : List Token) → l.out.items ++ globals_tokens (drop l.global-index l.globals) w ≡ l.fn.out.items
+    ++ globals_tokens l.globals w

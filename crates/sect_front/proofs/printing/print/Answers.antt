@@ -8,17 +8,23 @@ use Rattle.sect_front.proofs.printing.print.Goals as goal
 pub returns-clause-layout : goal.returns-clause-layout
 returns-clause-layout c =
     let list = c.as_slice.ensures.value ∙ c.in_ok-tokens.ensures in
-    (printed c.args.tree.now c.put_tokens.new.text.items (c.in_ok-put_tokens.ensures.ok ∙ (ap (λ x. x ++ spread c.as_slice.result.now) c.new-text.ensures.items ∙ ap spread list))
+    (printed c.args.tree.now c.put_tokens.new.text.items
+    (c.in_ok-put_tokens.ensures.ok
+    ∙ (ap (λ x. x ++ spread c.as_slice.result.now) c.new-text.ensures.items ∙ ap spread list))
     (ap (list_all is_proper) (sym list) ∙ c.in_ok-put_tokens.ensures.proper) c.is_empty.ensures.shallow).layout
 
 pub returns-clause-spells : goal.returns-clause-spells
 returns-clause-spells c =
     let list = c.as_slice.ensures.value ∙ c.in_ok-tokens.ensures in
-    (printed c.args.tree.now c.put_tokens.new.text.items (c.in_ok-put_tokens.ensures.ok ∙ (ap (λ x. x ++ spread c.as_slice.result.now) c.new-text.ensures.items ∙ ap spread list))
+    (printed c.args.tree.now c.put_tokens.new.text.items
+    (c.in_ok-put_tokens.ensures.ok
+    ∙ (ap (λ x. x ++ spread c.as_slice.result.now) c.new-text.ensures.items ∙ ap spread list))
     (ap (list_all is_proper) (sym list) ∙ c.in_ok-put_tokens.ensures.proper) c.is_empty.ensures.shallow).spells
 
 pub returns-clause-reads_back : goal.returns-clause-reads_back
 returns-clause-reads_back c =
     let list = c.as_slice.ensures.value ∙ c.in_ok-tokens.ensures in
-    (printed c.args.tree.now c.put_tokens.new.text.items (c.in_ok-put_tokens.ensures.ok ∙ (ap (λ x. x ++ spread c.as_slice.result.now) c.new-text.ensures.items ∙ ap spread list))
+    (printed c.args.tree.now c.put_tokens.new.text.items
+    (c.in_ok-put_tokens.ensures.ok
+    ∙ (ap (λ x. x ++ spread c.as_slice.result.now) c.new-text.ensures.items ∙ ap spread list))
     (ap (list_all is_proper) (sym list) ∙ c.in_ok-put_tokens.ensures.proper) c.is_empty.ensures.shallow).reads_back

@@ -4,4 +4,5 @@ use Rattle.sect_front.proofs.Sameness.{name_tells}
 use Rattle.sect_front.proofs.same.same_hints.Goals as goal
 
 pub returns : goal.returns
-returns c = rw (sym c.as_slice.ensures, sym c.as_slice-2.ensures) (slice_eq-Decides name_tells c.as_slice.result.now c.as_slice-2.result.now c.eq.result c.eq.ensures)
+returns c = rw (sym c.as_slice.ensures, sym c.as_slice-2.ensures)
+    (slice_eq-Decides name_tells c.as_slice.result.now c.as_slice-2.result.now c.eq.result c.eq.ensures)

@@ -11,6 +11,18 @@ text_count-step_count-count-requires t c =
     let xs = c.as_slice-step-items.result.now in
     let i = c.loop-step.step-index in
     let s = c.step-item.result in (
-      omega (arith, weight_at xs i s (omega arith), ap (λ x. weight (step_then x Stop)) c.step-item.is, ap weight c.loop-step.invariant.whole, c.decreases),
-      omega (arith, count_more xs i s (omega arith), ap (λ x. node_count (step_then x Stop)) c.step-item.is, c.loop-step.invariant.count, c.requires),
+      omega (
+        arith,
+        weight_at xs i s (omega arith),
+        ap (λ x. weight (step_then x Stop)) c.step-item.is,
+        ap weight c.loop-step.invariant.whole,
+        c.decreases,
+      ),
+      omega (
+        arith,
+        count_more xs i s (omega arith),
+        ap (λ x. node_count (step_then x Stop)) c.step-item.is,
+        c.loop-step.invariant.count,
+        c.requires,
+      ),
     )

@@ -11,15 +11,18 @@ use Rattle.sect_graph.proofs.emit.+emit.Goals.{emit_text-then-i-steps, emit_text
 pub emit_step-emit_text-requires-in-If : goal.emit_step-emit_text-requires-in-If
 emit_step-emit_text-requires-in-If t c = (
   search rules,
-  room_if c.args.step.now c.in-If.condition c.in-If.holds c.in-If.fails c.args.nodes.now.items c.put-in-If.new.nodes.items c.emit_text.new.nodes.items _ c.args.next 4096
+  room_if c.args.step.now c.in-If.condition c.in-If.holds c.in-If.fails c.args.nodes.now.items
+      c.put-in-If.new.nodes.items c.emit_text.new.nodes.items _ c.args.next 4096
       (ap (λ s. step_then s Stop) c.in-If.is) c.in_ok-put-in-If.ensures c.in_ok-emit_text-in-If.ensures c.requires,
 )
 
 pub emit_step-returns-in_ok-emit_text-in-If-2 : goal.emit_step-returns-in_ok-emit_text-in-If-2
 emit_step-returns-in_ok-emit_text-in-If-2 t c =
     let start : c.len-start.result ≡ length c.args.nodes.now.items = omega arith in
-    nodes_if c.args.step.now c.in-If.condition c.in-If.holds c.in-If.fails c.args.nodes.now.items c.put-in-If.new.nodes.items c.emit_text.new.nodes.items _ _ _ _ _ c.args.next
-    (ap (λ s. step_then s Stop) c.in-If.is) start (ap (λ k. c.len-start.result + 1 + k) c.text_count.ensures) c.entry_to-first.ensures c.entry_to-second.ensures
+    nodes_if c.args.step.now c.in-If.condition c.in-If.holds c.in-If.fails c.args.nodes.now.items
+    c.put-in-If.new.nodes.items c.emit_text.new.nodes.items _ _ _ _ _ c.args.next
+    (ap (λ s. step_then s Stop) c.in-If.is) start (ap (λ k. c.len-start.result + 1 + k) c.text_count.ensures)
+    c.entry_to-first.ensures c.entry_to-second.ensures
     c.in_ok-put-in-If.ensures c.in_ok-emit_text-in-If.ensures c.in_ok-emit_text-in-If-2.ensures
 
 pub emit_text-emit_step-requires : goal.emit_text-emit_step-requires
@@ -27,8 +30,20 @@ emit_text-emit_step-requires t c =
     let xs = c.as_slice-steps.result.now in
     let i = c.loop-i.i in
     let s = c.index-steps-i.result in (
-      omega (arith, weight_at xs i s (omega arith), ap (λ x. weight (step_then x Stop)) c.index-steps-i.is, ap weight c.loop-i.invariant.whole, c.decreases),
-      omega (arith, count_more xs i s (omega arith), ap (λ x. node_count (step_then x Stop)) c.index-steps-i.is, c.loop-i.invariant.size, c.requires),
+      omega (
+        arith,
+        weight_at xs i s (omega arith),
+        ap (λ x. weight (step_then x Stop)) c.index-steps-i.is,
+        ap weight c.loop-i.invariant.whole,
+        c.decreases,
+      ),
+      omega (
+        arith,
+        count_more xs i s (omega arith),
+        ap (λ x. node_count (step_then x Stop)) c.index-steps-i.is,
+        c.loop-i.invariant.size,
+        c.requires,
+      ),
     )
 
 pub emit_text-loop-i-preserved : goal.emit_text-loop-i-preserved
@@ -49,6 +64,8 @@ emit_text-loop-i-preserved t c =
     ] in
     record {
       whole = l.invariant.whole;
-      nodes = emit_more xs l.i s l.nodes.items _ _ c.args.next c.if-i-steps.after (omega arith) c.index-steps-i.is after c.in_ok-emit_step.ensures l.invariant.nodes;
-      size = room_more xs l.i s l.nodes.items _ c.if-i-steps.after _ (omega arith) c.index-steps-i.is c.in_ok-emit_step.ensures l.invariant.size;
+      nodes = emit_more xs l.i s l.nodes.items _ _ c.args.next c.if-i-steps.after (omega arith) c.index-steps-i.is after
+          c.in_ok-emit_step.ensures l.invariant.nodes;
+      size = room_more xs l.i s l.nodes.items _ c.if-i-steps.after _ (omega arith) c.index-steps-i.is
+          c.in_ok-emit_step.ensures l.invariant.size;
     }

@@ -14,6 +14,8 @@ decreases-emit_text l = 2 * weight l.text.now + 1
 abbrev pub invariant-emit_text-loop-i : goal.invariant-emit_text-loop-i
 invariant-emit_text-loop-i l = record {
   whole : statements_of l.steps ≡ l.text;
-  nodes : l.nodes.items ++ nodes_of (statements_of (drop l.i l.steps)) (length l.nodes.items) l.next ≡ l.fn.nodes.items ++ nodes_of l.text (length l.fn.nodes.items) l.next;
-  size : length l.nodes.items + node_count (statements_of (drop l.i l.steps)) ≡ length l.fn.nodes.items + node_count l.text;
+  nodes : l.nodes.items ++ nodes_of (statements_of (drop l.i l.steps)) (length l.nodes.items) l.next ≡ l.fn.nodes.items
+      ++ nodes_of l.text (length l.fn.nodes.items) l.next;
+  size : length l.nodes.items + node_count (statements_of (drop l.i l.steps)) ≡ length l.fn.nodes.items + node_count
+      l.text;
 }

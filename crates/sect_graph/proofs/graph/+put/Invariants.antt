@@ -13,5 +13,6 @@ decreases-put_text l = 2 * weight l.text.now + 1
 abbrev pub invariant-put_text-loop-step : goal.invariant-put_text-loop-step
 invariant-put_text-loop-step l = record {
   whole : statements_of l.step-items ≡ l.text;
-  graphs : l.sections.items ++ map flow_nodes (section_bodies (statements_of (drop l.step-index l.step-items))) ≡ l.fn.sections.items ++ map flow_nodes (section_bodies l.text);
+  graphs : l.sections.items ++ map flow_nodes (section_bodies (statements_of (drop l.step-index l.step-items)))
+      ≡ l.fn.sections.items ++ map flow_nodes (section_bodies l.text);
 }

@@ -4,11 +4,21 @@ use Rattle.sect_graph.proofs.graph.graph_of.Goals as goal
 
 pub flow_of-requires : goal.flow_of-requires
 flow_of-requires c =
-    omega (arith, nodes_few c.text-text.result.now, count_at c.args.program.now.texts c.loop-thread.thread c.text-text.result.now c.text-text.ensures.text, c.typing.ensures.limits.few_statements)
+    omega (
+      arith,
+      nodes_few c.text-text.result.now,
+      count_at c.args.program.now.texts c.loop-thread.thread c.text-text.result.now c.text-text.ensures.text,
+      c.typing.ensures.limits.few_statements,
+    )
 
 pub put_text-requires : goal.put_text-requires
 put_text-requires c =
-    omega (arith, count_at c.args.program.now.texts c.loop-thread.thread c.text-text.result.now c.text-text.ensures.text, c.typing.ensures.limits.few_statements)
+    omega (
+      arith,
+      count_at c.args.program.now.texts c.loop-thread.thread c.text-text.result.now
+          c.text-text.ensures.text,
+      c.typing.ensures.limits.few_statements,
+    )
 
 pub loop-thread-preserved : goal.loop-thread-preserved
 loop-thread-preserved c =
@@ -16,8 +26,10 @@ loop-thread-preserved c =
     let t = c.loop-thread.thread in
     let text = c.text-text.result.now in
     record {
-      threads = thread_more texts t text c.loop-thread.threads.items c.push.new.self.items _ c.text-text.ensures.text (rw c.in_ok-flow_of.ensures.nodes at c.in_ok-push.ensures.items) c.loop-thread.invariant.threads;
-      sections = sections_more texts t text c.loop-thread.sections.items c.put_text.new.sections.items _ c.text-text.ensures.text c.in_ok-put_text.ensures c.loop-thread.invariant.sections;
+      threads = thread_more texts t text c.loop-thread.threads.items c.push.new.self.items _ c.text-text.ensures.text
+          (rw c.in_ok-flow_of.ensures.nodes at c.in_ok-push.ensures.items) c.loop-thread.invariant.threads;
+      sections = sections_more texts t text c.loop-thread.sections.items c.put_text.new.sections.items _
+          c.text-text.ensures.text c.in_ok-put_text.ensures c.loop-thread.invariant.sections;
     }
 
 pub returns : goal.returns

@@ -4,28 +4,33 @@ use Rattle.sect_graph.specs.declared.flow.Node.{Node}
 use Rattle.sect_types.proofs.Places.{told_at}
 use Rattle.sect_graph.proofs.Preceding.{before_none, before_next, before_done, added_one, added_two, goes_within}
 use Rattle.sect_graph.proofs.predecessors.predecessors_of.Goals as goal
-use Rattle.sect_graph.proofs.predecessors.predecessors_of.Goals.{in-Next+in_ok-add-in-Next, in-Branch+in_ok-add-in-Branch+in_ok-add-in-Branch-2}
+use Rattle.sect_graph.proofs.predecessors.predecessors_of.Goals.{in-Next+in_ok-add-in-Next}
+use Rattle.sect_graph.proofs.predecessors.predecessors_of.Goals.{in-Branch+in_ok-add-in-Branch+in_ok-add-in-Branch-2}
 
 pub add-requires : goal.add-requires
 add-requires c =
     let next = c.in-Next.next in
-    let within = goes_within c.args.flow.now c.requires c.loop-node.node (Next next) next (c.succ.ensures ∙ ap (λ n. Some n) c.in-Next.is) refl in
+    let within = goes_within c.args.flow.now c.requires c.loop-node.node (Next next) next
+    (c.succ.ensures ∙ ap (λ n. Some n) c.in-Next.is) refl in
     omega (arith, within, c.loop-node.invariant.count)
 
 pub add-requires-in-Branch : goal.add-requires-in-Branch
 add-requires-in-Branch c =
     let holds = c.in-Branch.holds in
-    let within = goes_within c.args.flow.now c.requires c.loop-node.node (Branch holds c.in-Branch.fails) holds (c.succ.ensures ∙ ap (λ n. Some n) c.in-Branch.is) (inl refl) in
+    let within = goes_within c.args.flow.now c.requires c.loop-node.node (Branch holds c.in-Branch.fails) holds
+    (c.succ.ensures ∙ ap (λ n. Some n) c.in-Branch.is) (inl refl) in
     omega (arith, within, c.loop-node.invariant.count)
 
 pub add-requires-in-Branch-2 : goal.add-requires-in-Branch-2
 add-requires-in-Branch-2 c =
     let fails = c.in-Branch.fails in
-    let within = goes_within c.args.flow.now c.requires c.loop-node.node (Branch c.in-Branch.holds fails) fails (c.succ.ensures ∙ ap (λ n. Some n) c.in-Branch.is) (inr refl) in
+    let within = goes_within c.args.flow.now c.requires c.loop-node.node (Branch c.in-Branch.holds fails) fails
+    (c.succ.ensures ∙ ap (λ n. Some n) c.in-Branch.is) (inr refl) in
     omega (arith, within, c.loop-node.invariant.count, c.in_ok-add-in-Branch.ensures.count)
 
 pub loop-node-init : goal.loop-node-init
-loop-node-init c = before_none c.args.flow.now c.in_ok-lists.lists (c.in_ok-lists.ensures.count ∙ ap (λ n. n + 1) c.exit.ensures.number) c.in_ok-lists.ensures.none
+loop-node-init c = before_none c.args.flow.now c.in_ok-lists.lists
+    (c.in_ok-lists.ensures.count ∙ ap (λ n. n + 1) c.exit.ensures.number) c.in_ok-lists.ensures.none
 
 pub loop-node-preserved : goal.loop-node-preserved
 loop-node-preserved c =
@@ -38,15 +43,20 @@ loop-node-preserved c =
       | in-Next+in_ok-add-in-Next w ↦
           let is : y.next ≡ Next w.in-Next.next = node.2 ∙ w.in-Next.is in
           let a = w.in_ok-add-in-Next.ensures in
-          rw w.lists-is (before_next g j y old w.add.new.self node.1 a.count (added_one y.next w.in-Next.next old w.add.new.self j (λ m. rw is (λ h. h, λ h. h)) a.added) c.loop-node.invariant)
+          rw w.lists-is (before_next g j y old w.add.new.self node.1 a.count
+          (added_one y.next w.in-Next.next old w.add.new.self j (λ m. rw is (λ h. h, λ h. h)) a.added)
+          c.loop-node.invariant)
       | in-Branch+in_ok-add-in-Branch+in_ok-add-in-Branch-2 w ↦
           let is : y.next ≡ Branch w.in-Branch.holds w.in-Branch.fails = node.2 ∙ w.in-Branch.is in
           let a = w.in_ok-add-in-Branch.ensures in
           let b = w.in_ok-add-in-Branch-2.ensures in
-          rw w.lists-is (before_next g j y old w.add-in-Branch-2.new.self node.1 (b.count ∙ a.count) (added_two y.next w.in-Branch.holds w.in-Branch.fails old w.add-in-Branch.new.self w.add-in-Branch-2.new.self j (λ m. rw is (λ h. h, λ h. h)) a.count a.added b.added) c.loop-node.invariant)
+          rw w.lists-is (before_next g j y old w.add-in-Branch-2.new.self node.1 (b.count ∙ a.count)
+          (added_two y.next w.in-Branch.holds w.in-Branch.fails old w.add-in-Branch.new.self
+          w.add-in-Branch-2.new.self j (λ m. rw is (λ h. h, λ h. h)) a.count a.added b.added) c.loop-node.invariant)
     ]
 
 pub returns : goal.returns
 returns c =
-    let past : length c.args.flow.now ≤ c.loop-node.node = omega (arith, c.exit-node-end.ensures.number, c.loop-node-test.false) in
+    let past : length c.args.flow.now ≤ c.loop-node.node =
+    omega (arith, c.exit-node-end.ensures.number, c.loop-node-test.false) in
     before_done c.args.flow.now c.loop-node.node c.loop-node.lists past c.loop-node.invariant

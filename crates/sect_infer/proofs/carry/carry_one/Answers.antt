@@ -16,7 +16,9 @@ returns-in_ok-insert c = λ l at.
     let a = c.args.table.now in
     let n = c.args.number in
     let same : c.lock.result.now ≡ l = one_at a.keys n c.lock.result.now l c.lock.ensures at in
-    let stay : (r : Lock) → CarriedBack s t label l r ↔ (r ≡ l) = subst (λ k. (r : Lock) → CarriedBack s t label k r ↔ (r ≡ k)) same
+    let stay : (r : Lock) → CarriedBack s t label l r ↔ (r ≡ l) =
+    subst (λ k. (r : Lock) → CarriedBack s t label k r ↔ (r ≡ k)) same
     (c.stays.ensures c.if-stays.true s (subst (IsLockOf s t) (sym same) (c.requires.lawful l at))) in
-    rw c.in_ok-insert.ensures (finds_as s a a c.args.found.now (with_number c.args.found.now n) (λ r. r ≡ l) (CarriedBack s t label l) stay
+    rw c.in_ok-insert.ensures (finds_as s a a c.args.found.now (with_number c.args.found.now n) (λ r. r ≡ l)
+    (CarriedBack s t label l) stay
     (finds_one s a a c.args.found.now l n c.requires.finding (numbered_there s a l n c.requires.finding.table at)))

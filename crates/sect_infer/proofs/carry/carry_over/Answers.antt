@@ -16,6 +16,9 @@ returns c =
     let locks = c.as_slice.result.now in
     on_ok_weaker c.find_all.result (λ f l at.
     let same : c.lock.result.now ≡ l = one_at a.keys c.args.number c.lock.result.now l c.lock.ensures at in
-    let tells : (r : Lock) → Has locks r ↔ CarriedBack s t label l r = subst (λ k. (r : Lock) → Has locks r ↔ CarriedBack s t label k r) same
-    (subst (λ ls. (r : Lock) → Has ls r ↔ CarriedBack s t label c.lock.result.now r) (sym c.as_slice.ensures.value) c.in_ok-locks.ensures) in
-    finds_as s a c.find_all.new.table c.args.found.now c.find_all.new.found (Has locks) (CarriedBack s t label l) (λ r. ((tells r).1, (tells r).0)) f) c.find_all.ensures
+    let tells : (r : Lock) → Has locks r ↔ CarriedBack s t label l r =
+    subst (λ k. (r : Lock) → Has locks r ↔ CarriedBack s t label k r) same
+    (subst (λ ls. (r : Lock) → Has ls r ↔ CarriedBack s t label c.lock.result.now r) (sym c.as_slice.ensures.value)
+    c.in_ok-locks.ensures) in
+    finds_as s a c.find_all.new.table c.args.found.now c.find_all.new.found (Has locks) (CarriedBack s t label l)
+    (λ r. ((tells r).1, (tells r).0)) f) c.find_all.ensures

@@ -18,7 +18,8 @@ loop-lock-preserved c =
     let within : i < length locks = omega (arith, c.loop-lock-test.true) in
     elim c.match-find.branch [
       | in-Some+in_ok-push w ↦ rw (w.order-is, w.in_ok-push.ensures.items) (record {
-        same = order_next keys locks order i w.in-Some.number l within c.lock-item.is w.in-Some.ensures c.loop-lock.invariant.same;
+        same = order_next keys locks order i w.in-Some.number l within c.lock-item.is w.in-Some.ensures
+            c.loop-lock.invariant.same;
         numbers = λ n h. elim ((behind order w.in-Some.number n).0 h) [
           | inl old ↦ c.loop-lock.invariant.numbers n old
           | inr e ↦ (let there = slice_get_within keys w.in-Some.number l w.in-Some.ensures in omega (arith, there, e))
@@ -26,7 +27,9 @@ loop-lock-preserved c =
       })
       | in_default w ↦
           let there = subst (Has locks) (sym c.lock-item.is) (Has-get_or locks i l within) in
-          absurd (w.in_default.ensures ((c.in_ok-locks.ensures.all l).0 (subst (λ ls. Has ls l) c.as_slice-lock-items.ensures.value there)))
+          absurd
+          (w.in_default.ensures ((c.in_ok-locks.ensures.all l).0
+          (subst (λ ls. Has ls l) c.as_slice-lock-items.ensures.value there)))
     ]
 
 pub returns : goal.returns
@@ -34,5 +37,7 @@ returns c =
     let locks = c.as_slice-lock-items.result.now in
     let i = c.loop-lock.lock-index in
     let past : length locks ≤ i = omega (arith, c.loop-lock-test.false) in
-    order_is c.args.table.now.keys c.in_ok-locks.locks.items c.loop-lock.order.items c.requires c.in_ok-locks.ensures.all c.in_ok-locks.ensures.in_order
-    (c.loop-lock.invariant.same ∙ take_all i locks past ∙ c.as_slice-lock-items.ensures.value) c.loop-lock.invariant.numbers
+    order_is c.args.table.now.keys c.in_ok-locks.locks.items c.loop-lock.order.items c.requires
+    c.in_ok-locks.ensures.all c.in_ok-locks.ensures.in_order
+    (c.loop-lock.invariant.same ∙ take_all i locks past ∙ c.as_slice-lock-items.ensures.value)
+    c.loop-lock.invariant.numbers

@@ -11,13 +11,15 @@ use Rattle.sect_infer.proofs.locks.list.Goals.{then-is_kept+in_ok-try_clone+in_o
 pub is_kept-requires : goal.is_kept-requires
 is_kept-requires c =
     let i = c.loop-number.number-index in
-    let there = c.requires.numbers (get_or c.args.order.now i 0) (Has-get_or c.args.order.now i 0 (omega (arith, c.loop-number-test.true))) in
+    let there = c.requires.numbers (get_or c.args.order.now i 0)
+    (Has-get_or c.args.order.now i 0 (omega (arith, c.loop-number-test.true))) in
     omega (arith, there, c.requires.count)
 
 pub lock-requires : goal.lock-requires
 lock-requires c =
     let i = c.loop-number.number-index in
-    c.requires.numbers (get_or c.args.order.now i 0) (Has-get_or c.args.order.now i 0 (omega (arith, c.loop-number-test.true)))
+    c.requires.numbers (get_or c.args.order.now i 0)
+    (Has-get_or c.args.order.now i 0 (omega (arith, c.loop-number-test.true)))
 
 pub loop-number-preserved : goal.loop-number-preserved
 loop-number-preserved c =
@@ -28,7 +30,8 @@ loop-number-preserved c =
     let within : i < length order = omega (arith, c.loop-number-test.true) in
     let is = get_or_default order i 0 n within in
     let once : List ℕ = with_numbers [] c.args.numbers.now in
-    let found : c.insert_all.new.self ≡ once = c.in_ok-insert_all.ensures ∙ ap (λ ns. with_numbers ns c.args.numbers.now) c.new-found.ensures in
+    let found : c.insert_all.new.self ≡ once = c.in_ok-insert_all.ensures
+    ∙ ap (λ ns. with_numbers ns c.args.numbers.now) c.new-found.ensures in
     let p : ℕ → Bool = is_kept c.args.table.now.above once in
     let test : c.is_kept.result ≡ p n = c.is_kept.ensures ∙ ap (λ ns. is_kept c.args.table.now.above ns n) found in
     elim c.if-is_kept.branch [
@@ -36,11 +39,16 @@ loop-number-preserved c =
           let copy = w.in_ok-try_clone.field-0 in
           let same : copy ≡ w.lock.result.now = w.in_ok-try_clone.ensures in
           rw w.locks-is (w.in_ok-push.ensures.items ∙ ap (λ l. c.loop-number.locks.items ++ l ∷ []) same
-          ∙ list_next keys p order i n within is c.loop-number.locks.items w.lock.result.now (sym test ∙ w.if-is_kept.true) w.lock.ensures c.loop-number.invariant)
-      | else-is_kept w ↦ rw w.locks-is (list_skip keys p order i n within is c.loop-number.locks.items (sym test ∙ w.if-is_kept.false) c.loop-number.invariant)
+          ∙ list_next keys p order i n within is c.loop-number.locks.items w.lock.result.now
+          (sym test ∙ w.if-is_kept.true) w.lock.ensures c.loop-number.invariant)
+      | else-is_kept w ↦ rw w.locks-is
+          (list_skip keys p order i n within is c.loop-number.locks.items (sym test ∙ w.if-is_kept.false)
+          c.loop-number.invariant)
     ]
 
 pub returns : goal.returns
 returns c =
     let past : length c.args.order.now ≤ c.loop-number.number-index = omega (arith, c.loop-number-test.false) in
-    c.loop-number.invariant ∙ ap (λ xs. map (lock_at c.args.table.now.keys) (filter (is_kept c.args.table.now.above (with_numbers [] c.args.numbers.now)) xs)) (take_all c.loop-number.number-index c.args.order.now past)
+    c.loop-number.invariant ∙ ap (λ xs. map (lock_at c.args.table.now.keys)
+    (filter (is_kept c.args.table.now.above (with_numbers [] c.args.numbers.now)) xs))
+    (take_all c.loop-number.number-index c.args.order.now past)

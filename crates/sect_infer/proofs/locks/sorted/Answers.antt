@@ -27,8 +27,10 @@ returns c =
     let keys = c.args.table.now.keys in
     let locks = c.loop-number.locks.keys in
     let i = c.loop-number.number in
-    let collected = items_from_collect c.collect.result c.collect.ensures.ran (YieldsList-from_rest {shows = λ x. x} {s = c.into_iter.result} locks c.into_iter.ensures.into_iter_gives.0) in
-    let items : c.in_ok-collect.field-0.items ≡ locks = subst (λ r. IfOk r (λ w. w.items ≡ locks)) c.in_ok-collect.was collected in
+    let collected = items_from_collect c.collect.result c.collect.ensures.ran
+    (YieldsList-from_rest {shows = λ x. x} {s = c.into_iter.result} locks c.into_iter.ensures.into_iter_gives.0) in
+    let items : c.in_ok-collect.field-0.items ≡ locks =
+    subst (λ r. IfOk r (λ w. w.items ≡ locks)) c.in_ok-collect.was collected in
     let past : length keys ≤ i = omega (arith, c.len-number-end.ensures, c.loop-number-test.false) in
     rw items (record {
       all = λ l. (

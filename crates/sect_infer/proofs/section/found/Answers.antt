@@ -14,6 +14,11 @@ returns c =
     let g = c.args.flow.now in
     let a = c.settle.new.table in
     let lists = c.settle.new.lists in
-    IfOk-weaker c.of.result (λ (locks : LocksView). (order : List ℕ) × IsOrder a.keys order × (locks.at ≡ map (listed a order) lists) × (slice_get locks.at 0 ≡ Some locks.entry)) (IsFound s t g)
-    (λ locks o. record { found = subst (AreFound s t g) (sym o.2) (are_found s t g a lists o.0 c.in_ok-settle.ensures o.1); first = o.3 })
+    IfOk-weaker c.of.result (λ (locks : LocksView). (order : List ℕ) × IsOrder a.keys order
+    × (locks.at ≡ map (listed a order) lists) × (slice_get locks.at 0 ≡ Some locks.entry)) (IsFound s t g)
+    (λ locks o. record {
+      found = subst (AreFound s t g) (sym o.2)
+          (are_found s t g a lists o.0 c.in_ok-settle.ensures o.1);
+      first = o.3;
+    })
     c.of.ensures

@@ -13,10 +13,14 @@ returns c =
     let a = c.number.new.self in
     let lists = c.loop-node.lists in
     let count = length c.args.flow.now + 1 in
-    IfOk-weaker c.of.result (λ (locks : LocksView). (order : List ℕ) × IsOrder a.keys order × (locks.at ≡ map (listed a order) lists) × (slice_get locks.at 0 ≡ Some locks.entry)) (IsOnAll s count)
+    IfOk-weaker c.of.result (λ (locks : LocksView). (order : List ℕ) × IsOrder a.keys order
+    × (locks.at ≡ map (listed a order) lists) × (slice_get locks.at 0 ≡ Some locks.entry)) (IsOnAll s count)
     (λ locks o. record {
-      all = subst (AreAllOnAll s count) (sym o.2) (are_on_all s a lists o.0 count c.in_ok-number.number c.in_ok-number.ensures.table c.in_ok-number.ensures.there o.1 c.loop-node.invariant.count
-          (λ j h. c.loop-node.invariant.done j (omega (arith, h, c.loop-node-test.false, c.exit-node-end.ensures.number))));
+      all = subst (AreAllOnAll s count) (sym o.2)
+          (are_on_all s a lists o.0 count c.in_ok-number.number c.in_ok-number.ensures.table
+          c.in_ok-number.ensures.there o.1 c.loop-node.invariant.count
+          (λ j h. c.loop-node.invariant.done j
+          (omega (arith, h, c.loop-node-test.false, c.exit-node-end.ensures.number))));
       first = o.3;
     })
     c.of.ensures

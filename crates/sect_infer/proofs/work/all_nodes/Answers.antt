@@ -14,6 +14,7 @@ loop-node-preserved c = record {
           | inl a ↦ (let b = before.0 a in omega (arith, b))
           | inr e ↦ omega (arith, e)
         ],
-        λ h. (put_node c.loop-node.nodes.keys n i).1 (elim (cases_lt i n) [ inl a ↦ inl (before.1 a) | inr b ↦ inr (omega (arith, h, b)) ]),
+        λ h. (put_node c.loop-node.nodes.keys n i).1
+            (elim (cases_lt i n) [ inl a ↦ inl (before.1 a) | inr b ↦ inr (omega (arith, h, b)) ]),
       );
 }

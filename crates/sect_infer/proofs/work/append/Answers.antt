@@ -7,7 +7,8 @@ use Rattle.sect_infer.proofs.work.append.Goals as goal
 use Rattle.sect_infer.proofs.work.append.Goals.{then-not-is_under+in_ok-push, else-not-is_under}
 
 pub is_under-requires : goal.is_under-requires
-is_under-requires c = c.requires.numbers (get_or c.args.numbers.now c.loop-number.number-index 0) (Has-get_or c.args.numbers.now c.loop-number.number-index 0 (omega (arith, c.loop-number-test.true)))
+is_under-requires c = c.requires.numbers (get_or c.args.numbers.now c.loop-number.number-index 0)
+    (Has-get_or c.args.numbers.now c.loop-number.number-index 0 (omega (arith, c.loop-number-test.true)))
 
 pub loop-number-init : goal.loop-number-init
 loop-number-init c = record {
@@ -32,7 +33,8 @@ loop-number-preserved c =
       | then-not-is_under+in_ok-push w ↦
           let next = fresh_next above found numbers i n within is (sym c.is_under.ensures ∙ w.if-not-is_under.true) in
           rw (w.lists-is, w.any-is, next) (record {
-            lists = w.in_ok-push.ensures ∙ behind_next old c.loop-number.lists j n fresh c.requires.node c.loop-number.invariant.lists;
+            lists = w.in_ok-push.ensures ∙ behind_next old c.loop-number.lists j n fresh c.requires.node
+                c.loop-number.invariant.lists;
             none = λ e. absurd (true≢false e);
             some = λ e. some_behind fresh n;
           })

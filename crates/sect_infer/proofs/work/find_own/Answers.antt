@@ -14,8 +14,10 @@ returns-in-None c =
     let g = c.args.flow.now in
     let j = c.args.node in
     let node = told_at (λ (y : Node). y.label) g j c.action.result c.action.ensures in
-    let tells = subst (λ a. (l : Lock) → (c.generate.result ≡ Some l) ↔ Generated s t a l) (sym node.2) c.generate.ensures in
-    own_none s t g j node.0 node.1 c.generate.result tells c.args.table.now c.args.found.now c.in-None.is c.requires.finding
+    let tells = subst (λ a. (l : Lock) → (c.generate.result ≡ Some l) ↔ Generated s t a l) (sym node.2)
+    c.generate.ensures in
+    own_none s t g j node.0 node.1 c.generate.result tells c.args.table.now c.args.found.now c.in-None.is
+    c.requires.finding
 
 pub returns-in-Some : goal.returns-in-Some
 returns-in-Some c =
@@ -24,5 +26,7 @@ returns-in-Some c =
     let g = c.args.flow.now in
     let j = c.args.node in
     let node = told_at (λ (y : Node). y.label) g j c.action.result c.action.ensures in
-    let tells = subst (λ a. (l : Lock) → (c.generate.result ≡ Some l) ↔ Generated s t a l) (sym node.2) c.generate.ensures in
-    on_ok_weaker c.find.result (own_some s t g j node.0 node.1 c.generate.result tells c.args.table.now c.find.new.table c.args.found.now c.find.new.found c.in-Some.lock c.in-Some.is) c.find.ensures
+    let tells = subst (λ a. (l : Lock) → (c.generate.result ≡ Some l) ↔ Generated s t a l) (sym node.2)
+    c.generate.ensures in
+    on_ok_weaker c.find.result (own_some s t g j node.0 node.1 c.generate.result tells c.args.table.now c.find.new.table
+    c.args.found.now c.find.new.found c.in-Some.lock c.in-Some.is) c.find.ensures

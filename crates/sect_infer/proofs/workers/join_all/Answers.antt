@@ -10,6 +10,8 @@ put_all-requires-clause-found g c =
     let started = c.args.started in
     let given = c.into_iter-handle-iterator.ensures.into_iter_gives in
     let all = YieldsList-from_vec started.items given.0 (given.1 ∙ started.ok.0) in
-    let turn = YieldsList-turn all c.loop-handle.yielded _ c.loop-handle.yielded_by c.next.result c.next.new.self c.in-Some.handle c.in-Some.is c.next.ensures.steps in
+    let turn = YieldsList-turn all c.loop-handle.yielded _ c.loop-handle.yielded_by c.next.result c.next.new.self
+    c.in-Some.handle c.in-Some.is c.next.ensures.steps in
     let at = get_there (length c.loop-handle.yielded) c.in-Some.handle started.items turn.0 turn.1 in
-    subst (λ s. AreFound s c.in_ok-found.found.items) (c.requires.each (length c.loop-handle.yielded) c.in-Some.handle at) c.in_ok-found.ensures
+    subst (λ s. AreFound s c.in_ok-found.found.items)
+    (c.requires.each (length c.loop-handle.yielded) c.in-Some.handle at) c.in_ok-found.ensures

@@ -11,8 +11,10 @@ use Rattle.sect_names.proofs.carry.before_store.Goals as goal
 
 pub loop-field-init : goal.loop-field-init
 loop-field-init c = record {
-  before = λ q. rw (c.in_ok-paths.ensures, c.new.ensures, c.new-beginning.ensures, c.base.ensures, c.base-2.ensures) (one_has _ q);
-  rest = rw (c.new-beginning.ensures, c.base.ensures, c.fields-field-items.ensures.fields) (path_of-fields c.args.path.now);
+  before = λ q. rw (c.in_ok-paths.ensures, c.new.ensures, c.new-beginning.ensures, c.base.ensures, c.base-2.ensures)
+      (one_has _ q);
+  rest = rw (c.new-beginning.ensures, c.base.ensures, c.fields-field-items.ensures.fields)
+      (path_of-fields c.args.path.now);
 }
 
 pub loop-field-preserved : goal.loop-field-preserved
@@ -29,7 +31,8 @@ loop-field-preserved c =
     let over = over_before s a.z a.f a.w p f c.loop-field.paths.items c.loop-field.invariant.before in
     record {
       before = λ q. rw c.in_ok-push.ensures (
-          let made = subst (λ xs. Has c.in_ok-paths-2.paths.items q ↔ OverField s a.z a.f a.w p f xs q) c.as_slice.ensures.value (c.in_ok-paths-2.ensures q) in
+          let made = subst (λ xs. Has c.in_ok-paths-2.paths.items q ↔ OverField s a.z a.f a.w p f xs q)
+          c.as_slice.ensures.value (c.in_ok-paths-2.ensures q) in
           (λ h. (over q).0 (made.0 h), λ h. made.1 ((over q).1 h)));
       rest = rw c.in_ok-push.ensures (sym (ap (dots p) next) ∙ c.loop-field.invariant.rest);
     }
@@ -38,5 +41,7 @@ pub returns : goal.returns
 returns c =
     let fs = c.fields-field-items.result.now in
     let past : length fs ≤ c.loop-field.field-index = omega arith in
-    let whole : c.loop-field.beginning ≡ c.args.path.now = sym (at_drop_all (dots c.loop-field.beginning) fs c.loop-field.field-index past) ∙ c.loop-field.invariant.rest in
+    let whole : c.loop-field.beginning ≡ c.args.path.now =
+    sym (at_drop_all (dots c.loop-field.beginning) fs c.loop-field.field-index past)
+    ∙ c.loop-field.invariant.rest in
     λ q. rw (sym whole) (c.loop-field.invariant.before q)

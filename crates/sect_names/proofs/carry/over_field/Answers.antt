@@ -7,6 +7,9 @@ returns c =
     let s = c.args.scheme.now.classes in
     let a = c.args in
     elim c.match-value_read.branch [
-      | in-Some+in_ok-push w ↦ rw (w.over-is, w.in_ok-push.ensures.items, w.new.ensures) (over_value s a.z a.f a.w a.beginning.now a.field a.paths.now c.in_ok-over.over.items c.in_ok-over.ensures c.value_read.result c.value_read.ensures w.in-Some.value w.in-Some.is)
-      | in_default w ↦ rw w.over-is (over_none s a.z a.f a.w a.beginning.now a.field a.paths.now c.in_ok-over.over.items c.in_ok-over.ensures c.value_read.result c.value_read.ensures w.in_default.is)
+      | in-Some+in_ok-push w ↦ rw (w.over-is, w.in_ok-push.ensures.items, w.new.ensures)
+          (over_value s a.z a.f a.w a.beginning.now a.field a.paths.now c.in_ok-over.over.items c.in_ok-over.ensures
+          c.value_read.result c.value_read.ensures w.in-Some.value w.in-Some.is)
+      | in_default w ↦ rw w.over-is (over_none s a.z a.f a.w a.beginning.now a.field a.paths.now c.in_ok-over.over.items
+          c.in_ok-over.ensures c.value_read.result c.value_read.ensures w.in_default.is)
     ]

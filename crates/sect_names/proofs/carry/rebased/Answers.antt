@@ -6,8 +6,11 @@ use Rattle.sect_names.proofs.carry.rebased.Goals as goal
 pub returns-in_ok-extended : goal.returns-in_ok-extended
 returns-in_ok-extended c =
     let base = sym c.base.ensures ∙ same_variable c.base.result c.args.x c.eq.result c.eq.ensures c.if-eq.true in
-    λ q. rw (c.in_ok-extended.ensures, c.fields.ensures.fields) (replaced_here c.args.x c.args.start.now c.args.path.now q base)
+    λ q. rw (c.in_ok-extended.ensures, c.fields.ensures.fields)
+    (replaced_here c.args.x c.args.start.now c.args.path.now q base)
 
 pub returns-in_ok-try_clone : goal.returns-in_ok-try_clone
 returns-in_ok-try_clone c =
-    λ q. rw c.in_ok-try_clone.ensures (replaced_other c.args.x (Some c.args.start.now) c.args.path.now q (λ e. other_variable c.base.result c.args.x c.eq.result c.eq.ensures c.if-eq.false (c.base.ensures ∙ e)))
+    λ q. rw c.in_ok-try_clone.ensures
+    (replaced_other c.args.x (Some c.args.start.now) c.args.path.now q
+    (λ e. other_variable c.base.result c.args.x c.eq.result c.eq.ensures c.if-eq.false (c.base.ensures ∙ e)))

@@ -13,5 +13,6 @@ pub returns-in_ok-alone : goal.returns-in_ok-alone
 returns-in_ok-alone c =
     let p = c.args.path.now in
     rw (c.in_ok-alone.ensures, c.in_ok-try_clone.ensures) (λ q.
-    let tells = replaced_other c.args.x None p q (λ e. other_variable c.base.result c.args.x c.eq.result c.eq.ensures c.if-eq.false (c.base.ensures ∙ e)) in
+    let tells = replaced_other c.args.x None p q
+    (λ e. other_variable c.base.result c.args.x c.eq.result c.eq.ensures c.if-eq.false (c.base.ensures ∙ e)) in
     (λ h. tells.0 ((one_has p q).0 h), λ h. (one_has p q).1 (tells.1 h)))

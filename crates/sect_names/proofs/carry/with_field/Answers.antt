@@ -14,9 +14,16 @@ loop-path-preserved c =
     elim c.if-not-is_stored.branch [
       | then-not-is_stored+in_ok-extended+in_ok-push w ↦
           let is = w.in_ok-extended.ensures in
-          rw (w.longer-is, w.in_ok-push.ensures.items) (makes_next P xs i x c.loop-path.longer.items (w.in_ok-extended.field-0 ∷ []) within c.path-item.is c.loop-path.invariant (λ y. (
-            λ h. (λ s. true≢false (sym (c.is_stored.ensures.1 s) ∙ w.if-not-is_stored.true), (one_has w.in_ok-extended.field-0 y).0 h ∙ is),
+          rw (w.longer-is, w.in_ok-push.ensures.items)
+          (makes_next P xs i x c.loop-path.longer.items (w.in_ok-extended.field-0 ∷ []) within c.path-item.is
+          c.loop-path.invariant (λ y. (
+            λ h. (
+              λ s. true≢false (sym (c.is_stored.ensures.1 s) ∙ w.if-not-is_stored.true),
+              (one_has w.in_ok-extended.field-0 y).0 h ∙ is,
+            ),
             λ h. (one_has w.in_ok-extended.field-0 y).1 (h.1 ∙ sym is),
           )))
-      | else-not-is_stored w ↦ rw w.longer-is (makes_skip P xs i x c.loop-path.longer.items within c.path-item.is c.loop-path.invariant (λ y h. h.0 (c.is_stored.ensures.0 w.if-not-is_stored.false)))
+      | else-not-is_stored w ↦ rw w.longer-is
+          (makes_skip P xs i x c.loop-path.longer.items within c.path-item.is c.loop-path.invariant
+          (λ y h. h.0 (c.is_stored.ensures.0 w.if-not-is_stored.false)))
     ]

@@ -5,4 +5,5 @@ pub returns-clause-program : goal.returns-clause-program
 returns-clause-program c = section_step
 
 pub returns-clause-sound : goal.returns-clause-sound
-returns-clause-sound c s scheme sound section x stands = (section_step_sound s scheme sound section x stands, section_thread s sound stands.0 section stands.3)
+returns-clause-sound c s scheme sound section x stands =
+    (section_step_sound s scheme sound section x stands, section_thread s sound stands.0 section stands.3)

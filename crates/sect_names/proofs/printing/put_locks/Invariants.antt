@@ -7,4 +7,5 @@ use Rattle.sect_names.proofs.printing.put_locks.Given as goal
 
 abbrev pub invariant-loop-lock : goal.invariant-loop-lock
 invariant-loop-lock l =
-    string_bytes l.text ≡ string_bytes l.initial.text ++ flat_map (λ m. codes ", " ++ lock_text l.program.source m) (take l.lock-index l.others)
+    string_bytes l.text ≡ string_bytes l.initial.text
+    ++ flat_map (λ m. codes ", " ++ lock_text l.program.source m) (take l.lock-index l.others)

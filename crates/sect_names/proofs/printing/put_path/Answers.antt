@@ -6,4 +6,5 @@ variable_name-requires c = rw c.base.ensures (base_there c.args.program.now c.ar
 
 pub field_name-requires : goal.field_name-requires
 field_name-requires c =
-    item_there c.args.program.now c.args.path.now _ c.fields-field-items.ensures.fields c.requires _ _ c.loop-field-test.true
+    item_there c.args.program.now c.args.path.now _ c.fields-field-items.ensures.fields c.requires _ _
+    c.loop-field-test.true

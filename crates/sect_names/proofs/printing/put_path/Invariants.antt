@@ -7,4 +7,5 @@ use Rattle.sect_names.proofs.printing.put_path.Given as goal
 
 abbrev pub invariant-loop-field : goal.invariant-loop-field
 invariant-loop-field l =
-    string_bytes l.text ≡ string_bytes l.initial.text ++ flat_map (λ f. codes "." ++ field_name l.program.source f) (take l.field-index l.field-items)
+    string_bytes l.text ≡ string_bytes l.initial.text
+    ++ flat_map (λ f. codes "." ++ field_name l.program.source f) (take l.field-index l.field-items)

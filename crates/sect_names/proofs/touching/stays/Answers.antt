@@ -11,4 +11,5 @@ returns-in-Path c = λ on s lawful l.
     let p = c.in-Path.path in
     let e = c.in-Path.field-1 in
     subst (λ k. CarriedBack s t step k l ↔ (l ≡ k)) (sym c.in-Path.is)
-    (untouched_lock s t step p e (c.touches.ensures (not_off c.touches.result on) s.classes) (subst (IsLockOf s t) c.in-Path.is lawful) l)
+    (untouched_lock s t step p e (c.touches.ensures (not_off c.touches.result on) s.classes)
+    (subst (IsLockOf s t) c.in-Path.is lawful) l)

@@ -12,28 +12,36 @@ pub returns-in-Assign : goal.returns-in-Assign
 returns-in-Assign c = λ off classes q.
     let t = c.args.thread in
     let p = c.args.path.now in
-    let is : c.args.label.now ≡ label.Act (action.Assign c.in-Assign.target c.in-Assign.field-1) = c.in-Act.is ∙ ap (λ a. label.Act a) c.in-Assign.is in
-    subst (λ l. Before classes t l p q ↔ (q ≡ p)) (sym is) (untouched_assignment t c.in-Assign.target c.in-Assign.field-1 p q (tells_off c.begins_with.ensures off))
+    let is : c.args.label.now ≡ label.Act (action.Assign c.in-Assign.target c.in-Assign.field-1) =
+    c.in-Act.is ∙ ap (λ a. label.Act a) c.in-Assign.is in
+    subst (λ l. Before classes t l p q ↔ (q ≡ p)) (sym is)
+    (untouched_assignment t c.in-Assign.target c.in-Assign.field-1 p q (tells_off c.begins_with.ensures off))
 
 pub returns-in-New : goal.returns-in-New
 returns-in-New c = λ off classes q.
     let t = c.args.thread in
     let p = c.args.path.now in
-    let is : c.args.label.now ≡ label.Act (action.New c.in-New.target c.in-New.field-1 c.in-New.field-2) = c.in-Act.is ∙ ap (λ a. label.Act a) c.in-New.is in
-    subst (λ l. Before classes t l p q ↔ (q ≡ p)) (sym is) (untouched_base (Local t c.in-New.target) None p q (tells_off c.begins_with-in-New.ensures off))
+    let is : c.args.label.now ≡ label.Act (action.New c.in-New.target c.in-New.field-1 c.in-New.field-2) =
+    c.in-Act.is ∙ ap (λ a. label.Act a) c.in-New.is in
+    subst (λ l. Before classes t l p q ↔ (q ≡ p)) (sym is)
+    (untouched_base (Local t c.in-New.target) None p q (tells_off c.begins_with-in-New.ensures off))
 
 pub returns-in-Load : goal.returns-in-Load
 returns-in-Load c = λ off classes q.
     let t = c.args.thread in
     let p = c.args.path.now in
-    let is : c.args.label.now ≡ label.Act (action.Load c.in-Load.target c.in-Load.field-1 c.in-Load.field-2) = c.in-Act.is ∙ ap (λ a. label.Act a) c.in-Load.is in
+    let is : c.args.label.now ≡ label.Act (action.Load c.in-Load.target c.in-Load.field-1 c.in-Load.field-2) =
+    c.in-Act.is ∙ ap (λ a. label.Act a) c.in-Load.is in
     subst (λ l. Before classes t l p q ↔ (q ≡ p)) (sym is)
-    (untouched_base (Local t c.in-Load.target) (Some (dot (var (variable_of t c.in-Load.field-1)) c.in-Load.field-2)) p q (tells_off c.begins_with-in-Load.ensures off))
+    (untouched_base (Local t c.in-Load.target) (Some (dot (var (variable_of t c.in-Load.field-1)) c.in-Load.field-2)) p
+    q (tells_off c.begins_with-in-Load.ensures off))
 
 pub returns-in-Store : goal.returns-in-Store
 returns-in-Store c = λ off classes q.
     let t = c.args.thread in
     let p = c.args.path.now in
-    let is : c.args.label.now ≡ label.Act (action.Store c.in-Store.field-0 c.in-Store.field c.in-Store.field-2) = c.in-Act.is ∙ ap (λ a. label.Act a) c.in-Store.is in
+    let is : c.args.label.now ≡ label.Act (action.Store c.in-Store.field-0 c.in-Store.field c.in-Store.field-2) =
+    c.in-Act.is ∙ ap (λ a. label.Act a) c.in-Store.is in
     subst (λ l. Before classes t l p q ↔ (q ≡ p)) (sym is)
-    (untouched_field classes (variable_of t c.in-Store.field-0) c.in-Store.field (variable_in t c.in-Store.field-2) p q (tells_off c.follows.ensures off))
+    (untouched_field classes (variable_of t c.in-Store.field-0) c.in-Store.field (variable_in t c.in-Store.field-2) p q
+    (tells_off c.follows.ensures off))

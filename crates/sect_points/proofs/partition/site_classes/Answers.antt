@@ -8,4 +8,5 @@ of-requires-clause-parted c =
     let labels = c.in_ok-labels.labels.items in
     let numbers = c.in_ok-numbers.numbers.items in
     let numbering = subst (λ xs. IsNumbering xs numbers) c.as_slice.ensures.value c.in_ok-numbers.ensures in
-    numbering_parted c.args.points labels numbers c.requires.below c.bounds.ensures.slots (omega (arith, c.in_ok-labels.ensures.long)) c.in_ok-labels.ensures.finest numbering
+    numbering_parted c.args.points labels numbers c.requires.below c.bounds.ensures.slots
+    (omega (arith, c.in_ok-labels.ensures.long)) c.in_ok-labels.ensures.finest numbering

@@ -14,11 +14,14 @@ steps-preserved c =
     let w = c.steps.work in
     let s = c.steps.store in
     let e = environment_at p t in
-    let none : c.in_ok-fault.fault ≡ None = not_some c.in_ok-fault.fault (sym c.is_some-in-steps.ensures ∙ c.if-is_some.false) in
+    let none : c.in_ok-fault.fault ≡ None =
+    not_some c.in_ok-fault.fault (sym c.is_some-in-steps.ensures ∙ c.if-is_some.false) in
     record {
       sound =
-          subst (IsSound e true) (sym (ap (λ (x : Stepped). x.text) c.in_ok-fault.ensures)) (sound_stepped e true p t k (found_at s (looks k w)) w s c.steps.invariant.sound);
+          subst (IsSound e true) (sym (ap (λ (x : Stepped). x.text) c.in_ok-fault.ensures))
+          (sound_stepped e true p t k (found_at s (looks k w)) w s c.steps.invariant.sound);
       same =
-          sym (left_stepped p t k w s c.step.new.rest c.step.new.work c.step.new.store c.in_ok-fault.fault c.in_ok-fault.ensures ∙ ap (left_now p t c.step.new.rest c.step.new.work c.step.new.store) none)
+          sym (left_stepped p t k w s c.step.new.rest c.step.new.work c.step.new.store c.in_ok-fault.fault
+          c.in_ok-fault.ensures ∙ ap (left_now p t c.step.new.rest c.step.new.work c.step.new.store) none)
           ∙ c.steps.invariant.same;
     }

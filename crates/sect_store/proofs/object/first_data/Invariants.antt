@@ -3,4 +3,7 @@ use Rattle.sect_types.specs.Meaning.{first_datum}
 use Rattle.sect_store.proofs.object.first_data.Given as goal
 
 abbrev pub invariant-loop-of : goal.invariant-loop-of
-invariant-loop-of l = record { made : l.all.items ++ map first_datum (drop l.of-index l.types) ≡ map first_datum l.types }
+invariant-loop-of l = record {
+  made : l.all.items
+      ++ map first_datum (drop l.of-index l.types) ≡ map first_datum l.types;
+}

@@ -6,5 +6,7 @@ use Rattle.sect_store.proofs.printing.put_fields.Given as goal
 
 abbrev pub invariant-loop-number : goal.invariant-loop-number
 invariant-loop-number l = record {
-  added : string_bytes l.text ++ by_place (field_text l.program (names_of_declared l.fields)) l.number (drop l.number l.datum-items) ≡ string_bytes l.fn.text ++ by_place (field_text l.program (names_of_declared l.fields)) 0 l.datum-items;
+  added : string_bytes l.text ++ by_place (field_text l.program (names_of_declared l.fields)) l.number
+      (drop l.number l.datum-items) ≡ string_bytes l.fn.text
+      ++ by_place (field_text l.program (names_of_declared l.fields)) 0 l.datum-items;
 }

@@ -6,5 +6,6 @@ use Rattle.sect_store.proofs.printing.put_order.Given as goal
 
 abbrev pub invariant-loop-thread : goal.invariant-loop-thread
 invariant-loop-thread l = record {
-  added : string_bytes l.text ++ flat_map (λ t. codes " " ++ decimal t) (drop l.thread-index l.order) ≡ string_bytes l.fn.text ++ codes "order" ++ flat_map (λ t. codes " " ++ decimal t) l.order;
+  added : string_bytes l.text ++ flat_map (λ t. codes " " ++ decimal t) (drop l.thread-index l.order) ≡ string_bytes
+      l.fn.text ++ codes "order" ++ flat_map (λ t. codes " " ++ decimal t) l.order;
 }

@@ -6,5 +6,6 @@ use Rattle.sect_store.proofs.printing.put_output.Given as goal
 
 abbrev pub invariant-loop-number : goal.invariant-loop-number
 invariant-loop-number l = record {
-  added : string_bytes l.text ++ flat_map out_line (drop l.number-index l.output) ≡ string_bytes l.fn.text ++ flat_map out_line l.output;
+  added : string_bytes l.text ++ flat_map out_line (drop l.number-index l.output) ≡ string_bytes l.fn.text
+      ++ flat_map out_line l.output;
 }

@@ -13,7 +13,8 @@ loop-thread-preserved c =
     let all = c.loop-thread.all.items in
     let first : all_made (drop n texts) ≡ made_in text ++ all_made (drop (n + 1) texts) =
     at_drop_more all_made texts n Stop (slice_get_within texts n text c.text.ensures.text)
-    ∙ ap (λ t. made_in t ++ all_made (drop (n + 1) texts)) (get_or_from_slice_get texts n text Stop c.text.ensures.text) in
+    ∙ ap (λ t. made_in t ++ all_made (drop (n + 1) texts))
+    (get_or_from_slice_get texts n text Stop c.text.ensures.text) in
     record {
       added =
           ap (λ xs. xs ++ all_made (drop (n + 1) texts)) c.in_ok-put_made.ensures

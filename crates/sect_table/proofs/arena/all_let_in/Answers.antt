@@ -11,9 +11,12 @@ loop-step-preserved c =
     let is : head_or (drop i xs) None ≡ Some c.in-Some.node = sym inv.0 ∙ c.in-Some.is in
     let len = c.len-step-end.ensures in
     let lt : i < length xs = omega arith in
-    let below : c.in-Some.node < c.args.queues.now.size = subst (λ o. IfSome o (λ x. x < c.args.queues.now.size)) c.in-Some.is inv.1 in
+    let below : c.in-Some.node < c.args.queues.now.size =
+    subst (λ o. IfSome o (λ x. x < c.args.queues.now.size)) c.in-Some.is inv.1 in
     let nodes = c.requires.nodes in (
-      c.after-at.ensures.next c.args.list (take i xs) (drop (i + 1) xs) c.requires.list (split_here xs i c.in-Some.node lt is),
+      c.after-at.ensures.next c.args.list (take i xs) (drop (i + 1) xs) c.requires.list
+          (split_here xs i c.in-Some.node lt is),
       c.after-at.ensures.within,
-      join_step c.args.nodes.now xs i c.in-Some.node c.args.thread c.args.mode _ lt is (omega arith) (sym c.lets.ensures ∙ c.if-not-lets.false) ∙ inv.2,
+      join_step c.args.nodes.now xs i c.in-Some.node c.args.thread c.args.mode _ lt is (omega arith)
+          (sym c.lets.ensures ∙ c.if-not-lets.false) ∙ inv.2,
     )

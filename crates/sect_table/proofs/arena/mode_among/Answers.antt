@@ -11,7 +11,8 @@ returns-then-nodes-node c =
     let is : head_or (drop i xs) None ≡ Some c.in_ok-node.node = sym inv.0 ∙ c.in_ok-node.was in
     let len = c.len-step-end.ensures in
     let lt : i < length xs = omega arith in
-    let below : c.in_ok-node.node < c.args.queues.now.size = subst (λ o. IfSome o (λ x. x < c.args.queues.now.size)) c.in_ok-node.was inv.1 in
+    let below : c.in_ok-node.node < c.args.queues.now.size =
+    subst (λ o. IfSome o (λ x. x < c.args.queues.now.size)) c.in_ok-node.was inv.1 in
     let nodes = c.requires.nodes in
     mode_here c.args.nodes.now xs i c.in_ok-node.node c.args.thread _ lt is (omega arith) c.if-nodes-node.true ∙ inv.2
 
@@ -23,9 +24,12 @@ loop-step-preserved c =
     let is : head_or (drop i xs) None ≡ Some c.in_ok-node.node = sym inv.0 ∙ c.in_ok-node.was in
     let len = c.len-step-end.ensures in
     let lt : i < length xs = omega arith in
-    let below : c.in_ok-node.node < c.args.queues.now.size = subst (λ o. IfSome o (λ x. x < c.args.queues.now.size)) c.in_ok-node.was inv.1 in
+    let below : c.in_ok-node.node < c.args.queues.now.size =
+    subst (λ o. IfSome o (λ x. x < c.args.queues.now.size)) c.in_ok-node.was inv.1 in
     let nodes = c.requires.nodes in (
-      c.after-at.ensures.next c.args.list (take i xs) (drop (i + 1) xs) c.requires.list (split_here xs i c.in_ok-node.node lt is),
+      c.after-at.ensures.next c.args.list (take i xs) (drop (i + 1) xs) c.requires.list
+          (split_here xs i c.in_ok-node.node lt is),
       c.after-at.ensures.within,
-      mode_step c.args.nodes.now xs i c.in_ok-node.node c.args.thread _ lt is (omega arith) c.if-nodes-node.false ∙ inv.2,
+      mode_step c.args.nodes.now xs i c.in_ok-node.node c.args.thread _ lt is (omega arith) c.if-nodes-node.false
+          ∙ inv.2,
     )

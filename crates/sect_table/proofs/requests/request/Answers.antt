@@ -4,9 +4,12 @@ use Rattle.sect_table.proofs.Keeping.{prepared_answer, answer_kept}
 use Rattle.sect_table.proofs.requests.request.Goals as goal
 
 pub returns-clause-ok : goal.returns-clause-ok
-returns-clause-ok c = prepared_answer c.enter.result c.args.thread c.args.key c.args.mode c.args.arena.now c.prepare.new.self c.enter.new.arena c.prepare.ensures.held c.in_ok-prepare.ensures.entries c.enter.ensures.answer
+returns-clause-ok c = prepared_answer c.enter.result c.args.thread c.args.key c.args.mode c.args.arena.now
+    c.prepare.new.self c.enter.new.arena c.prepare.ensures.held c.in_ok-prepare.ensures.entries c.enter.ensures.answer
 
 pub returns-clause-kept : goal.returns-clause-kept
 returns-clause-kept c =
-    answer_kept c.enter.result c.args.thread c.args.key c.args.mode c.args.arena.now c.enter.new.arena c.requires.kept c.requires.thread
-    (sym c.waits.ensures ∙ c.if-waits.false) (ap is_some (sym c.held_at.ensures) ∙ (sym c.is_some.ensures ∙ c.if-is_some.false)) (returns-clause-ok c)
+    answer_kept c.enter.result c.args.thread c.args.key c.args.mode c.args.arena.now c.enter.new.arena c.requires.kept
+    c.requires.thread
+    (sym c.waits.ensures ∙ c.if-waits.false)
+    (ap is_some (sym c.held_at.ensures) ∙ (sym c.is_some.ensures ∙ c.if-is_some.false)) (returns-clause-ok c)

@@ -3,4 +3,5 @@ use Rattle.sect_types.specs.steps.Listing.{AreRecords}
 use Rattle.sect_types.proofs.declare.records.Given as goal
 
 abbrev pub invariant-loop-of : goal.invariant-loop-of
-invariant-loop-of l = AreRecords l.tree.globals l.tree.records (drop l.of-index l.of-items) l.names l.field_names.items l.fn.spot l.spot
+invariant-loop-of l = AreRecords l.tree.globals l.tree.records (drop l.of-index l.of-items) l.names l.field_names.items
+    l.fn.spot l.spot

@@ -12,4 +12,7 @@ decreases-put_block l = 2 * block_size l.block.now + 1
 
 abbrev pub invariant-put_block-loop-statement : goal.invariant-put_block-loop-statement
 invariant-put_block-loop-statement l =
-    (block_of l.statement-items ≡ l.block) × ((w : List Locking) → l.out.items ++ block_lockings (block_of (drop l.statement-index l.statement-items)) w ≡ l.fn.out.items ++ block_lockings l.block w)
+    (block_of l.statement-items ≡ l.block)
+    × ((w : List Locking) → l.out.items
+    ++ block_lockings (block_of (drop l.statement-index l.statement-items)) w ≡ l.fn.out.items
+    ++ block_lockings l.block w)

@@ -5,4 +5,5 @@ use Rattle.sect_types.proofs.locking.put_threads.Given as goal
 
 abbrev pub invariant-loop-thread : goal.invariant-loop-thread
 invariant-loop-thread l =
-    (w : List Locking) → l.out.items ++ threads_lockings (drop l.thread-index l.threads) w ≡ l.fn.out.items ++ threads_lockings l.threads w
+    (w : List Locking) → l.out.items ++ threads_lockings (drop l.thread-index l.threads) w ≡ l.fn.out.items
+    ++ threads_lockings l.threads w

@@ -10,4 +10,6 @@ abbrev pub decreases-walk_block : goal.decreases-walk_block
 decreases-walk_block l = 2 * block_size l.block.now + 1
 
 abbrev pub invariant-walk_block-loop-statement : goal.invariant-walk_block-loop-statement
-invariant-walk_block-loop-statement l = IsPassed l.scope l.inside l.block (block_of l.statement-items) (block_of (drop l.statement-index l.statement-items)) l.fn.spot l.spot l.text
+invariant-walk_block-loop-statement l =
+    IsPassed l.scope l.inside l.block (block_of l.statement-items) (block_of (drop l.statement-index l.statement-items))
+    l.fn.spot l.spot l.text

@@ -4,4 +4,6 @@ use Rattle.sectc.specs.declared.refusal.Refusal.TheVariants as refusal
 use Rattle.sectc.proofs.locks.locks.Goals as goal
 
 pub returns-in_err-lines-clause-only : goal.returns-in_err-lines-clause-only
-returns-in_err-lines-clause-only c = λ s accepted. given c.from_residual-in_err-lines.result (λ r. r ≡ refusal.Memory) refusal.Memory refl c.from_residual-in_err-lines.ensures.1
+returns-in_err-lines-clause-only c =
+    λ s accepted. given c.from_residual-in_err-lines.result (λ r. r ≡ refusal.Memory) refusal.Memory refl
+    c.from_residual-in_err-lines.ensures.1

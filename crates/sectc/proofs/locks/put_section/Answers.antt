@@ -12,7 +12,8 @@ use Rattle.sectc.proofs.locks.put_section.Goals as goal
 pub put_locks-requires : goal.put_locks-requires
 put_locks-requires c =
     let set = c.set.result.now in
-    subst (λ (p : ProgramView). AreNamed p set) (sym (c.program.ensures ∙ ap (λ (s : SchemeView). s.program) c.scheme.ensures))
+    subst (λ (p : ProgramView). AreNamed p set)
+    (sym (c.program.ensures ∙ ap (λ (s : SchemeView). s.program) c.scheme.ensures))
     (set_named c.args.compiled.now c.rules.ensures.compiled c.args.section set c.set.ensures)
 
 pub returns : goal.returns
@@ -25,10 +26,14 @@ returns c = λ of at.
     let locks = locks_text program.source set in
     let wrote : string_bytes c.write.new.self ≡ old ++ head = c.in_ok-write.ensures.bytes in
     let put : string_bytes c.put_locks.new.text ≡ string_bytes c.write.new.self ++ locks =
-    subst (λ (p : ProgramView). string_bytes c.put_locks.new.text ≡ string_bytes c.write.new.self ++ locks_text p.source set)
+    subst (λ (p : ProgramView). string_bytes c.put_locks.new.text ≡ string_bytes c.write.new.self
+    ++ locks_text p.source set)
     (c.program.ensures ∙ ap (λ (s : SchemeView). s.program) c.scheme.ensures) c.in_ok-put_locks.ensures in
-    let pushed : string_bytes c.push_str.new.self ≡ string_bytes c.put_locks.new.text ++ codes "\n" = c.in_ok-push_str.ensures.bytes in (
+    let pushed : string_bytes c.push_str.new.self ≡ string_bytes c.put_locks.new.text ++ codes "\n" =
+    c.in_ok-push_str.ensures.bytes in (
       set,
       c.rules.ensures.least i of set at c.set.ensures,
-      pushed ∙ ap (λ (b : List ℕ). b ++ codes "\n") (put ∙ ap (λ (b : List ℕ). b ++ locks) wrote ∙ append_assoc old head locks) ∙ append_assoc old (head ++ locks) (codes "\n"),
+      pushed ∙ ap (λ (b : List ℕ). b ++ codes "\n")
+          (put ∙ ap (λ (b : List ℕ). b ++ locks) wrote ∙ append_assoc old head locks)
+          ∙ append_assoc old (head ++ locks) (codes "\n"),
     )

@@ -23,9 +23,15 @@ loop-at-preserved c =
     elim c.if-input-at-eq10.branch [
       | then-input-at-eq10+else-eq w ↦
           let line = slice_range input start at in
-          let other : line ≡ codes "end" → ⊥ = λ e. true≢false (sym ((tested line (codes "end") w.eq.result false (w.eq.ensures ∙ ap (pointwise nat_eq line) w.as_slice.ensures) w.if-eq.false).1 e)) in
+          let other : line ≡ codes "end"
+          → ⊥ =
+          λ e. true≢false
+          (sym
+          ((tested line (codes "end") w.eq.result false
+          (w.eq.ensures ∙ ap (pointwise nat_eq line) w.as_slice.ensures) w.if-eq.false).1 e)) in
           rw w.start-is (cut_line input start at c.loop-at-test.true w.if-input-at-eq10.true c.loop-at.invariant other)
-      | else-input-at-eq10 w ↦ rw w.start-is (cut_on input start at c.loop-at-test.true w.if-input-at-eq10.false c.loop-at.invariant)
+      | else-input-at-eq10 w ↦ rw w.start-is
+          (cut_on input start at c.loop-at-test.true w.if-input-at-eq10.false c.loop-at.invariant)
     ]
 
 pub returns-then-eq-clause-split : goal.returns-then-eq-clause-split
@@ -34,10 +40,12 @@ returns-then-eq-clause-split c =
     let start = c.loop-at.start in
     let at = c.loop-at.at in
     let line = slice_range input start at in
-    let end = (tested line (codes "end") c.eq.result true (c.eq.ensures ∙ ap (pointwise nat_eq line) c.as_slice.ensures) c.if-eq.true).0 refl in
+    let end = (tested line (codes "end") c.eq.result true (c.eq.ensures ∙ ap (pointwise nat_eq line) c.as_slice.ensures)
+    c.if-eq.true).0 refl in
     cut_end input start at c.loop-at-test.true c.if-input-at-eq10.true c.loop-at.invariant end
 
 pub returns-clause-split : goal.returns-clause-split
 returns-clause-split c =
     let input = c.args.input.now in
-    cut_none input c.loop-at.start c.loop-at.at (length input) refl (omega (arith, c.loop-at-test.false)) (omega arith) c.loop-at.invariant
+    cut_none input c.loop-at.start c.loop-at.at (length input) refl (omega (arith, c.loop-at-test.false)) (omega arith)
+    c.loop-at.invariant

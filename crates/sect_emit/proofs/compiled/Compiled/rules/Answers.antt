@@ -20,7 +20,9 @@ numbered c = record {
 
 pub returns-clause-compiled : goal.returns-clause-compiled
 returns-clause-compiled c = subst IsCompiled c.self.view_is
-    (compiled c.self.inside.scheme c.self.inside.locks.items _ c.rules.ensures c.self.invariant (subst IsNumbered c.program.ensures (numbered c)))
+    (compiled c.self.inside.scheme c.self.inside.locks.items _ c.rules.ensures c.self.invariant
+    (subst IsNumbered c.program.ensures (numbered c)))
 
 pub returns-clause-least : goal.returns-clause-least
-returns-clause-least c = subst AreSetsLeast c.self.view_is (sets_least c.self.inside.scheme c.self.inside.locks.items _ c.rules.ensures c.self.invariant)
+returns-clause-least c = subst AreSetsLeast c.self.view_is
+    (sets_least c.self.inside.scheme c.self.inside.locks.items _ c.rules.ensures c.self.invariant)

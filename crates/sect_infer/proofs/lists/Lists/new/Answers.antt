@@ -8,7 +8,9 @@ pub loop-preserved : goal.loop-preserved
 loop-preserved c =
     let lists : List (List ℕ) = map (λ v. v.items) c.loop.lists.items in
     let new : map (λ v. v.items) c.push.new.self.items ≡ lists ++ [] ∷ [] =
-    ap (map (λ v. v.items)) c.in_ok-push.ensures.items ∙ map-append (λ v. v.items) c.loop.lists.items (c.new.result ∷ []) ∙ ap (λ l. lists ++ l ∷ []) c.new.ensures.items in
+    ap (map (λ v. v.items)) c.in_ok-push.ensures.items
+    ∙ map-append (λ v. v.items) c.loop.lists.items (c.new.result ∷ [])
+    ∙ ap (λ l. lists ++ l ∷ []) c.new.ensures.items in
     record {
       counted = ap length new ∙ length-append lists ([] ∷ []) ∙ ap (λ n. n + 1) c.loop.invariant.counted;
       empty = λ j. ap (λ l. slice_index_or l j []) new ∙ empty_more lists j c.loop.invariant.empty;

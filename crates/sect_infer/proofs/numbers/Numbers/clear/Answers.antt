@@ -10,7 +10,8 @@ index_mut-requires c =
     let i = c.loop-number.number-index in
     let x = get_or ns i 0 in
     let within : i < length ns = omega (arith, c.loop-number-test.true) in
-    let there = mark_within c.loop-number.self-inside.1.1.0.items x (c.loop-number.invariant.told x ∙ has_at ns i x within (get_or_default ns i 0 x within)) in
+    let there = mark_within c.loop-number.self-inside.1.1.0.items x
+    (c.loop-number.invariant.told x ∙ has_at ns i x within (get_or_default ns i 0 x within)) in
     omega (arith, there)
 
 pub loop-number-preserved : goal.loop-number-preserved
@@ -20,6 +21,8 @@ loop-number-preserved c =
     let x = get_or ns i 0 in
     let within : i < length ns = omega (arith, c.loop-number-test.true) in
     record {
-      told = unmark_next ns c.loop-number.self-inside.1.1.0.items i x (subst AreApart (sym c.as_slice-number-items.ensures.value) c.self.invariant.apart) within (get_or_default ns i 0 x within) c.loop-number.invariant.told;
+      told = unmark_next ns c.loop-number.self-inside.1.1.0.items i x
+          (subst AreApart (sym c.as_slice-number-items.ensures.value) c.self.invariant.apart) within
+          (get_or_default ns i 0 x within) c.loop-number.invariant.told;
       same = sym c.as_slice-number-items.ensures.value;
     }

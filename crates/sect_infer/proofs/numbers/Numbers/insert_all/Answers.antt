@@ -10,4 +10,5 @@ loop-number-preserved c =
     let i = c.loop-number.number-index in
     let x = get_or ns i 0 in
     let within : i < length ns = omega (arith, c.loop-number-test.true) in
-    c.in_ok-insert.ensures ∙ ap (λ ms. with_number ms x) c.loop-number.invariant ∙ with_next c.args.self.now ns i x within (get_or_default ns i 0 x within)
+    c.in_ok-insert.ensures ∙ ap (λ ms. with_number ms x) c.loop-number.invariant
+    ∙ with_next c.args.self.now ns i x within (get_or_default ns i 0 x within)

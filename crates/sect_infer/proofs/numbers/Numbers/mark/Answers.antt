@@ -8,4 +8,6 @@ invariant_of-self-2 c =
     let inv = c.loop-self.invariant in
     let marks = c.loop-self.self-inside.marks.items in
     let within : c.args.number < length marks = omega (arith, c.loop-self-test.false, c.len.ensures) in
-    rw c.in_ok-push-2.ensures.items (mark_one c.loop-self.self-inside.members.items marks c.args.number (ap (λ ns. has_number ns c.args.number) inv.same ∙ c.requires) within inv.told inv.apart)
+    rw c.in_ok-push-2.ensures.items
+    (mark_one c.loop-self.self-inside.members.items marks c.args.number
+    (ap (λ ns. has_number ns c.args.number) inv.same ∙ c.requires) within inv.told inv.apart)

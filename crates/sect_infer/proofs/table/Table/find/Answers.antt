@@ -10,4 +10,6 @@ pub returns : goal.returns
 returns c =
     let keys = c.self.inside.locks.keys in
     let l = c.args.lock.now in
-    rw c.get_index_of.ensures.index (subst (λ ks. MatchOption (position (the_lock_eq.eq l) keys) (Has ks l → ⊥) (λ n. slice_get ks n ≡ Some l)) (ap (λ t. t.keys) c.self.view_is) (place_tells the_lock_eq.eq lock_tells keys l))
+    rw c.get_index_of.ensures.index
+    (subst (λ ks. MatchOption (position (the_lock_eq.eq l) keys) (Has ks l → ⊥) (λ n. slice_get ks n ≡ Some l))
+    (ap (λ t. t.keys) c.self.view_is) (place_tells the_lock_eq.eq lock_tells keys l))

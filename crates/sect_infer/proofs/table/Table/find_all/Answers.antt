@@ -14,12 +14,15 @@ loop-lock-preserved c =
     let within : i < length locks = omega (arith, c.loop-lock-test.true) in
     let old = c.loop-lock.numbers.items in
     elim c.match-find.branch [
-      | in-Some+in_ok-push w ↦ rw (w.numbers-is, w.in_ok-push.ensures.items) (of_next keys locks i l old within c.lock-item.is c.loop-lock.invariant w.in-Some.number w.in-Some.ensures)
-      | in_default w ↦ rw w.numbers-is (of_skip keys locks i l old within c.lock-item.is c.loop-lock.invariant w.in_default.ensures)
+      | in-Some+in_ok-push w ↦ rw (w.numbers-is, w.in_ok-push.ensures.items)
+          (of_next keys locks i l old within c.lock-item.is c.loop-lock.invariant w.in-Some.number w.in-Some.ensures)
+      | in_default w ↦ rw w.numbers-is
+          (of_skip keys locks i l old within c.lock-item.is c.loop-lock.invariant w.in_default.ensures)
     ]
 
 pub returns : goal.returns
 returns c =
     let locks = c.args.locks.now in
     let past : length locks ≤ c.loop-lock.lock-index = omega (arith, c.loop-lock-test.false) in
-    subst (λ ls. AreOf c.args.self.now.keys ls c.loop-lock.numbers.items) (take_all c.loop-lock.lock-index locks past) c.loop-lock.invariant
+    subst (λ ls. AreOf c.args.self.now.keys ls c.loop-lock.numbers.items) (take_all c.loop-lock.lock-index locks past)
+    c.loop-lock.invariant

@@ -19,14 +19,22 @@ returns c =
     let copy = c.in_ok-try_clone.field-0 in
     let same : copy ≡ l = c.in_ok-try_clone.ensures in
     let keys : c.insert.new.self.keys ≡ t.keys ++ l ∷ [] =
-    c.in_ok-insert.ensures.keys ∙ put_last locks copy (λ h. absent (subst (λ ks. Has ks l) was (subst (Has locks) same h))) ∙ ap (λ k. locks ++ k ∷ []) same ∙ ap (λ ks. ks ++ l ∷ []) was in
+    c.in_ok-insert.ensures.keys ∙ put_last locks copy
+    (λ h. absent (subst (λ ks. Has ks l) was (subst (Has locks) same h))) ∙ ap (λ k. locks ++ k ∷ []) same
+    ∙ ap (λ ks. ks ++ l ∷ []) was in
     let above : map (λ v. v.items) c.push.new.self.items ≡ t.above ++ ns ∷ [] =
-    ap (map (λ v. v.items)) c.in_ok-push.ensures.items ∙ map-append (λ v. v.items) c.self.inside.above.items (c.in_ok-above.above ∷ []) ∙ ap (λ (v : TableView). v.above ++ ns ∷ []) c.self.view_is in
+    ap (map (λ v. v.items)) c.in_ok-push.ensures.items
+    ∙ map-append (λ v. v.items) c.self.inside.above.items (c.in_ok-above.above ∷ [])
+    ∙ ap (λ (v : TableView). v.above ++ ns ∷ []) c.self.view_is in
     let new : TableView = record { keys = c.insert.new.self.keys; above = map (λ v. v.items) c.push.new.self.items } in
-    let of : AreOf t.keys coverers ns = subst (λ ls. AreOf t.keys ls ns) c.as_slice.ensures.value (subst (λ ks. AreOf ks c.as_slice.result.now ns) refl c.in_ok-above.ensures) in
+    let of : AreOf t.keys coverers ns =
+    subst (λ ls. AreOf t.keys ls ns) c.as_slice.ensures.value
+    (subst (λ ks. AreOf ks c.as_slice.result.now ns) refl c.in_ok-above.ensures) in
     let number : c.len-number.result ≡ length t.keys = c.len-number.ensures.len ∙ ap length was in
     record {
-      table = table_put s t new l coverers ns keys above c.requires.table absent c.in_ok-coverers.ensures c.requires.above of;
+      table = table_put s t new l coverers ns keys above c.requires.table absent c.in_ok-coverers.ensures
+          c.requires.above of;
       longer = (l ∷ [], keys);
-      there = subst (λ ks. slice_get ks c.len-number.result ≡ Some l) (sym keys) (get_end t.keys l c.len-number.result number);
+      there = subst (λ ks. slice_get ks c.len-number.result ≡ Some l) (sym keys)
+          (get_end t.keys l c.len-number.result number);
     }

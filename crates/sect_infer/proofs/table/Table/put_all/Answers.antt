@@ -9,7 +9,8 @@ put-requires-clause-above c = λ big h.
     let locks = c.args.locks.now in
     let i = c.loop-lock.lock-index in
     let l = c.lock-item.result in
-    let at : slice_get locks i ≡ Some l = slice_get-get_or locks i l (omega (arith, c.loop-lock-test.true)) ∙ ap (λ x. Some x) (sym c.lock-item.is) in
+    let at : slice_get locks i ≡ Some l = slice_get-get_or locks i l (omega (arith, c.loop-lock-test.true))
+    ∙ ap (λ x. Some x) (sym c.lock-item.is) in
     c.loop-lock.invariant.there big (c.requires.behind i l at big h)
 
 pub loop-lock-preserved : goal.loop-lock-preserved
@@ -18,4 +19,5 @@ loop-lock-preserved c =
     let i = c.loop-lock.lock-index in
     let l = c.lock-item.result in
     let within : i < length locks = omega (arith, c.loop-lock-test.true) in
-    put_next c.args.scheme.now c.args.self.now c.loop-lock.self c.put.new.self locks i l c.in_ok-put.field-0 within c.lock-item.is c.loop-lock.invariant c.in_ok-put.ensures
+    put_next c.args.scheme.now c.args.self.now c.loop-lock.self c.put.new.self locks i l c.in_ok-put.field-0 within
+    c.lock-item.is c.loop-lock.invariant c.in_ok-put.ensures

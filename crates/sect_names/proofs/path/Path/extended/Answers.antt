@@ -6,4 +6,6 @@ use Rattle.sect_names.proofs.path.Path.extended.Goals as goal
 pub returns : goal.returns
 returns c =
     let a = c.longer.inside in
-    ap (dots (var a.base)) c.in_ok-extend_from_slice.ensures.ok ∙ dots-append (var a.base) a.fields.items c.args.fields.now ∙ ap (λ p. dots p c.args.fields.now) (c.longer.view_is ∙ c.in_ok-longer.ensures)
+    ap (dots (var a.base)) c.in_ok-extend_from_slice.ensures.ok
+    ∙ dots-append (var a.base) a.fields.items c.args.fields.now
+    ∙ ap (λ p. dots p c.args.fields.now) (c.longer.view_is ∙ c.in_ok-longer.ensures)

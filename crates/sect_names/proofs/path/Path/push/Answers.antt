@@ -5,4 +5,5 @@ use Rattle.sect_names.proofs.path.Path.push.Goals as goal
 pub returns : goal.returns
 returns c =
     let a = c.self.inside in
-    ap (path_of a.base) c.in_ok-push.ensures.ok ∙ dots-push (var a.base) a.fields.items c.args.field ∙ ap (λ p. dot p c.args.field) c.self.view_is
+    ap (path_of a.base) c.in_ok-push.ensures.ok ∙ dots-push (var a.base) a.fields.items c.args.field
+    ∙ ap (λ p. dot p c.args.field) c.self.view_is

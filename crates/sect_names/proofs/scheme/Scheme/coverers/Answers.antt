@@ -11,9 +11,11 @@ returns-in-All c = rw (c.in-All.is, c.new.ensures.items) (all_coverers c.args.se
 pub returns-in-Class : goal.returns-in-Class
 returns-in-Class c =
     let s = c.args.self.now in
-    rw c.in-Class.is (IfOk-weaker c.above_class.result (λ locks. locks.items ≡ over_class c.in-Class.class c.in-Class.right)
+    rw c.in-Class.is (IfOk-weaker c.above_class.result
+    (λ locks. locks.items ≡ over_class c.in-Class.class c.in-Class.right)
     (λ locks. AreCoverers s (lock.Class c.in-Class.class c.in-Class.right) locks.items)
-    (λ locks is. subst (AreCoverers s (lock.Class c.in-Class.class c.in-Class.right)) (sym is) (class_coverers s c.in-Class.class c.in-Class.right)) c.above_class.ensures)
+    (λ locks is. subst (AreCoverers s (lock.Class c.in-Class.class c.in-Class.right)) (sym is)
+    (class_coverers s c.in-Class.class c.in-Class.right)) c.above_class.ensures)
 
 pub returns-in-Path : goal.returns-in-Path
 returns-in-Path c =
@@ -23,4 +25,5 @@ returns-in-Path c =
     let o = c.class_of.result in
     rw c.in-Path.is (IfOk-weaker c.above_path.result (λ locks. locks.items ≡ over_path o p e)
     (λ locks. AreCoverers s (lock.Path p e) locks.items)
-    (λ locks is. subst (AreCoverers s (lock.Path p e)) (sym is) (coverers_of_path s p o c.class_of.ensures e)) c.above_path.ensures)
+    (λ locks is. subst (AreCoverers s (lock.Path p e)) (sym is) (coverers_of_path s p o c.class_of.ensures e))
+    c.above_path.ensures)

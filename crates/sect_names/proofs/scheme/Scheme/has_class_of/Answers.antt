@@ -14,4 +14,8 @@ returns-in-Some c = (
 )
 
 pub returns-in-None : goal.returns-in-None
-returns-in-None c = (λ t. absurd (true≢false (sym t)), λ h. let at = (c.class_of.ensures h.0).1 h.1 in let is = c.in-None.is in absurd cc)
+returns-in-None c = (
+  λ t. absurd (true≢false (sym t)),
+  λ h. let at = (c.class_of.ensures h.0).1 h.1 in
+      let is = c.in-None.is in absurd cc,
+)

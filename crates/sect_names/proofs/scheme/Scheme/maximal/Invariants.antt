@@ -7,6 +7,7 @@ use Rattle.sect_names.proofs.scheme.Scheme.maximal.Given as goal
 
 abbrev pub invariant-loop-i : goal.invariant-loop-i
 invariant-loop-i l = record {
-  made : Makes (λ (x y : Lock). (y ≡ x) × (IsOutdone l.self (Has l.locks.keys) x → ⊥)) (take l.i l.locks.keys) l.kept.keys;
+  made : Makes (λ (x y : Lock). (y ≡ x) × (IsOutdone l.self (Has l.locks.keys) x → ⊥)) (take l.i l.locks.keys)
+      l.kept.keys;
   told : (x : Lock) → Has (take l.i l.locks.keys) x → Has l.kept.keys x ⊎ IsOutdone l.self (Has l.locks.keys) x;
 }

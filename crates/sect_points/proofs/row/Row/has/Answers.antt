@@ -7,5 +7,7 @@ pub returns-then-is_same : goal.returns-then-is_same
 returns-then-is_same c _ =
     let items = c.as_slice-other-items.result.now in
     let p = c.other-item.result in
-    let has : Has items p = subst (Has items) (sym c.other-item.is) (Has-get_or items c.loop-other.other-index p (omega arith)) in
-    subst (Has c.args.self.now) (c.is_same.ensures c.if-is_same.true) (subst (λ xs. Has xs p) (c.as_slice-other-items.ensures.value ∙ c.self.view_is) has)
+    let has : Has items p = subst (Has items) (sym c.other-item.is)
+    (Has-get_or items c.loop-other.other-index p (omega arith)) in
+    subst (Has c.args.self.now) (c.is_same.ensures c.if-is_same.true)
+    (subst (λ xs. Has xs p) (c.as_slice-other-items.ensures.value ∙ c.self.view_is) has)

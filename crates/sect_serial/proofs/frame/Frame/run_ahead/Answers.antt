@@ -8,14 +8,21 @@ use Rattle.sect_serial.proofs.frame.Frame.run_ahead.Goals as goal
 pub steps-preserved : goal.steps-preserved
 steps-preserved c =
     let e = environment_at c.args.program.now c.args.thread in
-    let after = after_step e c.args.program.now c.args.thread _ _ c.steps.store c.step.new.rest c.step.new.work c.step.new.store _ (Some c.in-Some.fault) _
+    let after = after_step e c.args.program.now c.args.thread _ _ c.steps.store c.step.new.rest c.step.new.work
+    c.step.new.store _ (Some c.in-Some.fault) _
     c.self.view_is c.is_standing.ensures c.steps-test.true c.steps.invariant.ready c.in-Some.is c.in_ok-step.ensures in
-    record { ready = after.kept.ready; same = after.kept.same ∙ c.steps.invariant.same; store = after.store ∙ c.steps.invariant.store }
+    record {
+      ready = after.kept.ready;
+      same = after.kept.same ∙ c.steps.invariant.same;
+      store =
+          after.store ∙ c.steps.invariant.store;
+    }
 
 pub steps-smaller : goal.steps-smaller
 steps-smaller c =
     let e = environment_at c.args.program.now c.args.thread in
-    let after = after_step e c.args.program.now c.args.thread _ _ c.steps.store c.step.new.rest c.step.new.work c.step.new.store _ (Some c.in-Some.fault) _
+    let after = after_step e c.args.program.now c.args.thread _ _ c.steps.store c.step.new.rest c.step.new.work
+    c.step.new.store _ (Some c.in-Some.fault) _
     c.self.view_is c.is_standing.ensures c.steps-test.true c.steps.invariant.ready c.in-Some.is c.in_ok-step.ensures in
     after.kept.less
 

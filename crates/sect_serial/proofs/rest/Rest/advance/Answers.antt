@@ -1,21 +1,27 @@
-use Rattle.std.proofs.Common.{rules, arith, ◌≡◌, ◌-◌, ◌<◌, ap, sym, ◌∙◌, subst, refl, length, vec_len, take, slice_get, Some, suc}
+use Rattle.std.proofs.Common.{rules, arith, ◌≡◌, ◌-◌, ◌<◌, ap, sym, ◌∙◌, subst, refl, length, vec_len, take, slice_get}
+use Rattle.std.proofs.Common.{Some, suc}
 use Rattle.sect_types.specs.Statements.{Stop, joined}
 use Rattle.sect_serial.specs.steps.Rests.{rest_of, AreFull, after_first}
 use Rattle.sect_types.proofs.Changed.{get_there}
-use Rattle.sect_serial.proofs.RestLemmas.{rest_last, rest_set, full_last, full_take, full_set, take_set, after_joined, stopped}
+use Rattle.sect_serial.proofs.RestLemmas.{rest_last, rest_set, full_last, full_take, full_set, take_set, after_joined}
+use Rattle.sect_serial.proofs.RestLemmas.{stopped}
 use Rattle.sect_serial.proofs.rest.Rest.advance.Goals as goal
 
 -- the parts left
-left_items : (c : goal.After-pop) → c.pop.new.self.items ≡ take (vec_len c.self.inside.parts - 1) c.self.inside.parts.items
-left_items c = c.pop.ensures.rest ∙ take_set c.self.inside.parts.items (vec_len c.self.inside.parts - 1) c.advance.new.self
+left_items : (c : goal.After-pop)
+    → c.pop.new.self.items ≡ take (vec_len c.self.inside.parts - 1) c.self.inside.parts.items
+left_items c = c.pop.ensures.rest
+    ∙ take_set c.self.inside.parts.items (vec_len c.self.inside.parts - 1) c.advance.new.self
 
 pub invariant_of-self : goal.invariant_of-self
 invariant_of-self c =
-    subst AreFull (sym (left_items c)) (full_take c.self.inside.parts.items (vec_len c.self.inside.parts - 1) c.self.invariant)
+    subst AreFull (sym (left_items c))
+    (full_take c.self.inside.parts.items (vec_len c.self.inside.parts - 1) c.self.invariant)
 
 pub invariant_of-self-else-is_empty : goal.invariant_of-self-else-is_empty
 invariant_of-self-else-is_empty c =
-    full_set c.self.inside.parts.items (vec_len c.self.inside.parts - 1) c.advance.new.self (sym c.is_empty.ensures ∙ c.if-is_empty.false) c.self.invariant
+    full_set c.self.inside.parts.items (vec_len c.self.inside.parts - 1) c.advance.new.self
+    (sym c.is_empty.ensures ∙ c.if-is_empty.false) c.self.invariant
 
 pub returns-then-is_empty : goal.returns-then-is_empty
 returns-then-is_empty c =
@@ -26,7 +32,8 @@ returns-then-is_empty c =
     let some : 0 < vec_len c.self.inside.parts = c.in-Some.ensures.variant.0 refl in
     let long : length ks ≡ suc n = omega arith in
     let got : slice_get ks n ≡ Some k = get_there n k ks (omega arith) c.in-Some.ensures.value in
-    let stop : after_first k ≡ Stop = sym c.advance.ensures ∙ stopped c.advance.new.self (sym c.is_empty.ensures ∙ c.if-is_empty.true) in
+    let stop : after_first k ≡ Stop =
+    sym c.advance.ensures ∙ stopped c.advance.new.self (sym c.is_empty.ensures ∙ c.if-is_empty.true) in
     ap rest_of (left_items c)
     ∙ sym (ap (λ r. joined r (rest_of (take n ks))) stop)
     ∙ sym (after_joined k (rest_of (take n ks)) (full_last ks n k c.self.invariant got))

@@ -11,5 +11,6 @@ invariant_of-self c =
 
 pub returns-in_ok-push : goal.returns-in_ok-push
 returns-in_ok-push c =
-    ap rest_of c.in_ok-push.ensures.items ∙ rest_push c.self.inside.parts.items c.of-part.result ∙ ap (λ k. joined k (rest_of c.self.inside.parts.items)) c.of-part.ensures
+    ap rest_of c.in_ok-push.ensures.items ∙ rest_push c.self.inside.parts.items c.of-part.result
+    ∙ ap (λ k. joined k (rest_of c.self.inside.parts.items)) c.of-part.ensures
     ∙ ap (joined c.args.text.now) c.self.view_is

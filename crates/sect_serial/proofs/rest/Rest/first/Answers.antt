@@ -11,4 +11,5 @@ returns-in-Some c =
     let got : slice_get ks n ≡ Some k = grind (arith, c.in-Some.is, c.last.ensures.value, c.deref.ensures.value) in
     let long : length ks ≡ suc n = grind (arith, c.in-Some.is, c.last.ensures.value, c.deref.ensures.value) in
     let whole : c.args.self.now ≡ _ = sym c.self.view_is ∙ rest_last ks n k long got in
-    rw whole (begins_joined (option_copied c.first.result) k (rest_of (take n ks)) (full_last ks n k c.self.invariant got) c.first.ensures)
+    rw whole (begins_joined (option_copied c.first.result) k (rest_of (take n ks))
+    (full_last ks n k c.self.invariant got) c.first.ensures)

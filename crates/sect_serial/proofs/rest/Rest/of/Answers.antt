@@ -5,4 +5,5 @@ use Rattle.sect_types.proofs.Joining.{joined_stop}
 use Rattle.sect_serial.proofs.rest.Rest.of.Goals as goal
 
 pub returns : goal.returns
-returns c = c.in_ok-enter.ensures ∙ ap (λ ks. joined c.args.text.now (rest_of ks)) c.new.ensures.items ∙ joined_stop c.args.text.now
+returns c = c.in_ok-enter.ensures ∙ ap (λ ks. joined c.args.text.now (rest_of ks)) c.new.ensures.items
+    ∙ joined_stop c.args.text.now

@@ -17,14 +17,22 @@ loop-thread-preserved c =
     let made : f ≡ settled text (first_work c.args.fuel types) =
     elim c.match-get.branch [
       | in-None+in_ok-frame-in-None w ↦
-          let none : length p.locals ≤ n = subst (λ (ls : List (List ValueType)). length ls ≤ n) c.locals.ensures w.in-None.ensures.lookup.3 in
-          w.frame-is ∙ w.in_ok-frame-in-None.ensures ∙ ap (λ ts. settled text (first_work c.args.fuel ts)) (or_past n [] p.locals none)
+          let none : length p.locals ≤ n =
+          subst (λ (ls : List (List ValueType)). length ls ≤ n) c.locals.ensures w.in-None.ensures.lookup.3 in
+          w.frame-is ∙ w.in_ok-frame-in-None.ensures
+          ∙ ap (λ ts. settled text (first_work c.args.fuel ts)) (or_past n [] p.locals none)
       | in-Some+in_ok-frame-in-Some w ↦
           w.frame-is ∙ w.in_ok-frame-in-Some.ensures
-          ∙ ap (λ ts. settled text (first_work c.args.fuel ts)) (w.as_slice.ensures ∙ w.in-Some.ensures.lookup.3.1 [] ∙ ap (λ (ls : List (List ValueType)). slice_index_or ls n []) c.locals.ensures)
+          ∙ ap (λ ts. settled text (first_work c.args.fuel ts))
+          (w.as_slice.ensures ∙ w.in-Some.ensures.lookup.3.1 []
+          ∙ ap (λ (ls : List (List ValueType)). slice_index_or ls n []) c.locals.ensures)
     ] in
     record {
       long = rw c.in_ok-push.ensures.items (long_more n fs f c.loop-thread.invariant.long);
-      made = rw c.in_ok-push.ensures.items (frame_more p c.args.fuel n fs text types f c.loop-thread.invariant.long c.loop-thread.invariant.made c.text-text.ensures.text (λ i. types) made);
-      ready = rw c.in_ok-push.ensures.items (ready_more p c.args.fuel n fs text types f c.loop-thread.invariant.long c.loop-thread.invariant.ready c.text-text.ensures.sound made);
+      made = rw c.in_ok-push.ensures.items
+          (frame_more p c.args.fuel n fs text types f c.loop-thread.invariant.long c.loop-thread.invariant.made
+          c.text-text.ensures.text (λ i. types) made);
+      ready = rw c.in_ok-push.ensures.items
+          (ready_more p c.args.fuel n fs text types f c.loop-thread.invariant.long c.loop-thread.invariant.ready
+          c.text-text.ensures.sound made);
     }

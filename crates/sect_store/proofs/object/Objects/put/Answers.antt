@@ -9,8 +9,13 @@ returns c =
     let list = c.self.inside.list in
     let whole = ap (changed_at c.args.number (with_field c.args.field c.args.datum)) c.self.view_is in
     elim c.match-get_mut.branch [
-      | in-Some w ↦ rw w.self-inside-is (ap (slice_set list.items c.args.number) w.put.ensures ∙ set_changed c.args.number w.in-Some.object.now (with_field c.args.field c.args.datum) list.items w.in-Some.ensures.value ∙ whole)
+      | in-Some w ↦ rw w.self-inside-is
+          (ap (slice_set list.items c.args.number) w.put.ensures
+          ∙ set_changed c.args.number w.in-Some.object.now (with_field c.args.field c.args.datum) list.items
+          w.in-Some.ensures.value ∙ whole)
       | in_default w ↦
           let long : length list.items ≡ vec_len list = search rules in
-          rw w.self-inside-is (sym (changed_past c.args.number (with_field c.args.field c.args.datum) list.items (rw long (not_below c.args.number (vec_len list) w.in_default.ensures.variant.1))) ∙ whole)
+          rw w.self-inside-is
+          (sym (changed_past c.args.number (with_field c.args.field c.args.datum) list.items
+          (rw long (not_below c.args.number (vec_len list) w.in_default.ensures.variant.1))) ∙ whole)
     ]

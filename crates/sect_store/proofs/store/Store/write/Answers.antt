@@ -8,8 +8,10 @@ returns-in-Some c =
     let made = c.self.inside.made in
     let change = changed_at c.in-Made.number (with_field c.args.field c.args.datum) in
     rw c.in-Made.is (ap (λ (rows : List (List ObjectView)). record { globals = c.self.inside.globals; made = rows })
-    (ap (slice_set made.items c.in-Made.thread) c.put-in-Some.ensures ∙ set_changed c.in-Made.thread c.in-Some.row.now change made.items c.in-Some.ensures.value)
-    ∙ ap (λ (s : StoreView). record { globals = s.globals; made = changed_at c.in-Made.thread change s.made }) c.self.view_is)
+    (ap (slice_set made.items c.in-Made.thread) c.put-in-Some.ensures
+    ∙ set_changed c.in-Made.thread c.in-Some.row.now change made.items c.in-Some.ensures.value)
+    ∙ ap (λ (s : StoreView). record { globals = s.globals; made = changed_at c.in-Made.thread change s.made })
+    c.self.view_is)
 
 pub returns-in_default : goal.returns-in_default
 returns-in_default c =
@@ -17,5 +19,7 @@ returns-in_default c =
     let change = changed_at c.in-Made.number (with_field c.args.field c.args.datum) in
     let long : length made.items ≡ vec_len made = search rules in
     rw c.in-Made.is (ap (λ (rows : List (List ObjectView)). record { globals = c.self.inside.globals; made = rows })
-    (sym (changed_past c.in-Made.thread change made.items (rw long (not_below c.in-Made.thread (vec_len made) c.in_default.ensures.variant.1))))
-    ∙ ap (λ (s : StoreView). record { globals = s.globals; made = changed_at c.in-Made.thread change s.made }) c.self.view_is)
+    (sym (changed_past c.in-Made.thread change made.items
+    (rw long (not_below c.in-Made.thread (vec_len made) c.in_default.ensures.variant.1))))
+    ∙ ap (λ (s : StoreView). record { globals = s.globals; made = changed_at c.in-Made.thread change s.made })
+    c.self.view_is)

@@ -8,27 +8,36 @@ use Rattle.sect_table.proofs.arena.Arena.first_waiter.Goals as goal
 
 pub overflow_add-at : goal.overflow_add-at
 overflow_add-at c =
-    let lists = key_lists _ _ _ _ _ _ c.args.at c.self.invariant c.self.view_is c.requires.known in omega (arith, lists.few)
+    let lists = key_lists _ _ _ _ _ _ c.args.at c.self.invariant c.self.view_is c.requires.known in
+    omega (arith, lists.few)
 
 pub overflow_add-at-2 : goal.overflow_add-at-2
 overflow_add-at-2 c =
-    let lists = key_lists _ _ _ _ _ _ c.args.at c.self.invariant c.self.view_is c.requires.known in omega (arith, lists.few)
+    let lists = key_lists _ _ _ _ _ _ c.args.at c.self.invariant c.self.view_is c.requires.known in
+    omega (arith, lists.few)
 
 pub first-requires : goal.first-requires
 first-requires c =
-    let lists = key_lists _ _ _ _ _ _ c.args.at c.self.invariant c.self.view_is c.requires.known in omega (arith, lists.holders, lists.waiters)
+    let lists = key_lists _ _ _ _ _ _ c.args.at c.self.invariant c.self.view_is c.requires.known in
+    omega (arith, lists.holders, lists.waiters)
 
 pub returns-in_err-node : goal.returns-in_err-node
 returns-in_err-node c =
     c.from_residual.ensures
-    ∙ (no_claim c.self.inside.nodes.items (list_at c.self.inside.queues.lists (c.args.at + c.args.at + 2)) (sym c.first.ensures.first ∙ c.in_err-node.was)
-    ∙ sym (ap (λ (e : Entry). first_of e.waiters) (queues-seen _ _ _ _ _ _ c.args.key c.args.at c.self.invariant c.self.view_is c.requires.number c.requires.known)))
+    ∙ (no_claim c.self.inside.nodes.items (list_at c.self.inside.queues.lists (c.args.at + c.args.at + 2))
+    (sym c.first.ensures.first ∙ c.in_err-node.was)
+    ∙ sym (ap (λ (e : Entry). first_of e.waiters)
+    (queues-seen _ _ _ _ _ _ c.args.key c.args.at c.self.invariant c.self.view_is c.requires.number c.requires.known)))
 
 pub returns : goal.returns
 returns c =
     let n : length c.self.inside.nodes.items ≡ vec_len c.self.inside.nodes = search rules in
     let sizes = c.self.invariant.sizes in
     let within = c.in_ok-node.ensures.within in
-    first_claim c.self.inside.nodes.items (list_at c.self.inside.queues.lists (c.args.at + c.args.at + 2)) c.in_ok-node.node c.index-request.result.now
-    (sym c.in_ok-node.ensures.first) (get_or_read c.self.inside.nodes.items c.in_ok-node.node c.index-request.result.now (omega arith) c.index-request.ensures no_node)
-    ∙ sym (ap (λ (e : Entry). first_of e.waiters) (queues-seen _ _ _ _ _ _ c.args.key c.args.at c.self.invariant c.self.view_is c.requires.number c.requires.known))
+    first_claim c.self.inside.nodes.items (list_at c.self.inside.queues.lists (c.args.at + c.args.at + 2))
+    c.in_ok-node.node c.index-request.result.now
+    (sym c.in_ok-node.ensures.first)
+    (get_or_read c.self.inside.nodes.items c.in_ok-node.node c.index-request.result.now (omega arith)
+    c.index-request.ensures no_node)
+    ∙ sym (ap (λ (e : Entry). first_of e.waiters)
+    (queues-seen _ _ _ _ _ _ c.args.key c.args.at c.self.invariant c.self.view_is c.requires.number c.requires.known))

@@ -9,8 +9,11 @@ use Rattle.sect_table.proofs.Roles.{labelled_first}
 use Rattle.sect_table.proofs.Moving.{Shows, goes, first_granted, Waiter, first_waiting}
 use Rattle.sect_table.proofs.arena.Arena.grant_first.Goals as goal
 
-outcome : (c : goal.After-move_to-2) → Shows c.self.inside.nodes.items c.self.inside.keys c.self.inside.threads c.move_to.new.self c.move_to-2.new.self
-    (give c.index-request.result.now.thread c.args.key c.index-request.result.now.mode c.args.self.now.held) (put (with_grant (claim_of c.index-request.result.now.thread c.index-request.result.now.mode) (entry_of c.args.key c.args.self.now.entries)) c.args.self.now.entries)
+outcome : (c : goal.After-move_to-2)
+    → Shows c.self.inside.nodes.items c.self.inside.keys c.self.inside.threads c.move_to.new.self c.move_to-2.new.self
+    (give c.index-request.result.now.thread c.args.key c.index-request.result.now.mode c.args.self.now.held)
+    (put (with_grant (claim_of c.index-request.result.now.thread c.index-request.result.now.mode)
+    (entry_of c.args.key c.args.self.now.entries)) c.args.self.now.entries)
     × (length (list_at c.move_to.new.self.lists 0) ≡ c.args.self.now.spare)
 outcome c =
     let a = c.self.invariant in
@@ -21,37 +24,48 @@ outcome c =
     let sizes = a.sizes in
     let known = c.requires.known in
     let list = c.args.at + c.args.at + 2 in
-    let first : head_or (list_at c.self.inside.queues.lists list) None ≡ Some x = sym c.first.ensures.first ∙ c.unwrap-node.ensures in
+    let first : head_or (list_at c.self.inside.queues.lists list) None ≡ Some x = sym c.first.ensures.first
+    ∙ c.unwrap-node.ensures in
     let found = uncons (list_at c.self.inside.queues.lists list) x first in
     let here = labelled_first c.self.inside.queues list x found.0 a.in_queues (omega arith) found.1 in
     let below : x < c.self.inside.queues.size = here.0 in
     let e1 = c.move_to.ensures in
     let e2 = c.move_to-2.ensures in
-    first_granted _ _ _ _ _ _ _ _ c.args.key c.args.at x found.0 c.index-request.result.now a c.self.view_is c.requires.number c.requires.known found.1
+    first_granted _ _ _ _ _ _ _ _ c.args.key c.args.at x found.0 c.index-request.result.now a c.self.view_is
+    c.requires.number c.requires.known found.1
     (get_or_read c.self.inside.nodes.items x c.index-request.result.now (omega arith) c.index-request.ensures no_node)
-    (goes _ _ _ _ e1.size e1.count e1.labels e1.lists e1.placed e1.places) (goes _ _ _ _ e2.size e2.count e2.labels e2.lists e2.placed e2.places)
+    (goes _ _ _ _ e1.size e1.count e1.labels e1.lists e1.placed e1.places)
+    (goes _ _ _ _ e2.size e2.count e2.labels e2.lists e2.placed e2.places)
 
 pub overflow_add-at : goal.overflow_add-at
 overflow_add-at c =
-    let lists = key_lists _ _ _ _ _ _ c.args.at c.self.invariant c.self.view_is c.requires.known in omega (arith, lists.few)
+    let lists = key_lists _ _ _ _ _ _ c.args.at c.self.invariant c.self.view_is c.requires.known in
+    omega (arith, lists.few)
 
 pub overflow_add-at-2 : goal.overflow_add-at-2
 overflow_add-at-2 c =
-    let lists = key_lists _ _ _ _ _ _ c.args.at c.self.invariant c.self.view_is c.requires.known in omega (arith, lists.few)
+    let lists = key_lists _ _ _ _ _ _ c.args.at c.self.invariant c.self.view_is c.requires.known in
+    omega (arith, lists.few)
 
 pub first-requires : goal.first-requires
 first-requires c =
-    let lists = key_lists _ _ _ _ _ _ c.args.at c.self.invariant c.self.view_is c.requires.known in omega (arith, lists.holders, lists.waiters)
+    let lists = key_lists _ _ _ _ _ _ c.args.at c.self.invariant c.self.view_is c.requires.known in
+    omega (arith, lists.holders, lists.waiters)
 
 pub unwrap-node-requires : goal.unwrap-node-requires
 unwrap-node-requires c =
-    let some : 0 < length (claims c.self.inside.nodes.items (list_at c.self.inside.queues.lists (c.args.at + c.args.at + 2)))
-    = subst (λ (e : Entry). 0 < length e.waiters) (queues-seen _ _ _ _ _ _ c.args.key c.args.at c.self.invariant c.self.view_is c.requires.number c.requires.known) c.requires.waits in
-    subst IsSome (sym c.first.ensures.first) (claimed_first c.self.inside.nodes.items (list_at c.self.inside.queues.lists (c.args.at + c.args.at + 2)) some)
+    let some : 0 < length (claims c.self.inside.nodes.items
+    (list_at c.self.inside.queues.lists (c.args.at + c.args.at + 2)))
+    = subst (λ (e : Entry). 0 < length e.waiters)
+    (queues-seen _ _ _ _ _ _ c.args.key c.args.at c.self.invariant c.self.view_is c.requires.number
+    c.requires.known) c.requires.waits in
+    subst IsSome (sym c.first.ensures.first)
+    (claimed_first c.self.inside.nodes.items (list_at c.self.inside.queues.lists (c.args.at + c.args.at + 2)) some)
 
 pub move_to-requires-2-clause-list : goal.move_to-requires-2-clause-list
 move_to-requires-2-clause-list c =
-    (let w : Waiter c.self.inside.nodes.items c.self.inside.chains c.args.self.now c.args.key c.index-request.result.now =
+    (let w : Waiter c.self.inside.nodes.items c.self.inside.chains c.args.self.now c.args.key
+    c.index-request.result.now =
     let a = c.self.invariant in
     let x = c.unwrap-node.result in
     let n : length c.self.inside.nodes.items ≡ vec_len c.self.inside.nodes = search rules in
@@ -60,11 +74,13 @@ move_to-requires-2-clause-list c =
     let sizes = a.sizes in
     let known = c.requires.known in
     let list = c.args.at + c.args.at + 2 in
-    let first : head_or (list_at c.self.inside.queues.lists list) None ≡ Some x = sym c.first.ensures.first ∙ c.unwrap-node.ensures in
+    let first : head_or (list_at c.self.inside.queues.lists list) None ≡ Some x = sym c.first.ensures.first
+    ∙ c.unwrap-node.ensures in
     let found = uncons (list_at c.self.inside.queues.lists list) x first in
     let here = labelled_first c.self.inside.queues list x found.0 a.in_queues (omega arith) found.1 in
     let below : x < c.self.inside.queues.size = here.0 in
-    first_waiting _ _ _ _ _ _ c.args.key c.args.at x found.0 c.index-request.result.now a c.self.view_is c.requires.number c.requires.known found.1
+    first_waiting _ _ _ _ _ _ c.args.key c.args.at x found.0 c.index-request.result.now a c.self.view_is
+    c.requires.number c.requires.known found.1
     (get_or_read c.self.inside.nodes.items x c.index-request.result.now (omega arith) c.index-request.ensures no_node)
     in w.list)
 
@@ -80,7 +96,8 @@ returns-clause-entries c = (outcome c).0.entries_are
 pub returns-clause-spare : goal.returns-clause-spare
 returns-clause-spare c = (outcome c).1
 
-waiter : (c : goal.After-move_to-2) → Waiter c.self.inside.nodes.items c.self.inside.chains c.args.self.now c.args.key c.index-request.result.now
+waiter : (c : goal.After-move_to-2)
+    → Waiter c.self.inside.nodes.items c.self.inside.chains c.args.self.now c.args.key c.index-request.result.now
 waiter c =
     let a = c.self.invariant in
     let x = c.unwrap-node.result in
@@ -90,11 +107,13 @@ waiter c =
     let sizes = a.sizes in
     let known = c.requires.known in
     let list = c.args.at + c.args.at + 2 in
-    let first : head_or (list_at c.self.inside.queues.lists list) None ≡ Some x = sym c.first.ensures.first ∙ c.unwrap-node.ensures in
+    let first : head_or (list_at c.self.inside.queues.lists list) None ≡ Some x = sym c.first.ensures.first
+    ∙ c.unwrap-node.ensures in
     let found = uncons (list_at c.self.inside.queues.lists list) x first in
     let here = labelled_first c.self.inside.queues list x found.0 a.in_queues (omega arith) found.1 in
     let below : x < c.self.inside.queues.size = here.0 in
-    first_waiting _ _ _ _ _ _ c.args.key c.args.at x found.0 c.index-request.result.now a c.self.view_is c.requires.number c.requires.known found.1
+    first_waiting _ _ _ _ _ _ c.args.key c.args.at x found.0 c.index-request.result.now a c.self.view_is
+    c.requires.number c.requires.known found.1
     (get_or_read c.self.inside.nodes.items x c.index-request.result.now (omega arith) c.index-request.ensures no_node)
 
 pub returns-clause-key : goal.returns-clause-key

@@ -6,18 +6,23 @@ use Rattle.sect_table.proofs.arena.Arena.lets_in.Goals as goal
 
 pub overflow_add-at : goal.overflow_add-at
 overflow_add-at c =
-    let lists = key_lists _ _ _ _ _ _ c.args.at c.self.invariant c.self.view_is c.requires.known in omega (arith, lists.few)
+    let lists = key_lists _ _ _ _ _ _ c.args.at c.self.invariant c.self.view_is c.requires.known in
+    omega (arith, lists.few)
 
 pub overflow_add-at-2 : goal.overflow_add-at-2
 overflow_add-at-2 c =
-    let lists = key_lists _ _ _ _ _ _ c.args.at c.self.invariant c.self.view_is c.requires.known in omega (arith, lists.few)
+    let lists = key_lists _ _ _ _ _ _ c.args.at c.self.invariant c.self.view_is c.requires.known in
+    omega (arith, lists.few)
 
 pub all_let_in-requires-clause-list : goal.all_let_in-requires-clause-list
 all_let_in-requires-clause-list c =
-    let lists = key_lists _ _ _ _ _ _ c.args.at c.self.invariant c.self.view_is c.requires.known in omega (arith, lists.holders, lists.waiters)
+    let lists = key_lists _ _ _ _ _ _ c.args.at c.self.invariant c.self.view_is c.requires.known in
+    omega (arith, lists.holders, lists.waiters)
 
 pub returns : goal.returns
 returns c =
     c.all_let_in.ensures
-    ∙ (ap (λ z. may_join (queue_at z c.self.inside.queues.lists (c.args.at + c.args.at + 1)) c.args.thread c.args.mode) c.deref.ensures.value
-    ∙ sym (ap (λ (e : Entry). may_join e.holders c.args.thread c.args.mode) (queues-seen _ _ _ _ _ _ c.args.key c.args.at c.self.invariant c.self.view_is c.requires.number c.requires.known)))
+    ∙ (ap (λ z. may_join (queue_at z c.self.inside.queues.lists (c.args.at + c.args.at + 1)) c.args.thread c.args.mode)
+    c.deref.ensures.value
+    ∙ sym (ap (λ (e : Entry). may_join e.holders c.args.thread c.args.mode)
+    (queues-seen _ _ _ _ _ _ c.args.key c.args.at c.self.invariant c.self.view_is c.requires.number c.requires.known)))

@@ -12,4 +12,5 @@ first-requires c =
     omega arith
 
 pub returns : goal.returns
-returns c = c.is_some.ensures ∙ (ap is_some c.first.ensures.first ∙ waiting-seen _ _ _ _ _ _ c.args.thread c.self.invariant c.self.view_is c.requires)
+returns c = c.is_some.ensures ∙ (ap is_some c.first.ensures.first
+    ∙ waiting-seen _ _ _ _ _ _ c.args.thread c.self.invariant c.self.view_is c.requires)

@@ -1,6 +1,7 @@
 use Rattle.std.proofs.Common.{rules, arith, ◌≡◌, ◌<◌, length, subst, ◌∙◌, ap, set, vec_len, None}
 use Rattle.sect_table.specs.steps.Links.{moved, lists_of, AreLists, Shape}
-use Rattle.sect_table.proofs.Whole.{labels-moved, moved_all, room_read, closed, lists-found, placed_sized, previous_within, next_link_within, last_read, map-without}
+use Rattle.sect_table.proofs.Whole.{labels-moved, moved_all, room_read, closed, lists-found, placed_sized}
+use Rattle.sect_table.proofs.Whole.{previous_within, next_link_within, last_read, map-without}
 use Rattle.sect_table.proofs.lists.Lists.move_to.Goals as goal
 
 pub append-requires-clause-room : goal.append-requires-clause-room
@@ -8,34 +9,51 @@ append-requires-clause-room c =
     let n : length c.self.inside.links.items ≡ vec_len c.self.inside.links = search rules in
     let m : length c.detach.new.links.items ≡ vec_len c.detach.new.links = search rules in
     let size : vec_len c.self.inside.links ≡ c.args.self.now.size = ap (λ (s : Shape). s.size) c.self.view_is in
-    let lists : length (lists_of c.self.inside.links.items c.self.inside.ends.items) ≡ length c.args.self.now.lists = ap (λ (s : Shape). length s.lists) c.self.view_is in
-    let counted : length (lists_of c.self.inside.links.items c.self.inside.ends.items) ≡ length c.self.inside.ends.items = c.self.invariant.counted in
+    let lists : length (lists_of c.self.inside.links.items c.self.inside.ends.items) ≡ length c.args.self.now.lists =
+    ap (λ (s : Shape). length s.lists) c.self.view_is in
+    let counted : length (lists_of c.self.inside.links.items c.self.inside.ends.items) ≡ length
+    c.self.inside.ends.items = c.self.invariant.counted in
     let node = c.requires.node in let list = c.requires.list in
     subst (λ k. c.index_mut-2.result.now.len < k) m
-    (room_read c.self.inside.links.items c.detach.new.links.items c.self.inside.ends.items c.args.node c.args.list c.index.result.now c.index_mut.result.now c.detach.new.ends c.index_mut-2.result.now c.self.invariant (omega arith) (omega arith) c.index.ensures c.index_mut.ensures.value c.detach.ensures.places c.index_mut-2.ensures.value)
+    (room_read c.self.inside.links.items c.detach.new.links.items c.self.inside.ends.items c.args.node c.args.list
+    c.index.result.now c.index_mut.result.now c.detach.new.ends c.index_mut-2.result.now c.self.invariant
+    (omega arith) (omega arith) c.index.ensures c.index_mut.ensures.value c.detach.ensures.places
+    c.index_mut-2.ensures.value)
 
 pub invariant_of-self : goal.invariant_of-self
 invariant_of-self c =
     let n : length c.self.inside.links.items ≡ vec_len c.self.inside.links = search rules in
     let size : vec_len c.self.inside.links ≡ c.args.self.now.size = ap (λ (s : Shape). s.size) c.self.view_is in
-    let lists : length (lists_of c.self.inside.links.items c.self.inside.ends.items) ≡ length c.args.self.now.lists = ap (λ (s : Shape). length s.lists) c.self.view_is in
-    let counted : length (lists_of c.self.inside.links.items c.self.inside.ends.items) ≡ length c.self.inside.ends.items = c.self.invariant.counted in
+    let lists : length (lists_of c.self.inside.links.items c.self.inside.ends.items) ≡ length c.args.self.now.lists =
+    ap (λ (s : Shape). length s.lists) c.self.view_is in
+    let counted : length (lists_of c.self.inside.links.items c.self.inside.ends.items) ≡ length
+    c.self.inside.ends.items = c.self.invariant.counted in
     let node = c.requires.node in let list = c.requires.list in
-    closed _ _ _ (moved_all c.self.inside.links.items c.detach.new.links.items c.append.new.links.items c.self.inside.ends.items c.args.node c.args.list c.index.result.now c.index_mut.result.now c.detach.new.ends c.index_mut-2.result.now c.append.new.ends c.self.invariant (omega arith) (omega arith) c.index.ensures c.index_mut.ensures.value c.detach.ensures.places c.index_mut-2.ensures.value c.append.ensures.places)
+    closed _ _ _ (moved_all c.self.inside.links.items c.detach.new.links.items c.append.new.links.items
+    c.self.inside.ends.items c.args.node c.args.list c.index.result.now c.index_mut.result.now c.detach.new.ends
+    c.index_mut-2.result.now c.append.new.ends c.self.invariant (omega arith) (omega arith) c.index.ensures
+    c.index_mut.ensures.value c.detach.ensures.places c.index_mut-2.ensures.value c.append.ensures.places)
 
 pub returns-clause-lists : goal.returns-clause-lists
 returns-clause-lists c =
     let n : length c.self.inside.links.items ≡ vec_len c.self.inside.links = search rules in
     let size : vec_len c.self.inside.links ≡ c.args.self.now.size = ap (λ (s : Shape). s.size) c.self.view_is in
-    let lists : length (lists_of c.self.inside.links.items c.self.inside.ends.items) ≡ length c.args.self.now.lists = ap (λ (s : Shape). length s.lists) c.self.view_is in
-    let counted : length (lists_of c.self.inside.links.items c.self.inside.ends.items) ≡ length c.self.inside.ends.items = c.self.invariant.counted in
+    let lists : length (lists_of c.self.inside.links.items c.self.inside.ends.items) ≡ length c.args.self.now.lists =
+    ap (λ (s : Shape). length s.lists) c.self.view_is in
+    let counted : length (lists_of c.self.inside.links.items c.self.inside.ends.items) ≡ length
+    c.self.inside.ends.items = c.self.invariant.counted in
     let node = c.requires.node in let list = c.requires.list in
-    lists-found _ _ _ _ (moved_all c.self.inside.links.items c.detach.new.links.items c.append.new.links.items c.self.inside.ends.items c.args.node c.args.list c.index.result.now c.index_mut.result.now c.detach.new.ends c.index_mut-2.result.now c.append.new.ends c.self.invariant (omega arith) (omega arith) c.index.ensures c.index_mut.ensures.value c.detach.ensures.places c.index_mut-2.ensures.value c.append.ensures.places)
+    lists-found _ _ _ _ (moved_all c.self.inside.links.items c.detach.new.links.items c.append.new.links.items
+    c.self.inside.ends.items c.args.node c.args.list c.index.result.now c.index_mut.result.now c.detach.new.ends
+    c.index_mut-2.result.now c.append.new.ends c.self.invariant (omega arith) (omega arith) c.index.ensures
+    c.index_mut.ensures.value c.detach.ensures.places c.index_mut-2.ensures.value c.append.ensures.places)
     ∙ ap (λ (s : Shape). moved c.args.node c.args.list s.lists) c.self.view_is
 
 pub returns-clause-places : goal.returns-clause-places
-returns-clause-places c = λ from below h. map-without c.self.inside.links.items c.self.inside.ends.items c.args.self.now.lists c.args.node from
-    (subst (λ (s : Shape). AreLists c.self.inside.links.items c.self.inside.ends.items s.lists None) c.self.view_is c.self.invariant) below h
+returns-clause-places c = λ from below h. map-without c.self.inside.links.items c.self.inside.ends.items
+    c.args.self.now.lists c.args.node from
+    (subst (λ (s : Shape). AreLists c.self.inside.links.items c.self.inside.ends.items s.lists None) c.self.view_is
+    c.self.invariant) below h
 
 pub returns-clause-labels : goal.returns-clause-labels
 returns-clause-labels c =
@@ -53,21 +71,28 @@ detach-requires-clause-previous c =
     let n : length c.self.inside.links.items ≡ vec_len c.self.inside.links = search rules in
     let size : vec_len c.self.inside.links ≡ c.args.self.now.size = ap (λ (s : Shape). s.size) c.self.view_is in
     let node = c.requires.node in
-    λ a is. subst (λ k. a < k) n (previous_within c.self.inside.links.items c.self.inside.ends.items c.args.node c.self.invariant (omega arith) a is)
+    λ a is. subst (λ k. a < k) n (previous_within c.self.inside.links.items c.self.inside.ends.items c.args.node
+    c.self.invariant (omega arith) a is)
 
 pub detach-requires-clause-next : goal.detach-requires-clause-next
 detach-requires-clause-next c =
     let n : length c.self.inside.links.items ≡ vec_len c.self.inside.links = search rules in
     let size : vec_len c.self.inside.links ≡ c.args.self.now.size = ap (λ (s : Shape). s.size) c.self.view_is in
     let node = c.requires.node in
-    λ a is. subst (λ k. a < k) n (next_link_within c.self.inside.links.items c.self.inside.ends.items c.args.node c.self.invariant (omega arith) a is)
+    λ a is. subst (λ k. a < k) n (next_link_within c.self.inside.links.items c.self.inside.ends.items c.args.node
+    c.self.invariant (omega arith) a is)
 
 pub append-requires-clause-last : goal.append-requires-clause-last
 append-requires-clause-last c =
     let n : length c.self.inside.links.items ≡ vec_len c.self.inside.links = search rules in
     let m : length c.detach.new.links.items ≡ vec_len c.detach.new.links = search rules in
     let size : vec_len c.self.inside.links ≡ c.args.self.now.size = ap (λ (s : Shape). s.size) c.self.view_is in
-    let lists : length (lists_of c.self.inside.links.items c.self.inside.ends.items) ≡ length c.args.self.now.lists = ap (λ (s : Shape). length s.lists) c.self.view_is in
-    let counted : length (lists_of c.self.inside.links.items c.self.inside.ends.items) ≡ length c.self.inside.ends.items = c.self.invariant.counted in
+    let lists : length (lists_of c.self.inside.links.items c.self.inside.ends.items) ≡ length c.args.self.now.lists =
+    ap (λ (s : Shape). length s.lists) c.self.view_is in
+    let counted : length (lists_of c.self.inside.links.items c.self.inside.ends.items) ≡ length
+    c.self.inside.ends.items = c.self.invariant.counted in
     let node = c.requires.node in let list = c.requires.list in
-    λ a is. subst (λ k. a < k) m (last_read c.self.inside.links.items c.detach.new.links.items c.self.inside.ends.items c.args.node c.args.list c.index.result.now c.index_mut.result.now c.detach.new.ends c.index_mut-2.result.now c.self.invariant (omega arith) (omega arith) c.index.ensures c.index_mut.ensures.value c.detach.ensures.places c.index_mut-2.ensures.value a is)
+    λ a is. subst (λ k. a < k) m (last_read c.self.inside.links.items c.detach.new.links.items c.self.inside.ends.items
+    c.args.node c.args.list c.index.result.now c.index_mut.result.now c.detach.new.ends c.index_mut-2.result.now
+    c.self.invariant (omega arith) (omega arith) c.index.ensures c.index_mut.ensures.value c.detach.ensures.places
+    c.index_mut-2.ensures.value a is)

@@ -1,0 +1,233 @@
+-- Rounds over the marks, until nothing grows.
+use Rattle.std.proofs.Common.{◌≡◌, ℕ, ◌+◌, ◌<◌, ◌≤◌, ◌↔◌, Bool, true, false, true≢false, ◌||◌, List, [], ◌∷◌}
+use Rattle.std.proofs.Common.{length, refl, sym, ap, ◌∙◌, subst, inl, inr, arith}
+use Rattle.std.proofs.Common.{◌++◌, take, get_or}
+use Rattle.std.proofs.lemmas.Bool.{cases_eq, cases_lt}
+use Rattle.std.proofs.lemmas.List.{take_more, take_all}
+use Rattle.sect_types.specs.Lists.{Has}
+use Rattle.sect_types.proofs.Membership.{Has-cases, Has-get_or}
+use Rattle.sect_points.specs.Sites.{HasSite}
+use Rattle.sect_types.specs.declared.action.Action.{Action}
+use Rattle.sect_types.specs.declared.action.Action.TheVariants as action
+use Rattle.sect_points.specs.declared.holders.ThreadAction.{ThreadAction}
+use Rattle.sect_points.specs.declared.holders.Growth.TheVariants as growth
+use Rattle.sect_points.specs.Flow.{Within, Moved, IsLeastFlow}
+use Rattle.sect_points.specs.Sets.{PointsToView, InSets, IsEmpty, SameHolders}
+use Rattle.sect_points.specs.Sets.{sets_room}
+use Rattle.sect_points.specs.steps.Solving.{AllFit}
+use Rattle.sect_types.specs.declared.action.Field.{Field}
+use Rattle.sect_points.specs.steps.Marks.{Marked, HasMark, IsMarkable, Suits, Grows}
+use Rattle.sect_points.specs.steps.Marks.{grown, IsBase}
+use Rattle.sect_points.specs.steps.Marks.{MovedBy}
+use Rattle.sect_points.specs.steps.Marks.{IsStretch, IsGoing, IsLeft, IsSpan}
+use Rattle.std.proofs.lemmas.List.{get_or_past}
+use Rattle.sect_points.specs.Rows.{RowHas}
+use Rattle.sect_points.proofs.SetLaws.{row_past, both_false, one_true}
+use Rattle.sect_points.proofs.SolvingLaws.{moved_more}
+use Rattle.sect_points.specs.declared.holders.Holder.{Holder}
+use Rattle.sect_points.specs.declared.holders.Holder.TheVariants.{Local, Slot}
+use Rattle.sect_points.proofs.MarkLaws.{stretch_none, stretch_then, stretch_by, covers_all, fits_after}
+
+-- the locals of the first t threads and the first f fields had their turns
+pub record IsRounding (t f : ℕ) (list : List ThreadAction) (old now moved : PointsToView) (marks : Marked)
+    (grew : Bool) : Type 0 where
+  pub going : IsGoing list now moved marks
+  pub left : IsLeft now moved marks (λ h. ⊥)
+  pub less : grew ≡ true → sets_room now < sets_room old
+  pub most : sets_room now ≤ sets_room old
+  pub places : SameHolders old now
+  pub locals : grew ≡ false → (u x : ℕ) → u < t → HasMark marks (Local u x) → ⊥
+  pub slots : grew ≡ false → (o g : ℕ) → g < f → HasMark marks (Slot o g) → ⊥
+
+pub rounding_none : (list : List ThreadAction) (old moved : PointsToView) (marks : Marked)
+    → IsGoing list old moved marks → IsLeft old moved marks (λ h. ⊥) → IsRounding 0 0 list old old moved marks false
+rounding_none list old moved marks going left = record {
+  going = going;
+  left = left;
+  less = λ e. absurd (true≢false (sym e));
+  most = omega arith;
+  places = record { sites = refl; slots = refl; locals = refl; rows = λ t. refl };
+  locals = λ e u x lt. absurd (omega arith);
+  slots = λ e o g lt. absurd (omega arith);
+}
+
+span_most : (old new : PointsToView) (before after : Marked) (grew : Bool) → IsSpan old new before after grew
+    → sets_room new ≤ sets_room old
+span_most old new before after true r = omega (arith, r.less refl)
+span_most old new before after false r = omega (arith, ap sets_room (r.same refl))
+
+rounding_step : (t f t' f' : ℕ) (list : List ThreadAction) (old now new moved moved' : PointsToView)
+    (marks marks' : Marked) (grew second both : Bool) → IsRounding t f list old now moved marks grew
+    → IsSpan now new marks marks' second → IsGoing list new moved' marks' → IsLeft new moved' marks' (λ h. ⊥)
+    → both ≡ (second || grew)
+    → (both ≡ false → (u x : ℕ) → u < t' → HasMark marks' (Local u x) → ⊥)
+    → (both ≡ false → (o g : ℕ) → g < f' → HasMark marks' (Slot o g) → ⊥)
+    → IsRounding t' f' list old new moved' marks' both
+rounding_step t f t' f' list old now new moved moved' marks marks' grew second both r span going left is locals slots =
+    record {
+      going = going;
+      left = left;
+      less = λ e. elim (one_true grew second (sym is ∙ e)) [
+        | inl g ↦ omega (arith, r.less g, span_most now new marks marks' second span)
+        | inr g ↦ omega (arith, span.less g, r.most)
+      ];
+      most = omega (arith, r.most, span_most now new marks marks' second span);
+      places = record {
+        sites = span.places.sites ∙ r.places.sites;
+        slots = span.places.slots ∙ r.places.slots;
+        locals = span.places.locals ∙ r.places.locals;
+        rows = λ t. span.places.rows t ∙ r.places.rows t;
+      };
+      locals = locals;
+      slots = slots;
+    }
+
+pub rounding_local : (t : ℕ) (list : List ThreadAction) (old now new moved moved' : PointsToView)
+    (marks marks' : Marked) (grew second both : Bool) → IsRounding t 0 list old now moved marks grew
+    → IsSpan now new marks marks' second → IsGoing list new moved' marks' → IsLeft new moved' marks' (λ h. ⊥)
+    → (second ≡ false → (x : ℕ) → HasMark marks' (Local t x) → ⊥) → both ≡ (second || grew)
+    → IsRounding (t + 1) 0 list old new moved' marks' both
+rounding_local t list old now new moved moved' marks marks' grew second both r span going left gone is =
+    rounding_step t 0 (t + 1) 0 list old now new moved moved' marks marks' grew second both r span going left is
+    (λ e u x lt m. let f = both_false grew second (sym is ∙ e) in elim (cases_eq u t) [
+      | inl same ↦ gone f.1 x (subst (λ v. HasMark marks' (Local v x)) same m)
+      | inr apart ↦ r.locals f.0 u x (omega arith) (span.fewer f.1 (Local u x) m)
+    ])
+    (λ e o g lt. absurd (omega arith))
+
+pub rounding_slot : (t f : ℕ) (list : List ThreadAction) (old now new moved moved' : PointsToView)
+    (marks marks' : Marked) (grew second both : Bool) → IsRounding t f list old now moved marks grew
+    → IsSpan now new marks marks' second → IsGoing list new moved' marks' → IsLeft new moved' marks' (λ h. ⊥)
+    → (second ≡ false → (o : ℕ) → HasMark marks' (Slot o f) → ⊥) → both ≡ (second || grew)
+    → IsRounding t (f + 1) list old new moved' marks' both
+rounding_slot t f list old now new moved moved' marks marks' grew second both r span going left gone is =
+    rounding_step t f t (f + 1) list old now new moved moved' marks marks' grew second both r span going left is
+    (λ e u x lt m. let n = both_false grew second (sym is ∙ e) in r.locals n.0 u x lt (span.fewer n.1 (Local u x) m))
+    (λ e o g lt m. let n = both_false grew second (sym is ∙ e) in elim (cases_eq g f) [
+      | inl same ↦ gone n.1 o (subst (λ v. HasMark marks' (Slot o v)) same m)
+      | inr apart ↦ r.slots n.0 o g (omega arith) (span.fewer n.1 (Slot o g) m)
+    ])
+
+-- where nothing grew, all has been moved on
+pub rounding_all : (t f : ℕ) (list : List ThreadAction) (old now moved : PointsToView) (marks : Marked)
+    → IsRounding t f list old now moved marks false → length old.locals ≤ t → 16 ≤ f
+    → Within (InSets now) (InSets moved)
+rounding_all t f list old now moved marks r few all (Slot o g) s k = elim (r.left (Slot o g) s k) [
+  | inl j ↦ j
+  | inr j ↦ elim j [ inl m ↦ absurd (r.slots refl o g (omega (arith, k.0)) m) | inr e ↦ absurd e ]
+]
+rounding_all t f list old now moved marks r few all (Local u x) s k = elim (r.left (Local u x) s k) [
+  | inl j ↦ j
+  | inr j ↦ elim j [
+    | inl m ↦ elim (cases_lt u (length now.locals)) [
+      | inl lt ↦ absurd (r.locals refl u x (omega (arith, lt, r.places.locals)) m)
+      | inr past ↦ absurd (row_past [] x s (omega arith)
+          (subst (λ rows. RowHas rows x s) (get_or_past now.locals u [] past) k))
+    ]
+    | inr e ↦ absurd e
+  ]
+]
+
+-- marks are taken
+pub going_taken : (list : List ThreadAction) (now moved : PointsToView) (before after : Marked)
+    → ((h : Holder) → IsMarkable before h → IsMarkable after h) → IsGoing list now moved before
+    → IsGoing list now moved after
+going_taken list now moved before after places going = record {
+  within = going.within;
+  below = going.below;
+  part = going.part;
+  done = going.done;
+  same = going.same;
+  suits = λ h p. places h (going.suits h p);
+}
+
+-- the first i statements moved what they move
+pub record IsStarting (i : ℕ) (list : List ThreadAction) (old now moved : PointsToView) (before after : Marked) : Type 0
+  where
+    pub stretch : (grew : Bool) × IsStretch list old now before after grew
+    pub done : (p : ThreadAction) → Has (take i list) p → Within (Moved (InSets moved) p.thread p.action) (InSets now)
+
+pub starting_none : (list : List ThreadAction) (old moved : PointsToView) (marks : Marked)
+    → IsStarting 0 list old old moved marks marks
+starting_none list old moved marks = record { stretch = (false, stretch_none list old marks); done = λ p h. absurd h }
+
+pub starting_more : (i : ℕ) (list : List ThreadAction) (p : ThreadAction) (bases : List ℕ)
+    (old now new moved : PointsToView) (marks0 marks1 marks2 : Marked) (grew : Bool) → i < length list
+    → p ≡ get_or list i p → AllFit old list
+    → IsEmpty moved → ((o : ℕ) → HasSite bases o ↔ IsBase (InSets now) p.thread p.action o)
+    → Grows now new (MovedBy (InSets now) bases p.thread p.action) marks1 marks2 grew
+    → IsStarting i list old now moved marks0 marks1 → IsStarting (i + 1) list old new moved marks0 marks2
+starting_more i list p bases old now new moved marks0 marks1 marks2 grew lt is fits empty are g s =
+    let has : Has list p = subst (Has list) (sym is) (Has-get_or list i p lt) in
+    let one = stretch_by list p now new bases marks1 marks2 grew has
+    (fits_after list p old now fits s.stretch.1.places has) (λ o. (are o).0) g in
+    let next : take (i + 1) list ≡ take i list ++ p ∷ [] =
+    take_more list i p lt ∙ ap (λ r. take i list ++ r ∷ []) (sym is) in
+    let here : Within (Moved (InSets moved) p.thread p.action) (InSets new) = λ h r m.
+    elim (covers_all now (grown (growth.Field 0) bases) p bases are moved moved (λ k q j. inl j)
+    (λ k q j. absurd (empty k q j)) h r m) [
+      | inl j ↦ (g.adds.has h r).1 (inr
+          (by_all now p bases are h r (moved_more (InSets moved) (InSets now) p.thread p.action
+          (λ k q j. absurd (empty k q j)) h r j)))
+      | inr j ↦ (g.adds.has h r).1 (inr j)
+    ] in
+    record {
+      stretch = (
+        grew || s.stretch.0,
+        stretch_then list old now new marks0 marks1 marks2 s.stretch.0 grew
+            (grew || s.stretch.0) s.stretch.1 one refl,
+      );
+      done = λ q h. elim (Has-cases (take i list) (p ∷ []) q (subst (λ l. Has l q) next h)) [
+        | inl k ↦ λ k' r m. (g.adds.has k' r).1 (inl (s.done q k k' r m))
+        | inr k ↦ elim k [
+          | inl same ↦ subst (λ (x : ThreadAction). Within (Moved (InSets moved) x.thread x.action) (InSets new)) same
+              here
+          | inr k ↦ absurd k
+        ]
+      ];
+    }
+  where
+    by_all : (sets : PointsToView) (p : ThreadAction) (bases : List ℕ)
+        → ((o : ℕ) → HasSite bases o ↔ IsBase (InSets sets) p.thread p.action o)
+        → Within (Moved (InSets sets) p.thread p.action) (MovedBy (InSets sets) bases p.thread p.action)
+    by_all sets p bases are h r m =
+        elim (covers_all sets (grown (growth.Field 0) bases) p bases are sets sets (λ k q j. inl j) (λ k q j. j) h r m)
+        [ inl j ↦ move p.action are j | inr j ↦ j ]
+      where
+        move : (a : Action) → ((o : ℕ) → HasSite bases o ↔ IsBase (InSets sets) p.thread a o)
+            → Moved (InSets sets) p.thread a h r → MovedBy (InSets sets) bases p.thread a h r
+        move (action.Assign x v) are m = m
+        move (action.Compute x v o w) are m = m
+        move (action.New x q i) are m = m
+        move (action.Load x b f) are m = (m.0, (m.1.0, (are m.1.0).1 m.1.1, m.1.2))
+        move (action.Store b f v) are m = (m.0, (are m.0).1 m.1, m.2, m.3)
+        move (action.Print v) are m = m
+
+pub started : (i : ℕ) (list : List ThreadAction) (old now moved : PointsToView) (before after : Marked)
+    → length list ≤ i → IsEmpty old → IsEmpty moved → SameHolders old moved → Suits old before
+    → IsStarting i list old now moved before after → IsGoing list now moved after × IsLeft now moved after (λ h. ⊥)
+started i list old now moved before after past empty unmoved same suits s =
+    let r = s.stretch.1 in (
+      record {
+        within = λ others closed. r.within others closed (λ h q k. absurd (empty h q k));
+        below = r.below (λ h q k. absurd (empty h q k));
+        part = λ h q k. absurd (unmoved h q k);
+        done = λ p has. s.done p (subst (λ l. Has l p) (sym (take_all i list past)) has);
+        same = record {
+          sites = same.sites ∙ sym r.places.sites;
+          slots = same.slots ∙ sym r.places.slots;
+          locals = same.locals ∙ sym r.places.locals;
+          rows = λ t. same.rows t ∙ sym (r.places.rows t);
+        };
+        suits = r.suits suits;
+      },
+      λ h q k. elim (r.marked h q k) [ inl j ↦ absurd (empty h q j) | inr m ↦ inr (inl m) ],
+    )
+
+-- all is moved on: the sets are the least
+pub arrived : (list : List ThreadAction) (now moved : PointsToView) (marks : Marked) → IsGoing list now moved marks
+    → Within (InSets now) (InSets moved) → IsLeastFlow (InSets now) list
+arrived list now moved marks going still = record {
+  closed = λ p has h s m. going.done p has h s (moved_more (InSets now) (InSets moved) p.thread p.action still h s m);
+  within = going.within;
+}

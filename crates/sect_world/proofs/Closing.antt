@@ -18,7 +18,8 @@ runs_are_tidy c ok fuel trace s run = well_kept_is_tidy c s (runs_are_well_kept 
 pub runs_exclude : (c : CompiledView) → IsCompiled c → ReadersAndWritersExclude c
 runs_exclude c ok fuel trace s run t u reader writer other is_reader is_writer o =
     let good = runs_are_good c ok fuel trace s run in
-    readers_and_writers_exclude c s good.kept t u reader writer other is_reader is_writer (good.classes t reader is_reader) (good.classes u writer is_writer) o
+    readers_and_writers_exclude c s good.kept t u reader writer other is_reader is_writer
+    (good.classes t reader is_reader) (good.classes u writer is_writer) o
 
 -- complete runs come to what whole sections come to
 pub runs_are_serial : (c : CompiledView) → IsCompiled c → EveryRunIsSerial c

@@ -11,11 +11,13 @@ use Rattle.sect_emit.specs.Plan.{field_datum, field_of, path_datum}
 
 -- a path denotes the same in two stores where its beginnings denote the same objects
 pub path_stays : (s s' : StoreView) (locals : List Datum) (p : PathView)
-    → ((q : PathView) (f : Field) (o : ObjectName) → GoesBy p q f → path_datum s locals q ≡ Refers o → object_at s' o ≡ object_at s o)
+    → ((q : PathView) (f : Field) (o : ObjectName) → GoesBy p q f → path_datum s locals q ≡ Refers o
+    → object_at s' o ≡ object_at s o)
     → path_datum s' locals p ≡ path_datum s locals p
 path_stays s s' locals (var v) same = refl
 path_stays s s' locals (dot e f) same =
-    ap (λ d. field_of s' d f.number) (path_stays s s' locals e (λ q g o goes is. same q g o (inr goes) is)) ∙ by (path_datum s locals e) refl
+    ap (λ d. field_of s' d f.number) (path_stays s s' locals e (λ q g o goes is. same q g o (inr goes) is))
+    ∙ by (path_datum s locals e) refl
   where
     by : (d : Datum) → path_datum s locals e ≡ d → field_of s' d f.number ≡ field_of s d f.number
     by (Number n) is = refl

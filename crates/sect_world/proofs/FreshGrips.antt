@@ -1,5 +1,6 @@
 -- Which step of a thread brings it a key: a `new` for which fuel is left and whose record nothing guards.
-use Rattle.std.proofs.Common.{◌≡◌, ◌<◌, [], ℕ, zero, suc, Bool, true, false, List, Option, Some, None, Result, Ok, Err, OnOk, refl, sym, ap, ◌∙◌, subst, arith}
+use Rattle.std.proofs.Common.{◌≡◌, ◌<◌, [], ℕ, zero, suc, Bool, true, false, List, Option, Some, None, Result, Ok, Err}
+use Rattle.std.proofs.Common.{OnOk, refl, sym, ap, ◌∙◌, subst, arith}
 use Rattle.std.specs.Prelude.{option_map, if◌then◌else◌, ℤ}
 use Rattle.sect_types.specs.declared.action.Action.{Action}
 use Rattle.sect_types.specs.declared.action.Action.TheVariants as action
@@ -12,7 +13,9 @@ use Rattle.sect_types.specs.Programs.{ProgramView}
 use Rattle.sect_types.specs.Store.{ObjectView, StoreView, add}
 use Rattle.sect_types.specs.declared.store.Datum.TheVariants.{Number}
 use Rattle.sect_types.specs.declared.store.Fault.TheVariants as fault
-use Rattle.sect_types.specs.Meaning.{WorkView, Came, Went, Fell, Unchanged, Added, assigned, On, done, paid, one, going, taken, next, looked, looks, found_at, fits, computed, stored, result_of, integer_of, value_datum, base_datum, name_in}
+use Rattle.sect_types.specs.Meaning.{WorkView, Came, Went, Fell, Unchanged, Added, assigned, On, done, paid, one, going}
+use Rattle.sect_types.specs.Meaning.{taken, next, looked, looks, found_at, fits, computed, stored, result_of}
+use Rattle.sect_types.specs.Meaning.{integer_of, value_datum, base_datum, name_in}
 use Rattle.sect_types.proofs.Basics.{some_injective}
 use Rattle.sect_graph.specs.declared.flow.Node.{Node}
 use Rattle.sect_graph.specs.declared.flow.Successors.{Successors}
@@ -50,7 +53,8 @@ test_is_no_act d a e = cc
 section_is_no_act : (i : ℕ) (a : Action) → WholeSection i ≡ Act a → ⊥
 section_is_no_act i a e = cc
 
-pub begins_with : (rest : ℕ → TextView) (x : Node) (a : Action) (k : TextView) → Begins rest x k → x.label ≡ Act a → BeginsWith rest x a k
+pub begins_with : (rest : ℕ → TextView) (x : Node) (a : Action) (k : TextView) → Begins rest x k → x.label ≡ Act a
+    → BeginsWith rest x a k
 begins_with rest x a Stop b is = absurd b
 begins_with rest x a (Do d r) b is =
     let same : d ≡ a = (let e : Act d ≡ Act a = sym (ap (λ (y : Node). y.label) b.1) ∙ is in cc) in
@@ -65,13 +69,17 @@ if_ok (Ok x) p = p
 if_ok (Err e) p = tt
 
 -- the node is the one that was looked up
-pub looked_up : {A B : Type 0} (f : A → B) (o : Option A) (x : A) (y : B) → o ≡ Some x → option_map f o ≡ Some y → f x ≡ y
+pub looked_up : {A B : Type 0} (f : A → B) (o : Option A) (x : A) (y : B) → o ≡ Some x → option_map f o ≡ Some y
+    → f x ≡ y
 looked_up f o x y is shown = some_injective (f x) y (sym (ap (option_map f) is) ∙ shown)
 
 -- a `new` goes on after it, with one object more
-pub new_goes : (c : CompiledView) (p : ProgramView) → p ≡ program_of c → (t : ℕ) (w v : WorkView) (s : StoreView) (new : Making) (rest : ℕ → TextView) (k : TextView) (x : Node) (to : Successors) (n : ℕ)
+pub new_goes : (c : CompiledView) (p : ProgramView) → p ≡ program_of c
+    → (t : ℕ) (w v : WorkView) (s : StoreView) (new : Making) (rest : ℕ → TextView) (k : TextView) (x : Node)
+    (to : Successors) (n : ℕ)
     → x.label ≡ Act (action.New new.target new.of new.site) → x.next ≡ to → n ≡ chosen to true → Begins rest x k
-    → ((found : Option ObjectView) → one p t (action.New new.target new.of new.site) found w ≡ Went v (Added (object_by p new.of new.site)))
+    → ((found : Option ObjectView)
+    → one p t (action.New new.target new.of new.site) found w ≡ Went v (Added (object_by p new.of new.site)))
     → Goes rest t s (step_in c t k w s) (Ok n) v (add s t (object_by p new.of new.site))
 new_goes c p is t w v s new rest k x to n label successors number begins does =
     let a = action.New new.target new.of new.site in
@@ -80,21 +88,27 @@ new_goes c p is t w v s new rest k x to n label successors number begins does =
     let step : step_in c t k w s ≡ On b.after v (Added (object_by p new.of new.site)) =
     ap (λ z. step_in c t z w s) b.text ∙ ap (λ q. going b.after (one q t a (found_at s (looked a w.locals)) w)) (sym is)
     ∙ ap (going b.after) (does (found_at s (looked a w.locals))) in
-    subst (λ z. Goes rest t s z (Ok n) v (add s t (object_by p new.of new.site))) (sym step) (ap rest m ∙ b.leads, refl, refl)
+    subst (λ z. Goes rest t s z (Ok n) v (add s t (object_by p new.of new.site))) (sym step)
+    (ap rest m ∙ b.leads, refl, refl)
 
 typed_of : (c : CompiledView) → IsCompiled c → IsTypedProgram (program_of c)
 typed_of c is = record { sound = is.numbers.sound; sited = is.numbers.sited }
 
 -- nothing guards an object that is made for a record that nothing guards
-site_guard : (c : CompiledView) → IsCompiled c → (t : ℕ) (target of site : ℕ) (after : TextView) → IsTextOf (program_of c) t true (Do (action.New target of site) after)
+site_guard : (c : CompiledView) → IsCompiled c → (t : ℕ) (target of site : ℕ) (after : TextView)
+    → IsTextOf (program_of c) t true (Do (action.New target of site) after)
     → guard_at c site ≡ guard_of c.scheme.guards of
 site_guard c is t target of site after text =
-    guard_of_site c site of (statement_sited (program_of c) (typed_of c is) (thread_action t (action.New target of site)) text.listed.0)
+    guard_of_site c site of (statement_sited (program_of c) (typed_of c is)
+    (thread_action t (action.New target of site)) text.listed.0)
 
 -- and it brings the key of its object
-pub new_holds : (c : CompiledView) → IsCompiled c → (p : ProgramView) → p ≡ program_of c → (t : ℕ) (w v : WorkView) (s : StoreView) (new : Making) (rest : ℕ → TextView) (k : TextView) (x : Node)
-    (old after : Contents) → x.label ≡ Act (action.New new.target new.of new.site) → guard_of c.scheme.guards new.of ≡ None → Begins rest x k → IsTextOf (program_of c) t true k
-    → ((found : Option ObjectView) → one p t (action.New new.target new.of new.site) found w ≡ Went v (Added (object_by p new.of new.site)))
+pub new_holds : (c : CompiledView) → IsCompiled c → (p : ProgramView) → p ≡ program_of c
+    → (t : ℕ) (w v : WorkView) (s : StoreView) (new : Making) (rest : ℕ → TextView) (k : TextView) (x : Node)
+    (old after : Contents) → x.label ≡ Act (action.New new.target new.of new.site)
+    → guard_of c.scheme.guards new.of ≡ None → Begins rest x k → IsTextOf (program_of c) t true k
+    → ((found : Option ObjectView)
+    → one p t (action.New new.target new.of new.site) found w ≡ Went v (Added (object_by p new.of new.site)))
     → IsAnswered Granted t (key_of (Made t w.made)) Exclusive old after → IsKept after
     → HoldsMore t (grips_by c t w.made (step_in c t k w s)) old after
 new_holds c compiled p is t w v s new rest k x old after label free begins text does answered kept =
@@ -103,7 +117,9 @@ new_holds c compiled p is t w v s new rest k x old after label free begins text 
     let step : step_in c t k w s ≡ On b.after v (Added (object_by p new.of new.site)) =
     ap (λ z. step_in c t z w s) b.text ∙ ap (λ q. going b.after (one q t a (found_at s (looked a w.locals)) w)) (sym is)
     ∙ ap (going b.after) (does (found_at s (looked a w.locals))) in
-    let none : guard_at c new.site ≡ None = site_guard c compiled t new.target new.of new.site b.after (subst (IsTextOf (program_of c) t true) b.text text) ∙ free in
+    let none : guard_at c new.site ≡ None =
+    site_guard c compiled t new.target new.of new.site b.after (subst (IsTextOf (program_of c) t true) b.text text)
+    ∙ free in
     let grips = ap (grips_by c t w.made) step ∙ ap (λ g. fresh_grip g t w.made) none in
     subst (λ gs. HoldsMore t gs old after) (sym grips) (answered, kept)
 
@@ -124,10 +140,12 @@ module _ (c : CompiledView) (t n : ℕ) where
     by true = refl
     by false = refl
 
-  done_grips : (a : Action) (found : Option ObjectView) (w : WorkView) → IsGuarded a → came_grips (done (program_of c) t a found w) ≡ []
+  done_grips : (a : Action) (found : Option ObjectView) (w : WorkView) → IsGuarded a
+      → came_grips (done (program_of c) t a found w) ≡ []
   unfolding came_grips
   done_grips (action.Assign x v) found w kept = refl
-  done_grips (action.Compute x v o u) found w kept = computed_grips x (result_of o (integer_of (value_datum w.locals v)) (integer_of (value_datum w.locals u))) w
+  done_grips (action.Compute x v o u) found w kept =
+      computed_grips x (result_of o (integer_of (value_datum w.locals v)) (integer_of (value_datum w.locals u))) w
   done_grips (action.New x r site) found w kept = by (guard_at c site) refl where
     by : (g : Option ℕ) → guard_at c site ≡ g → fresh_grip g t n ≡ []
     by None e = absurd (kept x r site refl e)
@@ -140,12 +158,14 @@ module _ (c : CompiledView) (t n : ℕ) where
     by (Some o) = refl
   done_grips (action.Print v) found w kept = refl
 
-  one_grips : (a : Action) (found : Option ObjectView) (w : WorkView) → (0 < w.fuel → IsGuarded a) → came_grips (one (program_of c) t a found w) ≡ []
+  one_grips : (a : Action) (found : Option ObjectView) (w : WorkView) → (0 < w.fuel → IsGuarded a)
+      → came_grips (one (program_of c) t a found w) ≡ []
   unfolding came_grips
   one_grips a found w kept = by w.fuel refl where
     by : (m : ℕ) → w.fuel ≡ m → came_grips (paid m w (done (program_of c) t a found)) ≡ []
     by zero e = refl
-    by (suc m) e = done_grips a found (record w { fuel = m }) (kept (let some : 0 < suc m = omega arith in subst (λ z. 0 < z) (sym e) some))
+    by (suc m) e = done_grips a found (record w { fuel = m })
+        (kept (let some : 0 < suc m = omega arith in subst (λ z. 0 < z) (sym e) some))
 
   going_grips : (r : TextView) (came : Came) → grips_by c t n (going r came) ≡ came_grips came
   unfolding came_grips
@@ -156,9 +176,12 @@ module _ (c : CompiledView) (t n : ℕ) where
   taken_grips zero d a b w = refl
   taken_grips (suc m) d a b w = refl
 
-  next_grips : (k : TextView) (found : Option ObjectView) (w : WorkView) → ((a : Action) (r : TextView) → k ≡ Do a r → 0 < w.fuel → IsGuarded a) → grips_by c t n (next (program_of c) t k found w) ≡ []
+  next_grips : (k : TextView) (found : Option ObjectView) (w : WorkView)
+      → ((a : Action) (r : TextView) → k ≡ Do a r → 0 < w.fuel → IsGuarded a)
+      → grips_by c t n (next (program_of c) t k found w) ≡ []
   next_grips Stop found w kept = refl
-  next_grips (Do a r) found w kept = going_grips r (one (program_of c) t a found w) ∙ one_grips a found w (kept a r refl)
+  next_grips (Do a r) found w kept = going_grips r (one (program_of c) t a found w)
+      ∙ one_grips a found w (kept a r refl)
   next_grips (Choose d p q r) found w kept = taken_grips w.fuel d _ _ w
   next_grips (Loop d p r) found w kept = taken_grips w.fuel d _ _ w
   next_grips (Section i p r) found w kept = refl
@@ -167,12 +190,16 @@ begun_label : (rest : ℕ → TextView) (x : Node) (a : Action) (r : TextView) �
 begun_label rest x a r b = ap (λ (y : Node). y.label) b.1
 
 -- any other step brings none
-pub others_hold : (c : CompiledView) → IsCompiled c → (t : ℕ) (w : WorkView) (s : StoreView) (rest : ℕ → TextView) (k : TextView) (x : Node) (table : Contents)
-    → GivesKey c.scheme.guards w.fuel x.label None → Begins rest x k → IsTextOf (program_of c) t true k → HoldsMore t (grips_by c t w.made (step_in c t k w s)) table table
+pub others_hold : (c : CompiledView) → IsCompiled c
+    → (t : ℕ) (w : WorkView) (s : StoreView) (rest : ℕ → TextView) (k : TextView) (x : Node) (table : Contents)
+    → GivesKey c.scheme.guards w.fuel x.label None → Begins rest x k → IsTextOf (program_of c) t true k
+    → HoldsMore t (grips_by c t w.made (step_in c t k w s)) table table
 others_hold c is t w s rest k x table none begins text =
-    subst (λ gs. HoldsMore t gs table table) (sym (next_grips c t w.made k (found_at s (looks k w)) w guarded)) refl where
-      guarded : (a : Action) (r : TextView) → k ≡ Do a r → 0 < w.fuel → IsGuarded c t w.made a
-      guarded a r e fuel target of site e' free =
-          let at : k ≡ Do (action.New target of site) r = e ∙ ap (λ z. Do z r) e' in
-          let label = begun_label rest x (action.New target of site) r (subst (Begins rest x) at begins) in
-          none target of site label fuel (sym (site_guard c is t target of site r (subst (IsTextOf (program_of c) t true) at text)) ∙ free)
+    subst (λ gs. HoldsMore t gs table table) (sym (next_grips c t w.made k (found_at s (looks k w)) w guarded)) refl
+  where
+    guarded : (a : Action) (r : TextView) → k ≡ Do a r → 0 < w.fuel → IsGuarded c t w.made a
+    guarded a r e fuel target of site e' free =
+        let at : k ≡ Do (action.New target of site) r = e ∙ ap (λ z. Do z r) e' in
+        let label = begun_label rest x (action.New target of site) r (subst (Begins rest x) at begins) in
+        none target of site label fuel
+        (sym (site_guard c is t target of site r (subst (IsTextOf (program_of c) t true) at text)) ∙ free)

@@ -22,16 +22,23 @@ past_last [] = refl
 past_last (x ∷ xs) = past_last xs
 
 -- none of these keys is that of an object that isn't there
-ungripped : (s : StoreView) (gs : List Grip) (t : ℕ) → AreGripsKept s gs → held_mode (key_of (Made t (count s t))) gs ≡ None
+ungripped : (s : StoreView) (gs : List Grip) (t : ℕ) → AreGripsKept s gs
+    → held_mode (key_of (Made t (count s t))) gs ≡ None
 ungripped s gs t kept = by (held_mode (key_of (Made t (count s t))) gs) refl where
   by : (o : Option Mode) → held_mode (key_of (Made t (count s t))) gs ≡ o → o ≡ None
   by None e = refl
-  by (Some m) e = let there = (kept (Made t (count s t)) m e).0 in absurd (none_or_some there.0 (sym (past_last (row s t)) ∙ there.1))
+  by (Some m) e = let there = (kept (Made t (count s t)) m e).0 in
+      absurd (none_or_some there.0 (sym (past_last (row s t)) ∙ there.1))
 
 pub next_key_free : (p : CompiledView) (c : Contents) (s : State) (t : ℕ) → IsWellKept p s → IsKept c → Fits c s
-    → ((entry_of (key_of (Made t (count s.store t))) c.entries).holders ≡ []) × ((entry_of (key_of (Made t (count s.store t))) c.entries).waiters ≡ [])
+    → ((entry_of (key_of (Made t (count s.store t))) c.entries).holders ≡ [])
+    × ((entry_of (key_of (Made t (count s.store t))) c.entries).waiters ≡ [])
 next_key_free p c s t well kept f =
-    nobody_claims c s (key_of (Made t (count s.store t))) kept f (λ u th at. ungripped s.store th.held t (well.threads u th at).held) (λ u th m at wants.
+    nobody_claims c s (key_of (Made t (count s.store t))) kept f
+    (λ u th at. ungripped s.store th.held t (well.threads u th at).held) (λ u th m at wants.
     let none = ungripped s.store th.wanted t (well.threads u th at).wanted in
-    let some : held_mode (key_of (Made t (count s.store t))) th.wanted ≡ Some m = ap (held_mode (key_of (Made t (count s.store t)))) wants.1 ∙ held-here (key_of (Made t (count s.store t))) (grip (key_of (Made t (count s.store t))) m) wants.0 (key_itself (key_of (Made t (count s.store t)))) in
+    let some : held_mode (key_of (Made t (count s.store t))) th.wanted ≡ Some m =
+    ap (held_mode (key_of (Made t (count s.store t)))) wants.1
+    ∙ held-here (key_of (Made t (count s.store t))) (grip (key_of (Made t (count s.store t))) m) wants.0
+    (key_itself (key_of (Made t (count s.store t)))) in
     none_or_some m (sym none ∙ some))

@@ -1,5 +1,6 @@
 -- While some thread hasn't ended, some event is enabled.
-use Rattle.std.proofs.Common.{◌≡◌, ◌≢◌, ℕ, zero, suc, Bool, true, false, refl, sym, ap, subst, ◌⊎◌, inl, inr, ⊎_elim, List, [], ◌∷◌, Option, Some, None, true≢false}
+use Rattle.std.proofs.Common.{◌≡◌, ◌≢◌, ℕ, zero, suc, Bool, true, false, refl, sym, ap, subst, ◌⊎◌, inl, inr, ⊎_elim}
+use Rattle.std.proofs.Common.{List, [], ◌∷◌, Option, Some, None, true≢false}
 use Rattle.std.specs.Prelude.{slice_get, ◌&&◌}
 use Rattle.std.specs.List.{list_all}
 use Rattle.sect_types.specs.Statements.{TextView, Stop, Do, Choose, Loop, Section}
@@ -27,10 +28,12 @@ use Rattle.sect_world.proofs.KeptStates.{runs_are_well_kept}
 abbrev IsFound : {X : Type 0} → ℕ → (X → Bool) → List X → Type 0
 IsFound {X} t test xs = (u : ℕ) × (x : X) × (t ≢ u) × (slice_get xs u ≡ Some x) × (test x ≡ false)
 
-one_fails : {X : Type 0} (test : X → Bool) (xs : List X) → list_all test xs ≡ false → (u : ℕ) × (x : X) × (slice_get xs u ≡ Some x) × (test x ≡ false)
+one_fails : {X : Type 0} (test : X → Bool) (xs : List X) → list_all test xs ≡ false
+    → (u : ℕ) × (x : X) × (slice_get xs u ≡ Some x) × (test x ≡ false)
 one_fails test [] e = absurd (true≢false e)
 one_fails {X = X} test (y ∷ xs) e = by (test y) refl e (one_fails test xs) where
-  by : (b : Bool) → test y ≡ b → (b && list_all test xs) ≡ false → (list_all test xs ≡ false → (u : ℕ) × (x : X) × (slice_get xs u ≡ Some x) × (test x ≡ false))
+  by : (b : Bool) → test y ≡ b → (b && list_all test xs) ≡ false
+      → (list_all test xs ≡ false → (u : ℕ) × (x : X) × (slice_get xs u ≡ Some x) × (test x ≡ false))
       → (u : ℕ) × (x : X) × (slice_get (y ∷ xs) u ≡ Some x) × (test x ≡ false)
   by true is e' more = let r = more e' in (suc r.0, r.1, r.2, r.3)
   by false is e' more = (zero, y, refl, is)
@@ -53,7 +56,8 @@ another_fails : {X : Type 0} (t : ℕ) (test : X → Bool) (xs : List X) → all
 another_fails t test [] e = absurd (true≢false e)
 another_fails zero test (y ∷ xs) e = let r = one_fails test xs e in (suc r.0, r.1, zero_or_more r.0, r.2, r.3)
 another_fails (suc t) test (y ∷ xs) e = by (test y) refl e (another_fails t test xs) where
-  by : (b : Bool) → test y ≡ b → (b && all_but t test xs) ≡ false → (all_but t test xs ≡ false → IsFound t test xs) → IsFound (suc t) test (y ∷ xs)
+  by : (b : Bool) → test y ≡ b → (b && all_but t test xs) ≡ false → (all_but t test xs ≡ false → IsFound t test xs)
+      → IsFound (suc t) test (y ∷ xs)
   by true is e' more = let r = more e' in (suc r.0, r.1, λ same. r.2 (same_less t r.0 same), r.3, r.4)
   by false is e' more = (zero, y, λ same. zero_or_more t (sym same), refl, is)
 
@@ -64,7 +68,8 @@ module _ (c : CompiledView) (s : State) where
   goes : (t : ℕ) (th : ThreadState) (d : Deed) (after : State) → IsThread s t th → MayDo c s t th d after → Goes th
   goes t th d after at does = inr (inl (record { thread = t; deed = d }, after, (th, at, does)))
 
-  goes_outside : (t : ℕ) (th : ThreadState) → IsThread s t th → th.position ≡ Outside → IsAt c s.store t Outside th → Goes th
+  goes_outside : (t : ℕ) (th : ThreadState) → IsThread s t th → th.position ≡ Outside → IsAt c s.store t Outside th
+      → Goes th
   goes_outside t th at p k = by th.frame.ended refl th.frame.text refl where
     by : (o : Option End) → th.frame.ended ≡ o → (text : TextView) → th.frame.text ≡ text → Goes th
     by (Some e) ended text is = inl (ap has_ended ended)
@@ -74,7 +79,8 @@ module _ (c : CompiledView) (s : State) where
     by None ended (Loop d a r) is = goes t th Local _ at ((p, ended), ap begins_step is, refl)
     by None ended (Section i b r) is = goes t th Enter _ at (i, b, r, (p, ended), is, refl)
 
-  waits_for : (t : ℕ) (th : ThreadState) (k : Key) (m : Mode) (rest : List Grip) → IsThread s t th → th.wanted ≡ grip k m ∷ rest → IsFound t (lets_in k m) s.threads → IsBlocked s th
+  waits_for : (t : ℕ) (th : ThreadState) (k : Key) (m : Mode) (rest : List Grip) → IsThread s t th
+      → th.wanted ≡ grip k m ∷ rest → IsFound t (lets_in k m) s.threads → IsBlocked s th
   waits_for t th k m rest at wants f = by (held_mode k f.1.held) refl f.4 where
     by : (o : Option Mode) → held_mode k f.1.held ≡ o → lets o m ≡ false → IsBlocked s th
     by None h e = absurd (true≢false e)
@@ -96,24 +102,30 @@ module _ (c : CompiledView) (s : State) where
       against = e;
     }
 
-  goes_entered : (t : ℕ) (th : ThreadState) → IsThread s t th → th.position ≡ Entered → IsAt c s.store t Entered th → Goes th
+  goes_entered : (t : ℕ) (th : ThreadState) → IsThread s t th → th.position ≡ Entered → IsAt c s.store t Entered th
+      → Goes th
   goes_entered t th at p k = by th.wanted refl where
     i : ℕ
     i = k.2.0
 
     ready : th.wanted ≡ [] → (b : Bool) → meets th.held (plan_at c k.2.0 s.store th.frame.work.locals) ≡ b → Goes th
-    ready none true e = goes t th Begin _ at (k.2.0, k.2.1, k.2.2, record { entered = p; wanted = none; text = k.2.3 }, e, refl)
-    ready none false e = goes t th Again _ at (k.2.0, k.2.1, k.2.2, record { entered = p; wanted = none; text = k.2.3 }, e, refl)
+    ready none true e = goes t th Begin _ at
+        (k.2.0, k.2.1, k.2.2, record { entered = p; wanted = none; text = k.2.3 }, e, refl)
+    ready none false e = goes t th Again _ at
+        (k.2.0, k.2.1, k.2.2, record { entered = p; wanted = none; text = k.2.3 }, e, refl)
 
-    asks : (g : Grip) (rest : List Grip) → th.wanted ≡ g ∷ rest → (b : Bool) → all_but t (lets_in g.key g.mode) s.threads ≡ b → Goes th
+    asks : (g : Grip) (rest : List Grip) → th.wanted ≡ g ∷ rest → (b : Bool)
+        → all_but t (lets_in g.key g.mode) s.threads ≡ b → Goes th
     asks g rest wants true e = goes t th (Take g.key g.mode) _ at (rest, p, wants, e, refl)
-    asks g rest wants false e = inr (inr (waits_for t th g.key g.mode rest at wants (another_fails t (lets_in g.key g.mode) s.threads e)))
+    asks g rest wants false e = inr
+        (inr (waits_for t th g.key g.mode rest at wants (another_fails t (lets_in g.key g.mode) s.threads e)))
 
     by : (gs : List Grip) → th.wanted ≡ gs → Goes th
     by [] e = ready e (meets th.held (plan_at c k.2.0 s.store th.frame.work.locals)) refl
     by (g ∷ rest) e = asks g rest e (all_but t (lets_in g.key g.mode) s.threads) refl
 
-  goes_running : (t i : ℕ) (k : TextView) (th : ThreadState) → IsThread s t th → th.position ≡ Running i k → IsSound (environment_at (program_of c) t) true k → Goes th
+  goes_running : (t i : ℕ) (k : TextView) (th : ThreadState) → IsThread s t th → th.position ≡ Running i k
+      → IsSound (environment_at (program_of c) t) true k → Goes th
   goes_running t i Stop th at p sound = goes t th Leave _ at (None, (i, p), refl)
   goes_running t i (Do a r) th at p sound = goes t th Act _ at (i, Do a r, p, refl, refl)
   goes_running t i (Choose d a b r) th at p sound = goes t th Act _ at (i, Choose d a b r, p, refl, refl)
@@ -130,27 +142,36 @@ module _ (c : CompiledView) (s : State) where
 
   -- some event is enabled, or no thread of the list can go on
   some_or_none : (ts : List ThreadState) → ((t : ℕ) (th : ThreadState) → slice_get ts t ≡ Some th → Goes th)
-      → CanGoOn c s ⊎ ((t : ℕ) (th : ThreadState) → slice_get ts t ≡ Some th → (has_ended th.frame.ended ≡ true) ⊎ IsBlocked s th)
+      → CanGoOn c s ⊎ ((t : ℕ) (th : ThreadState) → slice_get ts t ≡ Some th → (has_ended th.frame.ended ≡ true)
+      ⊎ IsBlocked s th)
   some_or_none [] all = inr (λ t th e. absurd (none_or_some th e))
   some_or_none (x ∷ ts) all = by (all zero x refl) (some_or_none ts (λ t th e. all (suc t) th e)) where
-    at_front : ((has_ended x.frame.ended ≡ true) ⊎ IsBlocked s x) → ((t : ℕ) (th : ThreadState) → slice_get ts t ≡ Some th → (has_ended th.frame.ended ≡ true) ⊎ IsBlocked s th)
-        → (t : ℕ) (th : ThreadState) → slice_get (x ∷ ts) t ≡ Some th → (has_ended th.frame.ended ≡ true) ⊎ IsBlocked s th
-    at_front h more zero th e = subst (λ (z : ThreadState). (has_ended z.frame.ended ≡ true) ⊎ IsBlocked s z) (some_injective x th e) h
+    at_front : ((has_ended x.frame.ended ≡ true) ⊎ IsBlocked s x)
+        → ((t : ℕ) (th : ThreadState) → slice_get ts t ≡ Some th → (has_ended th.frame.ended ≡ true) ⊎ IsBlocked s th)
+        → (t : ℕ) (th : ThreadState) → slice_get (x ∷ ts) t ≡ Some th → (has_ended th.frame.ended ≡ true)
+        ⊎ IsBlocked s th
+    at_front h more zero th e = subst (λ (z : ThreadState). (has_ended z.frame.ended ≡ true) ⊎ IsBlocked s z)
+        (some_injective x th e) h
     at_front h more (suc t) th e = more t th e
 
-    by : Goes x → CanGoOn c s ⊎ ((t : ℕ) (th : ThreadState) → slice_get ts t ≡ Some th → (has_ended th.frame.ended ≡ true) ⊎ IsBlocked s th)
-        → CanGoOn c s ⊎ ((t : ℕ) (th : ThreadState) → slice_get (x ∷ ts) t ≡ Some th → (has_ended th.frame.ended ≡ true) ⊎ IsBlocked s th)
+    by : Goes x → CanGoOn c s ⊎ ((t : ℕ) (th : ThreadState) → slice_get ts t ≡ Some th
+        → (has_ended th.frame.ended ≡ true) ⊎ IsBlocked s th)
+        → CanGoOn c s ⊎ ((t : ℕ) (th : ThreadState) → slice_get (x ∷ ts) t ≡ Some th → (has_ended th.frame.ended ≡ true)
+        ⊎ IsBlocked s th)
     by (inr (inl can)) rest = inl can
     by h (inl can) = inl can
     by (inl ended) (inr more) = inr (at_front (inl ended) more)
     by (inr (inr blocked)) (inr more) = inr (at_front (inr blocked) more)
 
-  can_go_on : IsWellKept c s → (t : ℕ) (th : ThreadState) → IsThread s t th → has_ended th.frame.ended ≡ false → CanGoOn c s
+  can_go_on : IsWellKept c s → (t : ℕ) (th : ThreadState) → IsThread s t th → has_ended th.frame.ended ≡ false
+      → CanGoOn c s
   can_go_on k t th at alive =
       ⊎_elim (λ can. can)
-      (λ each. absurd (none_stuck s (λ u x there. (k.threads u x there).asks) (record { some = t; some_thread = th; some_is = at; alive = alive; each = each })))
+      (λ each. absurd (none_stuck s (λ u x there. (k.threads u x there).asks)
+      (record { some = t; some_thread = th; some_is = at; alive = alive; each = each })))
       (some_or_none s.threads (λ u x there. each_goes u x there (k.threads u x there)))
 
 -- while some thread hasn't ended, some event is enabled
 pub something_happens : (c : CompiledView) → IsCompiled c → SomethingHappens c
-something_happens c is fuel trace s r t th at alive = can_go_on c s (runs_are_well_kept c is fuel trace s r) t th at alive
+something_happens c is fuel trace s r t th at alive =
+    can_go_on c s (runs_are_well_kept c is fuel trace s r) t th at alive

@@ -15,15 +15,21 @@ use Rattle.sect_emit.specs.State.{Running, ThreadState, State, IsThread}
 use Rattle.sect_world.specs.Kept.{Each, AreGripsKept, IsAt, IsWellKept}
 
 -- what holds of each statement holds of those that are listed
-each_action : (A : Action → Type 0) (S : ℕ → TextView → Type 0) (k : TextView) → Each A S k → (a : Action) → Has (actions_of k) a → A a
+each_action : (A : Action → Type 0) (S : ℕ → TextView → Type 0) (k : TextView) → Each A S k → (a : Action)
+    → Has (actions_of k) a → A a
 each_action A S Stop each a h = absurd h
 each_action A S (Do b r) each a h = elim h [ inl e ↦ subst A e each.0 | inr j ↦ each_action A S r each.1 a j ]
 each_action A S (Choose c p q r) each a h = elim (Has-cases (actions_of p) (actions_of q ++ actions_of r) a h) [
   | inl j ↦ each_action A S p each.0 a j
-  | inr j ↦ elim (Has-cases (actions_of q) (actions_of r) a j) [ inl j ↦ each_action A S q each.1 a j | inr j ↦ each_action A S r each.2 a j ]
+  | inr j ↦ elim (Has-cases (actions_of q) (actions_of r) a j)
+      [ inl j ↦ each_action A S q each.1 a j | inr j ↦ each_action A S r each.2 a j ]
 ]
-each_action A S (Loop c p r) each a h = elim (Has-cases (actions_of p) (actions_of r) a h) [ inl j ↦ each_action A S p each.0 a j | inr j ↦ each_action A S r each.1 a j ]
-each_action A S (Section i p r) each a h = elim (Has-cases (actions_of p) (actions_of r) a h) [ inl j ↦ each_action A S p each.1 a j | inr j ↦ each_action A S r each.2 a j ]
+each_action A S (Loop c p r) each a h =
+    elim (Has-cases (actions_of p) (actions_of r) a h)
+    [ inl j ↦ each_action A S p each.0 a j | inr j ↦ each_action A S r each.1 a j ]
+each_action A S (Section i p r) each a h =
+    elim (Has-cases (actions_of p) (actions_of r) a h)
+    [ inl j ↦ each_action A S p each.1 a j | inr j ↦ each_action A S r each.2 a j ]
 
 -- in a well kept state the store's references lie in their sets
 pub pointed_store : (c : CompiledView) (s : State) → IsWellKept c s → IsPointedStore c.scheme s.store
@@ -46,9 +52,12 @@ module _ (c : CompiledView) (s : State) (kept : IsWellKept c s) (t : ℕ) (th : 
       each_action _ _ k text.listed a h
 
   -- the section that it stands before is one of the program
-  pub its_section : (i : ℕ) (body rest : TextView) → th.frame.text ≡ Section i body rest → slice_get (sections_of (program_of c).texts) i ≡ Some (record { thread = t; body = body })
+  pub its_section : (i : ℕ) (body rest : TextView) → th.frame.text ≡ Section i body rest
+      → slice_get (sections_of (program_of c).texts) i ≡ Some (record { thread = t; body = body })
   its_section i body rest is =
-      let listed = subst (Each _ (λ j b. slice_get (sections_of (program_of c).texts) j ≡ Some (record { thread = t; body = b }))) is (kept.threads t th at).text.listed in
+      let listed =
+      subst (Each _ (λ j b. slice_get (sections_of (program_of c).texts) j ≡ Some
+      (record { thread = t; body = b }))) is (kept.threads t th at).text.listed in
       listed.0
 
   -- the objects whose keys it holds are there

@@ -19,20 +19,28 @@ use Rattle.sect_world.specs.Kept.{IsStoreKept, IsWorkKept}
 
 -- the first store is kept
 pub first_store_kept : (c : CompiledView) → IsStoreKept c (first_store (program_of c))
-first_store_kept c = record { rows = length-replicate (length (program_of c).texts) []; pointed = first_store_pointed c.scheme; sited = sited } where
+first_store_kept c = record {
+  rows = length-replicate (length (program_of c).texts) [];
+  pointed =
+      first_store_pointed c.scheme;
+  sited = sited;
+} where
   sited : (o : ObjectName) (x : ObjectView) → object_at (first_store (program_of c)) o ≡ Some x
-      → (r : ℕ) × SiteOf (program_of c) x.site r × (length x.fields ≡ length (slice_index_or (program_of c).records r []))
+      → (r : ℕ) × SiteOf (program_of c) x.site r
+      × (length x.fields ≡ length (slice_index_or (program_of c).records r []))
   sited (Global g) x at =
       let h = global_is (program_of c).records 0 (program_of c).globals g x at in
       let site : g ≡ x.site = (let e : g ≡ 0 + g = omega arith in e) ∙ ap (λ (z : ObjectView). z.site) (sym h.2) in (
         h.0,
-        subst (λ n. slice_get (sites_of (program_of c).globals (program_of c).texts) n ≡ Some h.0) site (slice_get-left (program_of c).globals (all_made (program_of c).texts) g h.0 h.1),
+        subst (λ n. slice_get (sites_of (program_of c).globals (program_of c).texts) n ≡ Some h.0) site
+            (slice_get-left (program_of c).globals (all_made (program_of c).texts) g h.0 h.1),
         ap (λ (z : ObjectView). length z.fields) h.2 ∙ length-fresh (slice_index_or (program_of c).records h.0 []),
       )
   sited (Made t n) x at = absurd (none_or_some x (ap (λ os. slice_get os n) (sym (none_made c.scheme t)) ∙ at))
 
 -- and so is the first work of each thread
-pub first_work_kept : (c : CompiledView) (fuel t : ℕ) (types : List ValueType) → IsWorkKept c (first_store (program_of c)) t (first_work fuel types)
+pub first_work_kept : (c : CompiledView) (fuel t : ℕ) (types : List ValueType)
+    → IsWorkKept c (first_store (program_of c)) t (first_work fuel types)
 first_work_kept c fuel t types = record {
   made = sym (ap length (none_made c.scheme t));
   locals = λ x o e. absurd (fresh_refers types x o e);

@@ -11,7 +11,9 @@ use Rattle.sect_types.specs.Programs.{ProgramView}
 use Rattle.sect_types.specs.declared.store.Datum.TheVariants.{Number}
 use Rattle.sect_types.specs.declared.store.Fault.TheVariants as fault
 use Rattle.sect_types.specs.Store.{StoreView}
-use Rattle.sect_types.specs.Meaning.{WorkView, value_datum, Unchanged, Came, Went, Fell, assigned, integer_of, result_of, fits, done, paid, one, found_at, Next, On, Off, going, taken, next, looks}
+use Rattle.sect_types.specs.Meaning.{WorkView, value_datum, Unchanged, Came, Went, Fell, assigned, integer_of}
+use Rattle.sect_types.specs.Meaning.{result_of, fits, done, paid, one, found_at, Next, On, Off, going, taken, next}
+use Rattle.sect_types.specs.Meaning.{looks}
 
 -- outside sections no object is looked into
 looks_nowhere : (e : Environment) (k : TextView) (w : WorkView) → IsSound e false k → looks k w ≡ None
@@ -27,7 +29,8 @@ looks_nowhere e (Loop d p rest) w sound = refl
 looks_nowhere e (Section i p rest) w sound = refl
 
 -- so it is the same step, whatever the store
-pub local_looks : (p : ProgramView) (e : Environment) (t : ℕ) (k : TextView) (w : WorkView) (s : StoreView) → IsSound e false k → next p t k None w ≡ next p t k (found_at s (looks k w)) w
+pub local_looks : (p : ProgramView) (e : Environment) (t : ℕ) (k : TextView) (w : WorkView) (s : StoreView)
+    → IsSound e false k → next p t k None w ≡ next p t k (found_at s (looks k w)) w
 local_looks p e t k w s sound = ap (λ o. next p t k (found_at s o) w) (sym (looks_nowhere e k w sound))
 
 -- and a step changes and prints nothing
@@ -47,19 +50,25 @@ taken_quiet : (n : ℕ) (d : Condition) (a b : TextView) (w : WorkView) → IsQu
 taken_quiet zero d a b w = refl
 taken_quiet (suc n) d a b w = (refl, refl)
 
-done_quiet : (p : ProgramView) (t : ℕ) (a : Action) (w : WorkView) → is_shared a ≡ false → CameQuiet w (done p t a None w)
+done_quiet : (p : ProgramView) (t : ℕ) (a : Action) (w : WorkView) → is_shared a ≡ false
+    → CameQuiet w (done p t a None w)
 done_quiet p t (action.Assign x v) w e = (refl, refl)
-done_quiet p t (action.Compute x v o u) w e = by (fits (result_of o (integer_of (value_datum w.locals v)) (integer_of (value_datum w.locals u)))) where
-  by : (b : Bool) → CameQuiet w (if b then Went (assigned x (Number (result_of o (integer_of (value_datum w.locals v)) (integer_of (value_datum w.locals u)))) w) Unchanged else Fell fault.Overflow w)
-  by true = (refl, refl)
-  by false = refl
+done_quiet p t (action.Compute x v o u) w e =
+    by (fits (result_of o (integer_of (value_datum w.locals v)) (integer_of (value_datum w.locals u)))) where
+      by : (b : Bool) → CameQuiet w (if b then Went
+          (assigned x (Number (result_of o (integer_of (value_datum w.locals v)) (integer_of (value_datum w.locals u))))
+          w)
+          Unchanged else Fell fault.Overflow w)
+      by true = (refl, refl)
+      by false = refl
 done_quiet p t (action.New x r site) w e = absurd (true≢false e)
 done_quiet p t (action.Load x b f) w e = absurd (true≢false e)
 done_quiet p t (action.Store b f v) w e = absurd (true≢false e)
 done_quiet p t (action.Print v) w e = absurd (true≢false e)
 
 -- a step outside sections is quiet
-pub local_quiet : (p : ProgramView) (e : Environment) (t : ℕ) (k : TextView) (w : WorkView) → IsSound e false k → IsQuiet w (next p t k None w)
+pub local_quiet : (p : ProgramView) (e : Environment) (t : ℕ) (k : TextView) (w : WorkView) → IsSound e false k
+    → IsQuiet w (next p t k None w)
 local_quiet p e t Stop w sound = (refl, refl)
 local_quiet p e t (Do a rest) w sound = going_quiet w rest (one p t a None w) (by w.fuel) where
   by : (n : ℕ) → CameQuiet w (paid n w (done p t a None))

@@ -19,14 +19,20 @@ past_end (x ∷ xs) zero d e = absurd (none_or_some x (sym e))
 past_end (x ∷ xs) (suc i) d e = past_end xs i d e
 
 -- the plan of a section ascends, also where there is no such section
-pub plan_at_ascends : (c : CompiledView) → IsCompiled c → (i : ℕ) (s : StoreView) (locals : List Datum) → Ascends (plan_at c i s locals)
+pub plan_at_ascends : (c : CompiledView) → IsCompiled c → (i : ℕ) (s : StoreView) (locals : List Datum)
+    → Ascends (plan_at c i s locals)
 plan_at_ascends c is i s locals = by (slice_get c.sets i) refl (slice_get c.parts i) refl where
   no_plan : slice_get c.sets i ≡ None → slice_get c.parts i ≡ None → Ascends (plan_at c i s locals)
-  no_plan a b = subst (λ part. Ascends (plan_of part (slice_index_or c.sets i []) s locals)) (sym (past_end c.parts i [] b)) (subst (λ locks. Ascends (plan_of [] locks s locals)) (sym (past_end c.sets i [] a)) tt)
+  no_plan a b = subst (λ part. Ascends (plan_of part (slice_index_or c.sets i []) s locals))
+      (sym (past_end c.parts i [] b))
+      (subst (λ locks. Ascends (plan_of [] locks s locals)) (sym (past_end c.sets i [] a)) tt)
 
-  by : (o : Option (List Lock)) → slice_get c.sets i ≡ o → (q : Option (List Grip)) → slice_get c.parts i ≡ q → Ascends (plan_at c i s locals)
+  by : (o : Option (List Lock)) → slice_get c.sets i ≡ o → (q : Option (List Grip)) → slice_get c.parts i ≡ q
+      → Ascends (plan_at c i s locals)
   by None a q b = no_plan a (none_in_both c.sets c.parts i (is.set_count ∙ sym is.part_count) a)
   by (Some locks) a None b = no_plan (none_in_both c.parts c.sets i (is.part_count ∙ sym is.set_count) b) b
   by (Some locks) a (Some part) b =
-      subst (λ x. Ascends (plan_of x (slice_index_or c.sets i []) s locals)) (sym (get_or_from_slice_get c.parts i part [] b))
-      (subst (λ x. Ascends (plan_of part x s locals)) (sym (get_or_from_slice_get c.sets i locks [] a)) (plan_ascends c.scheme part locks s locals (is.planned i locks part a b)))
+      subst (λ x. Ascends (plan_of x (slice_index_or c.sets i []) s locals))
+      (sym (get_or_from_slice_get c.parts i part [] b))
+      (subst (λ x. Ascends (plan_of part x s locals)) (sym (get_or_from_slice_get c.sets i locks [] a))
+      (plan_ascends c.scheme part locks s locals (is.planned i locks part a b)))

@@ -1,5 +1,6 @@
 -- Turns one after another are the turns of a schedule.
-use Rattle.std.proofs.Common.{◌≡◌, inl, inr, ℕ, ◌<◌, ◌≤◌, ◌++◌, List, [], ◌∷◌, map, length, refl, sym, ◌∙◌, ap, subst, append_assoc}
+use Rattle.std.proofs.Common.{◌≡◌, inl, inr, ℕ, ◌<◌, ◌≤◌, ◌++◌, List, [], ◌∷◌, map, length, refl, sym, ◌∙◌, ap, subst}
+use Rattle.std.proofs.Common.{append_assoc}
 use Rattle.std.proofs.lemmas.List.{append-nil, map-append}
 use Rattle.sect_types.specs.Lists.{Has}
 use Rattle.sect_types.proofs.Membership.{Has-cases}
@@ -18,12 +19,16 @@ use Rattle.sect_world.specs.Worlds.{WorldView, Does, AllEnded, IsRefused, first_
 use Rattle.sect_world.specs.steps.Counting.{IsCounted}
 
 -- one turn more
-turns_more : (c : CompiledView) (s between after : State) (ts : List ℕ) (blocks : List (List Event)) (t : ℕ) (turned : Turned) (es : List Event)
-    → TakeTurns c s ts blocks between → Does c between t turned es after → TakeTurns c s (ts ++ t ∷ []) (blocks ++ es ∷ []) after
-turns_more c s between after [] [] t turned es turns does = (turned, after, subst (λ z. Does c z t turned es after) (sym turns) does, refl)
+turns_more : (c : CompiledView) (s between after : State) (ts : List ℕ) (blocks : List (List Event)) (t : ℕ)
+    (turned : Turned) (es : List Event)
+    → TakeTurns c s ts blocks between → Does c between t turned es after
+    → TakeTurns c s (ts ++ t ∷ []) (blocks ++ es ∷ []) after
+turns_more c s between after [] [] t turned es turns does =
+    (turned, after, subst (λ z. Does c z t turned es after) (sym turns) does, refl)
 turns_more c s between after [] (b ∷ blocks) t turned es turns does = absurd turns
 turns_more c s between after (u ∷ ts) [] t turned es turns does = absurd turns
-turns_more c s between after (u ∷ ts) (b ∷ blocks) t turned es turns does = (turns.0, turns.1, turns.2, turns_more c turns.1 between after ts blocks t turned es turns.3 does)
+turns_more c s between after (u ∷ ts) (b ∷ blocks) t turned es turns does =
+    (turns.0, turns.1, turns.2, turns_more c turns.1 between after ts blocks t turned es turns.3 does)
 
 -- their events come at the end
 events_more : (blocks : List (List Event)) (es : List Event) → all_events (blocks ++ es ∷ []) ≡ all_events blocks ++ es
@@ -40,7 +45,8 @@ pub record SoFar (c : CompiledView) (fuel : ℕ) (ts : List ℕ) (w : WorldView)
   pub made : counts ≡ map length blocks
   pub within : (t : ℕ) → Has ts t → t < length (program_of c).texts
 
-pub so_far_none : (c : CompiledView) (fuel : ℕ) (w : WorldView) (counts : List ℕ) → w ≡ first_world c fuel → counts ≡ [] → SoFar c fuel [] w counts
+pub so_far_none : (c : CompiledView) (fuel : ℕ) (w : WorldView) (counts : List ℕ) → w ≡ first_world c fuel → counts ≡ []
+    → SoFar c fuel [] w counts
 so_far_none c fuel w counts is none = record {
   compiled = ap (λ (z : WorldView). z.compiled) is;
   fuelled = ap (λ (z : WorldView). z.fuel) is;
@@ -51,41 +57,53 @@ so_far_none c fuel w counts is none = record {
   within = λ t there. absurd there;
 }
 
-pub so_far_more : (c : CompiledView) (fuel : ℕ) (ts : List ℕ) (w v : WorldView) (counts counts' : List ℕ) (t n : ℕ) → SoFar c fuel ts w counts → IsCounted t n w v → t < length (program_of w.compiled).texts
+pub so_far_more : (c : CompiledView) (fuel : ℕ) (ts : List ℕ) (w v : WorldView) (counts counts' : List ℕ) (t n : ℕ)
+    → SoFar c fuel ts w counts → IsCounted t n w v → t < length (program_of w.compiled).texts
     → counts' ≡ counts ++ n ∷ [] → SoFar c fuel (ts ++ t ∷ []) v counts'
 so_far_more c fuel ts w v counts counts' t n so counted lt counts_is = record {
   compiled = counted.turned.compiled ∙ so.compiled;
   fuelled = counted.turned.fuel ∙ so.fuelled;
   blocks = so.blocks ++ counted.turned.events ∷ [];
-  turns = turns_more c (start c fuel) w.state v.state ts so.blocks t counted.what counted.turned.events so.turns (subst (λ z. Does z w.state t counted.what counted.turned.events v.state) so.compiled counted.turned.does);
-  trace = counted.turned.trace ∙ (ap (λ z. z ++ counted.turned.events) so.trace ∙ sym (events_more so.blocks counted.turned.events));
-  made = counts_is ∙ (ap (λ z. z ++ n ∷ []) so.made ∙ (ap (λ k. map length so.blocks ++ k ∷ []) counted.count ∙ sym (map-append length so.blocks (counted.turned.events ∷ []))));
+  turns = turns_more c (start c fuel) w.state v.state ts so.blocks t counted.what counted.turned.events so.turns
+      (subst (λ z. Does z w.state t counted.what counted.turned.events v.state) so.compiled counted.turned.does);
+  trace = counted.turned.trace ∙ (ap (λ z. z ++ counted.turned.events) so.trace
+      ∙ sym (events_more so.blocks counted.turned.events));
+  made = counts_is ∙ (ap (λ z. z ++ n ∷ []) so.made
+      ∙ (ap (λ k. map length so.blocks ++ k ∷ []) counted.count
+      ∙ sym (map-append length so.blocks (counted.turned.events ∷ []))));
   within = λ u there. elim (Has-cases ts (t ∷ []) u there) [
     | inl old ↦ so.within u old
     | inr new ↦ elim new [
-      | inl same ↦ subst (λ z. z < length (program_of c).texts) same (subst (λ z. t < length (program_of z).texts) so.compiled lt)
+      | inl same ↦ subst (λ z. z < length (program_of c).texts) same
+          (subst (λ z. t < length (program_of z).texts) so.compiled lt)
       | inr off ↦ absurd off
     ]
   ];
 }
 
 -- a refused turn is why a schedule with that thread isn't run
-pub unrun : (fault : WorldFault) (ts : List ℕ) (t count : ℕ) → Has ts t → IsRefused fault t count → IsUnrun fault ts count
+pub unrun : (fault : WorldFault) (ts : List ℕ) (t count : ℕ) → Has ts t → IsRefused fault t count
+    → IsUnrun fault ts count
 unrun (NoSuchThread u) ts t count there r = (subst (Has ts) (sym r.0) there, subst (λ n. count ≤ n) (sym r.0) r.1)
 unrun Memory ts t count there r = tt
 
 -- what all turns have come to
-pub progress : (c : CompiledView) (fuel : ℕ) (schedule : List ℕ) (w : WorldView) (p : Progress) → SoFar c fuel schedule w p.made.items
+pub progress : (c : CompiledView) (fuel : ℕ) (schedule : List ℕ) (w : WorldView) (p : Progress)
+    → SoFar c fuel schedule w p.made.items
     → p.run.events.items ≡ w.trace → p.run.outcome ≡ outcome_at w.state w.order
-    → (AllEnded w.state → (e : SerialEndView) × IsComplete w.state e × RunsWhole (program_of w.compiled) w.fuel w.order e)
-    → IsRun w.compiled w.fuel w.trace w.state → w.order ≡ order_of w.trace → (IsStuck w.state → ⊥) → IsProgress c fuel schedule p
+    → (AllEnded w.state → (e : SerialEndView) × IsComplete w.state e
+    × RunsWhole (program_of w.compiled) w.fuel w.order e)
+    → IsRun w.compiled w.fuel w.trace w.state → w.order ≡ order_of w.trace → (IsStuck w.state → ⊥)
+    → IsProgress c fuel schedule p
 progress c fuel schedule w p so events outcome serial run order going = record {
   state = w.state;
   blocks = so.blocks;
   turns = so.turns;
   events = events ∙ so.trace;
   made = so.made;
-  run = subst (λ es. IsRun c fuel es w.state) (sym events) (subst (λ z. IsRun z fuel w.trace w.state) so.compiled (subst (λ n. IsRun w.compiled n w.trace w.state) so.fuelled run));
+  run = subst (λ es. IsRun c fuel es w.state) (sym events)
+      (subst (λ z. IsRun z fuel w.trace w.state) so.compiled
+      (subst (λ n. IsRun w.compiled n w.trace w.state) so.fuelled run));
   going = going;
   outcome = outcome ∙ ap (outcome_at w.state) ordered;
   serial = λ all.
@@ -93,7 +111,8 @@ progress c fuel schedule w p so events outcome serial run order going = record {
         e.0,
         e.1,
         subst (λ o. RunsWhole (program_of c) fuel o e.0) ordered
-            (subst (λ z. RunsWhole (program_of z) fuel w.order e.0) so.compiled (subst (λ n. RunsWhole (program_of w.compiled) n w.order e.0) so.fuelled e.2)),
+            (subst (λ z. RunsWhole (program_of z) fuel w.order e.0) so.compiled
+            (subst (λ n. RunsWhole (program_of w.compiled) n w.order e.0) so.fuelled e.2)),
       );
 } where
   ordered : w.order ≡ order_of p.run.events.items

@@ -1,5 +1,6 @@
 -- What a step does to a store, object by object.
-use Rattle.std.proofs.Common.{true≢false, ◌≡◌, ◌≢◌, ℕ, ℤ, zero, suc, ◌<◌, length, Option, Some, None, Bool, true, false, refl, sym, ap, ◌∙◌, if◌then◌else◌}
+use Rattle.std.proofs.Common.{true≢false, ◌≡◌, ◌≢◌, ℕ, ℤ, zero, suc, ◌<◌, length, Option, Some, None, Bool, true, false}
+use Rattle.std.proofs.Common.{refl, sym, ap, ◌∙◌, if◌then◌else◌}
 use Rattle.sect_types.specs.declared.action.Action.{Action}
 use Rattle.sect_types.specs.declared.action.Action.TheVariants as action
 use Rattle.sect_types.specs.Statements.{TextView, Stop, Do, Choose, Loop, Section, joined}
@@ -9,11 +10,14 @@ use Rattle.sect_types.specs.declared.store.ObjectName.TheVariants.{Global, Made}
 use Rattle.sect_types.specs.declared.store.Datum.TheVariants.{Number}
 use Rattle.sect_types.specs.declared.store.Fault.TheVariants as fault
 use Rattle.sect_types.specs.Store.{ObjectView, StoreView, same_name, count, object_at, with_field}
-use Rattle.sect_types.specs.Meaning.{WorkView, Went, Fell, assigned, loaded, Change, Unchanged, Written, Added, after_change, name_in, base_datum, value_datum, integer_of, result_of, fits, computed, stored, done, paid, looks, found_at, going, taken, next}
+use Rattle.sect_types.specs.Meaning.{WorkView, Went, Fell, assigned, loaded, Change, Unchanged, Written, Added}
+use Rattle.sect_types.specs.Meaning.{after_change, name_in, base_datum, value_datum, integer_of, result_of, fits}
+use Rattle.sect_types.specs.Meaning.{computed, stored, done, paid, looks, found_at, going, taken, next}
 use Rattle.sect_world.specs.Accesses.{change_in, Asks}
 use Rattle.sect_world.specs.Held.{Loading, next_access, if_paid, access_of, load_of, store_of}
 use Rattle.sect_types.proofs.Replaced.{mapped}
-use Rattle.sect_types.proofs.Stores.{object_at-write, object_at-add, count-write, count-add_own, count-add_other, rows-write, rows-add}
+use Rattle.sect_types.proofs.Stores.{object_at-write, object_at-add, count-write, count-add_own, count-add_other}
+use Rattle.sect_types.proofs.Stores.{rows-write, rows-add}
 
 -- the change by thread t, which has made n objects so far, makes this object
 abbrev pub is_new : ℕ → ℕ → Change → ObjectName → Bool
@@ -47,7 +51,8 @@ object_at-after s t (Written z f d) o le = object_at-write s z o f d
 object_at-after s t (Added x) o le = object_at-add s t x o le
 
 -- and its count of the thread that makes the change
-pub count-after_own : (s : StoreView) (t : ℕ) (ch : Change) → t < length s.made → count (after_change t s ch) t ≡ count_after ch (count s t)
+pub count-after_own : (s : StoreView) (t : ℕ) (ch : Change) → t < length s.made
+    → count (after_change t s ch) t ≡ count_after ch (count s t)
 count-after_own s t Unchanged le = refl
 count-after_own s t (Written z f d) le = count-write s z f d t
 count-after_own s t (Added x) le = count-add_own s t x le
@@ -65,7 +70,8 @@ rows-after s t (Written z f d) = rows-write s z f d
 rows-after s t (Added x) = rows-add s t x
 
 -- what is neither written nor made is as it was
-pub untouched : (t n : ℕ) (ch : Change) (o : ObjectName) (old : Option ObjectView) → touches t n ch o ≡ false → object_after t n ch o old ≡ old
+pub untouched : (t n : ℕ) (ch : Change) (o : ObjectName) (old : Option ObjectView) → touches t n ch o ≡ false
+    → object_after t n ch o old ≡ old
 untouched t n Unchanged o old e = refl
 untouched t n (Written z f d) o old e = ap (λ b. if b then mapped (with_field f d) old else old) e
 untouched t n (Added x) o old e = ap (λ b. if b then Some x else old) e
@@ -75,7 +81,8 @@ pub new_whatever : (t n : ℕ) (ch : Change) (o : ObjectName) (old older : Optio
     → object_after t n ch o old ≡ object_after t n ch o older
 new_whatever t n Unchanged o old older e = absurd (true≢false (sym e))
 new_whatever t n (Written z f d) o old older e = absurd (true≢false (sym e))
-new_whatever t n (Added x) o old older e = ap (λ b. if b then Some x else old) e ∙ sym (ap (λ b. if b then Some x else older) e)
+new_whatever t n (Added x) o old older e = ap (λ b. if b then Some x else old) e
+    ∙ sym (ap (λ b. if b then Some x else older) e)
 
 -- what is made is touched, so what isn't touched isn't new
 pub untouched_is_old : (t n : ℕ) (ch : Change) (o : ObjectName) → touches t n ch o ≡ false → is_new t n ch o ≡ false
@@ -95,7 +102,8 @@ pub site_stays : (t n : ℕ) (ch : Change) (o : ObjectName) (old : Option Object
 site_stays t n Unchanged o old e = refl
 site_stays t n (Written z f d) o old e = by (same_name z o) old where
   by : (b : Bool) (old : Option ObjectView)
-      → mapped (λ (x : ObjectView). x.site) (if b then mapped (with_field f d) old else old) ≡ mapped (λ (x : ObjectView). x.site) old
+      → mapped (λ (x : ObjectView). x.site) (if b then mapped (with_field f d) old else old) ≡ mapped
+      (λ (x : ObjectView). x.site) old
   by true None = refl
   by true (Some x) = refl
   by false old = refl
@@ -108,19 +116,25 @@ change_is_asked p t Stop found w = tt
 change_is_asked p t (Do a r) found w = pay w.fuel where
   did : (a : Action) (w : WorkView) → Asks (change_in (going r (done p t a found w))) (access_of a w.locals)
   did (action.Assign x v) w = tt
-  did (action.Compute x v o u) w = by (result_of o (integer_of (value_datum w.locals v)) (integer_of (value_datum w.locals u))) where
-    by : (z : ℤ) → Asks (change_in (going r (computed x z w))) None
-    by z = fit (fits z) where
-      fit : (b : Bool) → Asks (change_in (going r (if b then Went (assigned x (Number z) w) Unchanged else Fell fault.Overflow w))) None
-      fit true = tt
-      fit false = tt
+  did (action.Compute x v o u) w =
+      by (result_of o (integer_of (value_datum w.locals v)) (integer_of (value_datum w.locals u))) where
+        by : (z : ℤ) → Asks (change_in (going r (computed x z w))) None
+        by z = fit (fits z) where
+          fit : (b : Bool)
+              → Asks
+              (change_in (going r (if b then Went (assigned x (Number z) w) Unchanged else Fell fault.Overflow w)))
+              None
+          fit true = tt
+          fit false = tt
   did (action.New x q site) w = refl
   did (action.Load x b f) w = by found where
-    by : (found : Option ObjectView) → Asks (change_in (going r (loaded x f.number found w))) (load_of (name_in (base_datum w.locals b)))
+    by : (found : Option ObjectView)
+        → Asks (change_in (going r (loaded x f.number found w))) (load_of (name_in (base_datum w.locals b)))
     by None = tt
     by (Some o) = tt
   did (action.Store b f v) w = by (name_in (base_datum w.locals b)) where
-    by : (o : Option ObjectName) → Asks (change_in (going r (stored f.number (value_datum w.locals v) o w))) (store_of o)
+    by : (o : Option ObjectName) → Asks (change_in (going r (stored f.number (value_datum w.locals v) o w)))
+        (store_of o)
     by None = tt
     by (Some o) = refl
   did (action.Print v) w = tt
@@ -149,7 +163,8 @@ same_step p t (Do (action.New x q site) r) w here store h = refl
 same_step p t (Do (action.Load x b f) r) w here store h = pay w.fuel (name_in (base_datum w.locals b)) h where
   pay : (n : ℕ) (o : Option ObjectName)
       → ((q : ObjectName) → if_paid n (load_of o) ≡ Some (Loading q) → object_at here q ≡ object_at store q)
-      → going r (paid n w (done p t (action.Load x b f) (found_at here o))) ≡ going r (paid n w (done p t (action.Load x b f) (found_at store o)))
+      → going r (paid n w (done p t (action.Load x b f) (found_at here o))) ≡ going r
+      (paid n w (done p t (action.Load x b f) (found_at store o)))
   pay zero o h = refl
   pay (suc n) None h = refl
   pay (suc n) (Some q) h = ap (λ found. going r (done p t (action.Load x b f) found (record w { fuel = n }))) (h q refl)

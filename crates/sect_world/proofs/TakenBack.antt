@@ -10,7 +10,8 @@ end_off xs x =
     let n : length (xs ++ x ∷ []) - 1 ≡ length xs = omega (arith, length-append xs (x ∷ [])) in
     ap (λ m. take m (xs ++ x ∷ [])) n ∙ take-append_seam xs (x ∷ [])
 
-changed_back : {X : Type 0} (n : ℕ) (x : X) (rows : List (List X)) → changed_at n without_end (changed_at n (λ row. row ++ x ∷ []) rows) ≡ rows
+changed_back : {X : Type 0} (n : ℕ) (x : X) (rows : List (List X))
+    → changed_at n without_end (changed_at n (λ row. row ++ x ∷ []) rows) ≡ rows
 changed_back n x [] = refl
 changed_back zero x (row ∷ rows) = ap (λ r. r ∷ rows) (end_off row x)
 changed_back (suc n) x (row ∷ rows) = ap (λ rs. row ∷ rs) (changed_back n x rows)

@@ -43,25 +43,9 @@ pub struct Run {
     pub outcome: Outcome,
 }
 
-/// A moment of a run, with the events that led to it: the compiled program, the fuel with which each thread began, the
-/// events, the threads of the `leave` events in order, the store, what was delivered, the threads, who holds and waits
-/// for which key, whom the last turn has let in, and room for how the threads end.
-#[derive(Drop)]
-pub struct World<'a> {
-    compiled: &'a Compiled,
-    fuel: u32,
-    trace: Vec<Event>,
-    order: Vec<u16>,
-    store: Store,
-    output: Vec<i64>,
-    runners: Vec<Runner>,
-    table: Table,
-    grants: Grants,
-    granted: Vec<u16>,
-    ends: Vec<Option<End>>,
-}
-
-/// A world that is put aside between two turns: all of it but the compiled program.
+/// A moment of a run, with the events that led to it, but for its compiled program: the fuel with which each thread
+/// began, the events, the threads of the `leave` events in order, the store, what was delivered, the threads, who holds
+/// and waits for which key, whom the last turn has let in, and room for how the threads end.
 #[derive(Drop)]
 pub struct Moment {
     fuel: u32,
@@ -77,37 +61,23 @@ pub struct Moment {
 }
 
 impl Moment {
-    /// The world that was put aside, with its compiled program.
+    /// The world of this moment, which was put aside, with its compiled program.
     pub fn resume(self, compiled: &Compiled) -> World<'_>
         requires { IsMoment compiled.now self }
         ensures { result ≡ world_at compiled.now self }
     {
-        let Moment {
-            fuel,
-            trace,
-            order,
-            store,
-            output,
-            runners,
-            table,
-            grants,
-            granted,
-            ends,
-        } = self;
         World {
             compiled,
-            fuel,
-            trace,
-            order,
-            store,
-            output,
-            runners,
-            table,
-            grants,
-            granted,
-            ends,
+            moment: self,
         }
     }
+}
+
+/// A moment of a run of a compiled program, with the events that led to it.
+#[derive(Drop)]
+pub struct World<'a> {
+    compiled: &'a Compiled,
+    moment: Moment,
 }
 
 impl<'a> Model for World<'a> {
@@ -117,18 +87,15 @@ impl<'a> Model for World<'a> {
     ghost use Rattle.sect_types.specs.Coding.{statements_code};
     ghost use Rattle.sect_points.specs.Paths.{path_code};
     ghost use Rattle.sect_world.specs.Worlds.{WorldView};
-    ghost use Rattle.sect_world.specs.steps.Viewing.{IsWorld, HasRoom, shown};
+    ghost use Rattle.sect_world.specs.Moments.{IsMoment, world_at};
 
     ghost Value = { WorldView };
 
     ghost coded = { Prim.hlevel (codes, block_code, statements_code, path_code) };
 
-    ghost view = { λ w. shown w.compiled.now w.fuel w.trace.items w.order.items w.store w.output.items w.runners.items
-        w.table.held w.granted.items };
+    ghost view = { λ w. world_at w.compiled.now w.moment };
 
-    ghost invariant = { λ w. IsWorld w.compiled.now w.fuel w.trace.items w.order.items w.store w.output.items
-        w.runners.items w.table × HasRoom (length w.table.held) w.grants.threads (vec_capacity w.granted)
-        (vec_capacity w.ends) × (w.ends.items ≡ []) };
+    ghost invariant = { λ w. IsMoment w.compiled.now w.moment };
 }
 
 impl<'a> World<'a> {
@@ -139,8 +106,7 @@ impl<'a> World<'a> {
         compiled.rules();
         let program = compiled.scheme().program();
         let threads = program.thread_count() as usize;
-        Ok(World {
-            compiled,
+        let moment = Moment {
             fuel,
             trace: Vec::new(alloc),
             order: Vec::new(alloc),
@@ -151,7 +117,8 @@ impl<'a> World<'a> {
             grants: Grants::with_threads(alloc, threads)?,
             granted: Vec::with_capacity(alloc, threads)?,
             ends: Vec::with_capacity(alloc, threads)?,
-        })
+        };
+        Ok(World { compiled, moment })
     }
 
     /// What each world keeps: its events are a run of its compiled program, which leads from the start to its state.
@@ -161,56 +128,56 @@ impl<'a> World<'a> {
         ensures order { self.now.order ≡ order_of self.now.trace }
         ensures going { IsStuck self.now.state → ⊥ }
     {
-        let _ = &self.trace;
+        let _ = &self.moment.trace;
     }
 
     /// The events, in order.
     pub fn trace(&self) -> &[Event]
         ensures { result.now ≡ self.now.trace }
     {
-        self.trace.as_slice()
+        self.moment.trace.as_slice()
     }
 
     /// The threads of the `leave` events, in order.
     pub fn order(&self) -> &[u16]
         ensures { result.now ≡ self.now.order }
     {
-        self.order.as_slice()
+        self.moment.order.as_slice()
     }
 
     /// The objects.
     pub fn store(&self) -> &Store
         ensures { result.now ≡ self.now.state.store }
     {
-        &self.store
+        &self.moment.store
     }
 
     /// The numbers that sections have delivered, in order.
     pub fn output(&self) -> &[i64]
         ensures { result.now ≡ self.now.state.output }
     {
-        self.output.as_slice()
+        self.moment.output.as_slice()
     }
 
     /// The threads that the last turn has let in: those of its `take` events after its first event, in order.
     pub fn granted(&self) -> &[u16]
         ensures { result.now ≡ self.now.granted }
     {
-        self.granted.as_slice()
+        self.moment.granted.as_slice()
     }
 
     /// The number of threads.
     pub fn threads(&self) -> usize
         ensures { result ≡ length self.now.state.threads }
     {
-        self.runners.len()
+        self.moment.runners.len()
     }
 
     /// Whether all threads have ended.
     pub fn all_ended(&self) -> bool
         ensures { IsTrue result ↔ AllEnded self.now.state }
     {
-        have_ended(self.runners.as_slice())
+        have_ended(self.moment.runners.as_slice())
     }
 
     /// Whether this is a world of that program, compiled for paths of as many fields, with so much fuel.
@@ -218,7 +185,7 @@ impl<'a> World<'a> {
         ensures { IsTrue result ↔ IsRunOf self.now compiled.now fuel }
     {
         let (own, other) = (self.compiled.scheme(), compiled.scheme());
-        own.program().is_same(other.program()) && own.k() == other.k() && self.fuel == fuel
+        own.program().is_same(other.program()) && own.k() == other.k() && self.moment.fuel == fuel
     }
 
     /// The run so far. Where all threads have ended it is what whole sections come to, one after another in the order
@@ -229,7 +196,8 @@ impl<'a> World<'a> {
         ensures serial { AllEnded self.entry.state → (e : SerialEndView) × IsComplete self.entry.state e
             × RunsWhole (program_of self.entry.compiled) self.entry.fuel self.entry.order e }
     {
-        let World {
+        let World { moment, .. } = self;
+        let Moment {
             trace,
             order,
             store,
@@ -237,7 +205,7 @@ impl<'a> World<'a> {
             runners,
             mut ends,
             ..
-        } = self;
+        } = moment;
         put_ends(runners.as_slice(), &mut ends);
         Run {
             events: trace,
@@ -250,31 +218,8 @@ impl<'a> World<'a> {
         ensures moment { IsMoment self.entry.compiled result }
         ensures same { world_at self.entry.compiled result ≡ self.entry }
     {
-        let World {
-            compiled: _,
-            fuel,
-            trace,
-            order,
-            store,
-            output,
-            runners,
-            table,
-            grants,
-            granted,
-            ends,
-        } = self;
-        Moment {
-            fuel,
-            trace,
-            order,
-            store,
-            output,
-            runners,
-            table,
-            grants,
-            granted,
-            ends,
-        }
+        let World { moment, .. } = self;
+        moment
     }
 
     /// The turn of a thread outside sections that runs its next statement or test.
@@ -284,18 +229,18 @@ impl<'a> World<'a> {
         ensures ok { IfOk result (λ turned. IsTurned thread turned self.old self.new) }
         ensures err { OnErr result (self.new ≡ self.old) }
     {
-        let alloc = *self.trace.allocator();
-        self.trace.reserve(1)?;
+        let alloc = *self.moment.trace.allocator();
+        self.moment.trace.reserve(1)?;
         step_outside(
             alloc,
             self.compiled,
             thread,
-            &mut self.runners[thread as usize],
-            &mut self.store,
+            &mut self.moment.runners[thread as usize],
+            &mut self.moment.store,
         )?;
-        self.granted.clear();
+        self.moment.granted.clear();
         let deed = Deed::Local;
-        self.trace.push_reserved(Event { thread, deed });
+        self.moment.trace.push_reserved(Event { thread, deed });
         Ok(Turned::Moved(Kind::Local))
     }
 
@@ -306,18 +251,18 @@ impl<'a> World<'a> {
         ensures ok { IfOk result (λ turned. IsTurned thread turned self.old self.new) }
         ensures err { OnErr result (self.new ≡ self.old) }
     {
-        let alloc = *self.trace.allocator();
-        self.trace.reserve(1)?;
+        let alloc = *self.moment.trace.allocator();
+        self.moment.trace.reserve(1)?;
         enter(
             alloc,
             self.compiled,
             section,
-            &mut self.runners[thread as usize],
-            &self.store,
+            &mut self.moment.runners[thread as usize],
+            &self.moment.store,
         )?;
-        self.granted.clear();
+        self.moment.granted.clear();
         let deed = Deed::Enter;
-        self.trace.push_reserved(Event { thread, deed });
+        self.moment.trace.push_reserved(Event { thread, deed });
         Ok(Turned::Moved(Kind::Enter))
     }
 
@@ -329,16 +274,16 @@ impl<'a> World<'a> {
         ensures ok { IfOk result (λ turned. IsTurned thread turned self.old self.new) }
         ensures err { OnErr result (self.new ≡ self.old) }
     {
-        self.trace.reserve(1)?;
+        self.moment.trace.reserve(1)?;
         begin(
             self.compiled,
             thread,
             section,
-            &mut self.runners[thread as usize],
+            &mut self.moment.runners[thread as usize],
         );
-        self.granted.clear();
+        self.moment.granted.clear();
         let deed = Deed::Begin;
-        self.trace.push_reserved(Event { thread, deed });
+        self.moment.trace.push_reserved(Event { thread, deed });
         Ok(Turned::Moved(Kind::Begin))
     }
 
@@ -350,21 +295,21 @@ impl<'a> World<'a> {
         ensures ok { IfOk result (λ turned. IsTurned thread turned self.old self.new) }
         ensures err { OnErr result (self.new ≡ self.old) }
     {
-        let alloc = *self.trace.allocator();
-        self.trace.reserve(1)?;
+        let alloc = *self.moment.trace.allocator();
+        self.moment.trace.reserve(1)?;
         step_inside(
             alloc,
             self.compiled,
             thread,
             section,
             node,
-            &mut self.runners[thread as usize],
-            &mut self.store,
-            &mut self.table,
+            &mut self.moment.runners[thread as usize],
+            &mut self.moment.store,
+            &mut self.moment.table,
         )?;
-        self.granted.clear();
+        self.moment.granted.clear();
         let deed = Deed::Act;
-        self.trace.push_reserved(Event { thread, deed });
+        self.moment.trace.push_reserved(Event { thread, deed });
         Ok(Turned::Moved(Kind::Act))
     }
 
@@ -374,8 +319,13 @@ impl<'a> World<'a> {
         ensures ok { IfOk result (λ turned. IsTurned thread turned self.old self.new) }
         ensures err { OnErr result (self.new ≡ self.old) }
     {
-        let answer = ask(&mut self.trace, &mut self.runners, &mut self.table, thread)?;
-        self.granted.clear();
+        let answer = ask(
+            &mut self.moment.trace,
+            &mut self.moment.runners,
+            &mut self.moment.table,
+            thread,
+        )?;
+        self.moment.granted.clear();
         Ok(turned_by(answer))
     }
 
@@ -386,15 +336,15 @@ impl<'a> World<'a> {
         ensures ok { IfOk result (λ turned. IsTurned thread turned self.old self.new) }
         ensures err { OnErr result (self.new ≡ self.old) }
     {
-        self.trace.reserve(1 + self.runners.len())?;
-        self.runners[thread as usize].stage = Stage::Outside;
+        self.moment.trace.reserve(1 + self.moment.runners.len())?;
+        self.moment.runners[thread as usize].stage = Stage::Outside;
         let deed = Deed::Again;
         give_back(
-            &mut self.trace,
-            &mut self.runners,
-            &mut self.table,
-            &mut self.grants,
-            &mut self.granted,
+            &mut self.moment.trace,
+            &mut self.moment.runners,
+            &mut self.moment.table,
+            &mut self.moment.grants,
+            &mut self.moment.granted,
             Event { thread, deed },
         );
         Ok(Turned::Moved(Kind::Again))
@@ -406,23 +356,23 @@ impl<'a> World<'a> {
         ensures ok { IfOk result (λ turned. IsTurned thread turned self.old self.new) }
         ensures err { OnErr result (self.new ≡ self.old) }
     {
-        self.trace.reserve(1 + self.runners.len())?;
-        self.order.reserve(1)?;
+        self.moment.trace.reserve(1 + self.moment.runners.len())?;
+        self.moment.order.reserve(1)?;
         come_out(
             self.compiled,
             thread,
             how,
-            &mut self.runners[thread as usize],
-            &mut self.output,
+            &mut self.moment.runners[thread as usize],
+            &mut self.moment.output,
         )?;
-        self.order.push_reserved(thread);
+        self.moment.order.push_reserved(thread);
         let deed = Deed::Leave;
         give_back(
-            &mut self.trace,
-            &mut self.runners,
-            &mut self.table,
-            &mut self.grants,
-            &mut self.granted,
+            &mut self.moment.trace,
+            &mut self.moment.runners,
+            &mut self.moment.table,
+            &mut self.moment.grants,
+            &mut self.moment.granted,
             Event { thread, deed },
         );
         Ok(Turned::Moved(Kind::Leave))
@@ -435,7 +385,7 @@ impl<'a> World<'a> {
         ensures err { OnErr result (self.new ≡ self.old) }
     {
         if self.has_ended(thread) {
-            self.granted.clear();
+            self.moment.granted.clear();
             return Ok(Turned::Ended);
         }
         match self.label_of(thread) {
@@ -483,7 +433,7 @@ impl<'a> World<'a> {
         requires { (th : ThreadState) × IsThread self.now.state thread th }
         ensures { (th : ThreadState) → IsThread self.now.state thread th → result ≡ has_ended th.frame.ended }
     {
-        self.runners[thread as usize].ended.is_some()
+        self.moment.runners[thread as usize].ended.is_some()
     }
 
     /// What a thread outside sections that hasn't ended comes to next.
@@ -491,7 +441,11 @@ impl<'a> World<'a> {
         requires { (th : ThreadState) × IsThread self.now.state thread th × IsFree th }
         ensures { (th : ThreadState) → IsThread self.now.state thread th → IsNext result th.frame.text }
     {
-        next_label(self.compiled, thread, self.runners[thread as usize].node)
+        next_label(
+            self.compiled,
+            thread,
+            self.moment.runners[thread as usize].node,
+        )
     }
 
     /// Whether a thread that has entered a section wants a key more.
@@ -500,7 +454,7 @@ impl<'a> World<'a> {
         ensures asks { result ≡ true → (k : Key) × (m : Mode) × Asks self.now.state thread k m }
         ensures none { result ≡ false → (th : ThreadState) → IsThread self.now.state thread th → th.wanted ≡ [] }
     {
-        let runner = &self.runners[thread as usize];
+        let runner = &self.moment.runners[thread as usize];
         runner.taken < runner.wanted.len()
     }
 
@@ -510,7 +464,11 @@ impl<'a> World<'a> {
         ensures { (th : ThreadState) → IsThread self.now.state thread th
             → (body : TextView) × (rest : TextView) × (th.frame.text ≡ Section result body rest) }
     {
-        match next_label(self.compiled, thread, self.runners[thread as usize].node) {
+        match next_label(
+            self.compiled,
+            thread,
+            self.moment.runners[thread as usize].node,
+        ) {
             Label::Act(_) => unreachable!(),
             Label::Test(_) => unreachable!(),
             Label::Section(section) => section,
@@ -525,13 +483,13 @@ impl<'a> World<'a> {
             → met ≡ meets th.held (plan_at self.now.compiled section self.now.state.store th.frame.work.locals)) }
     {
         is_met(
-            *self.trace.allocator(),
+            *self.moment.trace.allocator(),
             self.compiled,
             thread,
             section,
-            &self.runners[thread as usize],
-            &self.store,
-            &self.table,
+            &self.moment.runners[thread as usize],
+            &self.moment.store,
+            &self.moment.table,
         )
     }
 
@@ -542,7 +500,7 @@ impl<'a> World<'a> {
             × (th.position ≡ position_of self.now.compiled result) }
         ensures sited { IsSited self.now.compiled result }
     {
-        self.runners[thread as usize].stage
+        self.moment.runners[thread as usize].stage
     }
 
     /// Makes the one event that a thread's place allows, and the `take` events that it lets through; or none, where the

@@ -14,7 +14,8 @@ returns-then-node-exit c =
     let t = c.args.thread in
     let same = c.graph.ensures ∙ ap (λ (s : SchemeView). s.graphs) c.scheme.ensures in
     let at = sym (ap (λ (g : GraphView). slice_get g.threads t) same) ∙ c.thread-flow.ensures in
-    let before : c.args.node < length c.thread-flow.result.now = omega (arith, c.if-node-exit.true, c.exit.ensures.number) in
+    let before : c.args.node < length c.thread-flow.result.now =
+    omega (arith, c.if-node-exit.true, c.exit.ensures.number) in
     subst (λ how. EndsSo how (rest_at (text_at c.args.compiled.now t) c.args.node) None) (sym c.in-None.is)
     (ends_on c.args.compiled.now c.rules.ensures.compiled t c.requires c.thread-flow.result.now at c.args.node before)
 
@@ -23,6 +24,7 @@ returns-else-node-exit c =
     let t = c.args.thread in
     let same = c.graph.ensures ∙ ap (λ (s : SchemeView). s.graphs) c.scheme.ensures in
     let at = sym (ap (λ (g : GraphView). slice_get g.threads t) same) ∙ c.thread-flow.ensures in
-    let past : length c.thread-flow.result.now ≤ c.args.node = omega (arith, c.if-node-exit.false, c.exit.ensures.number) in
+    let past : length c.thread-flow.result.now ≤ c.args.node =
+    omega (arith, c.if-node-exit.false, c.exit.ensures.number) in
     subst (λ how. EndsSo how (rest_at (text_at c.args.compiled.now t) c.args.node) (Some Done)) (sym c.in-None.is)
     (ends_off c.args.compiled.now c.rules.ensures.compiled t c.requires c.thread-flow.result.now at c.args.node past)

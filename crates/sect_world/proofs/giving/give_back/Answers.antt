@@ -10,7 +10,17 @@ take_grants-requires-clause-room c =
     let listed = ap length c.as_slice.ensures in
     let same = ap length c.release_all.ensures.held ∙ length-released c.args.event.thread c.args.table.now in
     let longer = ap length c.push_reserved.ensures.items ∙ length-append c.args.trace.now.items _ in
-    omega (arith, few, listed, same, longer, c.push_reserved.ensures.capacity, c.requires.room, c.push_reserved.new.self.ok, c.args.trace.now.ok)
+    omega (
+      arith,
+      few,
+      listed,
+      same,
+      longer,
+      c.push_reserved.ensures.capacity,
+      c.requires.room,
+      c.push_reserved.new.self.ok,
+      c.args.trace.now.ok,
+    )
 
 pub take_grants-requires-clause-place : goal.take_grants-requires-clause-place
 take_grants-requires-clause-place c =

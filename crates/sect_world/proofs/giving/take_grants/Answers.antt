@@ -18,11 +18,34 @@ loop-grant-preserved c =
     let gs = c.args.grants.now in
     let here = drop_more gs i _ c.loop-grant-test.true in
     let longer = ap length c.take.ensures.trace ∙ length-append c.loop-grant.trace.items _ in (
-      subst (λ rs. CanAdvance (drop (i + 1) gs) rs) (sym c.take.ensures.runners) (subst (λ zs. CanAdvance zs c.loop-grant.runners.items) here inv.0).1,
-      ap (all_advanced (drop (i + 1) gs)) c.take.ensures.runners ∙ (sym (ap (λ zs. all_advanced zs c.loop-grant.runners.items) here) ∙ inv.1),
-      ap (λ ts. ts ++ takes (drop (i + 1) gs)) c.take.ensures.trace ∙ (append_assoc c.loop-grant.trace.items _ (takes (drop (i + 1) gs)) ∙ (sym (ap (λ zs. c.loop-grant.trace.items ++ takes zs) here) ∙ inv.2)),
-      ap (λ ts. ts ++ takers (drop (i + 1) gs)) c.push_reserved.ensures.items ∙ (append_assoc c.loop-grant.granted.items _ (takers (drop (i + 1) gs)) ∙ (sym (ap (λ zs. c.loop-grant.granted.items ++ takers zs) here) ∙ inv.3)),
-      omega (arith, inv.4, longer, c.take.ensures.room, c.loop-grant-test.true, c.take.new.trace.ok, c.loop-grant.trace.ok),
-      (let more = ap length c.push_reserved.ensures.items ∙ length-append c.loop-grant.granted.items _ in omega (arith, inv.5, more, c.push_reserved.ensures.capacity, c.loop-grant-test.true, c.push_reserved.new.self.ok, c.loop-grant.granted.ok)),
+      subst (λ rs. CanAdvance (drop (i + 1) gs) rs) (sym c.take.ensures.runners)
+          (subst (λ zs. CanAdvance zs c.loop-grant.runners.items) here inv.0).1,
+      ap (all_advanced (drop (i + 1) gs)) c.take.ensures.runners
+          ∙ (sym (ap (λ zs. all_advanced zs c.loop-grant.runners.items) here) ∙ inv.1),
+      ap (λ ts. ts ++ takes (drop (i + 1) gs)) c.take.ensures.trace
+          ∙ (append_assoc c.loop-grant.trace.items _ (takes (drop (i + 1) gs))
+          ∙ (sym (ap (λ zs. c.loop-grant.trace.items ++ takes zs) here) ∙ inv.2)),
+      ap (λ ts. ts ++ takers (drop (i + 1) gs)) c.push_reserved.ensures.items
+          ∙ (append_assoc c.loop-grant.granted.items _ (takers (drop (i + 1) gs))
+          ∙ (sym (ap (λ zs. c.loop-grant.granted.items ++ takers zs) here) ∙ inv.3)),
+      omega (
+        arith,
+        inv.4,
+        longer,
+        c.take.ensures.room,
+        c.loop-grant-test.true,
+        c.take.new.trace.ok,
+        c.loop-grant.trace.ok,
+      ),
+      (let more = ap length c.push_reserved.ensures.items ∙ length-append c.loop-grant.granted.items _ in
+          omega (
+            arith,
+            inv.5,
+            more,
+            c.push_reserved.ensures.capacity,
+            c.loop-grant-test.true,
+            c.push_reserved.new.self.ok,
+            c.loop-grant.granted.ok,
+          )),
       c.push_reserved.ensures.capacity ∙ inv.6,
     )

@@ -9,17 +9,25 @@ pub returns-in_ok-make_object-in-Some-clause-goes : goal.returns-in_ok-make_obje
 returns-in_ok-make_object-in-Some-clause-goes c = λ rest k x at begins step.
     let label = looked_up (λ (y : Node). y.label) _ x _ at c.action.ensures ∙ c.in-Some.ensures.0 in
     let next = looked_up (λ (y : Node). y.next) _ x _ at c.succ.ensures in
-    rw c.in_ok-make_object-in-Some.ensures.store (new_goes c.args.compiled.now _ (c.program-program.ensures ∙ ap (λ (s : SchemeView). s.program) c.scheme.ensures) c.args.thread c.args.work.now c.make_object.new.work c.args.store.now c.in-Some.new rest k x _ c.chosen.result
+    rw c.in_ok-make_object-in-Some.ensures.store
+    (new_goes c.args.compiled.now _
+    (c.program-program.ensures ∙ ap (λ (s : SchemeView). s.program) c.scheme.ensures) c.args.thread c.args.work.now
+    c.make_object.new.work c.args.store.now c.in-Some.new rest k x _ c.chosen.result
     label next c.chosen.ensures begins c.in_ok-make_object-in-Some.ensures.work)
 
 pub returns-in_ok-make_object-in-Some-clause-table : goal.returns-in_ok-make_object-in-Some-clause-table
 returns-in_ok-make_object-in-Some-clause-table c = λ rest k x at begins text.
     let label = looked_up (λ (y : Node). y.label) _ x _ at c.action.ensures ∙ c.in-Some.ensures.0 in
-    new_holds c.args.compiled.now c.rules.ensures.compiled _ (c.program-program.ensures ∙ ap (λ (s : SchemeView). s.program) c.scheme.ensures) c.args.thread c.args.work.now c.make_object.new.work c.args.store.now c.in-Some.new rest k x _ _
-    label c.in-Some.ensures.2 begins text c.in_ok-make_object-in-Some.ensures.work c.in_ok-make_object-in-Some.ensures.table
+    new_holds c.args.compiled.now c.rules.ensures.compiled _
+    (c.program-program.ensures ∙ ap (λ (s : SchemeView). s.program) c.scheme.ensures) c.args.thread c.args.work.now
+    c.make_object.new.work c.args.store.now c.in-Some.new rest k x _ _
+    label c.in-Some.ensures.2 begins text c.in_ok-make_object-in-Some.ensures.work
+    c.in_ok-make_object-in-Some.ensures.table
     c.in_ok-make_object-in-Some.ensures.kept
 
 pub returns-in-None-clause-table : goal.returns-in-None-clause-table
 returns-in-None-clause-table c = if_ok c.run_node.result (λ rest k x at begins text.
-    let none = subst (λ l. GivesKey c.args.compiled.now.scheme.guards c.args.work.now.fuel l None) (sym (looked_up (λ (y : Node). y.label) _ x _ at c.action.ensures)) c.in-None.ensures in
-    others_hold c.args.compiled.now c.rules.ensures.compiled c.args.thread c.args.work.now c.args.store.now rest k x c.args.table.now none begins text)
+    let none = subst (λ l. GivesKey c.args.compiled.now.scheme.guards c.args.work.now.fuel l None)
+    (sym (looked_up (λ (y : Node). y.label) _ x _ at c.action.ensures)) c.in-None.ensures in
+    others_hold c.args.compiled.now c.rules.ensures.compiled c.args.thread c.args.work.now c.args.store.now rest k x
+    c.args.table.now none begins text)

@@ -10,4 +10,5 @@ returns-clause-beginnings c = needed_beginnings_are_held
 
 pub returns-clause-stay : goal.returns-clause-stay
 returns-clause-stay c m ok fuel trace s after happened run happens t th i k at apart running p e needed =
-    event_leaves m ok s (runs_are_good m ok fuel trace s run) t th at i k running p e needed after happened happens apart
+    event_leaves m ok s (runs_are_good m ok fuel trace s run) t th at i k running p e needed after happened happens
+    apart

@@ -10,11 +10,14 @@ abbrev no_field : Field
 no_field = record { of = 0; number = 0 }
 
 -- one field further on a path
-next_field : (v : Variable) (fs : List Field) (i : ℕ) → i < length fs → path_of v (take (i + 1) fs) ≡ dot (path_of v (take i fs)) (get_or fs i no_field)
-next_field v fs i lt = ap (path_of v) (take_more fs i no_field lt) ∙ dots-push (var v) (take i fs) (get_or fs i no_field)
+next_field : (v : Variable) (fs : List Field) (i : ℕ) → i < length fs
+    → path_of v (take (i + 1) fs) ≡ dot (path_of v (take i fs)) (get_or fs i no_field)
+next_field v fs i lt = ap (path_of v) (take_more fs i no_field lt)
+    ∙ dots-push (var v) (take i fs) (get_or fs i no_field)
 
 pub loop-field-init : goal.loop-field-init
-loop-field-init c = c.variable_datum-datum.ensures ∙ ap (λ v. denoted c.args.store.now c.args.work.now.locals (var v)) c.base.ensures
+loop-field-init c = c.variable_datum-datum.ensures
+    ∙ ap (λ v. denoted c.args.store.now c.args.work.now.locals (var v)) c.base.ensures
 
 pub loop-field-preserved : goal.loop-field-preserved
 loop-field-preserved c =
@@ -31,4 +34,6 @@ returns c =
     let p = c.args.path.now in
     let fs = c.fields-field-items.result.now in
     c.loop-field.invariant
-    ∙ ap (denoted c.args.store.now c.args.work.now.locals) (ap (path_of (base_of p)) (take_all c.loop-field.field-index fs c.loop-field-test.false ∙ c.fields-field-items.ensures.fields) ∙ path_of-fields p)
+    ∙ ap (denoted c.args.store.now c.args.work.now.locals)
+    (ap (path_of (base_of p)) (take_all c.loop-field.field-index fs c.loop-field-test.false
+    ∙ c.fields-field-items.ensures.fields) ∙ path_of-fields p)

@@ -15,7 +15,10 @@ returns-clause-text c = λ i body k is.
     let j = c.args.runner.now.node in
     let g = c.thread-flow.result.now in
     let graph : slice_get m.scheme.graphs.threads t ≡ Some g =
-    ap (λ (g : GraphView). slice_get g.threads t) (sym (c.graph.ensures ∙ ap (λ (s : SchemeView). s.graphs) c.scheme.ensures)) ∙ c.thread-flow.ensures in
+    ap (λ (g : GraphView). slice_get g.threads t)
+    (sym (c.graph.ensures ∙ ap (λ (s : SchemeView). s.graphs) c.scheme.ensures)) ∙ c.thread-flow.ensures in
     let x = at_of g j (c.requires.node g graph) in
-    let b = subst (Begins (rest_at (text_at m t)) x.0) is ((thread_graph m c.rules.ensures.compiled t c.requires.thread g graph).running.begins j x.0 x.1) in
-    after_node (rest_at (text_at m t)) x.0 i body k c.succ.result c.chosen-runner.result b (told_of (λ (y : Node). y.next) g j c.succ.result c.succ.ensures x.0 x.1) c.chosen-runner.ensures
+    let b = subst (Begins (rest_at (text_at m t)) x.0) is
+    ((thread_graph m c.rules.ensures.compiled t c.requires.thread g graph).running.begins j x.0 x.1) in
+    after_node (rest_at (text_at m t)) x.0 i body k c.succ.result c.chosen-runner.result b
+    (told_of (λ (y : Node). y.next) g j c.succ.result c.succ.ensures x.0 x.1) c.chosen-runner.ensures

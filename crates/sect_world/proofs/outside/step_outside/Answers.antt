@@ -12,9 +12,11 @@ returns-then-next-exit-clause-steps c =
     let t = c.args.thread in
     let g = c.thread.result.now in
     let graph : slice_get m.scheme.graphs.threads t ≡ Some g =
-    ap (λ (g : GraphView). slice_get g.threads t) (sym (c.graph.ensures ∙ ap (λ (s : SchemeView). s.graphs) c.scheme.ensures)) ∙ c.thread.ensures in
+    ap (λ (g : GraphView). slice_get g.threads t)
+    (sym (c.graph.ensures ∙ ap (λ (s : SchemeView). s.graphs) c.scheme.ensures)) ∙ c.thread.ensures in
     let past : length g ≤ c.in-Ok.next = omega (arith, c.exit.ensures.number, c.if-next-exit.true) in
-    settled_at_exit (rest_at (text_at m t) c.in-Ok.next) c.run_outside.new.work (at_exit m c.rules.ensures.compiled t g c.in-Ok.next c.requires.thread graph past)
+    settled_at_exit (rest_at (text_at m t) c.in-Ok.next) c.run_outside.new.work
+    (at_exit m c.rules.ensures.compiled t g c.in-Ok.next c.requires.thread graph past)
     ∙ c.in_ok-next.ensures.steps.on c.in-Ok.next c.in-Ok.is
 
 pub returns-else-next-exit-clause-steps : goal.returns-else-next-exit-clause-steps
@@ -23,6 +25,9 @@ returns-else-next-exit-clause-steps c =
     let t = c.args.thread in
     let g = c.thread.result.now in
     let graph : slice_get m.scheme.graphs.threads t ≡ Some g =
-    ap (λ (g : GraphView). slice_get g.threads t) (sym (c.graph.ensures ∙ ap (λ (s : SchemeView). s.graphs) c.scheme.ensures)) ∙ c.thread.ensures in
+    ap (λ (g : GraphView). slice_get g.threads t)
+    (sym (c.graph.ensures ∙ ap (λ (s : SchemeView). s.graphs) c.scheme.ensures)) ∙ c.thread.ensures in
     let before : c.in-Ok.next < length g = omega (arith, c.exit.ensures.number, c.if-next-exit.false) in
-    rw c.requires.alive (sym (before_exit m c.rules.ensures.compiled t g c.in-Ok.next c.requires.thread graph before c.run_outside.new.work) ∙ c.in_ok-next.ensures.steps.on c.in-Ok.next c.in-Ok.is)
+    rw c.requires.alive
+    (sym (before_exit m c.rules.ensures.compiled t g c.in-Ok.next c.requires.thread graph before
+    c.run_outside.new.work) ∙ c.in_ok-next.ensures.steps.on c.in-Ok.next c.in-Ok.is)

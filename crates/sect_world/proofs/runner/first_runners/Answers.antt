@@ -9,9 +9,11 @@ pub loop-thread-preserved : goal.loop-thread-preserved
 loop-thread-preserved c =
     let inv = c.loop-thread.invariant in
     let more = ap length c.in_ok-push.ensures.items ∙ length-append c.loop-thread.all.items _ in
-    let first = subst (λ n. IsFirst c.args.compiled.now c.args.fuel n c.in_ok-first_runner.field-0) (sym {A = ℕ} inv.0) c.in_ok-first_runner.ensures in (
+    let first = subst (λ n. IsFirst c.args.compiled.now c.args.fuel n c.in_ok-first_runner.field-0) (sym {A = ℕ} inv.0)
+    c.in_ok-first_runner.ensures in (
       omega (arith, more, inv.0),
       inv.1,
       subst (AreFirst c.args.compiled.now c.args.fuel) (sym c.in_ok-push.ensures.items)
-          (each_more (IsFirst c.args.compiled.now c.args.fuel) c.loop-thread.all.items c.in_ok-first_runner.field-0 inv.2 first),
+          (each_more (IsFirst c.args.compiled.now c.args.fuel) c.loop-thread.all.items c.in_ok-first_runner.field-0
+          inv.2 first),
     )

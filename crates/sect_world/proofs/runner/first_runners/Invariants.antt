@@ -6,4 +6,5 @@ use Rattle.sect_world.proofs.runner.first_runners.Given as goal
 
 abbrev pub invariant-loop-thread : goal.invariant-loop-thread
 invariant-loop-thread l =
-    (length l.all.items ≡ l.thread) × (l.thread-end ≡ length (program_of l.compiled).texts) × AreFirst l.compiled l.fuel l.all.items
+    (length l.all.items ≡ l.thread) × (l.thread-end ≡ length (program_of l.compiled).texts)
+    × AreFirst l.compiled l.fuel l.all.items

@@ -8,7 +8,8 @@ use Rattle.sect_world.proofs.schedule.counted_turn.Goals as goal
 pub returns-in-Ok-clause-counted : goal.returns-in-Ok-clause-counted
 returns-in-Ok-clause-counted c =
     let turned = c.in-Ok.ensures.ok in
-    let longer = ap length c.trace.ensures ∙ (ap length turned.trace ∙ length-append c.args.world.now.trace turned.events) in
+    let longer = ap length c.trace.ensures
+    ∙ (ap length turned.trace ∙ length-append c.args.world.now.trace turned.events) in
     let before = ap length c.trace-before.ensures in
     record { what = c.in-Ok.field-0; turned = turned; count = omega (arith, longer, before) }
 

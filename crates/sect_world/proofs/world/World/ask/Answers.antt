@@ -10,37 +10,51 @@ use Rattle.sect_world.proofs.world.World.ask.Goals as goal
 
 pub ask-requires-clause-held : goal.ask-requires-clause-held
 ask-requires-clause-held c =
-    let asks = subst (λ (z : WorldView). Asks z.state c.args.thread c.requires.0 c.requires.1) (sym c.self.view_is) c.requires.2 in
+    let asks = subst (λ (z : WorldView). Asks z.state c.args.thread c.requires.0 c.requires.1) (sym c.self.view_is)
+    c.requires.2 in
     (asker _ _ _ _ _ _ _ _ c.self.invariant.0 c.args.thread c.requires.0 c.requires.1 asks).within
 
 pub ask-requires-clause-room : goal.ask-requires-clause-room
 ask-requires-clause-room c =
-    let asks = subst (λ (z : WorldView). Asks z.state c.args.thread c.requires.0 c.requires.1) (sym c.self.view_is) c.requires.2 in
+    let asks = subst (λ (z : WorldView). Asks z.state c.args.thread c.requires.0 c.requires.1) (sym c.self.view_is)
+    c.requires.2 in
     let q = asker _ _ _ _ _ _ _ _ c.self.invariant.0 c.args.thread c.requires.0 c.requires.1 asks in
     (q.runner, q.at, q.room)
 
 pub ask-requires-clause-wishes : goal.ask-requires-clause-wishes
 ask-requires-clause-wishes c r at =
-    let asks = subst (λ (z : WorldView). Asks z.state c.args.thread c.requires.0 c.requires.1) (sym c.self.view_is) c.requires.2 in
+    let asks = subst (λ (z : WorldView). Asks z.state c.args.thread c.requires.0 c.requires.1) (sym c.self.view_is)
+    c.requires.2 in
     let q = asker _ _ _ _ _ _ _ _ c.self.invariant.0 c.args.thread c.requires.0 c.requires.1 asks in
     let same = some_injective q.runner r (sym q.at ∙ at) in
     (grip c.requires.0 c.requires.1, subst (λ z. Wishes z (grip c.requires.0 c.requires.1)) same q.wishes, q.unheld)
 
 pub invariant_of-self-2 : goal.invariant_of-self-2
 invariant_of-self-2 c =
-    let asks = subst (λ (z : WorldView). Asks z.state c.args.thread c.requires.0 c.requires.1) (sym c.self.view_is) c.requires.2 in
+    let asks = subst (λ (z : WorldView). Asks z.state c.args.thread c.requires.0 c.requires.1) (sym c.self.view_is)
+    c.requires.2 in
     let q = asker _ _ _ _ _ _ _ _ c.self.invariant.0 c.args.thread c.requires.0 c.requires.1 asks in
     let asked = c.in_ok-answer.ensures.ok q.runner q.at (grip c.requires.0 c.requires.1) q.wishes in
-    let next = world_asked _ _ _ _ _ _ _ _ _ _ _ c.self.inside.granted.items c.self.invariant.0 c.args.thread c.requires.0 c.requires.1 c.in_ok-answer.answer asks asked c.ask.ensures.kept in
+    let next = world_asked _ _ _ _ _ _ _ _ _ _ _ c.self.inside.moment.granted.items c.self.invariant.0 c.args.thread
+    c.requires.0 c.requires.1 c.in_ok-answer.answer asks asked c.ask.ensures.kept in
     let old_many = c.self.invariant.0.as_many_held in
     let new_many = next.world.as_many_held in
-    let room = c.self.invariant.1 in
-    (next.world, (omega (arith, old_many, new_many, room.0), omega (arith, old_many, new_many, room.1, c.clear.ensures.capacity), omega (arith, old_many, new_many, room.2)), c.self.invariant.2)
+    let room = c.self.invariant.1 in (
+      next.world,
+      (
+        omega (arith, old_many, new_many, room.0),
+        omega (arith, old_many, new_many, room.1, c.clear.ensures.capacity),
+        omega (arith, old_many, new_many, room.2),
+      ),
+      c.self.invariant.2,
+    )
 
 pub returns-clause-ok : goal.returns-clause-ok
 returns-clause-ok c =
-    let asks = subst (λ (z : WorldView). Asks z.state c.args.thread c.requires.0 c.requires.1) (sym c.self.view_is) c.requires.2 in
+    let asks = subst (λ (z : WorldView). Asks z.state c.args.thread c.requires.0 c.requires.1) (sym c.self.view_is)
+    c.requires.2 in
     let q = asker _ _ _ _ _ _ _ _ c.self.invariant.0 c.args.thread c.requires.0 c.requires.1 asks in
     let asked = c.in_ok-answer.ensures.ok q.runner q.at (grip c.requires.0 c.requires.1) q.wishes in
-    let next = world_asked _ _ _ _ _ _ _ _ _ _ _ c.self.inside.granted.items c.self.invariant.0 c.args.thread c.requires.0 c.requires.1 c.in_ok-answer.answer asks asked c.ask.ensures.kept in
+    let next = world_asked _ _ _ _ _ _ _ _ _ _ _ c.self.inside.moment.granted.items c.self.invariant.0 c.args.thread
+    c.requires.0 c.requires.1 c.in_ok-answer.answer asks asked c.ask.ensures.kept in
     rw (← c.self.view_is, c.turned_by.ensures, c.clear.ensures.items) next.turned

@@ -11,7 +11,8 @@ use Rattle.sect_world.proofs.world.World.finish.Goals as goal
 pub returns-clause-serial : goal.returns-clause-serial
 returns-clause-serial c =
     let world = c.self.invariant.0 in
-    subst (λ (z : WorldView). AllEnded z.state → (e : SerialEndView) × IsComplete z.state e × RunsWhole (program_of z.compiled) z.fuel z.order e) c.self.view_is
+    subst (λ (z : WorldView). AllEnded z.state → (e : SerialEndView) × IsComplete z.state e
+    × RunsWhole (program_of z.compiled) z.fuel z.order e) c.self.view_is
     (whole_at_end _ _ _ _ _ world.compiled world.run world.ordered)
 
 pub returns-clause-outcome : goal.returns-clause-outcome
@@ -21,6 +22,7 @@ returns-clause-outcome c =
     let ended = c.put_ends.ensures
     ∙ (ap (λ es. es ++ map (λ (r : Runner). r.ended) c.as_slice.result.now) c.self.invariant.2
     ∙ (ap (map (λ (r : Runner). r.ended)) c.as_slice.ensures.value
-    ∙ runners_end w.compiled.now (program_of w.compiled.now).texts w.runners.items w.table.held world.as_many world.as_many_held)) in
-    c.new.ensures ∙ (λ i. record { ends = ended i; order = w.order.items; output = w.output.items; store = w.store })
+    ∙ runners_end w.compiled.now (program_of w.compiled.now).texts w.moment.runners.items w.moment.table.held world.as_many
+    world.as_many_held)) in
+    c.new.ensures ∙ (λ i. record { ends = ended i; order = w.moment.order.items; output = w.moment.output.items; store = w.moment.store })
     ∙ ap (λ (z : WorldView). outcome_at z.state z.order) c.self.view_is

@@ -12,35 +12,46 @@ use Rattle.sect_world.proofs.world.World.section_of.Goals as goal
 
 pub index-requires : goal.index-requires
 index-requires c =
-    let h = subst (λ (z : WorldView). (th : ThreadState) × IsThread z.state c.args.thread th × (th.position ≡ Entered)) (sym c.self.view_is) c.requires in
-    omega (arith, (runs_here _ _ _ _ _ _ _ _ c.self.invariant.0 c.args.thread h.0 h.1).0, c.self.inside.runners.ok)
+    let h = subst (λ (z : WorldView). (th : ThreadState) × IsThread z.state c.args.thread th × (th.position ≡ Entered))
+    (sym c.self.view_is) c.requires in
+    omega (arith, (runs_here _ _ _ _ _ _ _ _ c.self.invariant.0 c.args.thread h.0 h.1).0, c.self.inside.moment.runners.ok)
 
 pub next_label-requires-clause-thread : goal.next_label-requires-clause-thread
 next_label-requires-clause-thread c =
-    let h = subst (λ (z : WorldView). (th : ThreadState) × IsThread z.state c.args.thread th × (th.position ≡ Entered)) (sym c.self.view_is) c.requires in
+    let h = subst (λ (z : WorldView). (th : ThreadState) × IsThread z.state c.args.thread th × (th.position ≡ Entered))
+    (sym c.self.view_is) c.requires in
     (runs_here _ _ _ _ _ _ _ _ c.self.invariant.0 c.args.thread h.0 h.1).1
 
 pub next_label-requires-clause-on : goal.next_label-requires-clause-on
 next_label-requires-clause-on c =
-    let h = subst (λ (z : WorldView). (th : ThreadState) × IsThread z.state c.args.thread th × (th.position ≡ Entered)) (sym c.self.view_is) c.requires in
+    let h = subst (λ (z : WorldView). (th : ThreadState) × IsThread z.state c.args.thread th × (th.position ≡ Entered))
+    (sym c.self.view_is) c.requires in
     let at = read_here _ _ _ _ _ _ _ _ c.self.invariant.0 c.args.thread h.0 h.1 c.index.result.now c.index.ensures in
     on_entered _ _ _ _ _ _ _ _ c.self.invariant.0 c.args.thread h.0 h.1 c.index.result.now at h.2
 
 pub unreachable-requires : goal.unreachable-requires
 unreachable-requires c =
-    let h = subst (λ (z : WorldView). (th : ThreadState) × IsThread z.state c.args.thread th × (th.position ≡ Entered)) (sym c.self.view_is) c.requires in
+    let h = subst (λ (z : WorldView). (th : ThreadState) × IsThread z.state c.args.thread th × (th.position ≡ Entered))
+    (sym c.self.view_is) c.requires in
     let at = read_here _ _ _ _ _ _ _ _ c.self.invariant.0 c.args.thread h.0 h.1 c.index.result.now c.index.ensures in
-    no_step_entered _ _ _ _ _ _ _ _ c.self.invariant.0 c.args.thread h.0 h.1 c.index.result.now at h.2 (subst (λ l. IsNext l (rest_at (text_at c.self.inside.compiled.now c.args.thread) c.index.result.now.node)) c.in-Act.is c.next_label.ensures)
+    no_step_entered _ _ _ _ _ _ _ _ c.self.invariant.0 c.args.thread h.0 h.1 c.index.result.now at h.2
+    (subst (λ l. IsNext l (rest_at (text_at c.self.inside.compiled.now c.args.thread) c.index.result.now.node))
+    c.in-Act.is c.next_label.ensures)
 
 pub unreachable-requires-in-Test : goal.unreachable-requires-in-Test
 unreachable-requires-in-Test c =
-    let h = subst (λ (z : WorldView). (th : ThreadState) × IsThread z.state c.args.thread th × (th.position ≡ Entered)) (sym c.self.view_is) c.requires in
+    let h = subst (λ (z : WorldView). (th : ThreadState) × IsThread z.state c.args.thread th × (th.position ≡ Entered))
+    (sym c.self.view_is) c.requires in
     let at = read_here _ _ _ _ _ _ _ _ c.self.invariant.0 c.args.thread h.0 h.1 c.index.result.now c.index.ensures in
-    no_step_entered _ _ _ _ _ _ _ _ c.self.invariant.0 c.args.thread h.0 h.1 c.index.result.now at h.2 (subst (λ l. IsNext l (rest_at (text_at c.self.inside.compiled.now c.args.thread) c.index.result.now.node)) c.in-Test.is c.next_label.ensures)
+    no_step_entered _ _ _ _ _ _ _ _ c.self.invariant.0 c.args.thread h.0 h.1 c.index.result.now at h.2
+    (subst (λ l. IsNext l (rest_at (text_at c.self.inside.compiled.now c.args.thread) c.index.result.now.node))
+    c.in-Test.is c.next_label.ensures)
 
 pub returns : goal.returns
 returns c th there =
     let here = subst (λ (z : WorldView). IsThread z.state c.args.thread th) (sym c.self.view_is) there in
     let at = read_here _ _ _ _ _ _ _ _ c.self.invariant.0 c.args.thread th here c.index.result.now c.index.ensures in
-    let next = subst (λ l. IsNext l (rest_at (text_at c.self.inside.compiled.now c.args.thread) c.index.result.now.node)) c.in-Section.is c.next_label.ensures in
+    let next = subst (λ l. IsNext l
+    (rest_at (text_at c.self.inside.compiled.now c.args.thread) c.index.result.now.node)) c.in-Section.is
+    c.next_label.ensures in
     (next.0, next.1, text_is _ _ _ _ _ _ _ _ c.self.invariant.0 c.args.thread th here c.index.result.now at ∙ next.2)

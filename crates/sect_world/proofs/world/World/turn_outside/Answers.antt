@@ -13,17 +13,29 @@ label_of-requires c =
 pub local-requires : goal.local-requires
 local-requires c =
     let h = c.requires in
-    let free : IsFree h.0 = (h.2, none_ended h.0.frame.ended (sym (c.has_ended.ensures h.0 h.1) ∙ c.if-has_ended.false)) in
+    let free : IsFree h.0 = (
+      h.2,
+      none_ended h.0.frame.ended
+          (sym (c.has_ended.ensures h.0 h.1) ∙ c.if-has_ended.false),
+    ) in
     (h.0, h.1, free, subst (λ l. IsNext l h.0.frame.text) c.in-Act.is (c.label_of.ensures h.0 h.1))
 
 pub local-requires-in-Test : goal.local-requires-in-Test
 local-requires-in-Test c =
     let h = c.requires in
-    let free : IsFree h.0 = (h.2, none_ended h.0.frame.ended (sym (c.has_ended.ensures h.0 h.1) ∙ c.if-has_ended.false)) in
+    let free : IsFree h.0 = (
+      h.2,
+      none_ended h.0.frame.ended
+          (sym (c.has_ended.ensures h.0 h.1) ∙ c.if-has_ended.false),
+    ) in
     (h.0, h.1, free, subst (λ l. IsNext l h.0.frame.text) c.in-Test.is (c.label_of.ensures h.0 h.1))
 
 pub enter-requires : goal.enter-requires
 enter-requires c =
     let h = c.requires in
-    let free : IsFree h.0 = (h.2, none_ended h.0.frame.ended (sym (c.has_ended.ensures h.0 h.1) ∙ c.if-has_ended.false)) in
+    let free : IsFree h.0 = (
+      h.2,
+      none_ended h.0.frame.ended
+          (sym (c.has_ended.ensures h.0 h.1) ∙ c.if-has_ended.false),
+    ) in
     (h.0, h.1, free, subst (λ l. IsNext l h.0.frame.text) c.in-Section.is (c.label_of.ensures h.0 h.1))

@@ -9,13 +9,15 @@ use sect_types::TypeFault;
 use sect_world::WorldFault;
 use std::alloc::AllocError;
 use std::io;
+use std::num::TryFromIntError;
+use std::str::Utf8Error;
 use thiserror::Error;
 
 /// Why a measurement ended early. `Display` is what the program says of it.
 #[derive(Clone, Copy, Debug, Error)]
 pub enum Failure {
     /// The words of the command line aren't those of a measurement.
-    #[error("wanted: nothing, or sets, classes, certified TIMES, turns ROUNDS, table KEYS ROUNDS, cert SECTIONS LOCKS")]
+    #[error("wanted: nothing, or sets N, classes N, certified N, turns N, schedule K, table KEYS N, cert LISTS LOCKS")]
     Usage,
     /// The source text was refused.
     #[error("the text on standard input is no program")]
@@ -31,6 +33,18 @@ pub enum Failure {
 impl From<AllocError> for Failure {
     fn from(_refused: AllocError) -> Failure {
         Failure::Work
+    }
+}
+
+impl From<Utf8Error> for Failure {
+    fn from(_error: Utf8Error) -> Failure {
+        Failure::Source
+    }
+}
+
+impl From<TryFromIntError> for Failure {
+    fn from(_error: TryFromIntError) -> Failure {
+        Failure::Usage
     }
 }
 

@@ -15,7 +15,7 @@ use crate::failure::Failure;
 use crate::long_texts::written_twice;
 use crate::rounds::{THREADS, granted};
 use crate::sets::{classes_found, program_of, sites_found};
-use crate::turns::run_rounds;
+use crate::turns::{run_rounds, run_turns};
 use crate::work::{Work, works};
 use std::alloc::Global;
 use std::io::{Read, Write};
@@ -74,6 +74,7 @@ fn line(alloc: Global, work: Work, source: &[u8]) -> Result<String, Failure> {
                 r.events, r.sections, r.numbers
             )?
         }
+        Work::Schedule { k } => run_turns(alloc, source, k)?,
         Work::Table { keys, rounds } => {
             let granted = granted(alloc, keys, rounds)?;
             let asked = u64::from(rounds) * u64::from(THREADS);

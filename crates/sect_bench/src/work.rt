@@ -14,6 +14,9 @@ pub enum Work {
     Certified { times: u32 },
     /// The program on standard input, compiled, and so many rounds of turns of its threads.
     Turns { rounds: u32 },
+    /// The program behind the first line of standard input, compiled with paths of at most so many fields, and turns of
+    /// the threads that the line names.
+    Schedule { k: u16 },
     /// So many rounds, in each of which 64 threads ask the lock table for a key, in turn over so many keys.
     Table { keys: u32, rounds: u32 },
     /// A certificate of so many sections and so many locks in each list, written, read and written again.
@@ -41,7 +44,11 @@ impl Work {
     pub fn reads(&self) -> bool {
         matches!(
             self,
-            Work::Sets { .. } | Work::Classes { .. } | Work::Certified { .. } | Work::Turns { .. }
+            Work::Sets { .. }
+                | Work::Classes { .. }
+                | Work::Certified { .. }
+                | Work::Turns { .. }
+                | Work::Schedule { .. }
         )
     }
 }
@@ -76,6 +83,9 @@ fn repeated(what: &str, times: u32) -> Result<Work, Failure> {
         "classes" => Ok(Work::Classes { times }),
         "certified" => Ok(Work::Certified { times }),
         "turns" => Ok(Work::Turns { rounds: times }),
+        "schedule" => Ok(Work::Schedule {
+            k: u16::try_from(times)?,
+        }),
         _ => Err(Failure::Usage),
     }
 }

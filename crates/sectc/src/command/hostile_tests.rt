@@ -75,14 +75,14 @@ fn expect_known(
     Ok((status, shown))
 }
 
-/// `compile` and `schedule` answer a source text that `locks` answers, and refuse another by the same line.
+/// `compile`, `schedule` and `run` answer a source text that `locks` answers, and refuse another by the same line.
 fn expect_alike(
     rt: &(impl Threads + Wait + Sync + AllocGlobal + Abort),
     source: &[u8],
     status: u8,
     shown: &str,
 ) -> Result<(), Fail> {
-    for line in ["compile", "schedule"] {
+    for line in ["compile", "schedule", "run --fuel 500"] {
         let (other, text) = answer_of(rt, line, source)?;
         assert_eq!(rt; other, status, "{line}: {text}");
         assert!(rt; status == 0 || text.as_str() == shown, "{line}: {text}");

@@ -13,7 +13,7 @@ const CERTIFIED: &str =
     chain 0: 0 W all\nend\nthread e { atomic all { } }\n";
 
 /// Each command with an input, and texts that are refused.
-const COMMANDS: [(&str, &str); 10] = [
+const COMMANDS: [(&str, &str); 11] = [
     ("locks", TWO_THREADS),
     ("explain", TWO_THREADS),
     ("compile", TWO_THREADS),
@@ -22,6 +22,7 @@ const COMMANDS: [(&str, &str); 10] = [
     ("check", CERTIFIED),
     ("serial 0 1", TWO_THREADS),
     ("schedule 0 1 0 1 0 1 0 1", TWO_THREADS),
+    ("run", TWO_THREADS),
     ("locks", "thread t { atomic {"),
     ("check", "end\n$"),
 ];

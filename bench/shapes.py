@@ -167,3 +167,21 @@ def contention(count):
     section = "atomic { t = a.bal; t = t + 1; a.bal = t; } " * 4
     threads = " ".join("thread t%d { int t; %s}" % (i, section) for i in range(count))
     return "record Acct { int bal; } global Acct a; %s" % threads
+
+
+def adding(count, globals_):
+    """64 threads, in turn over the globals; each adds 1 to the object of its own so many times, a section a time."""
+    threads = " ".join("thread t%d { int i; int v; while (i < %d) { atomic { v = %s.bal; v = v + 1; %s.bal = v; } "
+                       "i = i + 1; } }" % (i, count, name, name)
+                       for i, name in ((i, globals_[i % len(globals_)]) for i in range(64)))
+    return "record Acct { int bal; } %s %s" % (declared("global Acct", globals_), threads)
+
+
+def one_for_all(count):
+    """64 threads that contend for one object."""
+    return adding(count, ["a"])
+
+
+def one_for_each(count):
+    """64 threads that share nothing."""
+    return adding(count, named("a", 64))

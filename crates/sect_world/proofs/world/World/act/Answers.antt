@@ -17,7 +17,11 @@ index_mut-requires c =
     × (th.position ≡ Running c.args.section (rest_at (body_at z.compiled c.args.section) c.args.node))
     × (begins_step (rest_at (body_at z.compiled c.args.section) c.args.node) ≡ true)) (sym c.self.view_is)
     c.requires in
-    omega (arith, (runs_here _ _ _ _ _ _ _ _ c.self.invariant.0 c.args.thread h.0 h.1).0, c.self.inside.moment.runners.ok)
+    omega (
+      arith,
+      (runs_here _ _ _ _ _ _ _ _ c.self.invariant.0 c.args.thread h.0 h.1).0,
+      c.self.inside.moment.runners.ok,
+    )
 
 pub step_inside-requires-clause-section : goal.step_inside-requires-clause-section
 step_inside-requires-clause-section c =
@@ -88,7 +92,8 @@ invariant_of-self-2 c =
     let at = read_here _ _ _ _ _ _ _ _ c.self.invariant.0 c.args.thread h.0 h.1 r c.index_mut.ensures.value in
     let out = c.in_ok-step_inside.ensures in
     let next = turns_inside _ _ _ _ _ _ _ _ c.self.invariant.0 c.args.thread h.0 h.1 r at _ _ _
-    c.self.inside.moment.granted.items _ c.in_ok-reserve.ensures.items c.step_inside.new.runner refl c.clear.ensures.items
+    c.self.inside.moment.granted.items _ c.in_ok-reserve.ensures.items c.step_inside.new.runner refl
+    c.clear.ensures.items
     c.args.section _ _ _ h.2 h.3 c.push_reserved.ensures.items out.acts out.store out.table out.sited in
     let old_many = c.self.invariant.0.as_many_held in
     let new_many = next.world.as_many_held in
@@ -112,6 +117,7 @@ returns-clause-ok c =
     let at = read_here _ _ _ _ _ _ _ _ c.self.invariant.0 c.args.thread h.0 h.1 r c.index_mut.ensures.value in
     let out = c.in_ok-step_inside.ensures in
     let next = turns_inside _ _ _ _ _ _ _ _ c.self.invariant.0 c.args.thread h.0 h.1 r at _ _ _
-    c.self.inside.moment.granted.items _ c.in_ok-reserve.ensures.items c.step_inside.new.runner refl c.clear.ensures.items
+    c.self.inside.moment.granted.items _ c.in_ok-reserve.ensures.items c.step_inside.new.runner refl
+    c.clear.ensures.items
     c.args.section _ _ _ h.2 h.3 c.push_reserved.ensures.items out.acts out.store out.table out.sited in
     rw (← c.self.view_is) next.turned

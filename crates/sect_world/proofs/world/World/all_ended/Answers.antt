@@ -14,9 +14,11 @@ returns c =
     let world = c.self.invariant.0 in
     let is = c.have_ended.ensures ∙ ap (list_all (λ (r : Runner). has_ended r.ended)) c.as_slice.ensures.value in (
       λ so. subst (λ (z : WorldView). AllEnded z.state) c.self.view_is
-          (threads_ended w.compiled.now (program_of w.compiled.now).texts w.moment.runners.items w.moment.table.held (sym is ∙ so)),
+          (threads_ended w.compiled.now (program_of w.compiled.now).texts w.moment.runners.items w.moment.table.held
+          (sym is ∙ so)),
       λ all. subst IsTrue
-          (sym (is ∙ runners_ended w.compiled.now (program_of w.compiled.now).texts w.moment.runners.items w.moment.table.held
+          (sym (is ∙ runners_ended w.compiled.now (program_of w.compiled.now).texts w.moment.runners.items
+          w.moment.table.held
           world.as_many world.as_many_held
           (subst (λ (z : WorldView). AllEnded z.state) (sym c.self.view_is) all))) refl,
     )

@@ -16,7 +16,11 @@ index_mut-requires c =
     × ((body : TextView) × (rest : TextView) × IsReady th c.args.section body rest
     × (meets th.held (plan_at z.compiled c.args.section z.state.store th.frame.work.locals) ≡ true)))
     (sym c.self.view_is) c.requires in
-    omega (arith, (runs_here _ _ _ _ _ _ _ _ c.self.invariant.0 c.args.thread h.0 h.1).0, c.self.inside.moment.runners.ok)
+    omega (
+      arith,
+      (runs_here _ _ _ _ _ _ _ _ c.self.invariant.0 c.args.thread h.0 h.1).0,
+      c.self.inside.moment.runners.ok,
+    )
 
 pub begin-requires-clause-thread : goal.begin-requires-clause-thread
 begin-requires-clause-thread c =

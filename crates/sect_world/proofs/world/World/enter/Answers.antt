@@ -13,7 +13,11 @@ index_mut-requires c =
     let h = subst (λ (z : WorldView). (th : ThreadState) × IsThread z.state c.args.thread th × IsFree th
     × ((body : TextView) × (rest : TextView) × (th.frame.text ≡ Section c.args.section body rest)))
     (sym c.self.view_is) c.requires in
-    omega (arith, (runs_here _ _ _ _ _ _ _ _ c.self.invariant.0 c.args.thread h.0 h.1).0, c.self.inside.moment.runners.ok)
+    omega (
+      arith,
+      (runs_here _ _ _ _ _ _ _ _ c.self.invariant.0 c.args.thread h.0 h.1).0,
+      c.self.inside.moment.runners.ok,
+    )
 
 pub enter-requires : goal.enter-requires
 enter-requires c =
@@ -32,7 +36,8 @@ invariant_of-self-2 c =
     let r = c.index_mut.result.now in
     let at = read_here _ _ _ _ _ _ _ _ c.self.invariant.0 c.args.thread h.0 h.1 r c.index_mut.ensures.value in
     let out = c.in_ok-enter.ensures in
-    let next = turns_in _ _ _ _ _ _ _ _ c.self.invariant.0 c.args.thread h.0 h.1 r at _ _ _ c.self.inside.moment.granted.items
+    let next = turns_in _ _ _ _ _ _ _ _ c.self.invariant.0 c.args.thread h.0 h.1 r at _ _ _
+    c.self.inside.moment.granted.items
     _ c.in_ok-reserve.ensures.items c.enter.new.runner refl c.clear.ensures.items c.args.section h.3.0 h.3.1 h.2
     h.3.2 c.push_reserved.ensures.items out.stage out.wanted (out.frame _) in
     let old_many = c.self.invariant.0.as_many_held in
@@ -55,7 +60,8 @@ returns-clause-ok c =
     let r = c.index_mut.result.now in
     let at = read_here _ _ _ _ _ _ _ _ c.self.invariant.0 c.args.thread h.0 h.1 r c.index_mut.ensures.value in
     let out = c.in_ok-enter.ensures in
-    let next = turns_in _ _ _ _ _ _ _ _ c.self.invariant.0 c.args.thread h.0 h.1 r at _ _ _ c.self.inside.moment.granted.items
+    let next = turns_in _ _ _ _ _ _ _ _ c.self.invariant.0 c.args.thread h.0 h.1 r at _ _ _
+    c.self.inside.moment.granted.items
     _ c.in_ok-reserve.ensures.items c.enter.new.runner refl c.clear.ensures.items c.args.section h.3.0 h.3.1 h.2
     h.3.2 c.push_reserved.ensures.items out.stage out.wanted (out.frame _) in
     rw (← c.self.view_is) next.turned

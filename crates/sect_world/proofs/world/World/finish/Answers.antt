@@ -22,7 +22,14 @@ returns-clause-outcome c =
     let ended = c.put_ends.ensures
     ∙ (ap (λ es. es ++ map (λ (r : Runner). r.ended) c.as_slice.result.now) c.self.invariant.2
     ∙ (ap (map (λ (r : Runner). r.ended)) c.as_slice.ensures.value
-    ∙ runners_end w.compiled.now (program_of w.compiled.now).texts w.moment.runners.items w.moment.table.held world.as_many
+    ∙ runners_end w.compiled.now (program_of w.compiled.now).texts w.moment.runners.items w.moment.table.held
+    world.as_many
     world.as_many_held)) in
-    c.new.ensures ∙ (λ i. record { ends = ended i; order = w.moment.order.items; output = w.moment.output.items; store = w.moment.store })
+    c.new.ensures ∙ (λ i. record {
+      ends = ended i;
+      order = w.moment.order.items;
+      output = w.moment.output.items;
+      store =
+          w.moment.store;
+    })
     ∙ ap (λ (z : WorldView). outcome_at z.state z.order) c.self.view_is

@@ -12,7 +12,11 @@ pub index_mut-requires : goal.index_mut-requires
 index_mut-requires c =
     let h = subst (λ (z : WorldView). (th : ThreadState) × IsThread z.state c.args.thread th × IsFree th
     × (begins_step th.frame.text ≡ true)) (sym c.self.view_is) c.requires in
-    omega (arith, (runs_here _ _ _ _ _ _ _ _ c.self.invariant.0 c.args.thread h.0 h.1).0, c.self.inside.moment.runners.ok)
+    omega (
+      arith,
+      (runs_here _ _ _ _ _ _ _ _ c.self.invariant.0 c.args.thread h.0 h.1).0,
+      c.self.inside.moment.runners.ok,
+    )
 
 pub step_outside-requires-clause-thread : goal.step_outside-requires-clause-thread
 step_outside-requires-clause-thread c =
@@ -61,7 +65,8 @@ invariant_of-self-2 c =
     let at = read_here _ _ _ _ _ _ _ _ c.self.invariant.0 c.args.thread h.0 h.1 r c.index_mut.ensures.value in
     let out = c.in_ok-step_outside.ensures in
     let next = turns_local _ _ _ _ _ _ _ _ c.self.invariant.0 c.args.thread h.0 h.1 r at _ _ _
-    c.self.inside.moment.granted.items _ c.in_ok-reserve.ensures.items c.step_outside.new.runner refl c.clear.ensures.items
+    c.self.inside.moment.granted.items _ c.in_ok-reserve.ensures.items c.step_outside.new.runner refl
+    c.clear.ensures.items
     h.2 h.3 c.push_reserved.ensures.items out.steps out.stage out.wanted.0 out.wanted.1 in
     let old_many = c.self.invariant.0.as_many_held in
     let new_many = next.world.as_many_held in
@@ -83,6 +88,7 @@ returns-clause-ok c =
     let at = read_here _ _ _ _ _ _ _ _ c.self.invariant.0 c.args.thread h.0 h.1 r c.index_mut.ensures.value in
     let out = c.in_ok-step_outside.ensures in
     let next = turns_local _ _ _ _ _ _ _ _ c.self.invariant.0 c.args.thread h.0 h.1 r at _ _ _
-    c.self.inside.moment.granted.items _ c.in_ok-reserve.ensures.items c.step_outside.new.runner refl c.clear.ensures.items
+    c.self.inside.moment.granted.items _ c.in_ok-reserve.ensures.items c.step_outside.new.runner refl
+    c.clear.ensures.items
     h.2 h.3 c.push_reserved.ensures.items out.steps out.stage out.wanted.0 out.wanted.1 in
     rw (← c.self.view_is, out.store) next.turned

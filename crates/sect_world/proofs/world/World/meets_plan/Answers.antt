@@ -16,7 +16,11 @@ index-requires c =
     let h = subst (λ (z : WorldView). (th : ThreadState) × IsThread z.state c.args.thread th
     × ((body : TextView) × (rest : TextView) × (th.frame.text ≡ Section c.args.section body rest)))
     (sym c.self.view_is) c.requires in
-    omega (arith, (runs_here _ _ _ _ _ _ _ _ c.self.invariant.0 c.args.thread h.0 h.1).0, c.self.inside.moment.runners.ok)
+    omega (
+      arith,
+      (runs_here _ _ _ _ _ _ _ _ c.self.invariant.0 c.args.thread h.0 h.1).0,
+      c.self.inside.moment.runners.ok,
+    )
 
 pub is_met-requires-clause-section : goal.is_met-requires-clause-section
 is_met-requires-clause-section c =

@@ -14,7 +14,11 @@ pub index-requires : goal.index-requires
 index-requires c =
     let h = subst (λ (z : WorldView). (th : ThreadState) × IsThread z.state c.args.thread th × (th.position ≡ Entered))
     (sym c.self.view_is) c.requires in
-    omega (arith, (runs_here _ _ _ _ _ _ _ _ c.self.invariant.0 c.args.thread h.0 h.1).0, c.self.inside.moment.runners.ok)
+    omega (
+      arith,
+      (runs_here _ _ _ _ _ _ _ _ c.self.invariant.0 c.args.thread h.0 h.1).0,
+      c.self.inside.moment.runners.ok,
+    )
 
 pub next_label-requires-clause-thread : goal.next_label-requires-clause-thread
 next_label-requires-clause-thread c =

@@ -9,7 +9,8 @@ pub returns : goal.returns
 returns c =
     let w = c.self.inside in
     let world = c.self.invariant.0 in
-    let many = length-threads_of w.compiled.now (program_of w.compiled.now).texts w.moment.runners.items w.moment.table.held
+    let many = length-threads_of w.compiled.now (program_of w.compiled.now).texts w.moment.runners.items
+    w.moment.table.held
     world.as_many world.as_many_held in
     let seen = ap (λ (z : WorldView). length z.state.threads) c.self.view_is in
     omega (arith, many, seen, world.as_many, c.len.ensures, w.moment.runners.ok)

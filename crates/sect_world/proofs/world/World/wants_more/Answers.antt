@@ -14,7 +14,11 @@ pub index-runner-requires : goal.index-runner-requires
 index-runner-requires c =
     let h = subst (λ (z : WorldView). (th : ThreadState) × IsThread z.state c.args.thread th × (th.position ≡ Entered))
     (sym c.self.view_is) c.requires in
-    omega (arith, (runs_here _ _ _ _ _ _ _ _ c.self.invariant.0 c.args.thread h.0 h.1).0, c.self.inside.moment.runners.ok)
+    omega (
+      arith,
+      (runs_here _ _ _ _ _ _ _ _ c.self.invariant.0 c.args.thread h.0 h.1).0,
+      c.self.inside.moment.runners.ok,
+    )
 
 pub returns-clause-asks : goal.returns-clause-asks
 returns-clause-asks c more =

@@ -121,8 +121,7 @@ fn value_at(denoted: &Denoted) -> Value
     }
 }
 
-/// The value of an operand.
-pub fn value(given: &Given) -> Value
+fn value(given: &Given) -> Value
     ensures { result ≡ value_by given.now }
 {
     match given {

@@ -1,6 +1,5 @@
 //! The rules that a typed program obeys, and the faults that name them.
 
-use crate::spot::Uncounted;
 use std::alloc::{AllocError, AllocFailed};
 use thiserror::Error;
 
@@ -13,16 +12,12 @@ pub enum Rule {
     Twice,
     /// Types that don't agree.
     WrongType,
-    /// A load, a store, a `new`, a `print` or a `call` outside a section and outside a procedure.
+    /// A load, a store, a `new` or a `print` outside a section.
     SharedOutside,
-    /// A section in a section or in a procedure.
+    /// A section in a section.
     Nested,
     /// An item that passes a limit.
     TooMany,
-    /// A call in a procedure of one that is it or reaches it by calls.
-    Recursion,
-    /// A call with another number of arguments than the procedure has parameters.
-    Arguments,
 }
 
 /// Why a walk through the items ends early.
@@ -33,8 +28,8 @@ pub enum Fault {
     Broken(u32, Rule),
 }
 
-/// Why a tree has no program. An item is a record, a field, a global, a procedure, a thread, a parameter, a local or a
-/// statement; items are numbered from 0 in text order.
+/// Why a tree has no program. An item is a record, a field, a global, a thread, a local or a statement; items are
+/// numbered from 0 in text order.
 #[derive(Debug, Drop, Error)]
 pub enum TypeFault {
     /// Want of memory.
@@ -49,21 +44,15 @@ pub enum TypeFault {
     /// All names in the item are known, and their types don't agree.
     #[error("12 WrongType item {item}")]
     WrongType { item: u32 },
-    /// The item is a load, a store, a `new`, a `print` or a `call` and stands outside `atomic` and outside `proc`.
+    /// The item is a load, a store, a `new` or a `print` and stands outside `atomic`.
     #[error("13 SharedOutside item {item}")]
     SharedOutside { item: u32 },
-    /// The item is an `atomic` inside `atomic` or `proc`.
+    /// The item is an `atomic` inside `atomic`.
     #[error("14 Nested item {item}")]
     Nested { item: u32 },
-    /// The item is the first of its kind past a limit, or a call whose expansion passes one.
+    /// The item is the first of its kind past a limit.
     #[error("15 TooMany item {item}")]
     TooMany { item: u32 },
-    /// The item is a call in a procedure of one that is it or reaches it by calls.
-    #[error("16 Recursion item {item}")]
-    Recursion { item: u32 },
-    /// The item is a call with another number of arguments than the procedure has parameters.
-    #[error("17 Arguments item {item}")]
-    Arguments { item: u32 },
 }
 
 impl From<AllocError> for Fault {
@@ -88,17 +77,6 @@ impl<T: Drop> From<AllocFailed<T>> for Fault {
     }
 }
 
-impl From<Uncounted> for Fault {
-    ghost use Rattle.std.specs.Prelude.{◌≡◌};
-    ghost use Rattle.sect_types.specs.declared.rule.Fault.TheVariants.{Memory};
-
-    ghost from_gives = { λ _ e. e ≡ Memory };
-
-    fn from(_past: Uncounted) -> Fault {
-        Fault::Memory
-    }
-}
-
 impl From<Fault> for TypeFault {
     ghost use Rattle.std.specs.Prelude.{◌≡◌};
     ghost use Rattle.sect_types.specs.Faults.{type_fault};
@@ -115,8 +93,6 @@ impl From<Fault> for TypeFault {
                 Rule::SharedOutside => TypeFault::SharedOutside { item },
                 Rule::Nested => TypeFault::Nested { item },
                 Rule::TooMany => TypeFault::TooMany { item },
-                Rule::Recursion => TypeFault::Recursion { item },
-                Rule::Arguments => TypeFault::Arguments { item },
             },
         }
     }

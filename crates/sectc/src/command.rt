@@ -181,8 +181,6 @@ mod hostile_tests;
 #[cfg(test)]
 mod lock_tests;
 #[cfg(test)]
-mod procedure_tests;
-#[cfg(test)]
 mod run_tests;
 #[cfg(test)]
 mod schedule_tests;

@@ -1,5 +1,5 @@
 -- A variable, a field and a path of a program are what their names stand for.
-use Rattle.std.proofs.Common.{◌≡◌, ℕ, zero, suc, List, [], ◌∷◌, ◌++◌, map, Option, Some, None, refl, sym, ap, ◌∙◌}
+use Rattle.std.proofs.Common.{◌≡◌, ℕ, zero, suc, List, [], ◌∷◌, ◌++◌, map, Option, Some, None, sym, ap, ◌∙◌}
 use Rattle.std.proofs.Common.{subst, append_assoc}
 use Rattle.std.specs.Prelude.{slice_get, slice_index_or, option_and_then}
 use Rattle.std.specs.Option.{option_map}
@@ -8,7 +8,6 @@ use Rattle.std.proofs.lemmas.Option.{slice_get-map, get_or_from_slice_get}
 use Rattle.sect_front.specs.declared.tree.Record.{Record}
 use Rattle.sect_front.specs.declared.tree.GlobalObject.{GlobalObject}
 use Rattle.sect_front.specs.declared.tree.Declaration.{Declaration}
-use Rattle.sect_front.specs.declared.tree.Thread.{Thread}
 use Rattle.sect_types.specs.First.{IsTyped}
 use Rattle.sect_types.specs.Sight.{place, names_of_records, names_of_globals, names_of_declared, all_fields}
 use Rattle.sect_types.specs.Environments.{type_of, types_of, record_number}
@@ -18,36 +17,20 @@ use Rattle.sect_types.specs.declared.action.Field.{Field}
 use Rattle.sect_types.specs.declared.types.ValueType.{ValueType}
 use Rattle.sect_types.specs.declared.types.ValueType.TheVariants.{Refers}
 use Rattle.sect_types.proofs.Replaced.{slice_get-map as mapped_at}
-use Rattle.sect_types.proofs.Repeating.{globals_apart, fields_apart, locals_apart, no_local, own_place, no_place}
+use Rattle.sect_types.proofs.Repeating.{globals_apart, fields_apart, own_place}
 use Rattle.sect_points.specs.declared.holders.Variable.{Variable}
 use Rattle.sect_points.specs.declared.holders.Variable.TheVariants.{Global, Local}
 use Rattle.sect_points.specs.Paths.{PathView, var, dot, base_of, fields_of}
 use Rattle.sect_names.specs.Locks.{IsOwn, VariableTo, FieldTo, PathTo}
-use Rattle.sect_names.specs.Printing.{all_locals, variable_name, field_name}
-use Rattle.sect_cert.specs.declared.lock.CertBase.TheVariants as base
+use Rattle.sect_types.specs.declared.local_name.LocalName.{LocalName}
+use Rattle.sect_types.specs.LocalNames.{all_local_names, place_of_local}
+use Rattle.sect_names.specs.Printing.{global_name, local_at, field_name}
 use Rattle.sect_check.specs.Names.{local_named, global_named, or_variable, variable_named, field_named, referred}
-use Rattle.sect_check.specs.Names.{record_of_variable, record_of_field, path_from, path_named}
+use Rattle.sect_check.specs.Names.{record_of_variable, record_of_field, path_from, path_named, base_named}
+use Rattle.sect_check.specs.Names.{words_of_local, words_of_variable}
+use Rattle.sect_check.proofs.Rows.{row_there, row_of}
+use Rattle.sect_check.proofs.LocalLaws.{local_has_name, own_place_of_local, no_local_of_global}
 use Rattle.sect_check.proofs.Standing.{numbered}
-
--- the row of a table and what stands there in it
-row_there : {X : Type 0} (rows : List (List X)) (i n : ℕ) (v : X) → slice_get (slice_index_or rows i []) n ≡ Some v
-    → (row : List X) × (slice_get rows i ≡ Some row) × (slice_get row n ≡ Some v)
-row_there [] i n v e = absurd cc
-row_there (row ∷ rows) zero n v e = (row, refl, e)
-row_there (row ∷ rows) (suc i) n v e = row_there rows i n v e
-
--- the row of a mapped table
-row_of : {X Y : Type 0} (f : X → List Y) (xs : List X) (i : ℕ) (x : X) → slice_get xs i ≡ Some x
-    → slice_index_or (map f xs) i [] ≡ f x
-row_of f [] i x e = absurd cc
-row_of f (y ∷ xs) zero x e = let same : y ≡ x = cc in ap f same
-row_of f (y ∷ xs) (suc i) x e = row_of f xs i x e
-
-no_row : {X Y : Type 0} (f : X → List Y) (xs : List X) (i : ℕ) → slice_get xs i ≡ None
-    → slice_index_or (map f xs) i [] ≡ []
-no_row f [] i e = refl
-no_row f (y ∷ xs) zero e = absurd cc
-no_row f (y ∷ xs) (suc i) e = no_row f xs i e
 
 -- a type that stands in a row
 typed_in_row : (rows : List (List ValueType)) (i n : ℕ) (v : ValueType) → type_in (slice_get rows i) n ≡ Some v
@@ -62,20 +45,7 @@ name_at : {X : Type 0} (f : X → List ℕ) (xs : List X) (i : ℕ) (x : X) → 
 name_at f xs i x e = slice_get-map f xs i ∙ ap (option_map f) e
 
 module _ (p : ProgramView) (typed : IsTyped p.source) (tree : IsOfTree p) where
-  -- a local that has a type is declared
-  local_declared : (t x : ℕ) (v : ValueType) → slice_get (slice_index_or p.locals t []) x ≡ Some v
-      → (th : Thread) × (slice_get p.source.threads t ≡ Some th)
-      × ((d : Declaration) × (slice_get th.locals x ≡ Some d))
-  local_declared t x v e =
-      let names = names_of_records p.source.records in
-      let row = row_there p.locals t x v e in
-      let th = mapped_at (λ (z : Thread). types_of names z.locals) p.source.threads t row.0
-      (subst (λ (l : List (List ValueType)). slice_get l t ≡ Some row.0) tree.locals_are row.1) in
-      let d = mapped_at (λ (z : Declaration). type_of names z.kind) th.0.locals x v
-      (subst (λ (l : List ValueType). slice_get l x ≡ Some v) (sym th.2) row.2) in
-      (th.0, th.1, (d.0, d.1))
-
-  -- so is a field
+  -- a field that has a type is declared
   field_declared : (r n : ℕ) (v : ValueType) → slice_get (slice_index_or p.records r []) n ≡ Some v
       → (shape : Record) × (slice_get p.source.records r ≡ Some shape)
       × ((d : Declaration) × (slice_get shape.fields n ≡ Some d))
@@ -88,40 +58,32 @@ module _ (p : ProgramView) (typed : IsTyped p.source) (tree : IsOfTree p) where
       (subst (λ (l : List ValueType). slice_get l n ≡ Some v) (sym shape.2) row.2) in
       (shape.0, shape.1, (d.0, d.1))
 
+  -- the words for a local stand for the place at which it is found
+  found_by_words : (t i : ℕ) (x : List ℕ) (c : Option ℕ)
+      → place_of_local (record { name = x; call = c }) (slice_index_or (all_local_names p.source) t []) ≡ Some i
+      → base_named p.source t (words_of_local x c) ≡ Some (Local t i)
+  found_by_words t i x None e =
+      ap (λ o. or_variable (option_map (λ j. Local t j) o) (global_named p.source x)) e
+  found_by_words t i x (Some c) e = ap (option_map (λ j. Local t j)) e
+
   local_called : (t x r : ℕ) → VariableTo p (Local t x) r
-      → local_named p.source t (variable_name p.source (Local t x)) ≡ Some (Local t x)
+      → base_named p.source t (words_of_variable p.source (Local t x)) ≡ Some (Local t x)
   local_called t x r to =
-      let found = local_declared t x (Refers r) to in
-      let th = found.0 in
-      let d = found.2.0 in
-      let names = names_of_declared th.locals in
-      let rows : slice_index_or (all_locals p.source.threads) t [] ≡ names =
-      row_of (λ (z : Thread). names_of_declared z.locals) p.source.threads t th found.1 in
-      let at : slice_get names x ≡ Some d.name = name_at (λ (z : Declaration). z.name) th.locals x d found.2.1 in
-      let called : variable_name p.source (Local t x) ≡ d.name = ap (λ ns. slice_index_or ns x []) rows
-      ∙ get_or_from_slice_get names x d.name [] at in
-      ap (λ n. option_map (λ i. Local t i) (place n (slice_index_or (all_locals p.source.threads) t []))) called
-      ∙ ap (λ ns. option_map (λ i. Local t i) (place d.name ns)) rows
-      ∙ ap (option_map (λ i. Local t i))
-      (own_place names x d.name at (locals_apart p.source typed t th found.1 x d.name at).0)
+      let names = slice_index_or (all_local_names p.source) t [] in
+      let found = local_has_name p tree t x (Refers r) to in
+      let l = found.0 in
+      let called : local_at p.source t x ≡ l =
+      get_or_from_slice_get names x l (record { name = []; call = None }) found.1 in
+      ap (λ (k : LocalName). base_named p.source t (words_of_local k.name k.call)) called
+      ∙ found_by_words t x l.name l.call (own_place_of_local p.source typed t x l found.1)
 
   -- in no thread a local has the name of a global
   no_local_called : (t g : ℕ) (name : List ℕ) → slice_get (names_of_globals p.source.globals) g ≡ Some name
-      → local_named p.source t name ≡ None
-  no_local_called t g name at = go (slice_get p.source.threads t) refl
-    where
-      go : (o : Option Thread) → slice_get p.source.threads t ≡ o → local_named p.source t name ≡ None
-      go None e =
-          ap (λ ns. option_map (λ i. Local t i) (place name ns))
-          (no_row (λ (z : Thread). names_of_declared z.locals) p.source.threads t e)
-          ∙ ap (option_map (λ i. Local t i)) (no_place [] name refl)
-      go (Some th) e =
-          ap (λ ns. option_map (λ i. Local t i) (place name ns))
-          (row_of (λ (z : Thread). names_of_declared z.locals) p.source.threads t th e)
-          ∙ ap (option_map (λ i. Local t i)) (no_local p.source typed t th e g name at)
+      → local_named p.source t (record { name = name; call = None }) ≡ None
+  no_local_called t g name at = ap (option_map (λ i. Local t i)) (no_local_of_global p.source typed t g name at)
 
   global_called : (t g r : ℕ) → VariableTo p (Global g) r
-      → variable_named p.source t (variable_name p.source (Global g)) ≡ Some (Global g)
+      → base_named p.source t (words_of_variable p.source (Global g)) ≡ Some (Global g)
   global_called t g r to =
       let names = names_of_globals p.source.globals in
       let found = mapped_at (λ (z : GlobalObject). record_number (names_of_records p.source.records) z.of)
@@ -129,18 +91,18 @@ module _ (p : ProgramView) (typed : IsTyped p.source) (tree : IsOfTree p) where
       let name = found.0.name in
       let at : slice_get names g ≡ Some name =
       name_at (λ (z : GlobalObject). z.name) p.source.globals g found.0 found.1 in
-      let called : variable_name p.source (Global g) ≡ name = get_or_from_slice_get names g name [] at in
+      let called : global_name p.source g ≡ name = get_or_from_slice_get names g name [] at in
       ap (variable_named p.source t) called
       ∙ ap (λ o. or_variable o (global_named p.source name)) (no_local_called t g name at)
       ∙ ap (option_map (λ i. Global i)) (own_place names g name at (globals_apart p.source typed g name at))
 
-  -- a variable of a thread is what its name stands for there
+  -- a variable of a thread is what its words stand for there
   variable_called : (t : ℕ) (v : Variable) (r : ℕ) → IsOwn t (var v) → VariableTo p v r
-      → variable_named p.source t (variable_name p.source v) ≡ Some v
+      → base_named p.source t (words_of_variable p.source v) ≡ Some v
   variable_called t (Global g) r own to = global_called t g r to
   variable_called t (Local u x) r own to =
-      subst (λ n. variable_named p.source n (variable_name p.source (Local u x)) ≡ Some (Local u x)) own
-      (ap (λ o. or_variable o (global_named p.source (variable_name p.source (Local u x)))) (local_called u x r to))
+      subst (λ n. base_named p.source n (words_of_variable p.source (Local u x)) ≡ Some (Local u x)) own
+      (local_called u x r to)
 
   -- a reference field is what its name stands for
   field_called : (f : Field) (r : ℕ) → FieldTo p f.of f.number r
@@ -193,7 +155,7 @@ module _ (p : ProgramView) (typed : IsTyped p.source) (tree : IsOfTree p) where
   -- a path of a thread is what its names stand for there
   pub path_called : (t : ℕ) (q : PathView) (r : ℕ) → IsOwn t q → PathTo p q r
       → path_named p t (record {
-        base = base.Name (variable_name p.source (base_of q));
+        base = words_of_variable p.source (base_of q);
         fields =
             map (field_name p.source) (fields_of q);
       }) ≡ Some q

@@ -13,5 +13,7 @@ pub mod Least
 pub mod Either
 pub mod Chaining
 pub mod Answering
+pub mod Rows
+pub mod LocalLaws
 pub mod Calling
 pub mod Denoting

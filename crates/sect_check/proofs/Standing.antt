@@ -13,7 +13,7 @@ use Rattle.sect_points.specs.declared.holders.Variable.{Variable}
 use Rattle.sect_points.specs.declared.holders.Variable.TheVariants.{Global, Local}
 use Rattle.sect_points.specs.Paths.{PathView, var, dot}
 use Rattle.sect_names.specs.Locks.{IsOwn, VariableTo, FieldTo, PathTo}
-use Rattle.sect_names.specs.Printing.{all_locals}
+use Rattle.sect_types.specs.LocalNames.{all_local_names, place_of_local}
 use Rattle.sect_cert.specs.declared.lock.CertBase.{CertBase}
 use Rattle.sect_cert.specs.declared.lock.CertBase.TheVariants as base
 use Rattle.sect_cert.specs.declared.lock.CertPath.{CertPath}
@@ -80,21 +80,28 @@ goes_on p t q (Some r) (x ∷ xs) z own to e =
     goes_on p t (dot q f) (record_of_field p f) xs z own
     (λ n is. (subst (PathTo p q) of (to r refl), field_to p f n is)) found.2
 
+-- a local that is found by what it is called is one of the thread
+own_local : (t : ℕ) (o : Option ℕ) (v : Variable) → option_map (λ i. Local t i) o ≡ Some v → IsOwn t (var v)
+own_local t (Some i) v e = (let same : Local t i ≡ v = cc in subst (λ w. IsOwn t (var w)) same refl)
+own_local t None v e = absurd cc
+
 -- a name stands for a thread's own variable
 own_variable : (p : TreeView) (t : ℕ) (x : List ℕ) (v : Variable) → variable_named p t x ≡ Some v → IsOwn t (var v)
-own_variable p t x v e = go (place x (slice_index_or (all_locals p.threads) t []))
+own_variable p t x v e =
+    go (place_of_local (record { name = x; call = None }) (slice_index_or (all_local_names p) t []))
     (place x (names_of_globals p.globals)) e
   where
     go : (a b : Option ℕ) → or_variable (option_map (λ i. Local t i) a) (option_map (λ g. Global g) b) ≡ Some v
         → IsOwn t (var v)
-    go (Some i) b e = (let same : Local t i ≡ v = cc in subst (λ w. IsOwn t (var w)) same refl)
+    go (Some i) b e = own_local t (Some i) v e
     go None (Some g) e = (let same : Global g ≡ v = cc in subst (λ w. IsOwn t (var w)) same tt)
     go None None e = absurd cc
 
 -- so does a base
 own_base : (p : TreeView) (t : ℕ) (b : CertBase) (v : Variable) → base_named p t b ≡ Some v → IsOwn t (var v)
 own_base p t (base.Name x) v e = own_variable p t x v e
-own_base p t (base.InCall x n) v e = absurd cc
+own_base p t (base.InCall x c) v e =
+    own_local t (place_of_local (record { name = x; call = Some c }) (slice_index_or (all_local_names p) t [])) v e
 
 -- the path that names stand for in a thread is the thread's own, and refers to objects
 pub path_stands : (p : ProgramView) (t : ℕ) (q : CertPath) (z : PathView) → path_named p t q ≡ Some z

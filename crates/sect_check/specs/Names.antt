@@ -16,15 +16,17 @@ use Rattle.sect_names.specs.declared.lock.Lock.{Lock}
 use Rattle.sect_names.specs.declared.lock.Lock.TheVariants as lock
 use Rattle.sect_names.specs.Schemes.{SchemeView}
 use Rattle.sect_names.specs.Locks.{IsLockOf}
-use Rattle.sect_names.specs.Printing.{all_locals}
+use Rattle.sect_types.specs.declared.local_name.LocalName.{LocalName}
+use Rattle.sect_types.specs.LocalNames.{all_local_names, place_of_local}
+use Rattle.sect_names.specs.Printing.{global_name, local_at}
 use Rattle.sect_cert.specs.declared.lock.CertBase.{CertBase}
 use Rattle.sect_cert.specs.declared.lock.CertBase.TheVariants as base
 use Rattle.sect_cert.specs.declared.lock.CertPath.{CertPath}
 use Rattle.sect_cert.specs.declared.lock.CertLock.{CertLock}
 use Rattle.sect_cert.specs.declared.lock.CertLock.TheVariants as named
 
-abbrev pub local_named : TreeView → ℕ → List ℕ → Option Variable
-local_named p t x = option_map (λ i. Local t i) (place x (slice_index_or (all_locals p.threads) t []))
+abbrev pub local_named : TreeView → ℕ → LocalName → Option Variable
+local_named p t x = option_map (λ i. Local t i) (place_of_local x (slice_index_or (all_local_names p) t []))
 
 abbrev pub global_named : TreeView → List ℕ → Option Variable
 global_named p x = option_map (λ g. Global g) (place x (names_of_globals p.globals))
@@ -35,7 +37,7 @@ or_variable None other = other
 
 -- the variable that a name stands for in thread t: a local, else a global
 abbrev pub variable_named : TreeView → ℕ → List ℕ → Option Variable
-variable_named p t x = or_variable (local_named p t x) (global_named p x)
+variable_named p t x = or_variable (local_named p t (record { name = x; call = None })) (global_named p x)
 
 -- the field of this name of record r
 abbrev pub field_named : TreeView → ℕ → List ℕ → Option Field
@@ -63,10 +65,19 @@ path_from p q (Some r) [] = Some q
 path_from p q (Some r) (x ∷ xs) =
     option_and_then (λ f. path_from p (dot q f) (record_of_field p f) xs) (field_named p.source r x)
 
--- where a path begins: a local of a call stands for nothing, since a program has no calls
+-- where a path begins: at a variable of this name, or at a local of a call
 abbrev pub base_named : TreeView → ℕ → CertBase → Option Variable
 base_named p t (base.Name x) = variable_named p t x
-base_named p t (base.InCall x n) = None
+base_named p t (base.InCall x c) = local_named p t (record { name = x; call = Some c })
+
+-- the words for a local, and for a variable
+abbrev pub words_of_local : List ℕ → Option ℕ → CertBase
+words_of_local x None = base.Name x
+words_of_local x (Some c) = base.InCall x c
+
+abbrev pub words_of_variable : TreeView → Variable → CertBase
+words_of_variable p (Global g) = base.Name (global_name p g)
+words_of_variable p (Local t x) = (let l = local_at p t x in words_of_local l.name l.call)
 
 abbrev pub path_named : ProgramView → ℕ → CertPath → Option PathView
 path_named p t q =

@@ -9,17 +9,17 @@ ghost use Rattle.sect_names.specs.Locks.{depth, IsClassed, IsLockOf};
 ghost use Rattle.sect_check.specs.Names.{base_named as base_by, path_named as path_by, Denotes};
 ghost use Rattle.sect_check.specs.steps.Resolving.{Finds, Resolves};
 
-use crate::names::{field_named, record_of_field, record_of_variable, variable_named};
+use crate::names::{field_named, local_named, record_of_field, record_of_variable, variable_named};
 use crate::unresolved::Unresolved;
 use indexmap::IndexSet;
 use sect_cert::{CertBase, CertLock, CertPath};
 use sect_front::Name;
 use sect_names::{Effect, Lock, Path, Right, Scheme};
 use sect_points::Variable;
-use sect_types::Program;
+use sect_types::{LocalName, Program};
 use std::alloc::Global;
 
-/// The variable at which a path begins. A program has no calls, so a local of one is none.
+/// The variable at which a path begins.
 fn base_named(
     program: &Program,
     globals: &IndexSet<Name>,
@@ -32,7 +32,13 @@ fn base_named(
 {
     match base {
         CertBase::Name(name) => variable_named(program, globals, thread, &name),
-        CertBase::InCall(_, _) => None,
+        CertBase::InCall(name, call) => {
+            let called = LocalName {
+                name,
+                call: Some(call),
+            };
+            local_named(program, thread, &called)
+        }
     }
 }
 

@@ -3,16 +3,18 @@
 ghost use Rattle.std.specs.Prelude.{◌≡◌, ◌<◌, length, slice_index_or, [], IfSome};
 ghost use Rattle.std.specs.Option.{option_map};
 ghost use Rattle.sect_types.specs.Sight.{place, names_of_declared, names_of_globals};
-ghost use Rattle.sect_names.specs.Printing.{all_locals};
-ghost use Rattle.sect_check.specs.Names.{variable_named as variable_by, field_named as field_by, referred as refers_to};
+ghost use Rattle.sect_types.specs.LocalNames.{all_local_names, place_of_local};
+ghost use Rattle.sect_types.specs.LocalNames.{is_same_call as same_call, is_same_local as same_local};
+ghost use Rattle.sect_check.specs.Names.{local_named as local_by, variable_named as variable_by};
+ghost use Rattle.sect_check.specs.Names.{field_named as field_by, referred as refers_to};
 ghost use Rattle.sect_check.specs.Names.{record_of_variable as variable_record, record_of_field as field_record};
 
 use indexmap::IndexSet;
 use sect_front::{Declaration, Name};
 use sect_points::Variable;
-use sect_types::{Field, Program, ValueType};
+use sect_types::{Field, LocalName, Program, ValueType};
 
-/// The number of the field or local of this name.
+/// The number of the field of this name.
 fn number_in(list: &[Declaration], name: &Name) -> Option<usize>
     ensures place { result ≡ place name.now (names_of_declared list.now) }
     ensures within { IfSome result (λ number. number < length list.now) }
@@ -25,15 +27,49 @@ fn number_in(list: &[Declaration], name: &Name) -> Option<usize>
     None
 }
 
-/// The number of a thread's local of this name.
-fn local_number(program: &Program, thread: u16, name: &Name) -> Option<u16>
+/// Whether two names are of no call, or of the same one.
+fn is_same_call(one: Option<u32>, other: Option<u32>) -> bool
+    ensures { result ≡ same_call one other }
+{
+    match one {
+        None => other.is_none(),
+        Some(call) => match other {
+            None => false,
+            Some(number) => call == number,
+        },
+    }
+}
+
+/// Whether a local is called so.
+fn is_same_local(one: &LocalName, other: &LocalName) -> bool
+    ensures { result ≡ same_local one.now other.now }
+{
+    is_same_call(one.call, other.call) && one.name == other.name
+}
+
+/// The number of a thread's local that is called so.
+fn local_number(program: &Program, thread: u16, name: &LocalName) -> Option<u16>
     requires { thread < length program.now.locals }
-    ensures { result ≡ place name.now (slice_index_or (all_locals program.now.source.threads) thread []) }
+    ensures { result ≡ place_of_local name.now (slice_index_or (all_local_names program.now.source) thread []) }
 {
     program.typing();
-    let locals = program.tree().threads()[thread as usize].locals.as_slice();
-    let number = number_in(locals, name)?;
-    Some(number as u16)
+    let _tree = program.tree();
+    let count = program.locals()[thread as usize].as_slice().len() as u16;
+    for number in 0..count {
+        if is_same_local(name, &program.local_name(thread, number)) {
+            return Some(number);
+        }
+    }
+    None
+}
+
+/// The local of a thread that is called so.
+pub fn local_named(program: &Program, thread: u16, name: &LocalName) -> Option<Variable>
+    requires { thread < length program.now.locals }
+    ensures { result ≡ local_by program.now.source thread name.now }
+{
+    let number = local_number(program, thread, name)?;
+    Some(Variable::Local(thread, number))
 }
 
 /// The number of the global of this name.
@@ -58,8 +94,12 @@ pub fn variable_named(
     requires thread { thread < length program.now.locals }
     ensures { result ≡ variable_by program.now.source thread name.now }
 {
-    if let Some(number) = local_number(program, thread, name) {
-        return Some(Variable::Local(thread, number));
+    let own = LocalName {
+        name: *name,
+        call: None,
+    };
+    if let Some(variable) = local_named(program, thread, &own) {
+        return Some(variable);
     }
     let number = global_number(program, globals, name)?;
     Some(Variable::Global(number))

@@ -9,8 +9,8 @@ use Rattle.sect_names.specs.declared.lock.Lock.TheVariants as lock
 use Rattle.sect_names.specs.declared.link.Link.{Link}
 use Rattle.sect_types.specs.Lists.{Has}
 use Rattle.sect_types.specs.Programs.{ProgramView}
-use Rattle.sect_names.specs.Printing.{IsNamed, variable_name, field_name}
-use Rattle.sect_cert.specs.declared.lock.CertBase.TheVariants as base
+use Rattle.sect_names.specs.Printing.{IsNamed, field_name}
+use Rattle.sect_check.specs.Names.{words_of_variable}
 use Rattle.sect_cert.specs.declared.lock.CertPath.{CertPath}
 use Rattle.sect_cert.specs.declared.lock.CertLock.{CertLock}
 use Rattle.sect_cert.specs.declared.lock.CertLock.TheVariants as named
@@ -20,7 +20,7 @@ use Rattle.sect_cert.specs.declared.certificate.CertSection.{CertSection}
 use Rattle.sect_infer.specs.Sets.{LocksView}
 
 abbrev pub path_words : TreeView → PathView → CertPath
-path_words t p = record { base = base.Name (variable_name t (base_of p)); fields = map (field_name t) (fields_of p) }
+path_words t p = record { base = words_of_variable t (base_of p); fields = map (field_name t) (fields_of p) }
 
 abbrev pub lock_words : TreeView → Lock → CertLock
 lock_words t lock.All = named.WriteAll

@@ -46,7 +46,7 @@ fn put_section(
     compiled.rules();
     let scheme = compiled.scheme();
     let program = scheme.program();
-    let names = Names::of(program.tree(), program.section(section).thread);
+    let names = Names::of(program, program.section(section).thread);
     write!(text, "section {section} in thread ")?;
     put_name(text, names.thread())?;
     text.push_str("\n")?;

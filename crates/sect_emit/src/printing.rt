@@ -36,7 +36,7 @@ fn put_thread(text: &mut String, compiled: &Compiled, thread: u16) -> Result<(),
 {
     compiled.rules();
     let scheme = compiled.scheme();
-    let names = Names::of(scheme.program().tree(), thread);
+    let names = Names::of(scheme.program(), thread);
     write!(text, "thread {thread} ")?;
     put_name(text, names.thread())?;
     text.push_str("\n")?;
@@ -57,7 +57,7 @@ fn put_section(text: &mut String, compiled: &Compiled, section: u16) -> Result<(
     put_grips(text, compiled.part(section))?;
     put_paths(text, program, compiled.set(section))?;
     let flow = scheme.graph().section(section);
-    put_nodes(text, Names::of(program.tree(), thread), "node", flow)?;
+    put_nodes(text, Names::of(program, thread), "node", flow)?;
     Ok(write!(text, "node {}: exit\n", flow.exit())?)
 }
 

@@ -1,59 +1,53 @@
 //! Statements and tests as they are printed.
 
-use sect_front::{Comparison, Name, Operator, Tree};
-use sect_types::{Action, Base, Condition, Field, Label, Value};
+use sect_front::{Comparison, Name, Operator};
+use sect_types::{Action, Base, Condition, Field, Label, LocalName, Program, Value};
 use std::alloc::AllocError;
 use std::fmt::Write;
 
 /// The names that a thread sees. What isn't there has none.
 #[derive(Clone, Copy)]
 pub struct Names<'a> {
-    tree: &'a Tree,
+    program: &'a Program,
     thread: u16,
 }
 
 impl<'a> Names<'a> {
     /// The names that the thread of this number sees.
-    pub fn of(tree: &'a Tree, thread: u16) -> Names<'a> {
-        Names { tree, thread }
+    pub fn of(program: &'a Program, thread: u16) -> Names<'a> {
+        Names { program, thread }
     }
 
     /// The name of the thread.
     pub fn thread(self) -> Option<&'a Name> {
-        let thread = self.tree.threads().get(self.thread as usize)?;
+        let thread = self.program.tree().threads().get(self.thread as usize)?;
         Some(&thread.name)
     }
 
-    /// The name of a local.
-    fn local(self, number: u16) -> Option<&'a Name> {
-        let thread = self.tree.threads().get(self.thread as usize)?;
-        let local = thread.locals.as_slice().get(number as usize)?;
-        Some(&local.name)
+    /// What a local is called.
+    fn local(self, number: u16) -> Option<LocalName> {
+        let types = self.program.locals().get(self.thread as usize)?;
+        if number as usize >= types.as_slice().len() {
+            return None;
+        }
+        Some(self.program.local_name(self.thread, number))
     }
 
     /// The name of a global.
     fn global(self, number: u16) -> Option<&'a Name> {
-        let global = self.tree.globals().get(number as usize)?;
+        let global = self.program.tree().globals().get(number as usize)?;
         Some(&global.name)
-    }
-
-    /// The name of what stands before the dot of a load or a store.
-    fn base(self, base: Base) -> Option<&'a Name> {
-        match base {
-            Base::Global(number) => self.global(number),
-            Base::Local(number) => self.local(number),
-        }
     }
 
     /// The name of a record.
     fn record(self, number: u16) -> Option<&'a Name> {
-        let record = self.tree.records().get(number as usize)?;
+        let record = self.program.tree().records().get(number as usize)?;
         Some(&record.name)
     }
 
     /// The name of a field.
     fn field(self, field: Field) -> Option<&'a Name> {
-        let record = self.tree.records().get(field.of as usize)?;
+        let record = self.program.tree().records().get(field.of as usize)?;
         let field = record.fields.as_slice().get(field.number as usize)?;
         Some(&field.name)
     }
@@ -61,6 +55,14 @@ impl<'a> Names<'a> {
 
 /// Adds a name, if there is one.
 pub fn put_name(text: &mut String, name: Option<&Name>) -> Result<(), AllocError> {
+    match name {
+        None => Ok(()),
+        Some(name) => Ok(write!(text, "{name}")?),
+    }
+}
+
+/// Adds what a local is called, if there is one.
+fn put_local(text: &mut String, name: Option<LocalName>) -> Result<(), AllocError> {
     match name {
         None => Ok(()),
         Some(name) => Ok(write!(text, "{name}")?),
@@ -123,7 +125,7 @@ fn put_condition(
 
 /// Adds the local that is assigned to, and the sign behind it.
 fn put_target(text: &mut String, names: Names<'_>, target: u16) -> Result<(), AllocError> {
-    put_name(text, names.local(target))?;
+    put_local(text, names.local(target))?;
     text.push_str(" = ")
 }
 
@@ -132,7 +134,7 @@ fn put_value(text: &mut String, names: Names<'_>, value: Value) -> Result<(), Al
     match value {
         Value::Number(number) => Ok(write!(text, "{}", number.value())?),
         Value::Null => text.push_str("null"),
-        Value::Local(number) => put_name(text, names.local(number)),
+        Value::Local(number) => put_local(text, names.local(number)),
         Value::Global(number) => put_name(text, names.global(number)),
     }
 }
@@ -144,7 +146,10 @@ fn put_access(
     base: Base,
     field: Field,
 ) -> Result<(), AllocError> {
-    put_name(text, names.base(base))?;
+    match base {
+        Base::Global(number) => put_name(text, names.global(number))?,
+        Base::Local(number) => put_local(text, names.local(number))?,
+    }
     text.push_str(".")?;
     put_name(text, names.field(field))
 }

@@ -3,10 +3,11 @@
 ghost use Rattle.std.specs.Prelude.{◌≡◌, ◌≤◌, List, map, length, IfOk};
 ghost use Rattle.std.specs.List.{AllByRecursion};
 ghost use Rattle.sect_types.specs.Lists.{Has};
-ghost use Rattle.sect_cert.specs.Texts.{IsPath, IsLock, IsStep, IsChain};
+ghost use Rattle.sect_cert.specs.Texts.{IsBase, IsPath, IsLock, IsStep, IsChain};
 ghost use Rattle.sect_names.specs.declared.link.Link.{Link};
 ghost use Rattle.sect_names.specs.declared.lock.Lock.{Lock};
-ghost use Rattle.sect_names.specs.Locks.{IsPathOf};
+ghost use Rattle.sect_names.specs.Locks.{IsVariable, IsPathOf};
+ghost use Rattle.sect_check.specs.Names.{words_of_variable};
 ghost use Rattle.sect_names.specs.Printing.{IsNamed, AreNamed};
 ghost use Rattle.sect_emit.specs.Words.{path_words, lock_words, list_words, step_words, chain_words, chains_words};
 ghost use Rattle.sect_emit.specs.Words.{IsChainNamed};
@@ -14,9 +15,33 @@ ghost use Rattle.sect_emit.specs.Words.{IsChainNamed};
 use sect_cert::{CertBase, CertLock, CertPath, CertStep, Items};
 use sect_chains::Chain;
 use sect_infer::Locks;
-use sect_names::{Effect, Link, Lock, Path, Right, field_name, variable_name};
+use sect_names::{Effect, Link, Lock, Path, Right, field_name};
+use sect_points::Variable;
 use sect_types::Program;
 use std::alloc::{AllocError, Global};
+
+/// What a variable is called.
+fn base_of(program: &Program, variable: Variable) -> CertBase
+    requires { IsVariable program.now variable }
+    ensures words { result ≡ words_of_variable program.now.source variable }
+    ensures good { IsBase result }
+{
+    match variable {
+        Variable::Global(number) => {
+            let name = program.tree().globals()[number as usize].name;
+            let _good = name.as_bytes();
+            CertBase::Name(name)
+        }
+        Variable::Local(thread, number) => {
+            let local = program.local_name(thread, number);
+            let _good = local.name.as_bytes();
+            match local.call {
+                None => CertBase::Name(local.name),
+                Some(call) => CertBase::InCall(local.name, call),
+            }
+        }
+    }
+}
 
 /// A path by its names.
 fn path_of(alloc: Global, program: &Program, path: &Path) -> Result<CertPath, AllocError>
@@ -30,10 +55,8 @@ fn path_of(alloc: Global, program: &Program, path: &Path) -> Result<CertPath, Al
         let _good = name.as_bytes();
         fields.push(*name)?;
     }
-    let name = variable_name(program, path.base());
-    let _good = name.as_bytes();
     Ok(CertPath {
-        base: CertBase::Name(*name),
+        base: base_of(program, path.base()),
         fields: Items::from_vec(fields),
     })
 }

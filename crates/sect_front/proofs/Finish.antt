@@ -1,14 +1,14 @@
 -- Whatever has been read can be finished.
 use Rattle.std.proofs.Common.{◌≡◌, ℕ, List, [], ◌∷◌, ◌++◌, Some, refl, sym, ◌∙◌, ap, subst, IfSome}
-use Rattle.sect_front.specs.Syntax.{StatementView, BlockView, Primitive, If, IfElse, While, Atomic, End}
+use Rattle.sect_front.specs.Syntax.{StatementView, BlockView, Primitive, If, IfElse, While, Atomic, Call, End}
 use Rattle.sect_front.specs.TreeView.{TreeView}
 use Rattle.sect_front.specs.Trees.{append}
 use Rattle.sect_front.specs.Grammar.{kind_token}
 use Rattle.sect_front.specs.steps.Tokens.{locking_tokens, test_tokens, statement_tokens, block_tokens}
-use Rattle.sect_front.specs.steps.Tokens.{declarations_tokens, record_tokens, global_tokens, thread_tokens}
-use Rattle.sect_front.specs.steps.Tokens.{source_tokens}
+use Rattle.sect_front.specs.steps.Tokens.{declarations_tokens, record_tokens, global_tokens, procedure_tokens}
+use Rattle.sect_front.specs.steps.Tokens.{thread_tokens, source_tokens}
 use Rattle.sect_front.specs.steps.ReaderView.{ReaderView, reading, empty}
-use Rattle.sect_front.specs.steps.Read.{after, with_record, with_global, with_thread}
+use Rattle.sect_front.specs.steps.Read.{after, with_record, with_global, with_procedure, with_thread}
 use Rattle.sect_front.specs.declared.token.Token.{Token}
 use Rattle.sect_front.specs.declared.tree.Locking.TheVariants as locking
 use Rattle.sect_front.specs.declared.token.Token.TheVariants as token
@@ -29,6 +29,9 @@ use Rattle.sect_front.specs.declared.partial.PartialBranch.{PartialBranch}
 use Rattle.sect_front.specs.declared.partial.PartialBranch.TheVariants as head
 use Rattle.sect_front.specs.declared.partial.PartialHead.{PartialHead}
 use Rattle.sect_front.specs.declared.partial.PartialHead.TheVariants as line
+use Rattle.sect_front.specs.declared.partial.PartialCall.{PartialCall}
+use Rattle.sect_front.specs.declared.partial.PartialCall.TheVariants as call
+use Rattle.sect_front.specs.declared.tree.Kind.TheVariants as kind
 use Rattle.sect_front.specs.declared.within.Frame.{Frame}
 use Rattle.sect_front.specs.declared.within.Frame.TheVariants as frame
 use Rattle.sect_front.specs.declared.within.Partial.{Partial}
@@ -38,20 +41,31 @@ use Rattle.sect_front.specs.declared.reader.RecordStage.{RecordStage}
 use Rattle.sect_front.specs.declared.reader.RecordStage.TheVariants as in_record
 use Rattle.sect_front.specs.declared.reader.GlobalStage.{GlobalStage}
 use Rattle.sect_front.specs.declared.reader.GlobalStage.TheVariants as in_global
+use Rattle.sect_front.specs.declared.reader.ProcedureStage.{ProcedureStage}
+use Rattle.sect_front.specs.declared.reader.ProcedureStage.TheVariants as in_procedure
 use Rattle.sect_front.specs.declared.reader.ThreadStage.{ThreadStage}
 use Rattle.sect_front.specs.declared.reader.ThreadStage.TheVariants as in_thread
+use Rattle.sect_front.specs.declared.reader.Owner.{Owner}
+use Rattle.sect_front.specs.declared.reader.Owner.TheVariants as owner
+use Rattle.sect_front.specs.declared.reader.BodyStage.{BodyStage}
+use Rattle.sect_front.specs.declared.reader.BodyStage.TheVariants as in_body
 use Rattle.sect_front.specs.declared.reader.Stage.{Stage}
 use Rattle.sect_front.specs.declared.reader.Stage.TheVariants as stage
-use Rattle.sect_front.proofs.Keeps.{line_tokens, place_tokens, frames_tokens, stage_tokens, record_stage_tokens}
-use Rattle.sect_front.proofs.Keeps.{global_stage_tokens, thread_stage_tokens, body_tokens_append, after_law}
-use Rattle.sect_front.proofs.Keeps.{declarations_append, hints_append, opened, headed, one_record, one_global}
-use Rattle.sect_front.proofs.Keeps.{one_thread, Fits, part_in, IsOrdered, IsKept}
+use Rattle.sect_front.proofs.Keeps.{line_tokens, call_stage_tokens, place_tokens, frames_tokens, stage_tokens}
+use Rattle.sect_front.proofs.Keeps.{record_stage_tokens, global_stage_tokens, procedure_stage_tokens}
+use Rattle.sect_front.proofs.Keeps.{thread_stage_tokens, body_stage_tokens, body_tokens_append, after_law}
+use Rattle.sect_front.proofs.Keeps.{operands_append, declarations_append, parameters_append, hints_append, parametered}
+use Rattle.sect_front.proofs.Keeps.{behind, owner_tokens, opened, headed, one_record, one_global, one_procedure}
+use Rattle.sect_front.proofs.Keeps.{one_thread, Fits, part_with, owner_in, part_in, IsOrdered, IsKept}
 
--- a statement that a line can become, by these tokens
-record LineEnd (l : PartialHead) : Type 0 where
+-- a statement that what has been read of it can become, by these tokens
+record StatementEnd (kept : List Token → List Token) : Type 0 where
   form : StatementView
   more : List Token → List Token
-  is : (w : List Token) → statement_tokens form w ≡ line_tokens l (more w)
+  is : (w : List Token) → statement_tokens form w ≡ kept (more w)
+
+abbrev LineEnd : PartialHead → Type 0
+LineEnd l = StatementEnd (line_tokens l)
 
 abbrev zero_operand : Operand
 zero_operand = operand.Number 0
@@ -177,6 +191,37 @@ line_end (line.Branch b h) = branch_end b h
 line_end line.AfterAtomic = record { form = Atomic locking.Inferred End; more = no_block; is = λ w. refl }
 line_end line.AfterAll = record { form = Atomic locking.All End; more = no_block; is = λ w. refl }
 
+-- a call with one more argument and nothing else
+one_argument : (f : List ℕ) (vs : List Operand) (v : Operand) (w : List Token) →
+    statement_tokens (Call f (vs ++ v ∷ [])) w ≡ call_stage_tokens (call.AfterArgument f vs v)
+    (token.CloseParen ∷ token.Semicolon ∷ w)
+one_argument f vs v w = ap (λ x. token.Call ∷ token.Name f ∷ token.OpenParen ∷ x)
+    (operands_append vs v (token.CloseParen ∷ token.Semicolon ∷ w))
+
+call_end : (c : PartialCall) → StatementEnd (call_stage_tokens c)
+call_end call.AfterWord = record {
+  form = Call (120 ∷ []) [];
+  more = λ w. token.Name (120 ∷ []) ∷ token.OpenParen ∷ token.CloseParen ∷ token.Semicolon ∷ w;
+  is = λ w. refl;
+}
+call_end (call.AfterName f) = record {
+  form = Call f [];
+  more = λ w. token.OpenParen ∷ token.CloseParen ∷ token.Semicolon ∷ w;
+  is = λ w. refl;
+}
+call_end (call.Open f) = record { form = Call f []; more = λ w. token.CloseParen ∷ token.Semicolon ∷ w; is = λ w. refl }
+call_end (call.AfterArgument f vs v) = record {
+  form = Call f (vs ++ v ∷ []);
+  more = λ w. token.CloseParen ∷ token.Semicolon ∷ w;
+  is = one_argument f vs v;
+}
+call_end (call.AfterComma f vs) = record {
+  form = Call f (vs ++ operand.Null ∷ []);
+  more = λ w. token.Null ∷ token.CloseParen ∷ token.Semicolon ∷ w;
+  is = one_argument f vs operand.Null;
+}
+call_end (call.AfterClose f vs) = record { form = Call f vs; more = λ w. token.Semicolon ∷ w; is = λ w. refl }
+
 -- a body that what has been read can become, by these tokens
 record BodyEnd (kept : List Token → List Token) : Type 0 where
   body : BlockView
@@ -191,6 +236,12 @@ place_end b (place.Inside l) = let e = line_end l in
       more = e.more;
       is = λ w. body_tokens_append b e.form w
           ∙ ap (block_tokens b) (e.is w);
+    }
+place_end b (place.InCall c) = let e = call_end c in
+    record {
+      body = append b e.form;
+      more = e.more;
+      is = λ w. body_tokens_append b e.form w ∙ ap (block_tokens b) (e.is w);
     }
 place_end b (place.AfterThen t a) =
     record { body = append b (If t a); more = λ w. w; is = body_tokens_append b (If t a) }
@@ -299,41 +350,90 @@ thread_end s n ls b kept rest e = record {
   is = sym (one_thread s (record { name = n; locals = ls; body = b }) []) ∙ ap (source_tokens s) e;
 }
 
--- a thread with one more local and nothing else
-one_local : (n : List ℕ) (ls : List Declaration) (d : Declaration)
-    → thread_tokens (record { name = n; locals = ls ++ d ∷ []; body = End }) [] ≡
-    opened n ls (kind_token d.kind ∷ token.Name d.name ∷ token.Semicolon ∷ token.CloseBrace ∷ [])
-one_local n ls d = ap (λ x. token.Thread ∷ token.Name n ∷ token.OpenBrace ∷ x)
-    (declarations_append ls d (token.CloseBrace ∷ []))
-
 thread_stage_end : (s : TreeView) (t : ThreadStage) → SourceEnd (λ w. source_tokens s (thread_stage_tokens t w))
 thread_stage_end s in_thread.AfterWord =
     thread_end s (120 ∷ []) [] End (thread_stage_tokens in_thread.AfterWord) (token.Name (120 ∷ []) ∷ no_block []) refl
 thread_stage_end s (in_thread.AfterName n) =
     thread_end s n [] End (thread_stage_tokens (in_thread.AfterName n)) (no_block []) refl
-thread_stage_end s (in_thread.Locals n ls) =
-    thread_end s n ls End (thread_stage_tokens (in_thread.Locals n ls)) (token.CloseBrace ∷ []) refl
-thread_stage_end s (in_thread.AfterKind n ls k) = let d : Declaration = record { kind = k; name = n } in
-    thread_end s n (ls ++ d ∷ []) End (thread_stage_tokens (in_thread.AfterKind n ls k))
-    (token.Name n ∷ token.Semicolon ∷ token.CloseBrace ∷ []) (one_local n ls d)
-thread_stage_end s (in_thread.AfterLocal n ls k x) = let d : Declaration = record { kind = k; name = x } in
-    thread_end s n (ls ++ d ∷ []) End (thread_stage_tokens (in_thread.AfterLocal n ls k x))
-    (token.Semicolon ∷ token.CloseBrace ∷ []) (one_local n ls d)
-thread_stage_end s (in_thread.Inside n ls x) = let e = stand_end x.frames x.before x.place in
-    thread_end s n ls e.body (thread_stage_tokens (in_thread.Inside n ls x)) (e.more (token.CloseBrace ∷ []))
-    (ap (opened n ls) (e.is (token.CloseBrace ∷ [])))
+
+procedure_end : (s : TreeView) (n : List ℕ) (ps ls : List Declaration) (b : BlockView) (kept : List Token → List Token)
+    (rest : List Token) → Fits part.Procedures s →
+    procedure_tokens (record { name = n; parameters = ps; locals = ls; body = b }) [] ≡ kept rest →
+    SourceEnd (λ w. source_tokens s (kept w))
+procedure_end s n ps ls b kept rest h e = record {
+  source = with_procedure s (record { name = n; parameters = ps; locals = ls; body = b });
+  rest = rest;
+  is = sym (one_procedure s (record { name = n; parameters = ps; locals = ls; body = b }) [] h) ∙
+      ap (source_tokens s) e;
+}
+
+-- a procedure with one more parameter and nothing else
+one_parameter : (n : List ℕ) (ps : List Declaration) (d : Declaration) →
+    procedure_tokens (record { name = n; parameters = ps ++ d ∷ []; locals = []; body = End }) [] ≡
+    parametered n ps (behind ps (kind_token d.kind ∷ token.Name d.name ∷ token.CloseParen ∷ no_block []))
+one_parameter n ps d = ap (λ x. token.Proc ∷ token.Name n ∷ token.OpenParen ∷ x)
+    (parameters_append ps d (token.CloseParen ∷ no_block []))
+
+procedure_stage_end : (s : TreeView) (p : ProcedureStage) → Fits part.Procedures s →
+    SourceEnd (λ w. source_tokens s (procedure_stage_tokens p w))
+procedure_stage_end s in_procedure.AfterWord h =
+    procedure_end s (120 ∷ []) [] [] End (procedure_stage_tokens in_procedure.AfterWord)
+    (token.Name (120 ∷ []) ∷ token.OpenParen ∷ token.CloseParen ∷ no_block []) h refl
+procedure_stage_end s (in_procedure.AfterName n) h =
+    procedure_end s n [] [] End (procedure_stage_tokens (in_procedure.AfterName n))
+    (token.OpenParen ∷ token.CloseParen ∷ no_block []) h refl
+procedure_stage_end s (in_procedure.Open n) h = procedure_end s n [] [] End
+    (procedure_stage_tokens (in_procedure.Open n)) (token.CloseParen ∷ no_block []) h refl
+procedure_stage_end s (in_procedure.AfterKind n ps k) h = let d : Declaration = record { kind = k; name = n } in
+    procedure_end s n (ps ++ d ∷ []) [] End (procedure_stage_tokens (in_procedure.AfterKind n ps k))
+    (token.Name n ∷ token.CloseParen ∷ no_block []) h (one_parameter n ps d)
+procedure_stage_end s (in_procedure.AfterParameter n ps k x) h = let d : Declaration = record { kind = k; name = x } in
+    procedure_end s n (ps ++ d ∷ []) [] End (procedure_stage_tokens (in_procedure.AfterParameter n ps k x))
+    (token.CloseParen ∷ no_block []) h (one_parameter n ps d)
+procedure_stage_end s (in_procedure.AfterComma n ps) h = let d : Declaration = record { kind = kind.Int; name = n } in
+    procedure_end s n (ps ++ d ∷ []) [] End (procedure_stage_tokens (in_procedure.AfterComma n ps))
+    (token.Int ∷ token.Name n ∷ token.CloseParen ∷ no_block []) h (one_parameter n ps d)
+procedure_stage_end s (in_procedure.AfterClose n ps) h =
+    procedure_end s n ps [] End (procedure_stage_tokens (in_procedure.AfterClose n ps)) (no_block []) h refl
+
+owner_end : (s : TreeView) (o : Owner) (ls : List Declaration) (b : BlockView) (kept : List Token → List Token)
+    (rest : List Token) → Fits (part_with o) s →
+    opened o ls (block_tokens b (token.CloseBrace ∷ [])) ≡ kept rest → SourceEnd (λ w. source_tokens s (kept w))
+owner_end s (owner.Procedure n ps) ls b kept rest h e = procedure_end s n ps ls b kept rest h e
+owner_end s (owner.Thread n) ls b kept rest h e = thread_end s n ls b kept rest e
+
+-- a body with one more local and nothing else
+one_local : (o : Owner) (ls : List Declaration) (d : Declaration) → opened o (ls ++ d ∷ []) (token.CloseBrace ∷ []) ≡
+    opened o ls (kind_token d.kind ∷ token.Name d.name ∷ token.Semicolon ∷ token.CloseBrace ∷ [])
+one_local o ls d = ap (owner_tokens o) (declarations_append ls d (token.CloseBrace ∷ []))
+
+body_stage_end : (s : TreeView) (b : BodyStage) → Fits (part_with (owner_in b)) s →
+    SourceEnd (λ w. source_tokens s (body_stage_tokens b w))
+body_stage_end s (in_body.Locals o ls) h = owner_end s o ls End (body_stage_tokens (in_body.Locals o ls))
+    (token.CloseBrace ∷ []) h refl
+body_stage_end s (in_body.AfterKind o ls k) h = let d : Declaration = record { kind = k; name = 120 ∷ [] } in
+    owner_end s o (ls ++ d ∷ []) End (body_stage_tokens (in_body.AfterKind o ls k))
+    (token.Name (120 ∷ []) ∷ token.Semicolon ∷ token.CloseBrace ∷ []) h (one_local o ls d)
+body_stage_end s (in_body.AfterLocal o ls k x) h = let d : Declaration = record { kind = k; name = x } in
+    owner_end s o (ls ++ d ∷ []) End (body_stage_tokens (in_body.AfterLocal o ls k x))
+    (token.Semicolon ∷ token.CloseBrace ∷ []) h (one_local o ls d)
+body_stage_end s (in_body.Inside o ls x) h = let e = stand_end x.frames x.before x.place in
+    owner_end s o ls e.body (body_stage_tokens (in_body.Inside o ls x)) (e.more (token.CloseBrace ∷ [])) h
+    (ap (opened o ls) (e.is (token.CloseBrace ∷ [])))
 
 source_end : (s : TreeView) (g : Stage) → Fits (part_in g) s → SourceEnd (λ w. source_tokens s (stage_tokens g w))
 source_end s (stage.Between p) h = record { source = s; rest = []; is = refl }
 source_end s (stage.Record r) h = record_stage_end s r h
 source_end s (stage.Global g) h = global_stage_end s g h
+source_end s (stage.Procedure p) h = procedure_stage_end s p h
 source_end s (stage.Thread t) h = thread_stage_end s t
+source_end s (stage.Body b) h = body_stage_end s b h
 
 abbrev pub start : ReaderView
 start = reading empty (stage.Between part.Records)
 
 pub start_ordered : IsOrdered start
-start_ordered = (refl, refl)
+start_ordered = (refl, refl, refl)
 
 -- these tokens are what the state keeps of them
 pub kept_from : (front rest : List Token) (r : ReaderView) → after start front ≡ Some r → IsKept (front ++ rest) rest r

@@ -1,21 +1,23 @@
 -- The tokens that have been read, as the state keeps them.
 use Rattle.std.proofs.Common.{◌≡◌, ℕ, option_and_then, List, [], ◌∷◌, ◌++◌, Option, Some, None, refl, sym, ◌∙◌, ap}
 use Rattle.std.proofs.Common.{IfSome, subst}
-use Rattle.sect_front.specs.Syntax.{StatementView, BlockView, Primitive, If, IfElse, While, Atomic, End, Then}
+use Rattle.sect_front.specs.Syntax.{StatementView, BlockView, Primitive, If, IfElse, While, Atomic, Call, End, Then}
 use Rattle.sect_front.specs.TreeView.{TreeView}
 use Rattle.sect_front.specs.Trees.{append}
 use Rattle.sect_front.specs.Grammar.{operand_token, operator_token, comparison_token, kind_token}
-use Rattle.sect_front.specs.steps.Tokens.{locking_tokens, primitive_tokens, test_tokens, statement_tokens, block_tokens}
-use Rattle.sect_front.specs.steps.Tokens.{declarations_tokens, hints_tokens, record_tokens, global_tokens}
-use Rattle.sect_front.specs.steps.Tokens.{thread_tokens, records_tokens, globals_tokens, threads_tokens, source_tokens}
+use Rattle.sect_front.specs.steps.Tokens.{locking_tokens, primitive_tokens, test_tokens, more_operands, operands_tokens}
+use Rattle.sect_front.specs.steps.Tokens.{statement_tokens, block_tokens, declarations_tokens, hints_tokens}
+use Rattle.sect_front.specs.steps.Tokens.{record_tokens, global_tokens, more_parameters, parameters_tokens}
+use Rattle.sect_front.specs.steps.Tokens.{procedure_tokens, thread_tokens, records_tokens, globals_tokens}
+use Rattle.sect_front.specs.steps.Tokens.{procedures_tokens, threads_tokens, source_tokens}
 use Rattle.sect_front.specs.steps.Advance.{advance_of, assign_step, store_step, branch_step, operand_of, operator_of}
 use Rattle.sect_front.specs.steps.Advance.{comparison_of, goes_to, first_step, ends_with, opens}
-use Rattle.sect_front.specs.steps.Step.{Next, Stays, Ends, Stuck, step_of, step_at, start_step, close_step, moved}
-use Rattle.sect_front.specs.steps.Step.{moved_if}
+use Rattle.sect_front.specs.steps.Step.{Next, Stays, Ends, Stuck, step_of, step_at, start_step, close_step}
+use Rattle.sect_front.specs.steps.Step.{argument_step, call_step, moved, moved_if}
 use Rattle.sect_front.specs.steps.ReaderView.{ReaderView}
-use Rattle.sect_front.specs.steps.Read.{read_one, read_at, begin_step, record_step, global_step, thread_step}
-use Rattle.sect_front.specs.steps.Read.{after_kind_step, goes_on, after, begun, fresh, with_record, with_global}
-use Rattle.sect_front.specs.steps.Read.{with_thread}
+use Rattle.sect_front.specs.steps.Read.{read_one, read_at, begin_step, record_step, global_step, parameter_step}
+use Rattle.sect_front.specs.steps.Read.{procedure_step, thread_step, body_step, after_kind_step, end_step, goes_on}
+use Rattle.sect_front.specs.steps.Read.{after, begun, fresh, with_record, with_global, with_procedure, with_thread}
 use Rattle.sect_front.specs.declared.token.Token.{Token}
 use Rattle.sect_front.specs.declared.token.Token.TheVariants as token
 use Rattle.sect_front.specs.declared.tree.Operand.{Operand}
@@ -28,6 +30,7 @@ use Rattle.sect_front.specs.declared.tree.Kind.TheVariants as kind
 use Rattle.sect_front.specs.declared.tree.Declaration.{Declaration}
 use Rattle.sect_front.specs.declared.tree.Record.{Record}
 use Rattle.sect_front.specs.declared.tree.GlobalObject.{GlobalObject}
+use Rattle.sect_front.specs.declared.tree.Procedure.{Procedure}
 use Rattle.sect_front.specs.declared.tree.Thread.{Thread}
 use Rattle.sect_front.specs.declared.partial.Branch.{Branch}
 use Rattle.sect_front.specs.declared.partial.Branch.TheVariants as branch
@@ -39,6 +42,8 @@ use Rattle.sect_front.specs.declared.partial.PartialBranch.{PartialBranch}
 use Rattle.sect_front.specs.declared.partial.PartialBranch.TheVariants as head
 use Rattle.sect_front.specs.declared.partial.PartialHead.{PartialHead}
 use Rattle.sect_front.specs.declared.partial.PartialHead.TheVariants as line
+use Rattle.sect_front.specs.declared.partial.PartialCall.{PartialCall}
+use Rattle.sect_front.specs.declared.partial.PartialCall.TheVariants as call
 use Rattle.sect_front.specs.declared.partial.Move.{Move}
 use Rattle.sect_front.specs.declared.partial.Move.TheVariants as move
 use Rattle.sect_front.specs.declared.within.Frame.{Frame}
@@ -51,8 +56,14 @@ use Rattle.sect_front.specs.declared.reader.RecordStage.{RecordStage}
 use Rattle.sect_front.specs.declared.reader.RecordStage.TheVariants as in_record
 use Rattle.sect_front.specs.declared.reader.GlobalStage.{GlobalStage}
 use Rattle.sect_front.specs.declared.reader.GlobalStage.TheVariants as in_global
+use Rattle.sect_front.specs.declared.reader.ProcedureStage.{ProcedureStage}
+use Rattle.sect_front.specs.declared.reader.ProcedureStage.TheVariants as in_procedure
 use Rattle.sect_front.specs.declared.reader.ThreadStage.{ThreadStage}
 use Rattle.sect_front.specs.declared.reader.ThreadStage.TheVariants as in_thread
+use Rattle.sect_front.specs.declared.reader.Owner.{Owner}
+use Rattle.sect_front.specs.declared.reader.Owner.TheVariants as owner
+use Rattle.sect_front.specs.declared.reader.BodyStage.{BodyStage}
+use Rattle.sect_front.specs.declared.reader.BodyStage.TheVariants as in_body
 use Rattle.sect_front.specs.declared.reader.Stage.{Stage}
 use Rattle.sect_front.specs.declared.reader.Stage.TheVariants as stage
 
@@ -218,9 +229,41 @@ line_law line.AfterAtomic token.All w = refl
 line_law line.AfterAll token.OpenBrace w = refl
 line_law _ _ w = tt
 
+-- what stands before one more argument or parameter
+abbrev pub behind : {A : Type 0} → List A → List Token → List Token
+behind [] w = w
+behind (x ∷ xs) w = token.Comma ∷ w
+
+behind_append : {A : Type 0} (xs : List A) (x : A) (w : List Token) → behind (xs ++ x ∷ []) w ≡ token.Comma ∷ w
+behind_append [] x w = refl
+behind_append (y ∷ xs) x w = refl
+
+-- a call whose arguments so far are these
+abbrev pub called : List ℕ → List Operand → List Token → List Token
+called f vs w = token.Call ∷ token.Name f ∷ token.OpenParen ∷ operands_tokens vs w
+
+abbrev pub call_stage_tokens : PartialCall → List Token → List Token
+call_stage_tokens call.AfterWord w = token.Call ∷ w
+call_stage_tokens (call.AfterName f) w = token.Call ∷ token.Name f ∷ w
+call_stage_tokens (call.Open f) w = called f [] w
+call_stage_tokens (call.AfterArgument f vs v) w = called f vs (behind vs (operand_token v ∷ w))
+call_stage_tokens (call.AfterComma f vs) w = called f vs (behind vs w)
+call_stage_tokens (call.AfterClose f vs) w = called f vs (token.CloseParen ∷ w)
+
+more_operands_append : (vs : List Operand) (v : Operand) (w : List Token) →
+    more_operands (vs ++ v ∷ []) w ≡ more_operands vs (token.Comma ∷ operand_token v ∷ w)
+more_operands_append [] v w = refl
+more_operands_append (u ∷ vs) v w = ap (λ x. token.Comma ∷ operand_token u ∷ x) (more_operands_append vs v w)
+
+pub operands_append : (vs : List Operand) (v : Operand) (w : List Token) →
+    operands_tokens (vs ++ v ∷ []) w ≡ operands_tokens vs (behind vs (operand_token v ∷ w))
+operands_append [] v w = refl
+operands_append (u ∷ vs) v w = ap (λ x. operand_token u ∷ x) (more_operands_append vs v w)
+
 abbrev pub place_tokens : Partial → List Token → List Token
 place_tokens place.Start w = w
 place_tokens (place.Inside l) w = line_tokens l w
+place_tokens (place.InCall c) w = call_stage_tokens c w
 place_tokens (place.AfterThen t a) w = statement_tokens (If t a) w
 place_tokens (place.AfterElse t a) w = statement_tokens (If t a) (token.Else ∷ w)
 
@@ -269,6 +312,7 @@ start_law fs b token.Print w = refl
 start_law fs b token.If w = refl
 start_law fs b token.While w = refl
 start_law fs b token.Atomic w = refl
+start_law fs b token.Call w = refl
 start_law fs b token.CloseBrace w = close_law fs b w
 start_law fs b _ w = tt
 
@@ -286,10 +330,34 @@ moved_if_law fs b None u w h = tt
 moved_if_law fs b (Some m) u w h =
     subst (λ x. Keeps (frames_tokens fs (block_tokens b x)) (moved fs b m) w) (sym h) (moved_law fs b m w)
 
+argument_law : (fs : List Frame) (b : BlockView) (f : List ℕ) (vs : List Operand) (t : Token) (w : List Token)
+    (o : Option Operand) → IfSome o (λ v. operand_token v ≡ t) →
+    Keeps (frames_tokens fs (block_tokens b (called f vs (behind vs (t ∷ w))))) (argument_step fs b f vs o) w
+argument_law fs b f vs t w None h = tt
+argument_law fs b f vs t w (Some v) h =
+    ap (λ x. frames_tokens fs (block_tokens b (called f vs (behind vs (x ∷ w))))) (sym h)
+
+call_law : (fs : List Frame) (b : BlockView) (c : PartialCall) (t : Token) (w : List Token) →
+    Keeps (frames_tokens fs (block_tokens b (call_stage_tokens c (t ∷ w)))) (call_step fs b c t) w
+call_law fs b call.AfterWord (token.Name f) w = refl
+call_law fs b (call.AfterName f) token.OpenParen w = refl
+call_law fs b (call.Open f) token.CloseParen w = refl
+call_law fs b (call.Open f) t w = argument_law fs b f [] t w (operand_of t) (operand_law t)
+call_law fs b (call.AfterArgument f vs v) token.Comma w =
+    ap (λ x. frames_tokens fs (block_tokens b (token.Call ∷ token.Name f ∷ token.OpenParen ∷ x)))
+    (sym (operands_append vs v (token.Comma ∷ w)) ∙ ap (operands_tokens (vs ++ v ∷ [])) (sym (behind_append vs v w)))
+call_law fs b (call.AfterArgument f vs v) token.CloseParen w =
+    ap (λ x. frames_tokens fs (block_tokens b (token.Call ∷ token.Name f ∷ token.OpenParen ∷ x)))
+    (sym (operands_append vs v (token.CloseParen ∷ w)))
+call_law fs b (call.AfterComma f vs) t w = argument_law fs b f vs t w (operand_of t) (operand_law t)
+call_law fs b (call.AfterClose f vs) token.Semicolon w = appended fs b (Call f vs) w
+call_law fs b _ _ w = tt
+
 pub stand_law : (fs : List Frame) (b : BlockView) (p : Partial) (t : Token) (w : List Token)
     → Keeps (stand_tokens fs b p (t ∷ w)) (step_at fs b p t) w
 stand_law fs b place.Start t w = start_law fs b t w
 stand_law fs b (place.Inside l) t w = moved_if_law fs b (advance_of l t) (line_tokens l (t ∷ w)) w (line_law l t w)
+stand_law fs b (place.InCall c) t w = call_law fs b c t w
 stand_law fs b (place.AfterThen v a) token.Else w = refl
 stand_law fs b (place.AfterElse v a) token.OpenBrace w = refl
 stand_law fs b (place.AfterElse v a) _ w = tt
@@ -304,9 +372,18 @@ headed n hs w = token.Record ∷ token.Name n ∷ hints_tokens hs w
 abbrev pub fielded : List ℕ → List (List ℕ) → List Declaration → List Token → List Token
 fielded n hs fs w = headed n hs (token.OpenBrace ∷ declarations_tokens fs w)
 
--- a thread whose locals so far are these
-abbrev pub opened : List ℕ → List Declaration → List Token → List Token
-opened n ls w = token.Thread ∷ token.Name n ∷ token.OpenBrace ∷ declarations_tokens ls w
+-- a procedure whose parameters so far are these
+abbrev pub parametered : List ℕ → List Declaration → List Token → List Token
+parametered n ps w = token.Proc ∷ token.Name n ∷ token.OpenParen ∷ parameters_tokens ps w
+
+-- a procedure or a thread up to its `{`
+abbrev pub owner_tokens : Owner → List Token → List Token
+owner_tokens (owner.Procedure n ps) w = parametered n ps (token.CloseParen ∷ token.OpenBrace ∷ w)
+owner_tokens (owner.Thread n) w = token.Thread ∷ token.Name n ∷ token.OpenBrace ∷ w
+
+-- a procedure or a thread whose locals so far are these
+abbrev pub opened : Owner → List Declaration → List Token → List Token
+opened o ls w = owner_tokens o (declarations_tokens ls w)
 
 abbrev pub record_stage_tokens : RecordStage → List Token → List Token
 record_stage_tokens in_record.AfterWord w = token.Record ∷ w
@@ -321,34 +398,61 @@ global_stage_tokens in_global.AfterWord w = token.Global ∷ w
 global_stage_tokens (in_global.AfterRecord r) w = token.Global ∷ token.Name r ∷ w
 global_stage_tokens (in_global.AfterName r g) w = token.Global ∷ token.Name r ∷ token.Name g ∷ w
 
+abbrev pub procedure_stage_tokens : ProcedureStage → List Token → List Token
+procedure_stage_tokens in_procedure.AfterWord w = token.Proc ∷ w
+procedure_stage_tokens (in_procedure.AfterName n) w = token.Proc ∷ token.Name n ∷ w
+procedure_stage_tokens (in_procedure.Open n) w = parametered n [] w
+procedure_stage_tokens (in_procedure.AfterKind n ps k) w = parametered n ps (behind ps (kind_token k ∷ w))
+procedure_stage_tokens (in_procedure.AfterParameter n ps k x) w =
+    parametered n ps (behind ps (kind_token k ∷ token.Name x ∷ w))
+procedure_stage_tokens (in_procedure.AfterComma n ps) w = parametered n ps (behind ps w)
+procedure_stage_tokens (in_procedure.AfterClose n ps) w = parametered n ps (token.CloseParen ∷ w)
+
 abbrev pub thread_stage_tokens : ThreadStage → List Token → List Token
 thread_stage_tokens in_thread.AfterWord w = token.Thread ∷ w
 thread_stage_tokens (in_thread.AfterName n) w = token.Thread ∷ token.Name n ∷ w
-thread_stage_tokens (in_thread.Locals n ls) w = opened n ls w
-thread_stage_tokens (in_thread.AfterKind n ls k) w = opened n ls (kind_token k ∷ w)
-thread_stage_tokens (in_thread.AfterLocal n ls k x) w = opened n ls (kind_token k ∷ token.Name x ∷ w)
-thread_stage_tokens (in_thread.Inside n ls s) w = opened n ls (stand_tokens s.frames s.before s.place w)
+
+abbrev pub body_stage_tokens : BodyStage → List Token → List Token
+body_stage_tokens (in_body.Locals o ls) w = opened o ls w
+body_stage_tokens (in_body.AfterKind o ls k) w = opened o ls (kind_token k ∷ w)
+body_stage_tokens (in_body.AfterLocal o ls k x) w = opened o ls (kind_token k ∷ token.Name x ∷ w)
+body_stage_tokens (in_body.Inside o ls s) w = opened o ls (stand_tokens s.frames s.before s.place w)
 
 abbrev pub stage_tokens : Stage → List Token → List Token
 stage_tokens (stage.Between p) w = w
 stage_tokens (stage.Record r) w = record_stage_tokens r w
 stage_tokens (stage.Global g) w = global_stage_tokens g w
+stage_tokens (stage.Procedure p) w = procedure_stage_tokens p w
 stage_tokens (stage.Thread t) w = thread_stage_tokens t w
+stage_tokens (stage.Body b) w = body_stage_tokens b w
 
 abbrev pub reading_tokens : ReaderView → List Token → List Token
 reading_tokens r w = source_tokens r.source (stage_tokens r.stage w)
 
 -- the declarations before a part are all that there are
 abbrev pub Fits : Part → TreeView → Type 0
-Fits part_of.Records s = (s.globals ≡ []) × (s.threads ≡ [])
-Fits part_of.Globals s = s.threads ≡ []
+Fits part_of.Records s = (s.globals ≡ []) × (s.procedures ≡ []) × (s.threads ≡ [])
+Fits part_of.Globals s = (s.procedures ≡ []) × (s.threads ≡ [])
+Fits part_of.Procedures s = s.threads ≡ []
 Fits part_of.Threads s = Unit {0}
+
+abbrev pub part_with : Owner → Part
+part_with (owner.Procedure n ps) = part_of.Procedures
+part_with (owner.Thread n) = part_of.Threads
+
+abbrev pub owner_in : BodyStage → Owner
+owner_in (in_body.Locals o ls) = o
+owner_in (in_body.AfterKind o ls k) = o
+owner_in (in_body.AfterLocal o ls k x) = o
+owner_in (in_body.Inside o ls s) = o
 
 abbrev pub part_in : Stage → Part
 part_in (stage.Between p) = p
 part_in (stage.Record r) = part_of.Records
 part_in (stage.Global g) = part_of.Globals
+part_in (stage.Procedure p) = part_of.Procedures
 part_in (stage.Thread t) = part_of.Threads
+part_in (stage.Body b) = part_with (owner_in b)
 
 abbrev pub IsOrdered : ReaderView → Type 0
 IsOrdered r = Fits (part_in r.stage) r.source
@@ -380,6 +484,22 @@ globals_append : (gs : List GlobalObject) (g : GlobalObject) (w : List Token)
 globals_append [] g w = refl
 globals_append (h ∷ gs) g w = ap (global_tokens h) (globals_append gs g w)
 
+more_parameters_append : (ps : List Declaration) (d : Declaration) (w : List Token) →
+    more_parameters (ps ++ d ∷ []) w ≡ more_parameters ps (token.Comma ∷ kind_token d.kind ∷ token.Name d.name ∷ w)
+more_parameters_append [] d w = refl
+more_parameters_append (e ∷ ps) d w = ap (λ x. token.Comma ∷ kind_token e.kind ∷ token.Name e.name ∷ x)
+    (more_parameters_append ps d w)
+
+pub parameters_append : (ps : List Declaration) (d : Declaration) (w : List Token) →
+    parameters_tokens (ps ++ d ∷ []) w ≡ parameters_tokens ps (behind ps (kind_token d.kind ∷ token.Name d.name ∷ w))
+parameters_append [] d w = refl
+parameters_append (e ∷ ps) d w = ap (λ x. kind_token e.kind ∷ token.Name e.name ∷ x) (more_parameters_append ps d w)
+
+procedures_append : (ps : List Procedure) (p : Procedure) (w : List Token) → procedures_tokens (ps ++ p ∷ []) w ≡
+    procedures_tokens ps (procedure_tokens p w)
+procedures_append [] p w = refl
+procedures_append (q ∷ ps) p w = ap (procedure_tokens q) (procedures_append ps p w)
+
 threads_append : (ts : List Thread) (t : Thread) (w : List Token)
     → threads_tokens (ts ++ t ∷ []) w ≡ threads_tokens ts (thread_tokens t w)
 threads_append [] t w = refl
@@ -387,21 +507,30 @@ threads_append (u ∷ ts) t w = ap (thread_tokens u) (threads_append ts t w)
 
 pub one_record : (s : TreeView) (r : Record) (w : List Token) → Fits part_of.Records s
     → source_tokens s (record_tokens r w) ≡ source_tokens (with_record s r) w
-one_record s r w h = rw (h.0, h.1) (sym (records_append s.records r w))
+one_record s r w h = rw (h.0, h.1, h.2) (sym (records_append s.records r w))
 
 pub one_global : (s : TreeView) (g : GlobalObject) (w : List Token) → Fits part_of.Globals s
     → source_tokens s (global_tokens g w) ≡ source_tokens (with_global s g) w
-one_global s g w h = rw h (ap (records_tokens s.records) (sym (globals_append s.globals g w)))
+one_global s g w h = rw (h.0, h.1) (ap (records_tokens s.records) (sym (globals_append s.globals g w)))
+
+pub one_procedure : (s : TreeView) (p : Procedure) (w : List Token) → Fits part_of.Procedures s →
+    source_tokens s (procedure_tokens p w) ≡ source_tokens (with_procedure s p) w
+one_procedure s p w h = rw h (ap (λ x. records_tokens s.records (globals_tokens s.globals x))
+    (sym (procedures_append s.procedures p w)))
 
 pub one_thread : (s : TreeView) (t : Thread) (w : List Token)
     → source_tokens s (thread_tokens t w) ≡ source_tokens (with_thread s t) w
-one_thread s t w = ap (λ x. records_tokens s.records (globals_tokens s.globals x)) (sym (threads_append s.threads t w))
+one_thread s t w = ap (λ x. records_tokens s.records (globals_tokens s.globals (procedures_tokens s.procedures x)))
+    (sym (threads_append s.threads t w))
 
 begin_law : (s : TreeView) (p : Part) (t : Token) (w : List Token) → Fits p s
     → IfSome (begin_step s p t) (IsKept (source_tokens s (t ∷ w)) w)
 begin_law s part_of.Records token.Record w h = record { is = refl; ordered = h }
-begin_law s part_of.Records token.Global w h = record { is = refl; ordered = h.1 }
+begin_law s part_of.Records token.Global w h = record { is = refl; ordered = (h.1, h.2) }
 begin_law s part_of.Globals token.Global w h = record { is = refl; ordered = h }
+begin_law s part_of.Records token.Proc w h = record { is = refl; ordered = h.2 }
+begin_law s part_of.Globals token.Proc w h = record { is = refl; ordered = h.1 }
+begin_law s part_of.Procedures token.Proc w h = record { is = refl; ordered = h }
 begin_law s _ token.Thread w h = record { is = refl; ordered = tt }
 begin_law s _ _ w h = tt
 
@@ -433,51 +562,96 @@ global_law s (in_global.AfterName r g) token.Semicolon w h =
     record { is = one_global s (record { of = r; name = g }) w h; ordered = h }
 global_law _ _ _ w h = tt
 
-goes_law : (s : TreeView) (n : List ℕ) (ls : List Declaration) (x : Next) (u w : List Token) → Keeps u x w →
-    IfSome (goes_on s n ls x) (IsKept (source_tokens s (opened n ls u)) w)
-goes_law s n ls (Stays x) u w h = record { is = ap (λ y. source_tokens s (opened n ls y)) h; ordered = tt }
-goes_law s n ls (Ends b) u w h =
-    record {
-      is = ap (λ y. source_tokens s (opened n ls y)) h
-          ∙ one_thread s (record { name = n; locals = ls; body = b }) w;
-      ordered = tt;
-    }
-goes_law s n ls Stuck u w h = tt
+parameter_law : (s : TreeView) (n : List ℕ) (ps : List Declaration) (t : Token) (w : List Token) →
+    Fits part_of.Procedures s →
+    IfSome (parameter_step s n ps t) (IsKept (source_tokens s (parametered n ps (behind ps (t ∷ w)))) w)
+parameter_law s n ps token.Int w h = record { is = refl; ordered = h }
+parameter_law s n ps (token.Name r) w h = record { is = refl; ordered = h }
+parameter_law s n ps _ w h = tt
 
-after_kind_law : (s : TreeView) (n : List ℕ) (ls : List Declaration) (k : Kind) (t : Token) (w : List Token) →
-    IfSome (after_kind_step s n ls k t) (IsKept (source_tokens s (opened n ls (kind_token k ∷ t ∷ w))) w)
-after_kind_law s n ls kind.Int t w = tt
-after_kind_law s n ls (kind.Record x) t w =
-    goes_law s n ls (step_of (begun x) t) (token.Name x ∷ t ∷ w) w
-    (stand_law [] End (place.Inside (line.AfterName x)) t w)
+procedure_law : (s : TreeView) (p : ProcedureStage) (t : Token) (w : List Token) → Fits part_of.Procedures s →
+    IfSome (procedure_step s p t) (IsKept (source_tokens s (procedure_stage_tokens p (t ∷ w))) w)
+procedure_law s in_procedure.AfterWord (token.Name n) w h = record { is = refl; ordered = h }
+procedure_law s (in_procedure.AfterName n) token.OpenParen w h = record { is = refl; ordered = h }
+procedure_law s (in_procedure.Open n) token.CloseParen w h = record { is = refl; ordered = h }
+procedure_law s (in_procedure.Open n) t w h = parameter_law s n [] t w h
+procedure_law s (in_procedure.AfterKind n ps k) (token.Name x) w h = record { is = refl; ordered = h }
+procedure_law s (in_procedure.AfterParameter n ps k x) token.Comma w h =
+    let d : Declaration = record { kind = k; name = x } in
+    record {
+      is = ap (λ y. source_tokens s (token.Proc ∷ token.Name n ∷ token.OpenParen ∷ y))
+          (sym (parameters_append ps d (token.Comma ∷ w))
+          ∙ ap (parameters_tokens (ps ++ d ∷ [])) (sym (behind_append ps d w)));
+      ordered = h;
+    }
+procedure_law s (in_procedure.AfterParameter n ps k x) token.CloseParen w h =
+    let d : Declaration = record { kind = k; name = x } in
+    record {
+      is = ap (λ y. source_tokens s (token.Proc ∷ token.Name n ∷ token.OpenParen ∷ y))
+          (sym (parameters_append ps d (token.CloseParen ∷ w)));
+      ordered = h;
+    }
+procedure_law s (in_procedure.AfterComma n ps) t w h = parameter_law s n ps t w h
+procedure_law s (in_procedure.AfterClose n ps) token.OpenBrace w h = record { is = refl; ordered = h }
+procedure_law _ _ _ w h = tt
 
 thread_law : (s : TreeView) (h : ThreadStage) (t : Token) (w : List Token)
     → IfSome (thread_step s h t) (IsKept (source_tokens s (thread_stage_tokens h (t ∷ w))) w)
 thread_law s in_thread.AfterWord (token.Name n) w = record { is = refl; ordered = tt }
 thread_law s (in_thread.AfterName n) token.OpenBrace w = record { is = refl; ordered = tt }
-thread_law s (in_thread.Locals n ls) token.Int w = record { is = refl; ordered = tt }
-thread_law s (in_thread.Locals n ls) (token.Name x) w = record { is = refl; ordered = tt }
-thread_law s (in_thread.Locals n ls) t w =
-    goes_law s n ls (step_of fresh t) (t ∷ w) w (stand_law [] End place.Start t w)
-thread_law s (in_thread.AfterKind n ls k) (token.Name x) w = record { is = refl; ordered = tt }
-thread_law s (in_thread.AfterKind n ls k) t w = after_kind_law s n ls k t w
-thread_law s (in_thread.AfterLocal n ls k x) token.Semicolon w =
-    record {
-      is = ap (λ y. source_tokens s (token.Thread ∷ token.Name n ∷ token.OpenBrace ∷ y))
-          (sym (declarations_append ls (record { kind = k; name = x }) w));
-      ordered = tt;
-    }
-thread_law s (in_thread.Inside n ls x) t w =
-    goes_law s n ls (step_of x t) (stand_tokens x.frames x.before x.place (t ∷ w)) w
-    (stand_law x.frames x.before x.place t w)
 thread_law _ _ _ w = tt
+
+end_law : (s : TreeView) (o : Owner) (ls : List Declaration) (b : BlockView) (w : List Token) → Fits (part_with o) s →
+    IfSome (end_step s o ls b) (IsKept (source_tokens s (opened o ls (block_tokens b (token.CloseBrace ∷ w)))) w)
+end_law s (owner.Procedure n ps) ls b w h =
+    record { is = one_procedure s (record { name = n; parameters = ps; locals = ls; body = b }) w h; ordered = h }
+end_law s (owner.Thread n) ls b w h = record {
+  is = one_thread s (record { name = n; locals = ls; body = b }) w;
+  ordered = tt;
+}
+
+goes_law : (s : TreeView) (o : Owner) (ls : List Declaration) (x : Next) (u w : List Token) → Fits (part_with o) s →
+    Keeps u x w →
+    IfSome (goes_on s o ls x) (IsKept (source_tokens s (opened o ls u)) w)
+goes_law s o ls (Stays x) u w k h = record { is = ap (λ y. source_tokens s (opened o ls y)) h; ordered = k }
+goes_law s o ls (Ends b) u w k h = subst (λ y. IfSome (end_step s o ls b) (IsKept (source_tokens s (opened o ls y)) w))
+    (sym h) (end_law s o ls b w k)
+goes_law s o ls Stuck u w k h = tt
+
+after_kind_law : (s : TreeView) (o : Owner) (ls : List Declaration) (k : Kind) (t : Token) (w : List Token) →
+    Fits (part_with o) s →
+    IfSome (after_kind_step s o ls k t) (IsKept (source_tokens s (opened o ls (kind_token k ∷ t ∷ w))) w)
+after_kind_law s o ls kind.Int t w h = tt
+after_kind_law s o ls (kind.Record x) t w h = goes_law s o ls (step_of (begun x) t) (token.Name x ∷ t ∷ w) w h
+    (stand_law [] End (place.Inside (line.AfterName x)) t w)
+
+body_law : (s : TreeView) (b : BodyStage) (t : Token) (w : List Token) → Fits (part_with (owner_in b)) s →
+    IfSome (body_step s b t) (IsKept (source_tokens s (body_stage_tokens b (t ∷ w))) w)
+body_law s (in_body.Locals o ls) token.Int w h = record { is = refl; ordered = h }
+body_law s (in_body.Locals o ls) (token.Name x) w h = record { is = refl; ordered = h }
+body_law s (in_body.Locals o ls) t w h = goes_law s o ls (step_of fresh t) (t ∷ w) w h
+    (stand_law [] End place.Start t w)
+body_law s (in_body.AfterKind o ls k) (token.Name x) w h = record { is = refl; ordered = h }
+body_law s (in_body.AfterKind o ls k) t w h = after_kind_law s o ls k t w h
+body_law s (in_body.AfterLocal o ls k x) token.Semicolon w h =
+    record {
+      is = ap (λ y. source_tokens s (owner_tokens o y))
+          (sym (declarations_append ls (record { kind = k; name = x }) w));
+      ordered = h;
+    }
+body_law s (in_body.Inside o ls x) t w h =
+    goes_law s o ls (step_of x t) (stand_tokens x.frames x.before x.place (t ∷ w)) w h
+    (stand_law x.frames x.before x.place t w)
+body_law _ _ _ w h = tt
 
 pub read_law : (s : TreeView) (g : Stage) (t : Token) (w : List Token) → Fits (part_in g) s
     → IfSome (read_at s g t) (IsKept (source_tokens s (stage_tokens g (t ∷ w))) w)
 read_law s (stage.Between p) t w h = begin_law s p t w h
 read_law s (stage.Record r) t w h = record_law s r t w h
 read_law s (stage.Global g) t w h = global_law s g t w h
+read_law s (stage.Procedure p) t w h = procedure_law s p t w h
 read_law s (stage.Thread x) t w h = thread_law s x t w
+read_law s (stage.Body b) t w h = body_law s b t w h
 
 IfSome_weaker : (o : Option ReaderView) (P Q : ReaderView → Type 0) → ((x : ReaderView) → P x → Q x) → IfSome o P
     → IfSome o Q

@@ -40,9 +40,16 @@ beside_holds P w (row ∷ rows) h t e =
 
 -- keywords and names stand where no name byte follows
 stands_word : (w rest : List ℕ) → stands (word_token w) rest ≡ not (begins_name rest)
-stands_word w rest = go (keyword_of w)
-    (beside_holds P w keyword_table
-    (refl, (refl, (refl, (refl, (refl, (refl, (refl, (refl, (refl, (refl, (refl, (refl, (refl, (refl, tt)))))))))))))))
+stands_word w rest = go (keyword_of w) (beside_holds P w keyword_table (
+  refl,
+  (
+    refl,
+    (
+      refl,
+      (refl, (refl, (refl, (refl, (refl, (refl, (refl, (refl, (refl, (refl, (refl, (refl, (refl, tt))))))))))))),
+    ),
+  ),
+))
   where
     P : Token → Type 0
     P t = stands t rest ≡ not (begins_name rest)
@@ -166,12 +173,11 @@ single_stands b rest equal less =
     if_some P (eqb b 123) token.OpenBrace _ refl
     (if_some P (eqb b 125) token.CloseBrace _ refl
     (if_some P (eqb b 40) token.OpenParen _ refl (if_some P (eqb b 41) token.CloseParen _ refl (
-    if_some P (eqb b 59) token.Semicolon _ refl
-    (if_some P (eqb b 46) token.Dot _ refl
-    (if_some_so P (eqb b 61) token.Equal _ equal (if_some P (eqb b 43) token.Plus _ refl (
-    if_some P (eqb b 45) token.Minus _ refl
-    (if_some P (eqb b 42) token.Star _ refl
-    (if_some_so P (eqb b 60) token.Less _ less (λ u f. absurd (no_some u f))))))))))))
+    if_some P (eqb b 59) token.Semicolon _ refl (if_some P (eqb b 44) token.Comma _ refl (
+    if_some P (eqb b 46) token.Dot _ refl (if_some_so P (eqb b 61) token.Equal _ equal (
+    if_some P (eqb b 43) token.Plus _ refl (
+    if_some P (eqb b 45) token.Minus _ refl (if_some P (eqb b 42) token.Star _ refl (
+    if_some_so P (eqb b 60) token.Less _ less (λ u f. absurd (no_some u f)))))))))))))
 
 double_stands : (b : ℕ) (rest : List ℕ) (t : Token) → double_sign b ≡ Some t → stands t rest ≡ true
 double_stands b rest =

@@ -1,12 +1,14 @@
 -- The tokens of each tree are taken, one after another, and lead to that tree.
 use Rattle.std.proofs.Common.{◌≡◌, ℕ, List, [], ◌∷◌, ◌++◌, Some, refl, sym, ◌∙◌, ap, append_assoc, append-nil}
-use Rattle.sect_front.specs.Syntax.{StatementView, BlockView, Primitive, If, IfElse, While, Atomic, End, Then}
+use Rattle.sect_front.specs.Syntax.{StatementView, BlockView, Primitive, If, IfElse, While, Atomic, Call, End, Then}
 use Rattle.sect_front.specs.TreeView.{TreeView}
 use Rattle.sect_front.specs.Trees.{append}
 use Rattle.sect_front.specs.Grammar.{operand_token, operator_token, comparison_token, kind_token}
-use Rattle.sect_front.specs.steps.Tokens.{primitive_tokens, test_tokens, statement_tokens, block_tokens}
-use Rattle.sect_front.specs.steps.Tokens.{declarations_tokens, hints_tokens, record_tokens, thread_tokens}
-use Rattle.sect_front.specs.steps.Tokens.{records_tokens, globals_tokens, threads_tokens, source_tokens}
+use Rattle.sect_front.specs.steps.Tokens.{primitive_tokens, test_tokens, more_operands, call_tokens, statement_tokens}
+use Rattle.sect_front.specs.steps.Tokens.{block_tokens, declarations_tokens, hints_tokens, record_tokens}
+use Rattle.sect_front.specs.steps.Tokens.{more_parameters, parameters_tokens, procedure_tokens, thread_tokens}
+use Rattle.sect_front.specs.steps.Tokens.{records_tokens, globals_tokens, procedures_tokens, threads_tokens}
+use Rattle.sect_front.specs.steps.Tokens.{source_tokens}
 use Rattle.sect_front.specs.steps.Advance.{operand_of, operator_of, comparison_of}
 use Rattle.sect_front.specs.steps.ReaderView.{ReaderView, reading}
 use Rattle.sect_front.specs.steps.Read.{after}
@@ -27,7 +29,9 @@ use Rattle.sect_front.specs.declared.tree.Kind.TheVariants as kind
 use Rattle.sect_front.specs.declared.tree.Declaration.{Declaration}
 use Rattle.sect_front.specs.declared.tree.Record.{Record}
 use Rattle.sect_front.specs.declared.tree.GlobalObject.{GlobalObject}
+use Rattle.sect_front.specs.declared.tree.Procedure.{Procedure}
 use Rattle.sect_front.specs.declared.tree.Thread.{Thread}
+use Rattle.sect_front.specs.declared.partial.PartialCall.TheVariants as call
 use Rattle.sect_front.specs.declared.within.Frame.{Frame}
 use Rattle.sect_front.specs.declared.within.Frame.TheVariants as frame
 use Rattle.sect_front.specs.declared.within.Partial.{Partial}
@@ -35,7 +39,11 @@ use Rattle.sect_front.specs.declared.within.Partial.TheVariants as place
 use Rattle.sect_front.specs.declared.reader.Part.{Part}
 use Rattle.sect_front.specs.declared.reader.Part.TheVariants as part
 use Rattle.sect_front.specs.declared.reader.RecordStage.TheVariants as in_record
+use Rattle.sect_front.specs.declared.reader.ProcedureStage.TheVariants as in_procedure
 use Rattle.sect_front.specs.declared.reader.ThreadStage.TheVariants as in_thread
+use Rattle.sect_front.specs.declared.reader.Owner.{Owner}
+use Rattle.sect_front.specs.declared.reader.Owner.TheVariants as owner
+use Rattle.sect_front.specs.declared.reader.BodyStage.TheVariants as in_body
 use Rattle.sect_front.specs.declared.reader.Stage.TheVariants as stage
 use Rattle.sect_front.proofs.Finish.{start}
 
@@ -80,9 +88,9 @@ join_cat b (Then s c) = join_cat (append b s) c ∙ cat_append b s c
 join_end : (b : BlockView) → join End b ≡ b
 join_end b = join_cat End b
 
-module _ (s : TreeView) (n : List ℕ) (ls : List Declaration) where
+module _ (s : TreeView) (o : Owner) (ls : List Declaration) where
   abbrev at : List Frame → BlockView → Partial → ReaderView
-  at fs b p = reading s (stage.Thread (in_thread.Inside n ls (record { frames = fs; before = b; place = p })))
+  at fs b p = reading s (stage.Body (in_body.Inside o ls (record { frames = fs; before = b; place = p })))
 
   -- where a statement leads
   abbrev ended : List Frame → BlockView → StatementView → ReaderView
@@ -91,6 +99,7 @@ module _ (s : TreeView) (n : List ℕ) (ls : List Declaration) where
   ended fs b (While t a) = at fs (append b (While t a)) place.Start
   ended fs b (IfElse t a c) = at fs (append b (IfElse t a c)) place.Start
   ended fs b (Atomic l a) = at fs (append b (Atomic l a)) place.Start
+  ended fs b (Call f vs) = at fs (append b (Call f vs)) place.Start
 
   assign_passes : (fs : List Frame) (b : BlockView) (x : List ℕ) (v : Operand) (w : List Token)
       → after (at fs b place.Start) (primitive_tokens (primitive.Assign x v) w) ≡ after
@@ -131,6 +140,38 @@ module _ (s : TreeView) (n : List ℕ) (ls : List Declaration) where
       (at (frame.While b t ∷ fs) End place.Start) w
   while_passes fs b t w = simp (operand_back, comparison_back)
 
+  first_argument_passes : (fs : List Frame) (b : BlockView) (f : List ℕ) (v : Operand) (w : List Token) →
+      after (at fs b (place.InCall (call.Open f))) (operand_token v ∷ w) ≡
+      after (at fs b (place.InCall (call.AfterArgument f [] v))) w
+  first_argument_passes fs b f (operand.Number n) w = refl
+  first_argument_passes fs b f operand.Null w = refl
+  first_argument_passes fs b f (operand.Name n) w = refl
+
+  argument_passes : (fs : List Frame) (b : BlockView) (f : List ℕ) (vs : List Operand) (v : Operand) (w : List Token) →
+      after (at fs b (place.InCall (call.AfterComma f vs))) (operand_token v ∷ w) ≡
+      after (at fs b (place.InCall (call.AfterArgument f vs v))) w
+  argument_passes fs b f vs (operand.Number n) w = refl
+  argument_passes fs b f vs operand.Null w = refl
+  argument_passes fs b f vs (operand.Name n) w = refl
+
+  arguments_pass : (fs : List Frame) (b : BlockView) (f : List ℕ) (us vs : List Operand) (v : Operand)
+      (w : List Token) →
+      after (at fs b (place.InCall (call.AfterArgument f vs v)))
+      (more_operands us (token.CloseParen ∷ token.Semicolon ∷ w)) ≡
+      after (at fs (append b (Call f (vs ++ v ∷ us))) place.Start) w
+  arguments_pass fs b f [] vs v w = refl
+  arguments_pass fs b f (u ∷ us) vs v w =
+      argument_passes fs b f (vs ++ v ∷ []) u (more_operands us (token.CloseParen ∷ token.Semicolon ∷ w)) ∙
+      (arguments_pass fs b f us (vs ++ v ∷ []) u w ∙
+      ap (λ x. after (at fs (append b (Call f x)) place.Start) w) (append_assoc vs (v ∷ []) (u ∷ us)))
+
+  call_passes : (fs : List Frame) (b : BlockView) (f : List ℕ) (vs : List Operand) (w : List Token) →
+      after (at fs b place.Start) (call_tokens f vs w) ≡ after (at fs (append b (Call f vs)) place.Start) w
+  call_passes fs b f [] w = refl
+  call_passes fs b f (v ∷ vs) w =
+      first_argument_passes fs b f v (more_operands vs (token.CloseParen ∷ token.Semicolon ∷ w)) ∙
+      arguments_pass fs b f vs [] v w
+
   -- after a choice with no else-part the next statement starts as after any other
   settled_next : (fs : List Frame) (b : BlockView) (t : Test) (a : BlockView) (s : StatementView) (w : List Token) →
       after (at fs b (place.AfterThen t a)) (statement_tokens s w) ≡ after (at fs (append b (If t a)) place.Start)
@@ -145,6 +186,7 @@ module _ (s : TreeView) (n : List ℕ) (ls : List Declaration) where
   settled_next fs b t a (While u c) w = refl
   settled_next fs b t a (IfElse u c d) w = refl
   settled_next fs b t a (Atomic l c) w = refl
+  settled_next fs b t a (Call f vs) w = refl
 
   settled : (fs : List Frame) (b : BlockView) (s : StatementView) (r : BlockView) (w : List Token) →
       after (ended fs b s) (block_tokens r (token.CloseBrace ∷ w)) ≡ after (at fs (append b s) place.Start)
@@ -155,6 +197,7 @@ module _ (s : TreeView) (n : List ℕ) (ls : List Declaration) where
   settled fs b (While t a) r w = refl
   settled fs b (IfElse t a c) r w = refl
   settled fs b (Atomic l a) r w = refl
+  settled fs b (Call f vs) r w = refl
 
   mutual
     form_passes : (s : StatementView) (fs : List Frame) (b : BlockView) (w : List Token)
@@ -178,6 +221,7 @@ module _ (s : TreeView) (n : List ℕ) (ls : List Declaration) where
     form_passes (Atomic locking.All a) fs b w =
         body_passes a (frame.Atomic b locking.All ∷ fs) End w
         ∙ ap (λ x. after (at fs (append b (Atomic locking.All x)) place.Start) w) (join_end a)
+    form_passes (Call f vs) fs b w = call_passes fs b f vs w
 
     body_passes : (c : BlockView) (fs : List Frame) (b : BlockView) (w : List Token) →
         after (at fs b place.Start) (block_tokens c (token.CloseBrace ∷ w)) ≡ after (at fs (join b c) place.Start)
@@ -186,8 +230,8 @@ module _ (s : TreeView) (n : List ℕ) (ls : List Declaration) where
     body_passes (Then s c) fs b w = form_passes s fs b _ ∙ (settled fs b s c w ∙ body_passes c fs (append b s) w)
 
 -- so many declarations of each kind
-abbrev source : List Record → List GlobalObject → List Thread → TreeView
-source rs gs ts = record { records = rs; globals = gs; threads = ts }
+abbrev source : List Record → List GlobalObject → List Procedure → List Thread → TreeView
+source rs gs ps ts = record { records = rs; globals = gs; procedures = ps; threads = ts }
 
 -- between declarations
 abbrev between : TreeView → Part → ReaderView
@@ -199,37 +243,38 @@ in_head s n hs = reading s (stage.Record (in_record.Head n hs))
 abbrev in_fields : TreeView → List ℕ → List (List ℕ) → List Declaration → ReaderView
 in_fields s n hs fs = reading s (stage.Record (in_record.Fields n hs fs))
 
-abbrev in_locals : TreeView → List ℕ → List Declaration → ReaderView
-in_locals s n ls = reading s (stage.Thread (in_thread.Locals n ls))
+abbrev in_locals : TreeView → Owner → List Declaration → ReaderView
+in_locals s o ls = reading s (stage.Body (in_body.Locals o ls))
 
 -- the first statement after the locals starts as any other
-enter : (s : TreeView) (n : List ℕ) (ls : List Declaration) (b : BlockView) (w : List Token) →
-    after (in_locals s n ls) (block_tokens b (token.CloseBrace ∷ w)) ≡ after (at s n ls [] End place.Start)
-    (block_tokens b (token.CloseBrace ∷ w))
-enter s n ls End w = refl
-enter s n ls (Then (Primitive (primitive.Assign x v)) b) w = refl
-enter s n ls (Then (Primitive (primitive.Compute x v o u)) b) w = refl
-enter s n ls (Then (Primitive (primitive.New x r)) b) w = refl
-enter s n ls (Then (Primitive (primitive.Load x y f)) b) w = refl
-enter s n ls (Then (Primitive (primitive.Store y f v)) b) w = refl
-enter s n ls (Then (Primitive (primitive.Print v)) b) w = refl
-enter s n ls (Then (If t a) b) w = refl
-enter s n ls (Then (IfElse t a c) b) w = refl
-enter s n ls (Then (While t a) b) w = refl
-enter s n ls (Then (Atomic l a) b) w = refl
+enter : (s : TreeView) (o : Owner) (ls : List Declaration) (b : BlockView) (w : List Token) →
+    after (in_locals s o ls) (block_tokens b (token.CloseBrace ∷ w)) ≡
+    after (at s o ls [] End place.Start) (block_tokens b (token.CloseBrace ∷ w))
+enter s o ls End w = refl
+enter s o ls (Then (Primitive (primitive.Assign x v)) b) w = refl
+enter s o ls (Then (Primitive (primitive.Compute x v p u)) b) w = refl
+enter s o ls (Then (Primitive (primitive.New x r)) b) w = refl
+enter s o ls (Then (Primitive (primitive.Load x y f)) b) w = refl
+enter s o ls (Then (Primitive (primitive.Store y f v)) b) w = refl
+enter s o ls (Then (Primitive (primitive.Print v)) b) w = refl
+enter s o ls (Then (If t a) b) w = refl
+enter s o ls (Then (IfElse t a c) b) w = refl
+enter s o ls (Then (While t a) b) w = refl
+enter s o ls (Then (Atomic l a) b) w = refl
+enter s o ls (Then (Call f vs) b) w = refl
 
-local_passes : (s : TreeView) (n : List ℕ) (ls : List Declaration) (k : Kind) (x : List ℕ) (w : List Token) →
-    after (in_locals s n ls) (kind_token k ∷ token.Name x ∷ token.Semicolon ∷ w) ≡ after
-    (in_locals s n (ls ++ record { kind = k; name = x } ∷ [])) w
-local_passes s n ls kind.Int x w = refl
-local_passes s n ls (kind.Record r) x w = refl
+local_passes : (s : TreeView) (o : Owner) (ls : List Declaration) (k : Kind) (x : List ℕ) (w : List Token) →
+    after (in_locals s o ls) (kind_token k ∷ token.Name x ∷ token.Semicolon ∷ w) ≡
+    after (in_locals s o (ls ++ record { kind = k; name = x } ∷ [])) w
+local_passes s o ls kind.Int x w = refl
+local_passes s o ls (kind.Record r) x w = refl
 
-locals_pass : (s : TreeView) (n : List ℕ) (ms ls : List Declaration) (w : List Token)
-    → after (in_locals s n ls) (declarations_tokens ms w) ≡ after (in_locals s n (ls ++ ms)) w
-locals_pass s n [] ls w = ap (λ x. after (in_locals s n x) w) (sym (append-nil ls))
-locals_pass s n (m ∷ ms) ls w =
-    local_passes s n ls m.kind m.name (declarations_tokens ms w)
-    ∙ (locals_pass s n ms (ls ++ m ∷ []) w ∙ ap (λ x. after (in_locals s n x) w) (append_assoc ls (m ∷ []) ms))
+locals_pass : (s : TreeView) (o : Owner) (ms ls : List Declaration) (w : List Token) →
+    after (in_locals s o ls) (declarations_tokens ms w) ≡ after (in_locals s o (ls ++ ms)) w
+locals_pass s o [] ls w = ap (λ x. after (in_locals s o x) w) (sym (append-nil ls))
+locals_pass s o (m ∷ ms) ls w =
+    local_passes s o ls m.kind m.name (declarations_tokens ms w) ∙
+    (locals_pass s o ms (ls ++ m ∷ []) w ∙ ap (λ x. after (in_locals s o x) w) (append_assoc ls (m ∷ []) ms))
 
 field_passes : (s : TreeView) (n : List ℕ) (hs : List (List ℕ)) (fs : List Declaration) (k : Kind) (x : List ℕ)
     (w : List Token) →
@@ -252,91 +297,162 @@ hints_pass s n [] hs w = ap (λ x. after (in_head s n x) w) (sym (append-nil hs)
 hints_pass s n (g ∷ gs) hs w =
     hints_pass s n gs (hs ++ g ∷ []) w ∙ ap (λ x. after (in_head s n x) w) (append_assoc hs (g ∷ []) gs)
 
-record_passes : (rs : List Record) (gs : List GlobalObject) (ts : List Thread) (r : Record) (w : List Token) →
-    after (between (source rs gs ts) part.Records) (record_tokens r w) ≡ after
-    (between (source (rs ++ r ∷ []) gs ts) part.Records) w
-record_passes rs gs ts r w =
-    let s = source rs gs ts in
+record_passes : (rs : List Record) (r : Record) (w : List Token) →
+    after (between (source rs [] [] []) part.Records) (record_tokens r w) ≡
+    after (between (source (rs ++ r ∷ []) [] [] []) part.Records) w
+record_passes rs r w =
+    let s = source rs [] [] [] in
     hints_pass s r.name r.hints [] (token.OpenBrace ∷ declarations_tokens r.fields (token.CloseBrace ∷ w))
     ∙ fields_pass s r.name r.hints r.fields [] (token.CloseBrace ∷ w)
 
-records_pass : (qs rs : List Record) (w : List Token)
-    → after (between (source rs [] []) part.Records) (records_tokens qs w) ≡ after
-    (between (source (rs ++ qs) [] []) part.Records) w
-records_pass [] rs w = ap (λ x. after (between (source x [] []) part.Records) w) (sym (append-nil rs))
+records_pass : (qs rs : List Record) (w : List Token) →
+    after (between (source rs [] [] []) part.Records) (records_tokens qs w) ≡
+    after (between (source (rs ++ qs) [] [] []) part.Records) w
+records_pass [] rs w = ap (λ x. after (between (source x [] [] []) part.Records) w) (sym (append-nil rs))
 records_pass (q ∷ qs) rs w =
-    record_passes rs [] [] q (records_tokens qs w)
-    ∙ (records_pass qs (rs ++ q ∷ []) w
-    ∙ ap (λ x. after (between (source x [] []) part.Records) w) (append_assoc rs (q ∷ []) qs))
+    record_passes rs q (records_tokens qs w) ∙ (records_pass qs (rs ++ q ∷ []) w ∙
+    ap (λ x. after (between (source x [] [] []) part.Records) w) (append_assoc rs (q ∷ []) qs))
 
-globals_more : (rs : List Record) (hs gs : List GlobalObject) (w : List Token)
-    → after (between (source rs gs []) part.Globals) (globals_tokens hs w) ≡ after
-    (between (source rs (gs ++ hs) []) part.Globals) w
-globals_more rs [] gs w = ap (λ x. after (between (source rs x []) part.Globals) w) (sym (append-nil gs))
+globals_more : (rs : List Record) (hs gs : List GlobalObject) (w : List Token) →
+    after (between (source rs gs [] []) part.Globals) (globals_tokens hs w) ≡
+    after (between (source rs (gs ++ hs) [] []) part.Globals) w
+globals_more rs [] gs w = ap (λ x. after (between (source rs x [] []) part.Globals) w) (sym (append-nil gs))
 globals_more rs (h ∷ hs) gs w =
-    globals_more rs hs (gs ++ h ∷ []) w
-    ∙ ap (λ x. after (between (source rs x []) part.Globals) w) (append_assoc gs (h ∷ []) hs)
+    globals_more rs hs (gs ++ h ∷ []) w ∙
+    ap (λ x. after (between (source rs x [] []) part.Globals) w) (append_assoc gs (h ∷ []) hs)
 
--- which declarations may come after globals, and after threads
+-- which declarations may come after globals, after procedures, and after threads
 abbrev after_globals : List GlobalObject → Part
 after_globals [] = part.Records
 after_globals (g ∷ gs) = part.Globals
+
+abbrev after_procedures : Part → List Procedure → Part
+after_procedures p [] = p
+after_procedures p (q ∷ qs) = part.Procedures
 
 abbrev after_threads : Part → List Thread → Part
 after_threads p [] = p
 after_threads p (t ∷ ts) = part.Threads
 
-globals_pass : (rs : List Record) (gs : List GlobalObject) (w : List Token)
-    → after (between (source rs [] []) part.Records) (globals_tokens gs w) ≡ after
-    (between (source rs gs []) (after_globals gs)) w
+globals_pass : (rs : List Record) (gs : List GlobalObject) (w : List Token) →
+    after (between (source rs [] [] []) part.Records) (globals_tokens gs w) ≡
+    after (between (source rs gs [] []) (after_globals gs)) w
 globals_pass rs [] w = refl
 globals_pass rs (g ∷ gs) w = globals_more rs gs (g ∷ []) w
+
+parameter_passes : (s : TreeView) (n : List ℕ) (ps : List Declaration) (k : Kind) (x : List ℕ) (w : List Token) →
+    after (reading s (stage.Procedure (in_procedure.AfterComma n ps))) (kind_token k ∷ token.Name x ∷ w) ≡
+    after (reading s (stage.Procedure (in_procedure.AfterParameter n ps k x))) w
+parameter_passes s n ps kind.Int x w = refl
+parameter_passes s n ps (kind.Record r) x w = refl
+
+parameters_more : (s : TreeView) (n : List ℕ) (qs ps : List Declaration) (d : Declaration) (w : List Token) →
+    after (reading s (stage.Procedure (in_procedure.AfterParameter n ps d.kind d.name)))
+    (more_parameters qs (token.CloseParen ∷ w)) ≡
+    after (reading s (stage.Procedure (in_procedure.AfterClose n (ps ++ d ∷ qs)))) w
+parameters_more s n [] ps d w = refl
+parameters_more s n (q ∷ qs) ps d w =
+    parameter_passes s n (ps ++ d ∷ []) q.kind q.name (more_parameters qs (token.CloseParen ∷ w)) ∙
+    (parameters_more s n qs (ps ++ d ∷ []) q w ∙
+    ap (λ x. after (reading s (stage.Procedure (in_procedure.AfterClose n x))) w) (append_assoc ps (d ∷ []) (q ∷ qs)))
+
+first_parameter_passes : (s : TreeView) (n : List ℕ) (k : Kind) (x : List ℕ) (w : List Token) →
+    after (reading s (stage.Procedure (in_procedure.Open n))) (kind_token k ∷ token.Name x ∷ w) ≡
+    after (reading s (stage.Procedure (in_procedure.AfterParameter n [] k x))) w
+first_parameter_passes s n kind.Int x w = refl
+first_parameter_passes s n (kind.Record r) x w = refl
+
+parameters_pass : (s : TreeView) (n : List ℕ) (ps : List Declaration) (w : List Token) →
+    after (reading s (stage.Procedure (in_procedure.Open n))) (parameters_tokens ps (token.CloseParen ∷ w)) ≡
+    after (reading s (stage.Procedure (in_procedure.AfterClose n ps))) w
+parameters_pass s n [] w = refl
+parameters_pass s n (p ∷ ps) w =
+    first_parameter_passes s n p.kind p.name (more_parameters ps (token.CloseParen ∷ w)) ∙ parameters_more s n ps [] p w
+
+-- the locals and the statements of a procedure or a thread, up to its last brace
+inner_passes : (s : TreeView) (o : Owner) (ls : List Declaration) (b : BlockView) (w : List Token) →
+    after (in_locals s o []) (declarations_tokens ls (block_tokens b (token.CloseBrace ∷ w))) ≡
+    after (at s o ls [] b place.Start) (token.CloseBrace ∷ w)
+inner_passes s o ls b w =
+    locals_pass s o ls [] (block_tokens b (token.CloseBrace ∷ w)) ∙ (enter s o ls b w ∙ (body_passes s o ls b [] End w ∙
+    ap (λ x. after (at s o ls [] x place.Start) (token.CloseBrace ∷ w)) (join_end b)))
+
+-- a procedure from its word on
+procedure_passes : (rs : List Record) (gs : List GlobalObject) (ps : List Procedure) (p : Procedure) (w : List Token) →
+    after (between (source rs gs ps []) part.Procedures) (procedure_tokens p w) ≡
+    after (between (source rs gs (ps ++ p ∷ []) []) part.Procedures) w
+procedure_passes rs gs ps p w =
+    let s = source rs gs ps [] in
+    let inner : List Token = declarations_tokens p.locals (block_tokens p.body (token.CloseBrace ∷ w)) in
+    parameters_pass s p.name p.parameters (token.OpenBrace ∷ inner) ∙
+    inner_passes s (owner.Procedure p.name p.parameters) p.locals p.body w
+
+-- the first procedure may come after records and after globals
+procedure_begins : (s : TreeView) (gs : List GlobalObject) (p : Procedure) (w : List Token) →
+    after (between s (after_globals gs)) (procedure_tokens p w) ≡
+    after (between s part.Procedures) (procedure_tokens p w)
+procedure_begins s [] p w = refl
+procedure_begins s (g ∷ gs) p w = refl
+
+procedures_more : (rs : List Record) (gs : List GlobalObject) (qs ps : List Procedure) (w : List Token) →
+    after (between (source rs gs ps []) part.Procedures) (procedures_tokens qs w) ≡
+    after (between (source rs gs (ps ++ qs) []) part.Procedures) w
+procedures_more rs gs [] ps w = ap (λ x. after (between (source rs gs x []) part.Procedures) w) (sym (append-nil ps))
+procedures_more rs gs (q ∷ qs) ps w =
+    procedure_passes rs gs ps q (procedures_tokens qs w) ∙ (procedures_more rs gs qs (ps ++ q ∷ []) w ∙
+    ap (λ x. after (between (source rs gs x []) part.Procedures) w) (append_assoc ps (q ∷ []) qs))
+
+procedures_pass : (rs : List Record) (gs : List GlobalObject) (ps : List Procedure) (w : List Token) →
+    after (between (source rs gs [] []) (after_globals gs)) (procedures_tokens ps w) ≡
+    after (between (source rs gs ps []) (after_procedures (after_globals gs) ps)) w
+procedures_pass rs gs [] w = refl
+procedures_pass rs gs (p ∷ ps) w =
+    procedure_begins (source rs gs [] []) gs p (procedures_tokens ps w) ∙ procedures_more rs gs (p ∷ ps) [] w
 
 -- a thread may come after each declaration
 thread_begins : (s : TreeView) (p : Part) (w : List Token)
     → after (between s p) (token.Thread ∷ w) ≡ after (reading s (stage.Thread in_thread.AfterWord)) w
 thread_begins s part.Records w = refl
 thread_begins s part.Globals w = refl
+thread_begins s part.Procedures w = refl
 thread_begins s part.Threads w = refl
 
-thread_passes : (rs : List Record) (gs : List GlobalObject) (ts : List Thread) (p : Part) (t : Thread) (w : List Token)
-    →
-    after (between (source rs gs ts) p) (thread_tokens t w) ≡ after (between (source rs gs (ts ++ t ∷ [])) part.Threads)
-    w
-thread_passes rs gs ts p t w =
-    let s = source rs gs ts in
-    let inner : List Token = block_tokens t.body (token.CloseBrace ∷ w) in
-    thread_begins s p (token.Name t.name ∷ token.OpenBrace ∷ declarations_tokens t.locals inner) ∙
-    (locals_pass s t.name t.locals [] inner
-    ∙ (enter s t.name t.locals t.body w ∙ (body_passes s t.name t.locals t.body [] End w ∙
-    ap
-    (λ x. after (between (source rs gs (ts ++ record { name = t.name; locals = t.locals; body = x } ∷ []))
-    part.Threads) w) (join_end t.body))))
+thread_passes : (rs : List Record) (gs : List GlobalObject) (ps : List Procedure) (ts : List Thread) (p : Part)
+    (t : Thread) (w : List Token) →
+    after (between (source rs gs ps ts) p) (thread_tokens t w) ≡
+    after (between (source rs gs ps (ts ++ t ∷ [])) part.Threads) w
+thread_passes rs gs ps ts p t w =
+    let s = source rs gs ps ts in
+    let inner : List Token = declarations_tokens t.locals (block_tokens t.body (token.CloseBrace ∷ w)) in
+    thread_begins s p (token.Name t.name ∷ token.OpenBrace ∷ inner) ∙
+    inner_passes s (owner.Thread t.name) t.locals t.body w
 
-threads_pass : (rs : List Record) (gs : List GlobalObject) (us ts : List Thread) (p : Part) →
-    after (between (source rs gs ts) p) (threads_tokens us []) ≡ Some
-    (between (source rs gs (ts ++ us)) (after_threads p us))
-threads_pass rs gs [] ts p = ap (λ x. Some (between (source rs gs x) p)) (sym (append-nil ts))
-threads_pass rs gs (u ∷ us) ts p =
-    thread_passes rs gs ts p u (threads_tokens us []) ∙ threads_more us (ts ++ u ∷ [])
-    ∙ ap (λ x. Some (between (source rs gs x) part.Threads)) (append_assoc ts (u ∷ []) us)
+threads_pass : (rs : List Record) (gs : List GlobalObject) (ps : List Procedure) (us ts : List Thread) (p : Part) →
+    after (between (source rs gs ps ts) p) (threads_tokens us []) ≡
+    Some (between (source rs gs ps (ts ++ us)) (after_threads p us))
+threads_pass rs gs ps [] ts p = ap (λ x. Some (between (source rs gs ps x) p)) (sym (append-nil ts))
+threads_pass rs gs ps (u ∷ us) ts p =
+    thread_passes rs gs ps ts p u (threads_tokens us []) ∙ threads_more us (ts ++ u ∷ []) ∙
+    ap (λ x. Some (between (source rs gs ps x) part.Threads)) (append_assoc ts (u ∷ []) us)
   where
-    threads_more : (us ts : List Thread)
-        → after (between (source rs gs ts) part.Threads) (threads_tokens us []) ≡ Some
-        (between (source rs gs (ts ++ us)) part.Threads)
-    threads_more [] ts = ap (λ x. Some (between (source rs gs x) part.Threads)) (sym (append-nil ts))
+    threads_more : (us ts : List Thread) → after (between (source rs gs ps ts) part.Threads) (threads_tokens us []) ≡
+        Some (between (source rs gs ps (ts ++ us)) part.Threads)
+    threads_more [] ts = ap (λ x. Some (between (source rs gs ps x) part.Threads)) (sym (append-nil ts))
     threads_more (v ∷ vs) ts =
-        thread_passes rs gs ts part.Threads v (threads_tokens vs [])
-        ∙ (threads_more vs (ts ++ v ∷ [])
-        ∙ ap (λ x. Some (between (source rs gs x) part.Threads)) (append_assoc ts (v ∷ []) vs))
+        thread_passes rs gs ps ts part.Threads v (threads_tokens vs []) ∙
+        (threads_more vs (ts ++ v ∷ []) ∙
+        ap (λ x. Some (between (source rs gs ps x) part.Threads)) (append_assoc ts (v ∷ []) vs))
 
 -- which declarations may come after a tree's
 abbrev pub last_part : TreeView → Part
-last_part s = after_threads (after_globals s.globals) s.threads
+last_part s = after_threads (after_procedures (after_globals s.globals) s.procedures) s.threads
 
 -- each tree's tokens lead to it
 pub source_passes : (s : TreeView) → after start (source_tokens s []) ≡ Some (reading s (stage.Between (last_part s)))
 source_passes s =
-    records_pass s.records [] (globals_tokens s.globals (threads_tokens s.threads [])) ∙
-    (globals_pass s.records s.globals (threads_tokens s.threads [])
-    ∙ threads_pass s.records s.globals s.threads [] (after_globals s.globals))
+    let threads : List Token = threads_tokens s.threads [] in
+    records_pass s.records [] (globals_tokens s.globals (procedures_tokens s.procedures threads)) ∙
+    (globals_pass s.records s.globals (procedures_tokens s.procedures threads) ∙
+    (procedures_pass s.records s.globals s.procedures threads ∙
+    threads_pass s.records s.globals s.procedures s.threads []
+    (after_procedures (after_globals s.globals) s.procedures)))

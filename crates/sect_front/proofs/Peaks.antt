@@ -1,13 +1,14 @@
 -- The most braces that are open is the depth.
 use Rattle.std.proofs.Common.{◌≡◌, ℕ, ◌+◌, ◌-◌, ◌≤◌, List, [], ◌∷◌, ◌++◌, max, refl, sym, ◌∙◌, ap, arith, take, drop}
 use Rattle.std.proofs.lemmas.List.{take-append-drop}
-use Rattle.sect_front.specs.Syntax.{StatementView, BlockView, Primitive, If, IfElse, While, Atomic, End, Then}
+use Rattle.sect_front.specs.Syntax.{StatementView, BlockView, Primitive, If, IfElse, While, Atomic, Call, End, Then}
 use Rattle.sect_front.specs.TreeView.{TreeView}
 use Rattle.sect_front.specs.Grammar.{operand_token, operator_token, comparison_token, kind_token, tokens_of}
-use Rattle.sect_front.specs.steps.Tokens.{primitive_tokens, test_tokens, statement_tokens, block_tokens}
-use Rattle.sect_front.specs.steps.Tokens.{declarations_tokens, hints_tokens, record_tokens, records_tokens}
-use Rattle.sect_front.specs.steps.Tokens.{globals_tokens, threads_tokens}
-use Rattle.sect_front.specs.Depth.{statement_depth, block_depth, threads_depth, depth}
+use Rattle.sect_front.specs.steps.Tokens.{primitive_tokens, test_tokens, more_operands, operands_tokens}
+use Rattle.sect_front.specs.steps.Tokens.{statement_tokens, block_tokens, declarations_tokens, hints_tokens}
+use Rattle.sect_front.specs.steps.Tokens.{record_tokens, more_parameters, parameters_tokens, records_tokens}
+use Rattle.sect_front.specs.steps.Tokens.{globals_tokens, procedures_tokens, threads_tokens}
+use Rattle.sect_front.specs.Depth.{statement_depth, block_depth, procedures_depth, threads_depth, depth}
 use Rattle.sect_front.specs.Braces.{brace, open_after, IsShallow}
 use Rattle.sect_front.specs.declared.token.Token.{Token}
 use Rattle.sect_front.specs.declared.tree.Locking.TheVariants as locking
@@ -24,6 +25,7 @@ use Rattle.sect_front.specs.declared.tree.Comparison.TheVariants as comparison
 use Rattle.sect_front.specs.declared.tree.Declaration.{Declaration}
 use Rattle.sect_front.specs.declared.tree.Record.{Record}
 use Rattle.sect_front.specs.declared.tree.GlobalObject.{GlobalObject}
+use Rattle.sect_front.specs.declared.tree.Procedure.{Procedure}
 use Rattle.sect_front.specs.declared.tree.Thread.{Thread}
 use Rattle.sect_front.specs.declared.tree.Kind.{Kind}
 use Rattle.sect_front.specs.declared.tree.Kind.TheVariants as kind
@@ -66,6 +68,14 @@ calm_primitive k (primitive.New x r) w = refl
 calm_primitive k (primitive.Load x y f) w = refl
 calm_primitive k (primitive.Store y f v) w = simp calm_operand
 calm_primitive k (primitive.Print v) w = simp calm_operand
+
+calm_more_operands : (k : ℕ) (vs : List Operand) (w : List Token) → peak k (more_operands vs w) ≡ peak k w
+calm_more_operands k [] w = refl
+calm_more_operands k (v ∷ vs) w = calm_operand v k (λ j. peak j (more_operands vs w)) ∙ calm_more_operands k vs w
+
+calm_operands : (k : ℕ) (vs : List Operand) (w : List Token) → peak k (operands_tokens vs w) ≡ peak k w
+calm_operands k [] w = refl
+calm_operands k (v ∷ vs) w = calm_operand v k (λ j. peak j (more_operands vs w)) ∙ calm_more_operands k vs w
 
 peak_cases : (t : Token) (k : ℕ) (f : ℕ → ℕ) → ((j : ℕ) → j ≤ f j) → max k (f (brace k t)) ≡ peak_with t k f
 peak_cases token.OpenBrace k f h = omega (arith, h (k + 1))
@@ -110,6 +120,7 @@ mutual
       ∙ braced k (block_depth a) _ w (body_peak (k + 1) a (token.CloseBrace ∷ w))
   form_peak k (Atomic locking.Inferred a) w = braced k (block_depth a) _ w (body_peak (k + 1) a (token.CloseBrace ∷ w))
   form_peak k (Atomic locking.All a) w = braced k (block_depth a) _ w (body_peak (k + 1) a (token.CloseBrace ∷ w))
+  form_peak k (Call f vs) w = omega (arith, calm_operands k vs (token.CloseParen ∷ token.Semicolon ∷ w), peak_from k w)
 
   body_peak : (k : ℕ) (b : BlockView) (w : List Token) → peak k (block_tokens b w) ≡ max (k + block_depth b) (peak k w)
   body_peak k End w = omega (arith, peak_from k w)
@@ -127,17 +138,42 @@ calm_hints : (k : ℕ) (ns : List (List ℕ)) (w : List Token) → peak k (hints
 calm_hints k [] w = refl
 calm_hints k (n ∷ ns) w = calm_hints k ns w
 
-threads_peak : (ts : List Thread) → peak 0 (threads_tokens ts []) ≡ threads_depth ts
-threads_peak [] = refl
-threads_peak (t ∷ ts) =
-    let rest : List Token = token.CloseBrace ∷ threads_tokens ts [] in
+calm_more_parameters : (k : ℕ) (ps : List Declaration) (w : List Token) → peak k (more_parameters ps w) ≡ peak k w
+calm_more_parameters k [] w = refl
+calm_more_parameters k (p ∷ ps) w = calm_kind p.kind k (λ j. peak j (more_parameters ps w)) ∙
+    calm_more_parameters k ps w
+
+calm_parameters : (k : ℕ) (ps : List Declaration) (w : List Token) → peak k (parameters_tokens ps w) ≡ peak k w
+calm_parameters k [] w = refl
+calm_parameters k (p ∷ ps) w = calm_kind p.kind k (λ j. peak j (more_parameters ps w)) ∙ calm_more_parameters k ps w
+
+-- locals and statements, and the brace behind them
+whole_peak : (ls : List Declaration) (b : BlockView) (w : List Token) →
+    peak 1 (declarations_tokens ls (block_tokens b (token.CloseBrace ∷ w))) ≡ max (block_depth b + 1) (peak 0 w)
+whole_peak ls b w =
+    let rest : List Token = token.CloseBrace ∷ w in
     omega (
       arith,
-      calm_declarations 1 t.locals (block_tokens t.body rest),
-      braced 0 (block_depth t.body) (peak 1 (block_tokens t.body rest)) (threads_tokens ts [])
-          (body_peak 1 t.body rest),
-      threads_peak ts,
+      calm_declarations 1 ls (block_tokens b rest),
+      braced 0 (block_depth b) (peak 1 (block_tokens b rest)) w (body_peak 1 b rest),
     )
+
+procedures_peak : (ps : List Procedure) (w : List Token) →
+    peak 0 (procedures_tokens ps w) ≡ max (procedures_depth ps) (peak 0 w)
+procedures_peak [] w = omega arith
+procedures_peak (p ∷ ps) w =
+    let rest : List Token = procedures_tokens ps w in
+    let inner : List Token = declarations_tokens p.locals (block_tokens p.body (token.CloseBrace ∷ rest)) in
+    omega (
+      arith,
+      calm_parameters 0 p.parameters (token.CloseParen ∷ token.OpenBrace ∷ inner),
+      whole_peak p.locals p.body rest,
+      procedures_peak ps w,
+    )
+
+threads_peak : (ts : List Thread) → peak 0 (threads_tokens ts []) ≡ threads_depth ts
+threads_peak [] = refl
+threads_peak (t ∷ ts) = omega (arith, whole_peak t.locals t.body (threads_tokens ts []), threads_peak ts)
 
 globals_peak : (gs : List GlobalObject) (w : List Token) → peak 0 (globals_tokens gs w) ≡ peak 0 w
 globals_peak [] w = refl
@@ -155,11 +191,14 @@ records_peak (r ∷ rs) w = omega (arith, record_peak r (records_tokens rs w), r
 
 pub depth_peak : (s : TreeView) → max 1 (peak 0 (tokens_of s)) ≡ max 1 (depth s)
 depth_peak s =
+    let threads : List Token = threads_tokens s.threads [] in
+    let procedures : List Token = procedures_tokens s.procedures threads in
     omega (
       arith,
       ap (peak 0) (tokens_same s),
-      records_peak s.records (globals_tokens s.globals (threads_tokens s.threads [])),
-      globals_peak s.globals (threads_tokens s.threads []),
+      records_peak s.records (globals_tokens s.globals procedures),
+      globals_peak s.globals procedures,
+      procedures_peak s.procedures threads,
       threads_peak s.threads,
     )
 

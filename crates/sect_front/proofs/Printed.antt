@@ -9,8 +9,8 @@ use Rattle.sect_front.specs.Words.{is_letter, is_digit, begins}
 use Rattle.sect_front.specs.Gaps.{is_blank, after_gap}
 use Rattle.sect_front.specs.TreeView.{TreeView}
 use Rattle.sect_front.specs.Depth.{depth}
-use Rattle.sect_front.specs.Grammar.{in_braces, declaration_list, hint_list, record_list, global_list, thread_list}
-use Rattle.sect_front.specs.Grammar.{statements_list, tokens_of}
+use Rattle.sect_front.specs.Grammar.{in_braces, in_parens, separated, parameter_list, declaration_list, hint_list}
+use Rattle.sect_front.specs.Grammar.{record_list, global_list, procedure_list, thread_list, statements_list, tokens_of}
 use Rattle.sect_front.specs.Spelling.{spelling_of, is_proper}
 use Rattle.sect_front.specs.Lexing.{stands, IsFirst, Reaches}
 use Rattle.sect_front.specs.Faults.{tokens_in}
@@ -21,6 +21,7 @@ use Rattle.sect_front.specs.declared.token.Token.{Token}
 use Rattle.sect_front.specs.declared.token.Token.TheVariants as token
 use Rattle.sect_front.specs.declared.token.TokenAt.{TokenAt}
 use Rattle.sect_front.specs.declared.tree.Record.{Record}
+use Rattle.sect_front.specs.declared.tree.Procedure.{Procedure}
 use Rattle.sect_front.specs.declared.tree.Thread.{Thread}
 use Rattle.sect_front.proofs.Choices.{both}
 use Rattle.sect_front.proofs.NamesLemmas.{named}
@@ -68,6 +69,7 @@ solid (token.Number n) h =
 solid token.Record h = record { first = _; others = _; is = refl; no_blank = refl; no_slash = refl }
 solid token.ProtectedBy h = record { first = _; others = _; is = refl; no_blank = refl; no_slash = refl }
 solid token.Global h = record { first = _; others = _; is = refl; no_blank = refl; no_slash = refl }
+solid token.Proc h = record { first = _; others = _; is = refl; no_blank = refl; no_slash = refl }
 solid token.Thread h = record { first = _; others = _; is = refl; no_blank = refl; no_slash = refl }
 solid token.Int h = record { first = _; others = _; is = refl; no_blank = refl; no_slash = refl }
 solid token.New h = record { first = _; others = _; is = refl; no_blank = refl; no_slash = refl }
@@ -78,12 +80,14 @@ solid token.Else h = record { first = _; others = _; is = refl; no_blank = refl;
 solid token.While h = record { first = _; others = _; is = refl; no_blank = refl; no_slash = refl }
 solid token.Atomic h = record { first = _; others = _; is = refl; no_blank = refl; no_slash = refl }
 solid token.All h = record { first = _; others = _; is = refl; no_blank = refl; no_slash = refl }
+solid token.Call h = record { first = _; others = _; is = refl; no_blank = refl; no_slash = refl }
 solid token.Class h = record { first = _; others = _; is = refl; no_blank = refl; no_slash = refl }
 solid token.OpenBrace h = record { first = _; others = _; is = refl; no_blank = refl; no_slash = refl }
 solid token.CloseBrace h = record { first = _; others = _; is = refl; no_blank = refl; no_slash = refl }
 solid token.OpenParen h = record { first = _; others = _; is = refl; no_blank = refl; no_slash = refl }
 solid token.CloseParen h = record { first = _; others = _; is = refl; no_blank = refl; no_slash = refl }
 solid token.Semicolon h = record { first = _; others = _; is = refl; no_blank = refl; no_slash = refl }
+solid token.Comma h = record { first = _; others = _; is = refl; no_blank = refl; no_slash = refl }
 solid token.Dot h = record { first = _; others = _; is = refl; no_blank = refl; no_slash = refl }
 solid token.Equal h = record { first = _; others = _; is = refl; no_blank = refl; no_slash = refl }
 solid token.Plus h = record { first = _; others = _; is = refl; no_blank = refl; no_slash = refl }
@@ -101,6 +105,7 @@ stands_before (token.Number n) w = refl
 stands_before token.Record w = refl
 stands_before token.ProtectedBy w = refl
 stands_before token.Global w = refl
+stands_before token.Proc w = refl
 stands_before token.Thread w = refl
 stands_before token.Int w = refl
 stands_before token.New w = refl
@@ -111,12 +116,14 @@ stands_before token.Else w = refl
 stands_before token.While w = refl
 stands_before token.Atomic w = refl
 stands_before token.All w = refl
+stands_before token.Call w = refl
 stands_before token.Class w = refl
 stands_before token.OpenBrace w = refl
 stands_before token.CloseBrace w = refl
 stands_before token.OpenParen w = refl
 stands_before token.CloseParen w = refl
 stands_before token.Semicolon w = refl
+stands_before token.Comma w = refl
 stands_before token.Dot w = refl
 stands_before token.Equal w = refl
 stands_before token.Plus w = refl
@@ -220,13 +227,20 @@ ends_each : {A : Type 0} (f : A → List Token) (xs : List A) → ((x : A) → e
 ends_each f [] h = refl
 ends_each f (x ∷ xs) h = ends_append (f x) (flat_map f xs) (h x) (ends_each f xs h)
 
+-- what ends in braces
+ends_braced : (front inner : List Token) → ends_line (front ++ in_braces inner) ≡ true
+ends_braced front inner =
+    ap ends_line (sym (append_assoc front (token.OpenBrace ∷ inner) (token.CloseBrace ∷ []))) ∙
+    ends_snoc (front ++ token.OpenBrace ∷ inner)
+
 record_ends : (r : Record) → ends_line (record_list r) ≡ true
 record_ends r =
-    let fields : List Token = flat_map declaration_list r.fields in
-    let front : List Token = token.Record ∷ token.Name r.name ∷ flat_map hint_list r.hints in
-    let all : front ++ in_braces fields ≡ (front ++ token.OpenBrace ∷ fields) ++ token.CloseBrace ∷ [] =
-    sym (append_assoc front (token.OpenBrace ∷ fields) (token.CloseBrace ∷ [])) in
-    ap ends_line all ∙ ends_snoc (front ++ token.OpenBrace ∷ fields)
+    ends_braced (token.Record ∷ token.Name r.name ∷ flat_map hint_list r.hints) (flat_map declaration_list r.fields)
+
+procedure_ends : (p : Procedure) → ends_line (procedure_list p) ≡ true
+procedure_ends p =
+    ends_braced (token.Proc ∷ token.Name p.name ∷ in_parens (separated parameter_list p.parameters))
+    (flat_map declaration_list p.locals ++ statements_list p.body)
 
 thread_ends : (t : Thread) → ends_line (thread_list t) ≡ true
 thread_ends t = ends_snoc (token.Thread ∷ token.Name t.name ∷ token.OpenBrace ∷ flat_map declaration_list t.locals
@@ -236,9 +250,12 @@ tree_ends : (tree : TreeView) → ends_line (tokens_of tree) ≡ true
 tree_ends tree =
     let records : List Token = flat_map record_list tree.records in
     let globals : List Token = flat_map global_list tree.globals in
-    ends_append (records ++ globals) (flat_map thread_list tree.threads)
+    let procedures : List Token = flat_map procedure_list tree.procedures in
+    ends_append (records ++ globals ++ procedures) (flat_map thread_list tree.threads)
+    (ends_append (records ++ globals) procedures
     (ends_append records globals (ends_each record_list tree.records record_ends)
     (ends_each global_list tree.globals (λ g. refl)))
+    (ends_each procedure_list tree.procedures procedure_ends))
     (ends_each thread_list tree.threads thread_ends)
 
 same_number : (a b : ℕ) → eqb a b ≡ true → a ≡ b
@@ -283,6 +300,6 @@ pub printed : (tree : TreeView) (text : List ℕ) → text ≡ spread (tokens_of
 printed tree text e proper low = subst (IsPrinted tree) (sym e) (printed_spread tree proper low)
 
 -- a tree without declarations has no tokens
-pub no_tokens : (tree : TreeView) → (tree.records ≡ []) × (tree.globals ≡ []) × (tree.threads ≡ [])
-    → tokens_of tree ≡ []
-no_tokens tree h = rw (h.0, h.1, h.2) refl
+pub no_tokens : (tree : TreeView) →
+    (tree.records ≡ []) × (tree.globals ≡ []) × (tree.procedures ≡ []) × (tree.threads ≡ []) → tokens_of tree ≡ []
+no_tokens tree h = rw (h.0, h.1, h.2, h.3) refl

@@ -5,7 +5,6 @@ use native.Mathlib.Numerals.{unary_clauses}
 use Rattle.std.proofs.Math.Seq.{take-suc}
 use Rattle.std.specs.Bool.{Decides}
 use Rattle.std.specs.Cmp.{unsigned_Decides}
-use Rattle.std.proofs.lemmas.Bool.Decides.{Decides-and, Decides-like}
 use Rattle.std.proofs.lemmas.Slice.Eq.{slice_eq-Decides}
 use Rattle.std.specs.Cmp.Lexicographic.{pointwise}
 use Rattle.std.specs.Prelude.{nat_eq}
@@ -13,13 +12,18 @@ use Rattle.sect_front.specs.Syntax.{StatementView, BlockView, End, Then}
 use Rattle.sect_front.specs.Trees.{statement_of, block_of, append}
 use Rattle.sect_front.proofs.Bodies.{body_of_push}
 use Rattle.sect_front.specs.declared.tree.Statement.{Statement}
+use Rattle.sect_front.specs.declared.tree.Operand.{Operand}
 use Rattle.sect_front.specs.declared.tree.Declaration.{Declaration}
 use Rattle.sect_front.specs.declared.tree.GlobalObject.{GlobalObject}
+use Rattle.sect_front.specs.contracts.tree.OperandPartialEq.TheImpl as operand
 use Rattle.sect_front.specs.contracts.tree.DeclarationPartialEq.TheImpl as declaration
 use Rattle.sect_front.specs.contracts.tree.GlobalObjectPartialEq.TheImpl as global
 
 pub name_tells : (a b : List ℕ) → Decides (pointwise nat_eq a b) (a ≡ b)
 name_tells a b = slice_eq-Decides unsigned_Decides a b _ refl
+
+pub operand_tells : (a b : Operand) → Decides ((operand.eq-value).it a b) (a ≡ b)
+operand_tells a b = search rules
 
 pub declaration_tells : (a b : Declaration) → Decides ((declaration.eq-value).it a b) (a ≡ b)
 declaration_tells a b = search rules

@@ -64,6 +64,7 @@ spelled_proper (token.Number n) h =
 spelled_proper token.Record h = refl
 spelled_proper token.ProtectedBy h = refl
 spelled_proper token.Global h = refl
+spelled_proper token.Proc h = refl
 spelled_proper token.Thread h = refl
 spelled_proper token.Int h = refl
 spelled_proper token.New h = refl
@@ -74,12 +75,14 @@ spelled_proper token.Else h = refl
 spelled_proper token.While h = refl
 spelled_proper token.Atomic h = refl
 spelled_proper token.All h = refl
+spelled_proper token.Call h = refl
 spelled_proper token.Class h = refl
 spelled_proper token.OpenBrace h = refl
 spelled_proper token.CloseBrace h = refl
 spelled_proper token.OpenParen h = refl
 spelled_proper token.CloseParen h = refl
 spelled_proper token.Semicolon h = refl
+spelled_proper token.Comma h = refl
 spelled_proper token.Dot h = refl
 spelled_proper token.Equal h = refl
 spelled_proper token.Plus h = refl
@@ -128,7 +131,13 @@ keyword_back w =
                           λ e. record { is = e; proper = refl },
                           (
                             λ e. record { is = e; proper = refl },
-                            (λ e. record { is = e; proper = refl }, (λ e. record { is = e; proper = refl }, tt)),
+                            (
+                              λ e. record { is = e; proper = refl },
+                              (
+                                λ e. record { is = e; proper = refl },
+                                (λ e. record { is = e; proper = refl }, (λ e. record { is = e; proper = refl }, tt)),
+                              ),
+                            ),
                           ),
                         ),
                       ),
@@ -176,13 +185,14 @@ single_back b =
     if_some_so P (eqb b 41) token.CloseParen _ (λ e. record { is = ap (λ x. x ∷ []) (eqb-true b 41 e); proper = refl })
     (
     if_some_so P (eqb b 59) token.Semicolon _ (λ e. record { is = ap (λ x. x ∷ []) (eqb-true b 59 e); proper = refl }) (
+    if_some_so P (eqb b 44) token.Comma _ (λ e. record { is = ap (λ x. x ∷ []) (eqb-true b 44 e); proper = refl }) (
     if_some_so P (eqb b 46) token.Dot _ (λ e. record { is = ap (λ x. x ∷ []) (eqb-true b 46 e); proper = refl }) (
     if_some_so P (eqb b 61) token.Equal _ (λ e. record { is = ap (λ x. x ∷ []) (eqb-true b 61 e); proper = refl }) (
     if_some_so P (eqb b 43) token.Plus _ (λ e. record { is = ap (λ x. x ∷ []) (eqb-true b 43 e); proper = refl }) (
     if_some_so P (eqb b 45) token.Minus _ (λ e. record { is = ap (λ x. x ∷ []) (eqb-true b 45 e); proper = refl }) (
     if_some_so P (eqb b 42) token.Star _ (λ e. record { is = ap (λ x. x ∷ []) (eqb-true b 42 e); proper = refl }) (
     if_some_so P (eqb b 60) token.Less _ (λ e. record { is = ap (λ x. x ∷ []) (eqb-true b 60 e); proper = refl }) (
-    λ t e. absurd (no_some t e))))))))))))
+    λ t e. absurd (no_some t e)))))))))))))
 
 double_back : (b : ℕ) (t : Token) → double_sign b ≡ Some t → IsSpelling t (b ∷ 61 ∷ [])
 double_back b =

@@ -127,7 +127,9 @@ finished_at : (s : TreeView) (g : Stage) (tree : TreeView) → finish_at s g ≡
 finished_at s (stage.Between p) tree e = ap (λ x. source_tokens x []) (some_inj s tree e)
 finished_at s (stage.Record r) tree e = absurd (no_some tree e)
 finished_at s (stage.Global g) tree e = absurd (no_some tree e)
+finished_at s (stage.Procedure p) tree e = absurd (no_some tree e)
 finished_at s (stage.Thread t) tree e = absurd (no_some tree e)
+finished_at s (stage.Body b) tree e = absurd (no_some tree e)
 
 kept : (list : List Token) (r : ReaderView) → after start list ≡ Some r → list ≡ reading_tokens r []
 kept list r h = sym (append-nil list) ∙ (kept_from list [] r h).is

@@ -1,13 +1,22 @@
 -- Statements as trees of numbers, by which a proof tells them apart: the checker wants it of a type that contracts see
 -- as such data.
-use Rattle.std.specs.Prelude.{◌≡◌, ℕ, refl}
+use Rattle.std.specs.Prelude.{◌≡◌, ℕ, List, refl}
 use Rattle.std.proofs.Common.{ap, arith}
-use Rattle.std.specs.Coded.{Coded}
+use Rattle.std.specs.Coded.{Coded, coded_ℕ, coded_list}
 use base.Stored.{Gv, gnil, gnum, gcons}
-use Rattle.sect_front.specs.Syntax.{StatementView, BlockView, Primitive, If, IfElse, While, Atomic, End, Then}
+use Rattle.sect_front.specs.Syntax.{StatementView, BlockView, Primitive, If, IfElse, While, Atomic, Call, End, Then}
+use Rattle.sect_front.specs.declared.tree.Operand.{Operand}
+use Rattle.sect_front.specs.contracts.tree.Operand.{the_row as operand_row}
 use Rattle.sect_front.specs.contracts.tree.Primitive.{the_row as primitive_row}
 use Rattle.sect_front.specs.contracts.tree.Test.{the_row as test_row}
 use Rattle.sect_front.specs.contracts.tree.Locking.{the_row as locking_row}
+
+-- the same of a name and of operands
+name_code : Coded (List ℕ)
+name_code = coded_list coded_ℕ
+
+operands_code : Coded (List Operand)
+operands_code = coded_list operand_row.coded
 
 -- a tree of numbers for each, by which a proof tells them apart
 abbrev mutual
@@ -17,6 +26,7 @@ abbrev mutual
   code_statement (IfElse v a b) = gcons (gnum 2) (gcons (test_row.coded.code v) (gcons (code_block a) (code_block b)))
   code_statement (While v a) = gcons (gnum 4) (gcons (test_row.coded.code v) (code_block a))
   code_statement (Atomic l a) = gcons (gnum 3) (gcons (locking_row.coded.code l) (code_block a))
+  code_statement (Call f vs) = gcons (gnum 5) (gcons (name_code.code f) (operands_code.code vs))
 
   code_block : BlockView → Gv
   code_block End = gnil
@@ -52,6 +62,9 @@ mutual
   same_statement (Atomic l a) (Atomic m b) e =
       λ i. Atomic (locking_row.coded.inj l m (ap (λ g. head (tail g)) e) i)
       (same_block a b (ap (λ g. tail (tail g)) e) i)
+  same_statement (Call f vs) (Call g ws) e =
+      λ i. Call (name_code.inj f g (ap (λ g. head (tail g)) e) i)
+      (operands_code.inj vs ws (ap (λ g. tail (tail g)) e) i)
   same_statement _ _ e = absurd (omega (arith, ap (λ g. number (head g)) e))
 
   same_block : (a b : BlockView) → code_block a ≡ code_block b → a ≡ b

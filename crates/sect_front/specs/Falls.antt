@@ -13,6 +13,7 @@ statement_falls (code.If v a) = omega arith
 statement_falls (code.IfElse v a b) = omega arith
 statement_falls (code.While v a) = omega arith
 statement_falls (code.Atomic l a) = omega arith
+statement_falls (code.Call f vs) = omega arith
 
 pub falls : (ss : List Statement) → most deep-Statement ss ≤ block_size (block_of ss)
 falls [] = omega arith

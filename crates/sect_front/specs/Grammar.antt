@@ -1,7 +1,7 @@
 -- The tokens of a tree, rule by rule as the grammar has them.
 use Rattle.std.specs.Prelude.{List, [], ◌∷◌, ◌++◌, ℕ}
 use Rattle.std.specs.List.{flat_map}
-use Rattle.sect_front.specs.Syntax.{StatementView, BlockView, Primitive, If, IfElse, While, Atomic, End, Then}
+use Rattle.sect_front.specs.Syntax.{StatementView, BlockView, Primitive, If, IfElse, While, Atomic, Call, End, Then}
 use Rattle.sect_front.specs.TreeView.{TreeView}
 use Rattle.sect_front.specs.declared.token.Token.{Token}
 use Rattle.sect_front.specs.declared.token.Token.TheVariants as token
@@ -21,6 +21,7 @@ use Rattle.sect_front.specs.declared.tree.Kind.TheVariants as kind
 use Rattle.sect_front.specs.declared.tree.Declaration.{Declaration}
 use Rattle.sect_front.specs.declared.tree.Record.{Record}
 use Rattle.sect_front.specs.declared.tree.GlobalObject.{GlobalObject}
+use Rattle.sect_front.specs.declared.tree.Procedure.{Procedure}
 use Rattle.sect_front.specs.declared.tree.Thread.{Thread}
 
 -- operand = integer | "null" | name
@@ -66,6 +67,19 @@ test_list t =
 abbrev pub in_braces : List Token → List Token
 in_braces inner = token.OpenBrace ∷ inner ++ token.CloseBrace ∷ []
 
+-- "(" .. ")"
+abbrev pub in_parens : List Token → List Token
+in_parens inner = token.OpenParen ∷ inner ++ token.CloseParen ∷ []
+
+-- [part {"," part}]
+abbrev pub separated : {A : Type 0} → (A → List Token) → List A → List Token
+separated part [] = []
+separated part (x ∷ []) = part x
+separated part (x ∷ y ∷ xs) = part x ++ token.Comma ∷ separated part (y ∷ xs)
+
+abbrev pub operand_list : Operand → List Token
+operand_list v = operand_token v ∷ []
+
 -- ["all"]
 abbrev pub locking_list : Locking → List Token
 locking_list locking.Inferred = []
@@ -73,7 +87,7 @@ locking_list locking.All = token.All ∷ []
 
 abbrev mutual
   -- stmt: one without a block | "if" test block | "if" test block "else" block | "while" test block | "atomic" ["all"]
-  -- block
+  -- block | "call" name "(" [operand {"," operand}] ")" ";"
   pub statement_list : StatementView → List Token
   statement_list (Primitive p) = primitive_list p
   statement_list (If t a) = token.If ∷ test_list t ++ in_braces (statements_list a)
@@ -81,6 +95,8 @@ abbrev mutual
       token.If ∷ test_list t ++ in_braces (statements_list a) ++ token.Else ∷ in_braces (statements_list b)
   statement_list (While t a) = token.While ∷ test_list t ++ in_braces (statements_list a)
   statement_list (Atomic l a) = token.Atomic ∷ locking_list l ++ in_braces (statements_list a)
+  statement_list (Call f vs) =
+      token.Call ∷ token.Name f ∷ in_parens (separated operand_list vs) ++ token.Semicolon ∷ []
 
   -- {stmt}
   pub statements_list : BlockView → List Token
@@ -109,11 +125,23 @@ record_list r =
 abbrev pub global_list : GlobalObject → List Token
 global_list g = token.Global ∷ token.Name g.of ∷ token.Name g.name ∷ token.Semicolon ∷ []
 
+-- type name
+abbrev pub parameter_list : Declaration → List Token
+parameter_list d = kind_token d.kind ∷ token.Name d.name ∷ []
+
+-- proc = "proc" name "(" [type name {"," type name}] ")" "{" {type name ";"} {stmt} "}"
+abbrev pub procedure_list : Procedure → List Token
+procedure_list p =
+    token.Proc ∷ token.Name p.name ∷ in_parens (separated parameter_list p.parameters)
+    ++ in_braces (flat_map declaration_list p.locals ++ statements_list p.body)
+
 -- thread = "thread" name "{" {type name ";"} {stmt} "}"
 abbrev pub thread_list : Thread → List Token
 thread_list t =
     token.Thread ∷ token.Name t.name ∷ in_braces (flat_map declaration_list t.locals ++ statements_list t.body)
 
--- program = {record} {global} {thread}
+-- program = {record} {global} {proc} {thread}
 abbrev pub tokens_of : TreeView → List Token
-tokens_of s = flat_map record_list s.records ++ flat_map global_list s.globals ++ flat_map thread_list s.threads
+tokens_of s =
+    flat_map record_list s.records ++ flat_map global_list s.globals ++ flat_map procedure_list s.procedures
+    ++ flat_map thread_list s.threads

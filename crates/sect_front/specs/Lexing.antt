@@ -15,6 +15,7 @@ stands token.CloseBrace rest = true
 stands token.OpenParen rest = true
 stands token.CloseParen rest = true
 stands token.Semicolon rest = true
+stands token.Comma rest = true
 stands token.Dot rest = true
 stands token.Plus rest = true
 stands token.Minus rest = true

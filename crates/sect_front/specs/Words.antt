@@ -23,9 +23,9 @@ begins test (b ∷ bs) = test b
 
 abbrev pub keywords : List (List ℕ)
 keywords =
-    codes "record" ∷ codes "protected_by" ∷ codes "global" ∷ codes "thread" ∷ codes "int" ∷ codes "null" ∷ codes "new"
-    ∷ codes "print" ∷
-    codes "if" ∷ codes "else" ∷ codes "while" ∷ codes "atomic" ∷ codes "all" ∷ codes "class" ∷ []
+    codes "record" ∷ codes "protected_by" ∷ codes "global" ∷ codes "proc" ∷ codes "thread" ∷ codes "int" ∷ codes "null"
+    ∷ codes "new" ∷ codes "print" ∷
+    codes "if" ∷ codes "else" ∷ codes "while" ∷ codes "atomic" ∷ codes "all" ∷ codes "call" ∷ codes "class" ∷ []
 
 abbrev pub is_keyword : List ℕ → Bool
 is_keyword bytes = list_any (bytes_eq bytes) keywords

@@ -120,6 +120,7 @@ fn single(byte: u8) -> Option<Token>
         b'(' => Some(Token::OpenParen),
         b')' => Some(Token::CloseParen),
         b';' => Some(Token::Semicolon),
+        b',' => Some(Token::Comma),
         b'.' => Some(Token::Dot),
         b'=' => Some(Token::Equal),
         b'+' => Some(Token::Plus),

@@ -28,6 +28,6 @@ pub use same::is_same;
 pub use token::{Token, TokenAt};
 pub use tree::{
     Block, Comparison, Declaration, Declarations, GlobalObject, Hints, Kind, Locking, Operand,
-    Operator, Primitive, Record, Statement, Test, Thread, Tree,
+    Operands, Operator, Primitive, Procedure, Record, Statement, Test, Thread, Tree,
 };
 pub use words::is_name;

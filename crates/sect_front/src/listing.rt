@@ -6,15 +6,17 @@ ghost use Rattle.sect_front.specs.Grammar.{comparison_token, kind_token};
 ghost use Rattle.sect_front.specs.steps.Tokens.{primitive_tokens, test_tokens, locking_tokens, statement_tokens};
 ghost use Rattle.sect_front.specs.steps.Tokens.{block_tokens, declarations_tokens, hints_tokens, record_tokens};
 ghost use Rattle.sect_front.specs.steps.Tokens.{global_tokens, thread_tokens, records_tokens, globals_tokens};
-ghost use Rattle.sect_front.specs.steps.Tokens.{threads_tokens};
+ghost use Rattle.sect_front.specs.steps.Tokens.{threads_tokens, operands_tokens, more_operands, call_tokens};
+ghost use Rattle.sect_front.specs.steps.Tokens.{parameters_tokens, more_parameters, procedure_tokens};
+ghost use Rattle.sect_front.specs.steps.Tokens.{procedures_tokens};
 ghost use Rattle.sect_front.specs.Trees.{statement_of};
 ghost use Rattle.sect_front.specs.steps.Writes.{Writes};
 
 use crate::name::Name;
 use crate::token::Token;
 use crate::tree::{
-    Block, Comparison, Declarations, GlobalObject, Hints, Kind, Locking, Operand, Operator,
-    Primitive, Record, Statement, Test, Thread, Tree,
+    Block, Comparison, Declaration, Declarations, GlobalObject, Hints, Kind, Locking, Operand,
+    Operands, Operator, Primitive, Procedure, Record, Statement, Test, Thread, Tree,
 };
 use std::alloc::{AllocError, Global};
 
@@ -133,6 +135,39 @@ fn put_atomic(out: &mut Vec<Token>, locking: Locking) -> Result<(), AllocError>
     }
 }
 
+/// Further arguments, each behind a comma.
+fn put_more_operands(out: &mut Vec<Token>, values: &[Operand]) -> Result<(), AllocError>
+    ensures { OnOk result (Writes out.old.items out.new.items (more_operands values.now)) }
+{
+    for value in values {
+        put(out, Token::Comma)?;
+        put(out, operand(*value))?;
+    }
+    Ok(())
+}
+
+/// The arguments of a call, with commas between them.
+fn put_operands(out: &mut Vec<Token>, values: &Operands) -> Result<(), AllocError>
+    ensures { OnOk result (Writes out.old.items out.new.items (operands_tokens values.now)) }
+{
+    let Some((first, others)) = values.as_slice().split_first() else {
+        return Ok(());
+    };
+    put(out, operand(*first))?;
+    put_more_operands(out, others)
+}
+
+fn put_call(out: &mut Vec<Token>, callee: Name, values: &Operands) -> Result<(), AllocError>
+    ensures { OnOk result (Writes out.old.items out.new.items (call_tokens callee values.now)) }
+{
+    put(out, Token::Call)?;
+    put(out, Token::Name(callee))?;
+    put(out, Token::OpenParen)?;
+    put_operands(out, values)?;
+    put(out, Token::CloseParen)?;
+    put(out, Token::Semicolon)
+}
+
 #[cycle(put)]
 fn put_statement(out: &mut Vec<Token>, s: &Statement) -> Result<(), AllocError>
     ensures { OnOk result (Writes out.old.items out.new.items (statement_tokens (statement_of s.now))) }
@@ -160,6 +195,7 @@ fn put_statement(out: &mut Vec<Token>, s: &Statement) -> Result<(), AllocError>
             put_atomic(out, *locking)?;
             put_braced(out, a)
         }
+        Statement::Call(callee, values) => put_call(out, *callee, values),
     }
 }
 
@@ -224,6 +260,44 @@ fn put_global(out: &mut Vec<Token>, global: GlobalObject) -> Result<(), AllocErr
     put(out, Token::Semicolon)
 }
 
+/// Further parameters, each behind a comma.
+fn put_more_parameters(out: &mut Vec<Token>, list: &[Declaration]) -> Result<(), AllocError>
+    ensures { OnOk result (Writes out.old.items out.new.items (more_parameters list.now)) }
+{
+    for parameter in list {
+        put(out, Token::Comma)?;
+        put(out, kind(parameter.kind))?;
+        put(out, Token::Name(parameter.name))?;
+    }
+    Ok(())
+}
+
+/// The parameters of a procedure, with commas between them.
+fn put_parameters(out: &mut Vec<Token>, list: &Declarations) -> Result<(), AllocError>
+    ensures { OnOk result (Writes out.old.items out.new.items (parameters_tokens list.now)) }
+{
+    let Some((first, others)) = list.as_slice().split_first() else {
+        return Ok(());
+    };
+    put(out, kind(first.kind))?;
+    put(out, Token::Name(first.name))?;
+    put_more_parameters(out, others)
+}
+
+fn put_procedure(out: &mut Vec<Token>, procedure: &Procedure) -> Result<(), AllocError>
+    ensures { OnOk result (Writes out.old.items out.new.items (procedure_tokens procedure.now)) }
+{
+    put(out, Token::Proc)?;
+    put(out, Token::Name(procedure.name))?;
+    put(out, Token::OpenParen)?;
+    put_parameters(out, &procedure.parameters)?;
+    put(out, Token::CloseParen)?;
+    put(out, Token::OpenBrace)?;
+    put_declarations(out, &procedure.locals)?;
+    put_block(out, &procedure.body)?;
+    put(out, Token::CloseBrace)
+}
+
 fn put_thread(out: &mut Vec<Token>, thread: &Thread) -> Result<(), AllocError>
     ensures { OnOk result (Writes out.old.items out.new.items (thread_tokens thread.now)) }
 {
@@ -253,6 +327,15 @@ fn put_globals(out: &mut Vec<Token>, globals: &[GlobalObject]) -> Result<(), All
     Ok(())
 }
 
+fn put_procedures(out: &mut Vec<Token>, procedures: &[Procedure]) -> Result<(), AllocError>
+    ensures { OnOk result (Writes out.old.items out.new.items (procedures_tokens procedures.now)) }
+{
+    for procedure in procedures {
+        put_procedure(out, procedure)?;
+    }
+    Ok(())
+}
+
 fn put_threads(out: &mut Vec<Token>, threads: &[Thread]) -> Result<(), AllocError>
     ensures { OnOk result (Writes out.old.items out.new.items (threads_tokens threads.now)) }
 {
@@ -269,6 +352,7 @@ pub fn tokens_of(alloc: Global, tree: &Tree) -> Result<Vec<Token>, AllocError>
     let mut out = Vec::new(alloc);
     put_records(&mut out, tree.records())?;
     put_globals(&mut out, tree.globals())?;
+    put_procedures(&mut out, tree.procedures())?;
     put_threads(&mut out, tree.threads())?;
     Ok(out)
 }

@@ -6,7 +6,7 @@ ghost use Rattle.sect_front.specs.steps.Advance.{operator_of, comparison_of, fir
 
 use crate::name::Name;
 use crate::token::Token;
-use crate::tree::{Comparison, Locking, Operand, Operator, Primitive, Test};
+use crate::tree::{Comparison, Locking, Operand, Operands, Operator, Primitive, Test};
 
 /// Which statement a test belongs to.
 #[derive(Clone, Copy)]
@@ -62,6 +62,18 @@ pub enum PartialHead {
     AfterAll,
 }
 
+/// What has been read of a call.
+#[derive(Drop)]
+pub enum PartialCall {
+    AfterWord,
+    AfterName(Name),
+    Open(Name),
+    /// The last argument stands apart until what follows it has been read.
+    AfterArgument(Name, Operands, Operand),
+    AfterComma(Name, Operands),
+    AfterClose(Name, Operands),
+}
+
 /// What one more token leads to.
 #[derive(Clone, Copy)]
 pub enum Move {
@@ -77,7 +89,8 @@ pub enum Move {
     OpensAtomic(Locking),
 }
 
-fn operand(token: Token) -> Option<Operand>
+/// The operand that a token is.
+pub fn operand(token: Token) -> Option<Operand>
     ensures { result ≡ operand_of token }
 {
     match token {

@@ -7,17 +7,20 @@ use crate::limits::MOST_DEPTH;
 use crate::name::Name;
 use crate::partial::PartialHead;
 use crate::token::Token;
-use crate::tree::{Declarations, GlobalObject, Hints, Kind, Record, Thread, Tree};
+use crate::tree::{
+    Block, Declarations, GlobalObject, Hints, Kind, Procedure, Record, Thread, Tree,
+};
 use crate::within::{StepError, Within};
 use std::alloc::Global;
 use std::marker::Model;
 use std::mem;
 
-/// Which declarations may still come: a text has its records first, then its globals, then its threads.
+/// Which declarations may still come: a text has its records first, then its globals, its procedures and its threads.
 #[derive(Clone, Copy)]
 pub enum Part {
     Records,
     Globals,
+    Procedures,
     Threads,
 }
 
@@ -40,15 +43,40 @@ pub enum GlobalStage {
     AfterName(Name, Name),
 }
 
-/// What has been read of a thread.
+/// What has been read of a procedure, up to its `{`.
 #[derive(Drop)]
+pub enum ProcedureStage {
+    AfterWord,
+    AfterName(Name),
+    Open(Name),
+    AfterKind(Name, Declarations, Kind),
+    /// The last parameter stands apart until what follows it has been read.
+    AfterParameter(Name, Declarations, Kind, Name),
+    AfterComma(Name, Declarations),
+    AfterClose(Name, Declarations),
+}
+
+/// What has been read of a thread, up to its `{`.
+#[derive(Clone, Copy)]
 pub enum ThreadStage {
     AfterWord,
     AfterName(Name),
-    Locals(Name, Declarations),
-    AfterKind(Name, Declarations, Kind),
-    AfterLocal(Name, Declarations, Kind, Name),
-    Inside(Name, Declarations, Within),
+}
+
+/// Whose locals and statements are read: those of a thread, or of a procedure with these parameters.
+#[derive(Drop)]
+pub enum Owner {
+    Procedure(Name, Declarations),
+    Thread(Name),
+}
+
+/// What has been read of a procedure or a thread from its `{` on.
+#[derive(Drop)]
+pub enum BodyStage {
+    Locals(Owner, Declarations),
+    AfterKind(Owner, Declarations, Kind),
+    AfterLocal(Owner, Declarations, Kind, Name),
+    Inside(Owner, Declarations, Within),
 }
 
 /// Where in a text the next token stands.
@@ -57,7 +85,9 @@ pub enum Stage {
     Between(Part),
     Record(RecordStage),
     Global(GlobalStage),
+    Procedure(ProcedureStage),
     Thread(ThreadStage),
+    Body(BodyStage),
 }
 
 /// A text that is being read.
@@ -65,6 +95,7 @@ pub enum Stage {
 pub struct Reader {
     records: Vec<Record>,
     globals: Vec<GlobalObject>,
+    procedures: Vec<Procedure>,
     threads: Vec<Thread>,
     stage: Stage,
 }
@@ -79,7 +110,12 @@ impl Model for Reader {
     ghost coded = { Prim.hlevel (codes, block_code) };
 
     ghost view = { λ r. record {
-      source = record { records = r.records.items; globals = r.globals.items; threads = r.threads.items };
+      source = record {
+        records = r.records.items;
+        globals = r.globals.items;
+        procedures = r.procedures.items;
+        threads = r.threads.items;
+      };
       stage = r.stage;
     } };
 }
@@ -87,7 +123,8 @@ impl Model for Reader {
 impl Reader {
     ghost use Rattle.sect_front.specs.steps.ReaderView.{reading, empty};
     ghost use Rattle.sect_front.specs.steps.Read.{Reads, read_one, begin_step, record_step, end_record_step};
-    ghost use Rattle.sect_front.specs.steps.Read.{global_step, thread_step, after_kind_step, goes_on, finish_of};
+    ghost use Rattle.sect_front.specs.steps.Read.{global_step, parameter_step, procedure_step, thread_step};
+    ghost use Rattle.sect_front.specs.steps.Read.{body_step, after_kind_step, end_step, goes_on, finish_of};
     ghost use Rattle.sect_front.specs.steps.Step.{step_of};
     ghost use Rattle.sect_front.specs.Depth.{depth};
 
@@ -98,6 +135,7 @@ impl Reader {
         Reader {
             records: Vec::new(alloc),
             globals: Vec::new(alloc),
+            procedures: Vec::new(alloc),
             threads: Vec::new(alloc),
             stage: Stage::Between(Part::Records),
         }
@@ -111,7 +149,9 @@ impl Reader {
             Stage::Between(part) => self.begin(part, token),
             Stage::Record(record) => self.record(alloc, record, token),
             Stage::Global(global) => self.global(global, token),
+            Stage::Procedure(procedure) => self.procedure(alloc, procedure, token),
             Stage::Thread(thread) => self.thread(alloc, thread, token),
+            Stage::Body(body) => self.body(alloc, body, token),
         }
     }
 
@@ -125,8 +165,12 @@ impl Reader {
                 _ => return Err(StepError::Unexpected),
             },
             Token::Global => match part {
+                Part::Records | Part::Globals => Stage::Global(GlobalStage::AfterWord),
+                _ => return Err(StepError::Unexpected),
+            },
+            Token::Proc => match part {
                 Part::Threads => return Err(StepError::Unexpected),
-                _ => Stage::Global(GlobalStage::AfterWord),
+                _ => Stage::Procedure(ProcedureStage::AfterWord),
             },
             Token::Thread => Stage::Thread(ThreadStage::AfterWord),
             _ => return Err(StepError::Unexpected),
@@ -219,40 +263,158 @@ impl Reader {
         Ok(())
     }
 
-    /// A token of a thread.
+    /// A token of a procedure, up to its `{`.
+    fn procedure(
+        &mut self,
+        alloc: Global,
+        stage: ProcedureStage,
+        token: Token,
+    ) -> Result<(), StepError>
+        ensures { Reads result self.new (procedure_step self.old.source stage token) }
+    {
+        let next = match stage {
+            ProcedureStage::AfterWord => match token {
+                Token::Name(name) => ProcedureStage::AfterName(name),
+                _ => return Err(StepError::Unexpected),
+            },
+            ProcedureStage::AfterName(name) => match token {
+                Token::OpenParen => ProcedureStage::Open(name),
+                _ => return Err(StepError::Unexpected),
+            },
+            ProcedureStage::Open(name) => match token {
+                Token::CloseParen => ProcedureStage::AfterClose(name, Declarations::new(alloc)),
+                _ => return self.parameter(name, Declarations::new(alloc), token),
+            },
+            ProcedureStage::AfterKind(name, parameters, kind) => match token {
+                Token::Name(x) => ProcedureStage::AfterParameter(name, parameters, kind, x),
+                _ => return Err(StepError::Unexpected),
+            },
+            ProcedureStage::AfterParameter(name, parameters, kind, x) => {
+                return self.after_parameter(name, parameters, kind, x, token);
+            }
+            ProcedureStage::AfterComma(name, parameters) => {
+                return self.parameter(name, parameters, token);
+            }
+            ProcedureStage::AfterClose(name, parameters) => {
+                return self.open_procedure(alloc, name, parameters, token);
+            }
+        };
+        self.stage = Stage::Procedure(next);
+        Ok(())
+    }
+
+    /// A token where a parameter has to stand.
+    fn parameter(
+        &mut self,
+        name: Name,
+        parameters: Declarations,
+        token: Token,
+    ) -> Result<(), StepError>
+        ensures { Reads result self.new (parameter_step self.old.source name parameters token) }
+    {
+        let next = match token {
+            Token::Int => ProcedureStage::AfterKind(name, parameters, Kind::Int),
+            Token::Name(of) => ProcedureStage::AfterKind(name, parameters, Kind::Record(of)),
+            _ => return Err(StepError::Unexpected),
+        };
+        self.stage = Stage::Procedure(next);
+        Ok(())
+    }
+
+    /// A token after a parameter.
+    fn after_parameter(
+        &mut self,
+        name: Name,
+        mut parameters: Declarations,
+        kind: Kind,
+        parameter: Name,
+        token: Token,
+    ) -> Result<(), StepError>
+        ensures { Reads result self.new (procedure_step self.old.source
+            (ProcedureStage.AfterParameter name parameters kind parameter) token) }
+    {
+        let next = match token {
+            Token::Comma => {
+                parameters.push(kind, parameter)?;
+                ProcedureStage::AfterComma(name, parameters)
+            }
+            Token::CloseParen => {
+                parameters.push(kind, parameter)?;
+                ProcedureStage::AfterClose(name, parameters)
+            }
+            _ => return Err(StepError::Unexpected),
+        };
+        self.stage = Stage::Procedure(next);
+        Ok(())
+    }
+
+    /// A token after the parameters of a procedure.
+    fn open_procedure(
+        &mut self,
+        alloc: Global,
+        name: Name,
+        parameters: Declarations,
+        token: Token,
+    ) -> Result<(), StepError>
+        ensures { Reads result self.new
+            (procedure_step self.old.source (ProcedureStage.AfterClose name parameters) token) }
+    {
+        match token {
+            Token::OpenBrace => {
+                let owner = Owner::Procedure(name, parameters);
+                self.stage = Stage::Body(BodyStage::Locals(owner, Declarations::new(alloc)));
+                Ok(())
+            }
+            _ => Err(StepError::Unexpected),
+        }
+    }
+
+    /// A token of a thread, up to its `{`.
     fn thread(&mut self, alloc: Global, stage: ThreadStage, token: Token) -> Result<(), StepError>
         ensures { Reads result self.new (thread_step self.old.source stage token) }
     {
-        let next = match stage {
+        self.stage = match stage {
             ThreadStage::AfterWord => match token {
-                Token::Name(name) => ThreadStage::AfterName(name),
+                Token::Name(name) => Stage::Thread(ThreadStage::AfterName(name)),
                 _ => return Err(StepError::Unexpected),
             },
             ThreadStage::AfterName(name) => match token {
-                Token::OpenBrace => ThreadStage::Locals(name, Declarations::new(alloc)),
+                Token::OpenBrace => Stage::Body(BodyStage::Locals(
+                    Owner::Thread(name),
+                    Declarations::new(alloc),
+                )),
                 _ => return Err(StepError::Unexpected),
             },
-            ThreadStage::Locals(name, locals) => match token {
-                Token::Int => ThreadStage::AfterKind(name, locals, Kind::Int),
-                Token::Name(of) => ThreadStage::AfterKind(name, locals, Kind::Record(of)),
-                _ => return self.inside(alloc, name, locals, Within::new(alloc), token),
+        };
+        Ok(())
+    }
+
+    /// A token of a procedure or a thread from its `{` on.
+    fn body(&mut self, alloc: Global, stage: BodyStage, token: Token) -> Result<(), StepError>
+        ensures { Reads result self.new (body_step self.old.source stage token) }
+    {
+        let next = match stage {
+            BodyStage::Locals(owner, locals) => match token {
+                Token::Int => BodyStage::AfterKind(owner, locals, Kind::Int),
+                Token::Name(of) => BodyStage::AfterKind(owner, locals, Kind::Record(of)),
+                _ => return self.inside(alloc, owner, locals, Within::new(alloc), token),
             },
-            ThreadStage::AfterKind(name, locals, kind) => match token {
-                Token::Name(local) => ThreadStage::AfterLocal(name, locals, kind, local),
-                _ => return self.after_kind(alloc, name, locals, kind, token),
+            BodyStage::AfterKind(owner, locals, kind) => match token {
+                Token::Name(local) => BodyStage::AfterLocal(owner, locals, kind, local),
+                _ => return self.after_kind(alloc, owner, locals, kind, token),
             },
-            ThreadStage::AfterLocal(name, mut locals, kind, local) => match token {
+            BodyStage::AfterLocal(owner, mut locals, kind, local) => match token {
                 Token::Semicolon => {
                     locals.push(kind, local)?;
-                    ThreadStage::Locals(name, locals)
+                    BodyStage::Locals(owner, locals)
                 }
                 _ => return Err(StepError::Unexpected),
             },
-            ThreadStage::Inside(name, locals, within) => {
-                return self.inside(alloc, name, locals, within, token);
+            BodyStage::Inside(owner, locals, within) => {
+                return self.inside(alloc, owner, locals, within, token);
             }
         };
-        self.stage = Stage::Thread(next);
+        self.stage = Stage::Body(next);
         Ok(())
     }
 
@@ -260,44 +422,62 @@ impl Reader {
     fn after_kind(
         &mut self,
         alloc: Global,
-        name: Name,
+        owner: Owner,
         locals: Declarations,
         kind: Kind,
         token: Token,
     ) -> Result<(), StepError>
-        ensures { Reads result self.new (after_kind_step self.old.source name locals kind token) }
+        ensures { Reads result self.new (after_kind_step self.old.source owner locals kind token) }
     {
         match kind {
             Kind::Int => Err(StepError::Unexpected),
             Kind::Record(x) => {
                 let within = Within::begun(alloc, PartialHead::AfterName(x));
-                self.inside(alloc, name, locals, within, token)
+                self.inside(alloc, owner, locals, within, token)
             }
         }
     }
 
-    /// A token of a thread's statements.
+    /// A token of the statements.
     fn inside(
         &mut self,
         alloc: Global,
-        name: Name,
+        owner: Owner,
         locals: Declarations,
         mut within: Within,
         token: Token,
     ) -> Result<(), StepError>
-        ensures { Reads result self.new (goes_on self.old.source name locals (step_of within token)) }
+        ensures { Reads result self.new (goes_on self.old.source owner locals (step_of within token)) }
     {
         match within.step(alloc, token)? {
             None => {
-                self.stage = Stage::Thread(ThreadStage::Inside(name, locals, within));
+                self.stage = Stage::Body(BodyStage::Inside(owner, locals, within));
                 Ok(())
             }
-            Some(body) => {
-                self.threads.push(Thread { name, locals, body })?;
-                self.stage = Stage::Between(Part::Threads);
-                Ok(())
-            }
+            Some(body) => self.end(owner, locals, body),
         }
+    }
+
+    /// The last brace of a procedure or a thread.
+    fn end(&mut self, owner: Owner, locals: Declarations, body: Block) -> Result<(), StepError>
+        ensures { Reads result self.new (end_step self.old.source owner locals body) }
+    {
+        self.stage = match owner {
+            Owner::Procedure(name, parameters) => {
+                self.procedures.push(Procedure {
+                    name,
+                    parameters,
+                    locals,
+                    body,
+                })?;
+                Stage::Between(Part::Procedures)
+            }
+            Owner::Thread(name) => {
+                self.threads.push(Thread { name, locals, body })?;
+                Stage::Between(Part::Threads)
+            }
+        };
+        Ok(())
     }
 
     /// The tree, unless a declaration is begun and not ended.
@@ -308,11 +488,12 @@ impl Reader {
         let Reader {
             records,
             globals,
+            procedures,
             threads,
             stage,
         } = self;
         match stage {
-            Stage::Between(_) => Some(Tree::new(records, globals, threads)),
+            Stage::Between(_) => Some(Tree::new(records, globals, procedures, threads)),
             _ => None,
         }
     }

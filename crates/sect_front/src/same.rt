@@ -5,8 +5,8 @@ ghost use Rattle.sect_front.specs.Trees.{statement_of};
 
 use crate::name::Name;
 use crate::tree::{
-    Block, Declarations, GlobalObject, Hints, Operand, Primitive, Record, Statement, Test, Thread,
-    Tree,
+    Block, Declarations, GlobalObject, Hints, Operand, Operands, Primitive, Procedure, Record,
+    Statement, Test, Thread, Tree,
 };
 
 /// Whether two names are one.
@@ -66,6 +66,13 @@ fn same_primitive(left: Primitive, right: Primitive) -> bool
     }
 }
 
+/// Whether two lists of arguments are the same.
+fn same_operands(left: &Operands, right: &Operands) -> bool
+    ensures { IsTrue result ↔ (left.now ≡ right.now) }
+{
+    left.as_slice() == right.as_slice()
+}
+
 /// Whether two statements are the same tree.
 #[cycle(same)]
 fn same_statement(left: &Statement, right: &Statement) -> bool
@@ -79,6 +86,7 @@ fn same_statement(left: &Statement, right: &Statement) -> bool
         }
         (Statement::While(t, a), Statement::While(u, b)) => same_test(*t, *u) && same_block(a, b),
         (Statement::Atomic(l, a), Statement::Atomic(m, b)) => *l == *m && same_block(a, b),
+        (Statement::Call(f, v), Statement::Call(g, w)) => same_name(*f, *g) && same_operands(v, w),
         _ => false,
     }
 }
@@ -101,7 +109,7 @@ fn same_block(left: &Block, right: &Block) -> bool
     true
 }
 
-/// Whether two lists of fields or locals are the same.
+/// Whether two lists of fields, parameters or locals are the same.
 fn same_declarations(left: &Declarations, right: &Declarations) -> bool
     ensures { IsTrue result ↔ (left.now ≡ right.now) }
 {
@@ -124,6 +132,16 @@ fn same_record(left: &Record, right: &Record) -> bool
         && same_declarations(&left.fields, &right.fields)
 }
 
+/// Whether two procedures are the same.
+fn same_procedure(left: &Procedure, right: &Procedure) -> bool
+    ensures { IsTrue result ↔ (left.now ≡ right.now) }
+{
+    left.name == right.name
+        && same_declarations(&left.parameters, &right.parameters)
+        && same_declarations(&left.locals, &right.locals)
+        && same_block(&left.body, &right.body)
+}
+
 /// Whether two threads are the same.
 fn same_thread(left: &Thread, right: &Thread) -> bool
     ensures { IsTrue result ↔ (left.now ≡ right.now) }
@@ -142,6 +160,21 @@ fn same_records(left: &[Record], right: &[Record]) -> bool
     }
     for place in 0..left.len() {
         if !same_record(&left[place], &right[place]) {
+            return false;
+        }
+    }
+    true
+}
+
+/// Whether two lists of procedures are the same.
+fn same_procedures(left: &[Procedure], right: &[Procedure]) -> bool
+    ensures { IsTrue result ↔ (left.now ≡ right.now) }
+{
+    if left.len() != right.len() {
+        return false;
+    }
+    for place in 0..left.len() {
+        if !same_procedure(&left[place], &right[place]) {
             return false;
         }
     }
@@ -176,5 +209,6 @@ pub fn is_same(left: &Tree, right: &Tree) -> bool
 {
     same_records(left.records(), right.records())
         && same_globals(left.globals(), right.globals())
+        && same_procedures(left.procedures(), right.procedures())
         && same_threads(left.threads(), right.threads())
 }

@@ -1,4 +1,4 @@
-//! The tree of a source text: what it declares and what its threads do.
+//! The tree of a source text: what it declares and what its procedures and threads do.
 
 ghost use Rattle.std.specs.Prelude.{◌≡◌, OnOk, OnErr};
 ghost use Rattle.sect_front.specs.Syntax.{End};
@@ -68,6 +68,50 @@ pub enum Primitive {
     Print(Operand),
 }
 
+/// The arguments of a call, in text order.
+#[derive(Drop)]
+pub struct Operands {
+    list: Vec<Operand>,
+}
+
+impl Model for Operands {
+    ghost use Rattle.std.specs.Prelude.{List};
+    ghost use Rattle.sect_front.specs.declared.tree.Operand.{Operand};
+
+    ghost Value = { List Operand };
+
+    ghost view = { λ o. o.list.items };
+}
+
+impl Operands {
+    ghost use Rattle.std.specs.Prelude.{◌++◌, ◌∷◌, []};
+
+    /// No arguments.
+    pub fn new(alloc: Global) -> Operands
+        ensures { result ≡ [] }
+    {
+        Operands {
+            list: Vec::new(alloc),
+        }
+    }
+
+    /// Adds an argument at the end.
+    pub fn push(&mut self, operand: Operand) -> Result<(), AllocError>
+        ensures ok { OnOk result (self.new ≡ self.old ++ operand ∷ []) }
+        ensures err { OnErr result (self.new ≡ self.old) }
+    {
+        self.list.push(operand)?;
+        Ok(())
+    }
+
+    /// The arguments.
+    pub fn as_slice(&self) -> &[Operand]
+        ensures { result.now ≡ self.now }
+    {
+        self.list.as_slice()
+    }
+}
+
 /// Statements, one after another.
 #[cycle(tree)]
 #[derive(Drop)]
@@ -85,6 +129,8 @@ pub enum Statement {
     IfElse(Test, Block, Block),
     While(Test, Block),
     Atomic(Locking, Block),
+    /// `call f(v, ..)`
+    Call(Name, Operands),
 }
 
 impl Model for Block {
@@ -145,14 +191,14 @@ pub enum Kind {
     Record(Name),
 }
 
-/// A field or a local.
+/// A field, a parameter or a local.
 #[derive(Clone, Copy, PartialEq, Eq)]
 pub struct Declaration {
     pub kind: Kind,
     pub name: Name,
 }
 
-/// The fields of a record or the locals of a thread, in text order.
+/// The fields of a record, the parameters of a procedure, or the locals of a procedure or a thread, in text order.
 #[derive(Drop)]
 pub struct Declarations {
     list: Vec<Declaration>,
@@ -254,6 +300,15 @@ pub struct GlobalObject {
     pub name: Name,
 }
 
+/// A procedure: its name, its parameters, its locals and its statements.
+#[derive(Drop)]
+pub struct Procedure {
+    pub name: Name,
+    pub parameters: Declarations,
+    pub locals: Declarations,
+    pub body: Block,
+}
+
 /// A thread: its name, its locals and its statements.
 #[derive(Drop)]
 pub struct Thread {
@@ -262,11 +317,12 @@ pub struct Thread {
     pub body: Block,
 }
 
-/// A source text: its records, globals and threads, each in text order.
+/// A source text: its records, globals, procedures and threads, each in text order.
 #[derive(Drop)]
 pub struct Tree {
     records: Vec<Record>,
     globals: Vec<GlobalObject>,
+    procedures: Vec<Procedure>,
     threads: Vec<Thread>,
 }
 
@@ -279,7 +335,12 @@ impl Model for Tree {
 
     ghost coded = { Prim.hlevel (codes, block_code) };
 
-    ghost view = { λ t. record { records = t.records.items; globals = t.globals.items; threads = t.threads.items } };
+    ghost view = { λ t. record {
+      records = t.records.items;
+      globals = t.globals.items;
+      procedures = t.procedures.items;
+      threads = t.threads.items;
+    } };
 
     ghost use Rattle.std.specs.Prelude.{◌≤◌};
     ghost use Rattle.sect_front.specs.Depth.{depth};
@@ -288,6 +349,7 @@ impl Model for Tree {
     ghost invariant = { λ t. depth (record {
       records = t.records.items;
       globals = t.globals.items;
+      procedures = t.procedures.items;
       threads = t.threads.items;
     }) ≤ MOST_DEPTH };
 }
@@ -296,15 +358,31 @@ impl Tree {
     ghost use Rattle.std.specs.Prelude.{◌≤◌, ◌↔◌, IsTrue, []};
     ghost use Rattle.sect_front.specs.Depth.{depth};
 
-    /// The tree of these declarations, of which no block is deeper than `MOST_DEPTH`, a thread's braces being depth 1.
-    pub fn new(records: Vec<Record>, globals: Vec<GlobalObject>, threads: Vec<Thread>) -> Tree
-        requires { depth (record { records = records.items; globals = globals.items; threads = threads.items })
-            ≤ MOST_DEPTH }
-        ensures { result ≡ record { records = records.items; globals = globals.items; threads = threads.items } }
+    /// The tree of these declarations, of which no block is deeper than `MOST_DEPTH`, the braces of a procedure or a
+    /// thread being depth 1.
+    pub fn new(
+        records: Vec<Record>,
+        globals: Vec<GlobalObject>,
+        procedures: Vec<Procedure>,
+        threads: Vec<Thread>,
+    ) -> Tree
+        requires { depth (record {
+          records = records.items;
+          globals = globals.items;
+          procedures = procedures.items;
+          threads = threads.items;
+        }) ≤ MOST_DEPTH }
+        ensures { result ≡ record {
+          records = records.items;
+          globals = globals.items;
+          procedures = procedures.items;
+          threads = threads.items;
+        } }
     {
         Tree {
             records,
             globals,
+            procedures,
             threads,
         }
     }
@@ -323,6 +401,13 @@ impl Tree {
         self.globals.as_slice()
     }
 
+    /// The procedures, in text order.
+    pub fn procedures(&self) -> &[Procedure]
+        ensures { result.now ≡ self.now.procedures }
+    {
+        self.procedures.as_slice()
+    }
+
     /// The threads, in text order.
     pub fn threads(&self) -> &[Thread]
         ensures { result.now ≡ self.now.threads }
@@ -332,10 +417,14 @@ impl Tree {
 
     /// Whether it declares nothing.
     pub fn is_empty(&self) -> bool
-        ensures empty { IsTrue result ↔ ((self.now.records ≡ []) × (self.now.globals ≡ []) × (self.now.threads ≡ [])) }
+        ensures empty { IsTrue result ↔ ((self.now.records ≡ []) × (self.now.globals ≡ []) × (self.now.procedures ≡ [])
+            × (self.now.threads ≡ [])) }
         // No tree has a deeper block.
         ensures shallow { depth self.now ≤ MOST_DEPTH }
     {
-        self.records.is_empty() && self.globals.is_empty() && self.threads.is_empty()
+        self.records.is_empty()
+            && self.globals.is_empty()
+            && self.procedures.is_empty()
+            && self.threads.is_empty()
     }
 }

@@ -1,11 +1,12 @@
-//! The statements of a thread, token by token.
+//! The statements of a procedure or a thread, token by token.
 
 ghost use Rattle.std.specs.Prelude.{◌≡◌, ◌∷◌, [], OnOk};
 ghost use Rattle.sect_front.specs.Syntax.{End};
 
-use crate::partial::{Branch, Move, PartialBranch, PartialHead, advance};
+use crate::name::Name;
+use crate::partial::{Branch, Move, PartialBranch, PartialCall, PartialHead, advance, operand};
 use crate::token::Token;
-use crate::tree::{Block, Locking, Statement, Test};
+use crate::tree::{Block, Locking, Operands, Statement, Test};
 use std::alloc::{AllocError, AllocFailed, Global};
 use std::marker::Model;
 use std::mem;
@@ -24,6 +25,7 @@ pub enum Frame {
 pub enum Partial {
     Start,
     Inside(PartialHead),
+    InCall(PartialCall),
     AfterThen(Test, Block),
     AfterElse(Test, Block),
 }
@@ -57,7 +59,7 @@ impl<T: Drop> From<AllocFailed<T>> for StepError {
     }
 }
 
-/// The statements of a thread that have been read so far.
+/// The statements of a procedure or a thread that have been read so far.
 #[derive(Drop)]
 pub struct Within {
     frames: Vec<Frame>,
@@ -79,7 +81,9 @@ impl Model for Within {
 }
 
 impl Within {
-    ghost use Rattle.sect_front.specs.steps.Step.{Steps, start_step, close_step, moved, step_of};
+    ghost use Rattle.sect_front.specs.steps.Step.{Steps, start_step, close_step, call_step, argument_step};
+    ghost use Rattle.sect_front.specs.steps.Step.{moved, step_of};
+    ghost use Rattle.sect_front.specs.steps.Advance.{operand_of};
 
     /// No statements.
     pub fn new(alloc: Global) -> Within
@@ -92,7 +96,7 @@ impl Within {
         }
     }
 
-    /// The statements of a thread of which the first has begun so.
+    /// The statements of which the first has begun so.
     pub fn begun(alloc: Global, line: PartialHead) -> Within
         ensures { result ≡ record { frames = []; before = End; place = Partial.Inside line } }
     {
@@ -103,7 +107,7 @@ impl Within {
         }
     }
 
-    /// Takes one more token. The thread's body comes with its last brace.
+    /// Takes one more token. The whole body comes with its last brace.
     pub fn step(&mut self, alloc: Global, token: Token) -> Result<Option<Block>, StepError>
         ensures { Steps result self.new (step_of self.old token) }
     {
@@ -113,6 +117,7 @@ impl Within {
                 None => Err(StepError::Unexpected),
                 Some(to) => self.go(alloc, to),
             },
+            Partial::InCall(call) => self.call(alloc, call, token),
             Partial::AfterThen(test, then) => match token {
                 Token::Else => {
                     self.place = Partial::AfterElse(test, then);
@@ -165,7 +170,88 @@ impl Within {
                 self.place = Partial::Inside(PartialHead::AfterAtomic);
                 Ok(None)
             }
+            Token::Call => {
+                self.place = Partial::InCall(PartialCall::AfterWord);
+                Ok(None)
+            }
             Token::CloseBrace => self.close(alloc),
+            _ => Err(StepError::Unexpected),
+        }
+    }
+
+    /// A token of a call.
+    fn call(
+        &mut self,
+        alloc: Global,
+        call: PartialCall,
+        token: Token,
+    ) -> Result<Option<Block>, StepError>
+        ensures { Steps result self.new (call_step self.old.frames self.old.before call token) }
+    {
+        let next = match call {
+            PartialCall::AfterWord => match token {
+                Token::Name(callee) => PartialCall::AfterName(callee),
+                _ => return Err(StepError::Unexpected),
+            },
+            PartialCall::AfterName(callee) => match token {
+                Token::OpenParen => PartialCall::Open(callee),
+                _ => return Err(StepError::Unexpected),
+            },
+            PartialCall::Open(callee) => match token {
+                Token::CloseParen => PartialCall::AfterClose(callee, Operands::new(alloc)),
+                _ => return self.argument(callee, Operands::new(alloc), token),
+            },
+            PartialCall::AfterArgument(callee, mut values, value) => match token {
+                Token::Comma => {
+                    values.push(value)?;
+                    PartialCall::AfterComma(callee, values)
+                }
+                Token::CloseParen => {
+                    values.push(value)?;
+                    PartialCall::AfterClose(callee, values)
+                }
+                _ => return Err(StepError::Unexpected),
+            },
+            PartialCall::AfterComma(callee, values) => return self.argument(callee, values, token),
+            PartialCall::AfterClose(callee, values) => return self.end_call(callee, values, token),
+        };
+        self.place = Partial::InCall(next);
+        Ok(None)
+    }
+
+    /// A token where an argument has to stand.
+    fn argument(
+        &mut self,
+        callee: Name,
+        values: Operands,
+        token: Token,
+    ) -> Result<Option<Block>, StepError>
+        ensures { Steps result self.new
+            (argument_step self.old.frames self.old.before callee values (operand_of token)) }
+    {
+        let Some(value) = operand(token) else {
+            return Err(StepError::Unexpected);
+        };
+        self.place = Partial::InCall(PartialCall::AfterArgument(callee, values, value));
+        Ok(None)
+    }
+
+    /// A token after the arguments of a call.
+    fn end_call(
+        &mut self,
+        callee: Name,
+        values: Operands,
+        token: Token,
+    ) -> Result<Option<Block>, StepError>
+        ensures { Steps result self.new
+            (call_step self.old.frames self.old.before (PartialCall.AfterClose callee values) token) }
+    {
+        match token {
+            Token::Semicolon => {
+                self.before.push(Statement::Call(callee, values))?;
+                self.place = Partial::Start;
+                Ok(None)
+            }
             _ => Err(StepError::Unexpected),
         }
     }

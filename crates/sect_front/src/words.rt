@@ -47,6 +47,8 @@ pub fn keyword(word: &[u8]) -> Option<Token>
         Some(Token::ProtectedBy)
     } else if word == b"global".as_slice() {
         Some(Token::Global)
+    } else if word == b"proc".as_slice() {
+        Some(Token::Proc)
     } else if word == b"thread".as_slice() {
         Some(Token::Thread)
     } else if word == b"int".as_slice() {
@@ -67,6 +69,8 @@ pub fn keyword(word: &[u8]) -> Option<Token>
         Some(Token::Atomic)
     } else if word == b"all".as_slice() {
         Some(Token::All)
+    } else if word == b"call".as_slice() {
+        Some(Token::Call)
     } else if word == b"class".as_slice() {
         Some(Token::Class)
     } else {

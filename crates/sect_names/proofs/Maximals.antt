@@ -9,7 +9,7 @@ use Rattle.sect_names.specs.declared.lock.Right.TheVariants as right
 use Rattle.sect_names.specs.declared.lock.Lock.{Lock}
 use Rattle.sect_names.specs.declared.lock.Lock.TheVariants as lock
 use Rattle.sect_names.specs.Schemes.{SchemeView}
-use Rattle.sect_names.specs.Locks.{Covers, CoveredBy, IsOutdone}
+use Rattle.sect_names.specs.Locks.{Covers, IsOutdone}
 use Rattle.sect_names.specs.Needed.{IsNeeded, IsLeast}
 use Rattle.sect_names.specs.Order.{AreInOrder, AreMaximal}
 use Rattle.sect_names.proofs.Covering.{covers_refl, covers_trans}

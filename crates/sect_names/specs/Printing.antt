@@ -1,12 +1,11 @@
 -- Locks as they are printed.
-use Rattle.std.specs.Prelude.{ℕ, ⊤, List, [], ◌∷◌, ◌++◌, map, slice_index_or, codes}
+use Rattle.std.specs.Prelude.{ℕ, ⊤, List, [], ◌∷◌, ◌++◌, None, slice_index_or, codes}
 use Rattle.std.specs.List.{flat_map}
 use Rattle.std.specs.Fmt.{decimal}
 use Rattle.sect_front.specs.TreeView.{TreeView}
-use Rattle.sect_front.specs.declared.tree.Thread.{Thread}
 use Rattle.sect_types.specs.Lists.{Has}
 use Rattle.sect_types.specs.Programs.{ProgramView}
-use Rattle.sect_types.specs.Sight.{names_of_globals, names_of_declared, all_fields}
+use Rattle.sect_types.specs.Sight.{names_of_globals, all_fields}
 use Rattle.sect_types.specs.declared.action.Field.{Field}
 use Rattle.sect_points.specs.declared.holders.Variable.{Variable}
 use Rattle.sect_points.specs.declared.holders.Variable.TheVariants.{Global, Local}
@@ -18,6 +17,8 @@ use Rattle.sect_names.specs.declared.lock.Right.TheVariants as right
 use Rattle.sect_names.specs.declared.lock.Lock.{Lock}
 use Rattle.sect_names.specs.declared.lock.Lock.TheVariants as lock
 use Rattle.sect_names.specs.Locks.{IsPathOf}
+use Rattle.sect_types.specs.declared.local_name.LocalName.{LocalName}
+use Rattle.sect_types.specs.LocalNames.{local_text, all_local_names}
 
 -- what the lock names is there
 abbrev pub IsNamed : ProgramView → Lock → Type 0
@@ -28,21 +29,24 @@ IsNamed p (lock.Path q e) = IsPathOf p q
 abbrev pub AreNamed : ProgramView → List Lock → Type 0
 AreNamed p locks = (l : Lock) → Has locks l → IsNamed p l
 
--- the names of the locals of each thread
-abbrev pub all_locals : List Thread → List (List (List ℕ))
-all_locals ts = map (λ (t : Thread). names_of_declared t.locals) ts
+abbrev pub global_name : TreeView → ℕ → List ℕ
+global_name t g = slice_index_or (names_of_globals t.globals) g []
 
--- a variable is called by its name alone
-abbrev pub variable_name : TreeView → Variable → List ℕ
-variable_name t (Global g) = slice_index_or (names_of_globals t.globals) g []
-variable_name t (Local u x) = slice_index_or (slice_index_or (all_locals t.threads) u []) x []
+-- what isn't there has no letters
+abbrev pub local_at : TreeView → ℕ → ℕ → LocalName
+local_at t u x = slice_index_or (slice_index_or (all_local_names t) u []) x (record { name = []; call = None })
+
+-- a variable is called by its name alone, whatever its thread
+abbrev pub variable_text : TreeView → Variable → List ℕ
+variable_text t (Global g) = global_name t g
+variable_text t (Local u x) = local_text (local_at t u x)
 
 abbrev pub field_name : TreeView → Field → List ℕ
 field_name t f = slice_index_or (slice_index_or (all_fields t.records) f.of []) f.number []
 
 -- the variable, then a point and the name of each field
 abbrev pub path_text : TreeView → PathView → List ℕ
-path_text t p = variable_name t (base_of p) ++ flat_map (λ f. codes "." ++ field_name t f) (fields_of p)
+path_text t p = variable_text t (base_of p) ++ flat_map (λ f. codes "." ++ field_name t f) (fields_of p)
 
 abbrev pub effect_text : Effect → List ℕ
 effect_text effect.Read = codes "R"

@@ -3,7 +3,7 @@
 ghost use Rattle.std.specs.Prelude.{◌≡◌, ◌++◌, OnOk, Some};
 ghost use Rattle.std.specs.String.{string_bytes};
 ghost use Rattle.sect_names.specs.Locks.{IsVariable, IsField, IsPathOf};
-ghost use Rattle.sect_names.specs.Printing.{IsNamed, AreNamed, effect_text, right_text, variable_name, field_name};
+ghost use Rattle.sect_names.specs.Printing.{IsNamed, AreNamed, effect_text, right_text, variable_text, field_name};
 ghost use Rattle.sect_names.specs.Printing.{path_text, lock_text, locks_text};
 
 use crate::lock::{Effect, Lock, Right};
@@ -75,26 +75,27 @@ pub fn put_path(text: &mut String, program: &Program, path: &Path) -> Result<(),
     requires { IsPathOf program.now path.now }
     ensures { OnOk result (string_bytes text.new ≡ string_bytes text.old ++ path_text program.now.source path.now) }
 {
-    write!(text, "{}", variable_name(program, path.base()))?;
+    put_variable(text, program, path.base())?;
     for field in path.fields() {
         write!(text, ".{}", field_name(program, *field))?;
     }
     Ok(())
 }
 
-/// The name of a variable.
-pub fn variable_name(program: &Program, variable: Variable) -> &Name
+/// Adds what a variable is called.
+fn put_variable(text: &mut String, program: &Program, variable: Variable) -> Result<(), AllocError>
     requires { IsVariable program.now variable }
-    ensures { result.now ≡ variable_name program.now.source variable }
+    ensures { OnOk result (string_bytes text.new ≡ string_bytes text.old ++ variable_text program.now.source variable) }
 {
-    let tree = program.tree();
     match variable {
-        Variable::Global(number) => &tree.globals()[number as usize].name,
+        Variable::Global(number) => {
+            write!(text, "{}", program.tree().globals()[number as usize].name)?;
+        }
         Variable::Local(thread, number) => {
-            let locals = tree.threads()[thread as usize].locals.as_slice();
-            &locals[number as usize].name
+            write!(text, "{}", program.local_name(thread, number))?;
         }
     }
+    Ok(())
 }
 
 /// The name of a field.

@@ -32,7 +32,17 @@ const PROGRAMS: &[(&str, &[u8])] = &[
     ("a hint", GUARDED),
     ("one class of two objects", ACCOUNTS),
     ("no section", b"thread f { int x; x = 1; x = 2; }"),
+    ("a procedure", MOVE),
+    (
+        "procedures that call each other",
+        b"proc f() { call g(); }\nproc g() { if (1 == 1) { call f(); } else { call g(); } }",
+    ),
 ];
+
+/// Two threads that call a procedure with parameters and a local.
+const MOVE: &[u8] = b"record Acct { int bal; } global Acct a; global Acct b;\n\
+    proc move(Acct x, Acct y, int n) { int t; t = x.bal; t = t - n; x.bal = t; t = y.bal; t = t + n; y.bal = t; }\n\
+    thread p { atomic { call move(a, b, 3); } } thread q { atomic { call move(b, a, 1); } }";
 
 #[test]
 fn accepts_every_form(rt: HostRuntime) -> Result<(), Fail> {
@@ -45,6 +55,7 @@ fn accepts_every_form(rt: HostRuntime) -> Result<(), Fail> {
         b"record R protected_by a protected_by b protected_by a { } global R a;".as_slice(),
         b"thread t { int x; x=1+2;x=x*x;x=x-3;if(x<=3){}else{}while(x<null){}if(x!=1){print x;}}".as_slice(),
         b"thread aaaaaaaaaaaaaaaaaaaaaaaaaaaaaaaa { _9.A_z = 9223372036854775807; x = 0; }".as_slice(),
+        b"proc f(f f){f f;call f(f,null,0);call f();}thread f{f f;call f(1);f=f;}".as_slice(),
     ] {
         assert!(rt; parse(rt.alloc(), text).is_ok());
     }
@@ -116,6 +127,29 @@ const REFUSALS: &[(&[u8], &[u8])] = &[
     (b"thread t { x = 1", b"5 UnexpectedEnd line 1"),
     (b"record R {\n", b"5 UnexpectedEnd line 1"),
     (b"record R {\n ", b"5 UnexpectedEnd line 2"),
+    (b"proc f(int x,) { }", b"4 Unexpected line 1"),
+    (b"proc f(,) { }", b"4 Unexpected line 1"),
+    (b"proc f(int x int y) { }", b"4 Unexpected line 1"),
+    (b"proc f(x) { }", b"4 Unexpected line 1"),
+    (b"proc f(1) { }", b"4 Unexpected line 1"),
+    (b"proc f { }", b"4 Unexpected line 1"),
+    (b"proc f(int x);", b"4 Unexpected line 1"),
+    (b"proc f() { }\nglobal R g;", b"4 Unexpected line 2"),
+    (b"thread t { }\nproc f() { }", b"4 Unexpected line 2"),
+    (b"proc f() { x = 1; int y; }", b"4 Unexpected line 1"),
+    (b"thread t { call f(,); }", b"4 Unexpected line 1"),
+    (b"thread t { call f(1,); }", b"4 Unexpected line 1"),
+    (b"thread t { call f(1\n2); }", b"4 Unexpected line 2"),
+    (b"thread t { call f(x.y); }", b"4 Unexpected line 1"),
+    (b"thread t { call f; }", b"4 Unexpected line 1"),
+    (b"thread t { call f()\n}", b"4 Unexpected line 2"),
+    (b"thread t { x = call f(); }", b"4 Unexpected line 1"),
+    (b"thread t { x = 1, 2; }", b"4 Unexpected line 1"),
+    (b"thread t { int call; }", b"4 Unexpected line 1"),
+    (b"thread proc { }", b"4 Unexpected line 1"),
+    (b"proc f(int", b"5 UnexpectedEnd line 1"),
+    (b"proc f()\n{\n", b"5 UnexpectedEnd line 2"),
+    (b"thread t { call f(1,", b"5 UnexpectedEnd line 1"),
 ];
 
 #[test]
@@ -130,10 +164,10 @@ fn refuses_with_number_and_line(rt: HostRuntime) -> Result<(), Fail> {
     Ok(())
 }
 
-/// A thread with so many blocks in one another, its own braces counted, and a line for each.
-fn nested(alloc: Global, depth: usize) -> Result<Vec<u8>, AllocError> {
+/// A thread or a procedure with so many blocks in one another, its own braces counted, and a line for each.
+fn nested(alloc: Global, head: &[u8], depth: usize) -> Result<Vec<u8>, AllocError> {
     let mut text = Vec::new(alloc);
-    text.extend_from_slice(b"thread t {")?;
+    text.extend_from_slice(head)?;
     for _ in 1..depth {
         text.extend_from_slice(b"\nif (1 == 1) {")?;
     }
@@ -145,13 +179,15 @@ fn nested(alloc: Global, depth: usize) -> Result<Vec<u8>, AllocError> {
 
 #[test]
 fn blocks_of_depth_33(rt: HostRuntime) -> Result<(), Fail> {
-    assert!(rt; parse(rt.alloc(), nested(rt.alloc(), 32)?.as_slice()).is_ok());
-    assert!(rt;
-        matches!(
-            parse(rt.alloc(), nested(rt.alloc(), 33)?.as_slice()),
-            Err(FrontFault::TooDeep { line: 33 })
-        )
-    );
+    for head in [b"thread t {".as_slice(), b"proc f() {".as_slice()] {
+        assert!(rt; parse(rt.alloc(), nested(rt.alloc(), head, 32)?.as_slice()).is_ok());
+        assert!(rt;
+            matches!(
+                parse(rt.alloc(), nested(rt.alloc(), head, 33)?.as_slice()),
+                Err(FrontFault::TooDeep { line: 33 })
+            )
+        );
+    }
     Ok(())
 }
 
@@ -198,6 +234,10 @@ fn prints_line_by_line(rt: HostRuntime) -> Result<(), Fail> {
     let found = printed(rt.alloc(), text)?;
     assert!(rt; found.as_slice() == b"thread f {\nint x ;\nx = 1 ;\nx = 2 ;\n}\n".as_slice());
     assert!(rt; printed(rt.alloc(), b"// nothing")?.is_empty());
+    let text = b"proc f(int n, R x) { call f(1, null); }";
+    let found = printed(rt.alloc(), text)?;
+    let wanted = b"proc f ( int n , R x ) {\ncall f ( 1 , null ) ;\n}\n";
+    assert!(rt; found.as_slice() == wanted.as_slice());
     Ok(())
 }
 
@@ -219,6 +259,8 @@ fn names(rt: HostRuntime) {
         b"a.b".as_slice(),
         b"thread".as_slice(),
         b"class".as_slice(),
+        b"call".as_slice(),
+        b"proc".as_slice(),
         b"protected_by".as_slice(),
         b"aaaaaaaaaaaaaaaaaaaaaaaaaaaaaaaaa".as_slice(),
     ] {

@@ -23,12 +23,17 @@ use Rattle.sect_types.specs.Sight.{Sight, place, has_name, names_of_records, bas
 use Rattle.sect_types.specs.Resolve.{well_typed, well_typed_test, same_kind, accepts, comparable, assign_of, compute_of}
 use Rattle.sect_types.specs.Resolve.{new_of, load_of, store_of, print_of, condition_of, looked_of, primitive_of}
 use Rattle.sect_types.specs.Resolve.{test_of}
-use Rattle.sect_front.specs.declared.tree.Record.{Record}
-use Rattle.sect_front.specs.declared.tree.GlobalObject.{GlobalObject}
-use Rattle.sect_types.specs.Items.{PrimitiveHead, TestHead, Item, AStatement}
+use Rattle.std.specs.Prelude.{nat_le}
+use Rattle.sect_front.specs.declared.tree.Procedure.{Procedure}
+use Rattle.sect_types.specs.declared.place.Place.{Place}
+use Rattle.sect_types.specs.declared.place.Place.TheVariants.{InThread, InProcedure}
+use Rattle.sect_types.specs.declared.limits.TheConstants.{MOST_STATEMENTS}
+use Rattle.sect_types.specs.Items.{Head, PrimitiveHead, TestHead, Item, AStatement, is_inside}
+use Rattle.sect_types.specs.steps.Spots.{full_for}
+use Rattle.sect_types.specs.steps.Standing.{declared_by}
 use Rattle.sect_types.specs.Rules.{knows_primitive, primitive_agrees, knows_test, compares, has_field, local_accepts}
-use Rattle.sect_types.specs.Rules.{local_is, local_gets, field_accepts, is_int, Counts, rule_of, shares, passes_limit}
-use Rattle.sect_types.specs.Rules.{after, place_of, judge, fault_or, Faulty}
+use Rattle.sect_types.specs.Rules.{local_is, local_gets, field_accepts, is_int, Declared, Counts, rule_of, shares}
+use Rattle.sect_types.specs.Rules.{by_place, after_item, after_primitive, passes_limit, after, judge, fault_or, Faulty}
 use Rattle.sect_types.specs.steps.Walks.{rule_in, then_rest}
 
 -- 10, else 12, else none
@@ -140,40 +145,65 @@ pub test_law : (s : Sight) (t : Test)
     (compares t.comparison (operand_of s t.left) (operand_of s t.right))
 test_law s t = condition_law (operand_of s t.left) t.comparison (operand_of s t.right)
 
-pub least_law : (k r o m : Bool)
-    → (if not k then Some Unknown else
-    (if k && not r then Some WrongType else (if o then Some SharedOutside else (if m then Some TooMany else None))))
-    ≡ then_rest (of_types k r) o m
+pub least_law : (k r o m : Bool) → (if not k then Some Unknown else (if k && not r then Some WrongType else
+    (if o then Some SharedOutside else (if m then Some TooMany else None)))) ≡ then_rest (of_types k r) o m
 least_law false r o m = refl
 least_law true true o m = refl
 least_law true false o m = refl
 
+-- the rule of types doesn't depend on the site
+pub any_site : (s : Sight) (m n : ℕ) (p : leaf.Primitive) → rule_in (primitive_of s m p) ≡ rule_in (primitive_of s n p)
+any_site s m n p = primitive_law s m p ∙ sym (primitive_law s n p)
+
+-- what a statement without a block passes is so many
+full_law : (d : Declared) (c : Counts) (s : Sight) (at : Place) (p : leaf.Primitive)
+    → passes_limit d c s at (PrimitiveHead p) ≡ full_for c p
+full_law d c s at (primitive.Assign x v) = refl
+full_law d c s at (primitive.Compute x v o w) = refl
+full_law d c s at (primitive.New x r) = refl
+full_law d c s at (primitive.Load x y f) = refl
+full_law d c s at (primitive.Store y f v) = refl
+full_law d c s at (primitive.Print v) = refl
+
 -- a plain statement
-pub primitive_rule : (s : Sight) (c : Counts) (inside : Bool) (p : leaf.Primitive)
-    → rule_of s.records s.globals c (AStatement (PrimitiveHead p) s.locals inside) ≡ then_rest
-    (rule_in (primitive_of s c.sites p)) (shares (PrimitiveHead p) && not inside) (passes_limit c (PrimitiveHead p))
-primitive_rule s c inside p =
-    least_law (knows_primitive s p) (primitive_agrees s p) (shares (PrimitiveHead p) && not inside)
-    (passes_limit c (PrimitiveHead p))
-    ∙ ap (λ r. then_rest r (shares (PrimitiveHead p) && not inside) (passes_limit c (PrimitiveHead p)))
-    (sym (primitive_law s c.sites p))
+pub primitive_rule : (s : Sight) (ps : List Procedure) (c : Counts) (at : Place) (p : leaf.Primitive)
+    → rule_of (declared_by s ps) c (AStatement (PrimitiveHead p) s.locals at)
+    ≡ then_rest (rule_in (primitive_of s 0 p)) (shares (PrimitiveHead p) && not (is_inside at))
+    (by_place at (full_for c p) false)
+primitive_rule s ps c at p =
+    least_law (knows_primitive s p) (primitive_agrees s p) (shares (PrimitiveHead p) && not (is_inside at))
+    (by_place at (passes_limit (declared_by s ps) c s at (PrimitiveHead p)) false)
+    ∙ (ap (λ r. then_rest r (shares (PrimitiveHead p) && not (is_inside at))
+    (by_place at (passes_limit (declared_by s ps) c s at (PrimitiveHead p)) false)) (sym (primitive_law s 0 p))
+    ∙ ap (λ b. then_rest (rule_in (primitive_of s 0 p)) (shares (PrimitiveHead p) && not (is_inside at))
+    (by_place at b false)) (full_law (declared_by s ps) c s at p))
 
 -- a test
-pub test_rule : (s : Sight) (c : Counts) (inside : Bool) (t : Test)
-    → rule_of s.records s.globals c (AStatement (TestHead t) s.locals inside) ≡ then_rest (rule_in (test_of s t)) false
-    (passes_limit c (TestHead t))
-test_rule s c inside t =
+pub test_rule : (s : Sight) (ps : List Procedure) (c : Counts) (at : Place) (t : Test)
+    → rule_of (declared_by s ps) c (AStatement (TestHead t) s.locals at)
+    ≡ then_rest (rule_in (test_of s t)) false (by_place at (nat_le MOST_STATEMENTS c.statements) false)
+test_rule s ps c at t =
     least_law (knows_test s t) (compares t.comparison (operand_of s t.left) (operand_of s t.right)) false
-    (passes_limit c (TestHead t))
-    ∙ ap (λ r. then_rest r false (passes_limit c (TestHead t))) (sym (test_law s t))
+    (by_place at (nat_le MOST_STATEMENTS c.statements) false)
+    ∙ ap (λ r. then_rest r false (by_place at (nat_le MOST_STATEMENTS c.statements) false)) (sym (test_law s t))
 
 -- an item that breaks nothing is passed, and another is the fault
-pub passed : (rs : List Record) (gs : List GlobalObject) (c d : Counts) (item : Item) → rule_of rs gs c item ≡ None
-    → d ≡ after c item → (w : List Item) → judge rs gs c (item ∷ w) ≡ judge rs gs d w
-passed rs gs c d item e f w = ap (λ r. fault_or r (place_of c) (judge rs gs (after c item) w)) e
-    ∙ ap (λ x. judge rs gs x w) (sym f)
+pub passed : (d : Declared) (c e : Counts) (item : Item) → rule_of d c item ≡ None → e ≡ after d c item
+    → (w : List Item) → judge d c (item ∷ w) ≡ judge d e w
+passed d c e item h f w = ap (λ r. fault_or r c.items (judge d (after d c item) w)) h ∙ ap (λ x. judge d x w) (sym f)
 
-pub faulty : (rs : List Record) (gs : List GlobalObject) (c : Counts) (item : Item) (i : ℕ) (r : Rule)
-    → rule_of rs gs c item ≡ Some r → i ≡ place_of c → (w : List Item) → judge rs gs c (item ∷ w) ≡ Faulty i r
-faulty rs gs c item i r e f w = ap (λ x. fault_or x (place_of c) (judge rs gs (after c item) w)) e
-    ∙ ap (λ j. Faulty j r) (sym f)
+pub faulty : (d : Declared) (c : Counts) (item : Item) (i : ℕ) (r : Rule) → rule_of d c item ≡ Some r → i ≡ c.items
+    → (w : List Item) → judge d c (item ∷ w) ≡ Faulty i r
+faulty d c item i r e f w = ap (λ x. fault_or x c.items (judge d (after d c item) w)) e ∙ ap (λ j. Faulty j r) (sym f)
+
+-- in a thread a statement counts as its head does, in a procedure as an item alone
+pub after_here : (s : Sight) (ps : List Procedure) (c : Counts) (at : Place) (p : leaf.Primitive)
+    → by_place at true false ≡ true
+    → after (declared_by s ps) c (AStatement (PrimitiveHead p) s.locals at) ≡ after_primitive c p
+after_here s ps c (InThread i d) p e = refl
+after_here s ps c (InProcedure q) p e = absurd cc
+
+pub after_elsewhere : (s : Sight) (ps : List Procedure) (c : Counts) (at : Place) (h : Head)
+    → by_place at true false ≡ false → after (declared_by s ps) c (AStatement h s.locals at) ≡ after_item c
+after_elsewhere s ps c (InThread i d) h e = absurd cc
+after_elsewhere s ps c (InProcedure q) h e = refl

@@ -13,6 +13,10 @@ use Rattle.sect_front.specs.declared.tree.Record.{Record}
 use Rattle.sect_types.specs.declared.types.ValueType.{ValueType}
 use Rattle.sect_types.specs.Sight.{place, names_of_records}
 use Rattle.sect_types.specs.Environments.{types_of, type_of}
+use Rattle.std.proofs.Common.{map, length-append}
+use Rattle.sect_types.specs.declared.limits.TheConstants.{MOST_ALL_LOCALS}
+use Rattle.sect_types.specs.declared.expand.Fresh.{Fresh}
+use Rattle.sect_types.specs.Expanded.{local_types_of, fresh_in}
 use Rattle.sect_types.specs.Programs.{ProgramView, IsOfTree, IsWithinLimits}
 
 -- no name before this one is x
@@ -52,16 +56,24 @@ place_missing x names i all before =
 
 -- a thread has few locals
 pub few_locals : (p : ProgramView) → IsOfTree p → IsWithinLimits p → (t : ℕ) (th : Thread) → t < length p.locals
-    → th ≡ get_or p.source.threads t th → length th.locals ≤ 64
+    → th ≡ get_or p.source.threads t th → length th.locals ≤ MOST_ALL_LOCALS
 few_locals p tree limits t th within is =
     let names = names_of_records p.source.records in
-    let f : Thread → List ValueType = λ (z : Thread). types_of names z.locals in
+    let f : Thread → List ValueType = local_types_of p.source in
     let there : t < length p.source.threads =
     omega (arith, within, ap length tree.locals_are, length-map p.source.threads f) in
-    let same : get_or p.locals t [] ≡ types_of names th.locals = ap (λ l. get_or l t []) tree.locals_are
-    ∙ get_or-map f p.source.threads t th [] there ∙ ap f (sym is) in
-    let few = All-get_or (λ (ts : List ValueType). length ts ≤ 64) p.locals t [] within limits.few_locals in
-    omega (arith, few, ap length same, length-map th.locals (λ d. type_of names d.kind))
+    let same : get_or p.locals t [] ≡ f th =
+    ap (λ l. get_or l t []) tree.locals_are ∙ get_or-map f p.source.threads t th [] there ∙ ap f (sym is) in
+    let few = All-get_or (λ (ts : List ValueType). length ts ≤ MOST_ALL_LOCALS) p.locals t [] within
+    limits.few_locals in
+    omega (
+      arith,
+      few,
+      ap length same,
+      length-append (types_of names th.locals)
+          (map (λ (x : Fresh). type_of names x.declared.kind) (fresh_in p.source th)),
+      length-map th.locals (λ d. type_of names d.kind),
+    )
 
 -- a record has few fields
 pub few_fields : (p : ProgramView) → IsOfTree p → IsWithinLimits p → (r : ℕ) (shape : Record)

@@ -1,109 +1,93 @@
 -- A block of which the first statements have been passed.
-use Rattle.std.proofs.Common.{◌≡◌, ℕ, zero, suc, ◌+◌, ◌<◌, ◌≤◌, subst, arith, Bool, List, [], ◌∷◌, drop, get_or, length}
-use Rattle.std.proofs.Common.{refl, sym, ap, ◌∙◌}
+use Rattle.std.proofs.Common.{◌≡◌, ℕ, zero, suc, ◌+◌, ◌<◌, ◌≤◌, subst, arith, sym, List, [], ◌∷◌, drop, get_or}
+use Rattle.std.proofs.Common.{length, ap, ◌∙◌, Result, Ok, Err}
+use Rattle.std.specs.Prelude.{max}
+use Rattle.std.specs.Result.{IsErrAnd}
+use Rattle.sect_front.specs.declared.tree.Test.{Test}
 use Rattle.sect_types.proofs.Lists.{drop_next}
-use Rattle.std.proofs.lemmas.List.{drop_all}
 use Rattle.sect_front.specs.Syntax.{StatementView, BlockView, Then}
-use Rattle.sect_front.specs.Trees.{statement_of, block_of, statement_size, block_size}
+use Rattle.sect_front.specs.Trees.{statement_of, block_of}
+use Rattle.sect_front.specs.Depth.{statement_depth, block_depth}
 use Rattle.sect_front.specs.declared.tree.Statement.{Statement}
-use Rattle.sect_types.specs.Sight.{Sight}
-use Rattle.sect_types.specs.Items.{Item, statement_items, block_items}
-use Rattle.sect_types.specs.Rules.{Counts, judge}
-use Rattle.sect_types.specs.Statements.{TextView, Stop, Do, Choose, Loop, Section, joined}
-use Rattle.sect_types.specs.Texts.{step_then}
-use Rattle.sect_types.specs.Environments.{environment}
-use Rattle.sect_types.specs.Sound.{IsSound}
-use Rattle.sect_types.proofs.SoundLemmas.{joined_sound}
-use Rattle.sect_types.specs.declared.text.Step.{Step}
-use Rattle.sect_types.specs.declared.text.Step.TheVariants as step
-use Rattle.sect_types.specs.Numbered.{after_statement, after_block, numbered_statement, numbered_block}
+use Rattle.sect_front.specs.declared.tree.Declaration.{Declaration}
+use Rattle.sect_types.specs.declared.place.Place.{Place}
+use Rattle.sect_types.specs.declared.rule.Fault.{Fault}
+use Rattle.sect_types.specs.declared.rule.Fault.TheVariants as fault
+use Rattle.sect_types.specs.Items.{Head, TestHead, deeper, Item, AStatement, statement_items, block_items}
+use Rattle.sect_types.specs.Rules.{Declared, Counts, judge}
+use Rattle.sect_types.specs.steps.Walks.{Walks}
 
 -- the statements `rest` of `all` are left
-pub record IsPassed (s : Sight) (inside : Bool) (block all rest : BlockView) (old now : Counts) (text : TextView) : Type
-    0 where
+pub record IsPassed (d : Declared) (ls : List Declaration) (at : Place) (block all rest : BlockView)
+    (old now : Counts) : Type 0 where
   pub whole : all ≡ block
-  pub walks : (w : List Item) → judge s.records s.globals old (block_items s.locals inside block w) ≡ judge s.records
-      s.globals now (block_items s.locals inside rest w)
-  pub numbers : joined text (numbered_block s now rest) ≡ numbered_block s old block
-  pub counts : after_block now rest ≡ after_block old block
-  pub sound : IsSound (environment s) inside text
-
-pub joined_step : (t : TextView) (st : Step) (k : TextView)
-    → joined (joined t (step_then st Stop)) k ≡ joined t (step_then st k)
-joined_step Stop (step.Do a) k = refl
-joined_step Stop (step.If t p q) k = refl
-joined_step Stop (step.While t p) k = refl
-joined_step Stop (step.Section i p) k = refl
-joined_step (Do a r) st k = ap (Do a) (joined_step r st k)
-joined_step (Choose t p q r) st k = ap (Choose t p q) (joined_step r st k)
-joined_step (Loop t p r) st k = ap (Loop t p) (joined_step r st k)
-joined_step (Section i p r) st k = ap (Section i p) (joined_step r st k)
-
-pub joined_stop : (t : TextView) → joined t Stop ≡ t
-joined_stop Stop = refl
-joined_stop (Do a r) = ap (Do a) (joined_stop r)
-joined_stop (Choose t p q r) = ap (Choose t p q) (joined_stop r)
-joined_stop (Loop t p r) = ap (Loop t p) (joined_stop r)
-joined_stop (Section i p r) = ap (Section i p) (joined_stop r)
-
-pub starts : (s : Sight) (inside : Bool) (block all : BlockView) (c : Counts) → all ≡ block
-    → IsPassed s inside block all all c c Stop
-starts s inside block all c e = record {
-  whole = e;
-  walks = λ w. ap (λ b. judge s.records s.globals c (block_items s.locals inside b w)) (sym e);
-  numbers = ap (numbered_block s c) e;
-  counts = ap (after_block c) e;
-  sound = tt;
-}
-
-pub goes_on : (s : Sight) (inside : Bool) (block all rest : BlockView) (f : StatementView) (old now then : Counts)
-    (text new : TextView) (st : Step)
-    → IsPassed s inside block all (Then f rest) old now text
-    → ((w : List Item) → judge s.records s.globals now (statement_items s.locals inside f w) ≡ judge s.records
-    s.globals then w)
-    → ((k : TextView) → step_then st k ≡ numbered_statement s now f k)
-    → then ≡ after_statement now f
-    → new ≡ joined text (step_then st Stop)
-    → IsSound (environment s) inside (step_then st Stop)
-    → IsPassed s inside block all rest old then new
-goes_on s inside block all rest f old now then text new st so_far walks step counts pushed sound = record {
-  whole = so_far.whole;
-  walks = λ w. so_far.walks w ∙ walks (block_items s.locals inside rest w);
-  numbers =
-      ap (λ t. joined t (numbered_block s then rest)) pushed
-      ∙ (joined_step text st (numbered_block s then rest)
-      ∙ (ap (joined text) (step (numbered_block s then rest))
-      ∙ (ap (λ c. joined text (numbered_statement s now f (numbered_block s c rest))) counts ∙ so_far.numbers)));
-  counts = ap (λ c. after_block c rest) counts ∙ so_far.counts;
-  sound = subst (IsSound (environment s) inside) (sym pushed)
-      (joined_sound (environment s) inside text (step_then st Stop) so_far.sound sound);
-}
+  pub walks : (w : List Item)
+      → judge d old (block_items ls at block w) ≡ judge d now (block_items ls at rest w)
 
 -- the statement at an index comes first of those that are left
 next_of : (ss : List Statement) (i : ℕ) (x : Statement) → i < length ss → x ≡ get_or ss i x
     → block_of (drop i ss) ≡ Then (statement_of x) (block_of (drop (i + 1) ss))
 next_of ss i x h e = ap block_of (drop_next ss i x h e)
 
-pub kept : (s : Sight) (inside : Bool) (block : BlockView) (ss : List Statement) (i : ℕ) (x : Statement)
-    (old now then : Counts) (text new : TextView) (st : Step)
-    → i < length ss → x ≡ get_or ss i x
-    → IsPassed s inside block (block_of ss) (block_of (drop i ss)) old now text
-    → ((w : List Item) → judge s.records s.globals now (statement_items s.locals inside (statement_of x) w) ≡ judge
-    s.records s.globals then w)
-    → ((k : TextView) → step_then st k ≡ numbered_statement s now (statement_of x) k)
-    → then ≡ after_statement now (statement_of x)
-    → new ≡ joined text (step_then st Stop)
-    → IsSound (environment s) inside (step_then st Stop)
-    → IsPassed s inside block (block_of ss) (block_of (drop (i + 1) ss)) old then new
-kept s inside block ss i x old now then text new st h e so_far walks step counts pushed sound =
-    goes_on s inside block (block_of ss) (block_of (drop (i + 1) ss)) (statement_of x) old now then text new st
-    (subst (λ rest. IsPassed s inside block (block_of ss) rest old now text) (next_of ss i x h e) so_far) walks step
-    counts pushed sound
+-- one statement more
+pub kept : (d : Declared) (ls : List Declaration) (at : Place) (block : BlockView) (ss : List Statement) (i : ℕ)
+    (x : Statement) (old now then : Counts) → i < length ss → x ≡ get_or ss i x
+    → IsPassed d ls at block (block_of ss) (block_of (drop i ss)) old now
+    → ((w : List Item) → judge d now (statement_items ls at (statement_of x) w) ≡ judge d then w)
+    → IsPassed d ls at block (block_of ss) (block_of (drop (i + 1) ss)) old then
+kept d ls at block ss i x old now then h e so_far walks = record {
+  whole = so_far.whole;
+  walks = λ w.
+      so_far.walks w
+      ∙ (ap (λ b. judge d now (block_items ls at b w)) (next_of ss i x h e)
+      ∙ walks (block_items ls at (block_of (drop (i + 1) ss)) w));
+}
 
-pub ends : (s : Sight) (inside : Bool) (block : BlockView) (ss : List Statement) (i : ℕ) (old now : Counts)
-    (text : TextView)
-    → length ss ≤ i → IsPassed s inside block (block_of ss) (block_of (drop i ss)) old now text
-    → text ≡ numbered_block s old block
-ends s inside block ss i old now text h so_far =
-    sym (joined_stop text) ∙ (ap (λ l. joined text (numbered_block s now (block_of l))) (sym (drop_all i ss h))
-    ∙ so_far.numbers)
+-- a fault in the next statement is the fault of the block
+pub fails : (d : Declared) (ls : List Declaration) (at : Place) (block : BlockView) (ss : List Statement) (i : ℕ)
+    (x : Statement) (old now then : Counts) (e : Fault) → i < length ss → x ≡ get_or ss i x
+    → IsPassed d ls at block (block_of ss) (block_of (drop i ss)) old now
+    → Walks {A = ℕ} d (statement_items ls at (statement_of x)) now then (Err e)
+    → Walks {A = ℕ} d (block_items ls at block) old then (Err e)
+fails d ls at block ss i x old now then fault.Memory h e so_far walks = tt
+fails d ls at block ss i x old now then (fault.Broken n r) h e so_far walks = λ w.
+    so_far.walks w
+    ∙ (ap (λ b. judge d now (block_items ls at b w)) (next_of ss i x h e)
+    ∙ walks (block_items ls at (block_of (drop (i + 1) ss)) w))
+
+-- no statement is deeper than its block
+pub depth_at : (ss : List Statement) (i : ℕ) (d : Statement) → i < length ss
+    → statement_depth (statement_of (get_or ss i d)) ≤ block_depth (block_of ss)
+depth_at [] i d h = absurd (omega arith)
+depth_at (s ∷ ss) zero d h = omega arith
+depth_at (s ∷ ss) (suc i) d h = omega (arith, depth_at ss i d (omega arith))
+
+-- a statement with one block: its head, then the block
+pub one_block : {A : Type 0} (d : Declared) (ls : List Declaration) (at inner : Place) (h : Head) (b : BlockView)
+    (old now new : Counts) (r : Result A Fault)
+    → ((w : List Item) → judge d old (AStatement h ls at ∷ w) ≡ judge d now w)
+    → Walks d (block_items ls inner b) now new r
+    → Walks d (λ w. AStatement h ls at ∷ block_items ls inner b w) old new r
+one_block d ls at inner h b old now new (Ok a) first walks = λ w. first (block_items ls inner b w) ∙ walks w
+one_block d ls at inner h b old now new (Err fault.Memory) first walks = tt
+one_block d ls at inner h b old now new (Err (fault.Broken n q)) first walks =
+    λ w. first (block_items ls inner b w) ∙ walks w
+
+-- a fault in the first of two blocks is the fault of the statement
+pub first_fails : {A : Type 0} (d : Declared) (ls : List Declaration) (at : Place) (t : Test) (a b : BlockView)
+    (old now new : Counts) (e : Fault) (r : Result A Fault) → IsErrAnd r (λ x. x ≡ e)
+    → ((w : List Item) → judge d old (AStatement (TestHead t) ls at ∷ w) ≡ judge d now w)
+    → Walks {A = ℕ} d (block_items ls (deeper at) a) now new (Err e)
+    → Walks d (λ w. AStatement (TestHead t) ls at ∷ block_items ls (deeper at) a (block_items ls (deeper at) b w)) old
+    new r
+first_fails d ls at t a b old now new e (Ok x) is first walks = absurd is
+first_fails {A} d ls at t a b old now new e (Err x) is first walks =
+    subst (λ y. Walks {A = A} d (λ w. AStatement (TestHead t) ls at ∷ block_items ls (deeper at) a
+    (block_items ls (deeper at) b w)) old new (Err y)) (sym is) (go e walks)
+  where
+    go : (y : Fault) → Walks {A = ℕ} d (block_items ls (deeper at) a) now new (Err y)
+        → Walks {A = A} d (λ w. AStatement (TestHead t) ls at ∷ block_items ls (deeper at) a
+        (block_items ls (deeper at) b w)) old new (Err y)
+    go fault.Memory k = tt
+    go (fault.Broken n q) k = λ w. first (block_items ls (deeper at) a (block_items ls (deeper at) b w))
+        ∙ k (block_items ls (deeper at) b w)

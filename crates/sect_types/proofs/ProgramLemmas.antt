@@ -1,82 +1,52 @@
 -- What typing means for the numbers of a program.
+use Rattle.std.specs.Prelude.{All, unwrap_or}
+use Rattle.std.proofs.Common.{◌≡◌, ℕ, zero, suc, ◌+◌, ◌≤◌, ◌<◌, true, false, ◌&&◌, nat_le, List, [], ◌∷◌, ◌++◌, map}
+use Rattle.std.proofs.Common.{length, length-append, refl, sym, ap, ◌∙◌, subst, arith, Option, Some, None, is_some}
+use Rattle.std.proofs.Common.{true≢false, slice_get}
+use Rattle.std.proofs.lemmas.List.{length-map, map-append}
+use Rattle.std.proofs.lemmas.List.Elements.{All-nil, All-cons, All-append}
+use Rattle.std.proofs.lemmas.Bool.Decides.{nat_tests}
 use Rattle.sect_front.specs.declared.tree.Kind.{Kind}
 use Rattle.sect_front.specs.declared.tree.Kind.TheVariants as kind
-use Rattle.sect_types.proofs.Heads.{placed}
-use Rattle.std.proofs.Common.{◌≡◌, ℕ, ◌+◌, ◌≤◌, true, false, ◌&&◌, nat_le, List, [], ◌∷◌, map, length, length-append}
-use Rattle.std.proofs.Common.{refl, sym, ap, ◌∙◌, subst, arith, Option, Some, None, is_some, ◌<◌, true≢false}
-use Rattle.std.specs.Prelude.{All, unwrap_or}
-use Rattle.std.proofs.lemmas.List.{length-map}
-use Rattle.std.proofs.lemmas.List.Elements.{All-nil, All-cons}
-use Rattle.std.proofs.lemmas.Bool.Decides.{nat_tests}
 use Rattle.sect_front.specs.declared.tree.Record.{Record}
 use Rattle.sect_front.specs.declared.tree.GlobalObject.{GlobalObject}
 use Rattle.sect_front.specs.declared.tree.Declaration.{Declaration}
+use Rattle.sect_front.specs.declared.tree.Procedure.{Procedure}
 use Rattle.sect_front.specs.declared.tree.Thread.{Thread}
-use Rattle.sect_front.specs.TreeView.{TreeView}
-use Rattle.sect_types.specs.declared.types.ValueType.{ValueType}
-use Rattle.sect_types.specs.Sight.{names_of_records, has_name, place}
-use Rattle.sect_types.specs.Rules.{Counts, sight, knows_kind}
-use Rattle.sect_types.specs.Statements.{TextView, section_bodies, made_in}
-use Rattle.sect_types.specs.Numbered.{numbered_block, within_thread, after_thread, after_threads, numbered_threads}
-use Rattle.sect_types.specs.Numbered.{after_records}
-use Rattle.sect_types.specs.steps.Listing.{all_known, fields_fine, locals_fine, globals_known}
-use Rattle.sect_types.specs.Environments.{record_number, type_of, types_of, field_types, global_records, local_types}
-use Rattle.sect_types.specs.Environments.{environment, IsInRange}
-use Rattle.sect_types.specs.steps.Threads.{AreThreadsSound}
-use Rattle.sect_types.specs.Sections.{SectionView, sections_from, sections_of, AllNumbered, AllSited}
-use Rattle.sect_types.specs.First.{none_yet}
-use Rattle.sect_types.specs.Programs.{ProgramView, numbered_by, before_threads, texts_of, total_statements, all_made}
-use Rattle.sect_types.specs.Programs.{sites_of, IsWellNumbered}
-use Rattle.sect_types.specs.steps.Counted.{IsCounted}
-use Rattle.sect_types.proofs.SoundLemmas.{both, place_within}
-use Rattle.sect_types.proofs.Keeps.{records_keep}
 use Rattle.sect_front.specs.declared.tree.Locking.{Locking}
-use Rattle.sect_types.specs.Lockings.{lockings_of}
-use Rattle.sect_types.proofs.LockingLemmas.{threads_many}
-use Rattle.sect_types.proofs.CountLemmas.{body_passes, body_numbered, body_sited}
-
--- the numbers of the threads' texts, from the counts c on to d
-record AreCounted (c d : Counts) (texts : List TextView) : Type 0 where
-  sections : (t : ℕ) → d.sections ≡ c.sections + length (sections_from t texts)
-  statements : d.statements ≡ c.statements + total_statements texts
-  sites : d.sites ≡ c.sites + length (all_made texts)
-  numbered : AllNumbered c.sections texts
-  sited : AllSited c.sites texts
-
-threads_counted : (rs : List Record) (gs : List GlobalObject) (c : Counts) (ts : List Thread)
-    → AreThreadsSound rs gs ts (numbered_threads rs gs c ts)
-    → AreCounted c (after_threads c ts) (numbered_threads rs gs c ts)
-threads_counted rs gs c [] h =
-    record { sections = λ t. omega arith; statements = omega arith; sites = omega arith; numbered = tt; sited = tt }
-threads_counted rs gs c (t ∷ ts) (here, more) =
-    let e = environment (sight rs gs t.locals) in
-    let p = numbered_block (sight rs gs t.locals) (within_thread c t) t.body in
-    let ps = numbered_threads rs gs (after_thread c t) ts in
-    let passes = body_passes e (sight rs gs t.locals) false (within_thread c t) t.body here in
-    let ih = threads_counted rs gs (after_thread c t) ts more in
-    record {
-      sections = λ n.
-          omega (
-            arith,
-            ih.sections (n + 1),
-            passes.sections,
-            length-append (map (λ (b : TextView). the_section n b) (section_bodies p)) (sections_from (n + 1) ps),
-            length-map (section_bodies p) (the_section n),
-          );
-      statements = omega (arith, ih.statements, passes.statements);
-      sites = omega (arith, ih.sites, passes.sites, length-append (made_in p) (all_made ps));
-      numbered = (
-        body_numbered e (sight rs gs t.locals) false (within_thread c t) t.body here,
-        subst (λ n. AllNumbered n ps) (omega (arith, passes.sections)) ih.numbered,
-      );
-      sited = (
-        body_sited e (sight rs gs t.locals) false (within_thread c t) t.body here,
-        subst (λ n. AllSited n ps) (omega (arith, passes.sites)) ih.sited,
-      );
-    }
-  where
-    the_section : ℕ → TextView → SectionView
-    the_section n b = record { thread = n; body = b }
+use Rattle.sect_front.specs.TreeView.{TreeView}
+use Rattle.sect_front.specs.Syntax.{StatementView, Primitive, If, IfElse, While, Atomic, Call, BlockView, End, Then}
+use Rattle.sect_types.specs.declared.types.ValueType.{ValueType}
+use Rattle.sect_types.specs.declared.place.Place.{Place}
+use Rattle.sect_types.specs.declared.place.Place.TheVariants.{InThread, InProcedure}
+use Rattle.sect_types.specs.declared.sums.Sums.{Sums}
+use Rattle.sect_types.specs.Sight.{names_of_records, has_name, place}
+use Rattle.sect_types.specs.Items.{deeper, in_section, variables}
+use Rattle.sect_types.specs.Rules.{Declared, Counts, declared_in, knows_kind}
+use Rattle.sect_types.specs.Sums.{sums, sums_within, number_of, statement_sums, block_sums}
+use Rattle.sect_types.specs.declared.expand.Fresh.{Fresh}
+use Rattle.sect_types.specs.Expanded.{At, Freshens, of_call, statement_fresh, block_fresh, fresh_of, fresh_within}
+use Rattle.sect_types.specs.Expanded.{fresh_in, procedure_numbered, local_types_of, all_local_types}
+use Rattle.sect_types.specs.Expanded.{past_thread, expanded_threads, texts_of, block_sections, statement_sections}
+use Rattle.sect_types.specs.Statements.{TextView}
+use Rattle.sect_types.specs.steps.Listing.{all_known, fields_fine, locals_fine, globals_known}
+use Rattle.sect_types.specs.steps.Threads.{variables_fine}
+use Rattle.sect_types.specs.Environments.{record_number, type_of, types_of, field_types, global_records, IsInRange}
+use Rattle.sect_types.specs.Sections.{sections_of, AllSited}
+use Rattle.sect_types.specs.First.{IsTyped}
+use Rattle.sect_types.specs.Programs.{ProgramView, numbered_by, total_statements, all_made, sites_of, IsWellNumbered}
+use Rattle.sect_types.specs.steps.Counted.{IsCounted}
+use Rattle.sect_types.specs.Lockings.{statement_lockings, block_lockings, threads_lockings, lockings_of}
+use Rattle.sect_types.specs.Clean.{IsCleanStatement, IsCleanBlock, AreCleanThreads}
+use Rattle.sect_types.proofs.Heads.{placed}
+use Rattle.sect_types.proofs.SoundLemmas.{both, place_within}
+use Rattle.sect_types.proofs.Standing.{types_in, fresh_types, call_types}
+use Rattle.sect_types.proofs.Walked.{text_clean}
+use Rattle.sect_types.proofs.SiteLaws.{typed_sites}
+use Rattle.sect_types.proofs.SectionLaws.{block_flat, inside_section, sections_in, typed_sections, typed_section_count}
+use Rattle.sect_types.proofs.TypeLaws.{typed_sound}
+use Rattle.sect_types.proofs.Counting.{AreCounted, fine_typed, fine_counts}
+use Rattle.sect_types.proofs.WithinLimits.{AreFewTypes, AreWithinLimits, typed_few_types, typed_within}
 
 at_most : (m n : ℕ) → nat_le m n ≡ true → m ≤ n
 at_most m n h = grind (arith, nat_tests)
@@ -97,14 +67,6 @@ few_fields records (r ∷ rs) h =
     let parts = both (all_known records r.fields && nat_le (length r.fields) 16) (fields_fine records rs) h in
     All-cons (λ (ts : List ValueType). length ts ≤ 16) (types_of records r.fields) (field_types records rs)
     (few_types records r.fields 16 parts.0) (few_fields records rs parts.1)
-
-few_locals : (records : List (List ℕ)) (ts : List Thread) → locals_fine records ts ≡ true
-    → All (λ (ls : List ValueType). length ls ≤ 64) (local_types records ts)
-few_locals records [] h = All-nil (λ (ls : List ValueType). length ls ≤ 64)
-few_locals records (t ∷ ts) h =
-    let parts = both (all_known records t.locals && nat_le (length t.locals) 64) (locals_fine records ts) h in
-    All-cons (λ (ls : List ValueType). length ls ≤ 64) (types_of records t.locals) (local_types records ts)
-    (few_types records t.locals 64 parts.0) (few_locals records ts parts.1)
 
 -- what is known has a record
 record_there : (x : List ℕ) (records : List (List ℕ)) → has_name x records ≡ true
@@ -138,16 +100,6 @@ fields_there records (r ∷ rs) h =
     (types_there records r.fields (both (all_known records r.fields) (nat_le (length r.fields) 16) parts.0).0)
     (fields_there records rs parts.1)
 
-locals_there : (records : List (List ℕ)) (ts : List Thread) → locals_fine records ts ≡ true
-    → All (λ (ls : List ValueType). All (IsInRange (length records)) ls) (local_types records ts)
-locals_there records [] h = All-nil (λ (ls : List ValueType). All (IsInRange (length records)) ls)
-locals_there records (t ∷ ts) h =
-    let parts = both (all_known records t.locals && nat_le (length t.locals) 64) (locals_fine records ts) h in
-    All-cons (λ (ls : List ValueType). All (IsInRange (length records)) ls) (types_of records t.locals)
-    (local_types records ts)
-    (types_there records t.locals (both (all_known records t.locals) (nat_le (length t.locals) 64) parts.0).0)
-    (locals_there records ts parts.1)
-
 globals_there : (records : List (List ℕ)) (gs : List GlobalObject) → globals_known records gs ≡ true
     → All (λ (r : ℕ). r < length records) (global_records records gs)
 globals_there records [] h = All-nil (λ (r : ℕ). r < length records)
@@ -156,10 +108,128 @@ globals_there records (g ∷ gs) h =
     All-cons (λ (r : ℕ). r < length records) (record_number records g.of) (global_records records gs)
     (record_there g.of records parts.0) (globals_there records gs parts.1)
 
-as_many_texts : (rs : List Record) (gs : List GlobalObject) (c : Counts) (ts : List Thread)
-    → length (numbered_threads rs gs c ts) ≡ length ts
-as_many_texts rs gs c [] = refl
-as_many_texts rs gs c (t ∷ ts) = omega (arith, as_many_texts rs gs (after_thread c t) ts)
+-- the types of fresh locals are there, where those of each call are
+abbrev AreThere : Declared → ℕ → List Fresh → Type 0
+AreThere d n fs = All (IsInRange n) (fresh_types d fs)
+
+both_there : (d : Declared) (n : ℕ) (xs ys : List Fresh) → AreThere d n xs → AreThere d n ys → AreThere d n (xs ++ ys)
+both_there d n xs ys h g =
+    let f : Fresh → ValueType = λ f. type_of (names_of_records d.records) f.declared.kind in
+    subst (All (IsInRange n)) (sym (map-append f xs ys)) (All-append (IsInRange n) (map f xs) (map f ys) h g)
+
+abbrev CallsThere : Declared → ℕ → Freshens → Type 0
+CallsThere d n call = (q : Option ℕ) (c : ℕ) → AreThere d n (call q c)
+
+mutual
+  statement_there : (d : Declared) (n : ℕ) (ps : List Procedure) (table : List Sums) (call : Freshens)
+      → CallsThere d n call
+      → (c : ℕ) (s : StatementView) → AreThere d n (statement_fresh ps table call c s)
+  statement_there d n ps table call h c (Primitive p) = All-nil (IsInRange n)
+  statement_there d n ps table call h c (If t a) = block_there d n ps table call h c a
+  statement_there d n ps table call h c (IfElse t a b) =
+      both_there d n (block_fresh ps table call c a) _ (block_there d n ps table call h c a)
+      (block_there d n ps table call h (c + (block_sums ps table a).calls) b)
+  statement_there d n ps table call h c (While t a) = block_there d n ps table call h c a
+  statement_there d n ps table call h c (Atomic l a) = block_there d n ps table call h c a
+  statement_there d n ps table call h c (Call f vs) = h (number_of ps f) c
+
+  block_there : (d : Declared) (n : ℕ) (ps : List Procedure) (table : List Sums) (call : Freshens) → CallsThere d n call
+      → (c : ℕ) (b : BlockView) → AreThere d n (block_fresh ps table call c b)
+  block_there d n ps table call h c End = All-nil (IsInRange n)
+  block_there d n ps table call h c (Then s b) =
+      both_there d n (statement_fresh ps table call c s) _ (statement_there d n ps table call h c s)
+      (block_there d n ps table call h (c + (statement_sums ps table s).calls) b)
+
+-- the variables of each procedure are known
+procedure_known : (records : List (List ℕ)) (ps : List Procedure) (q : ℕ) (p : Procedure)
+    → variables_fine records ps ≡ true
+    → slice_get ps q ≡ Some p → all_known records (variables p) ≡ true
+procedure_known records [] q p h e = absurd (cc)
+procedure_known records (x ∷ ps) zero p h e =
+    let same : x ≡ p = cc in
+    let parts = both (all_known records (variables x) && nat_le (length (variables x)) 64) (variables_fine records ps)
+    h in
+    subst (λ y. all_known records (variables y) ≡ true) same
+    (both (all_known records (variables x)) (nat_le (length (variables x)) 64) parts.0).0
+procedure_known records (x ∷ ps) (suc q) p h e =
+    procedure_known records ps q p
+    (both (all_known records (variables x) && nat_le (length (variables x)) 64) (variables_fine records ps) h).1 e
+
+pub numbered_known : (records : List (List ℕ)) (ps : List Procedure) (q : Option ℕ) (p : Procedure)
+    → variables_fine records ps ≡ true → procedure_numbered ps q ≡ Some p → all_known records (variables p) ≡ true
+numbered_known records ps None p h e = absurd (cc)
+numbered_known records ps (Some q) p h e = procedure_known records ps q p h e
+
+call_there : (d : Declared) (ps : List Procedure) (table : List Sums) (call : Freshens)
+    → CallsThere d (length (names_of_records d.records)) call → (o : Option Procedure)
+    → ((p : Procedure) → o ≡ Some p → all_known (names_of_records d.records) (variables p) ≡ true)
+    → (c : ℕ) → AreThere d (length (names_of_records d.records)) (fresh_of ps table call o c)
+call_there d ps table call h None k c = All-nil (IsInRange (length (names_of_records d.records)))
+call_there d ps table call h (Some p) k c =
+    let names = names_of_records d.records in
+    let n = length names in
+    both_there d n (of_call c (variables p)) (block_fresh ps table call (c + 1) p.body)
+    (subst (All (IsInRange n)) (sym (call_types d c (variables p))) (types_there names (variables p) (k p refl)))
+    (block_there d n ps table call h (c + 1) p.body)
+
+calls_there : (n : ℕ) (d : Declared) (ps : List Procedure) → variables_fine (names_of_records d.records) ps ≡ true
+    → CallsThere d (length (names_of_records d.records)) (fresh_within n ps)
+calls_there zero d ps h q c = All-nil (IsInRange (length (names_of_records d.records)))
+calls_there (suc n) d ps h q c =
+    call_there d ps (sums_within n ps) (fresh_within n ps) (calls_there n d ps h) (procedure_numbered ps q)
+    (λ p e. numbered_known (names_of_records d.records) ps q p h e) c
+
+-- the types of all locals are there
+locals_there : (t : TreeView) (ts : List Thread) → variables_fine (names_of_records t.records) t.procedures ≡ true
+    → locals_fine (names_of_records t.records) ts ≡ true
+    → All (λ (ls : List ValueType). All (IsInRange (length (names_of_records t.records))) ls)
+    (map (local_types_of t) ts)
+locals_there t [] h g = All-nil (λ (ls : List ValueType). All (IsInRange (length (names_of_records t.records))) ls)
+locals_there t (x ∷ ts) h g =
+    let names = names_of_records t.records in
+    let n = length names in
+    let ps = t.procedures in
+    let d = declared_in t in
+    let parts = both (all_known names x.locals && nat_le (length x.locals) 64) (locals_fine names ts) g in
+    let own = types_there names x.locals (both (all_known names x.locals) (nat_le (length x.locals) 64) parts.0).0 in
+    let fresh = block_there d n ps (sums ps) (fresh_within (length ps) ps) (calls_there (length ps) d ps h) 0 x.body in
+    All-cons (λ (ls : List ValueType). All (IsInRange n) ls) (local_types_of t x) (map (local_types_of t) ts)
+    (All-append (IsInRange n) (types_of names x.locals) (fresh_types d (fresh_in t x)) own fresh)
+    (locals_there t ts h parts.1)
+
+-- and few
+all_few : (types : List (List ValueType)) → AreFewTypes types → All (λ (ls : List ValueType). length ls ≤ 4160) types
+all_few [] h = All-nil (λ (ls : List ValueType). length ls ≤ 4160)
+all_few (ls ∷ more) h = All-cons (λ (ls : List ValueType). length ls ≤ 4160) ls more h.0 (all_few more h.1)
+
+as_many_texts : (t : TreeView) (a : At) (ts : List Thread) → length (expanded_threads t a ts) ≡ length ts
+as_many_texts t a [] = refl
+as_many_texts t a (x ∷ ts) = omega (arith, as_many_texts t (past_thread t a x) ts)
+
+-- as many sections take locks as there are
+mutual
+  statement_many : (d : Declared) (ls : List Declaration) (at : Place) (s : StatementView) (w : List Locking)
+      → IsCleanStatement d ls at s → length (statement_lockings s w) ≡ statement_sections s + length w
+  statement_many d ls at (Primitive p) w h = omega arith
+  statement_many d ls at (If t a) w h = block_many d ls (deeper at) a w h.1
+  statement_many d ls at (IfElse t a b) w h =
+      omega (arith, block_many d ls (deeper at) a (block_lockings b w) h.1, block_many d ls (deeper at) b w h.2)
+  statement_many d ls at (While t a) w h = block_many d ls (deeper at) a w h.1
+  statement_many d ls at (Atomic l a) w h =
+      omega (arith, block_flat d ls (in_section at) a (inside_section at) h.1)
+  statement_many d ls at (Call f vs) w h = omega arith
+
+  block_many : (d : Declared) (ls : List Declaration) (at : Place) (b : BlockView) (w : List Locking)
+      → IsCleanBlock d ls at b → length (block_lockings b w) ≡ block_sections b + length w
+  block_many d ls at End w h = omega arith
+  block_many d ls at (Then s b) w h =
+      omega (arith, statement_many d ls at s (block_lockings b w) h.0, block_many d ls at b w h.1)
+
+threads_many : (d : Declared) (ts : List Thread) (w : List Locking) → AreCleanThreads d ts
+    → length (threads_lockings ts w) ≡ sections_in ts + length w
+threads_many d [] w h = omega arith
+threads_many d (t ∷ ts) w h =
+    omega (arith, block_many d t.locals (InThread false 1) t.body (threads_lockings ts w) h.0, threads_many d ts w h.1)
 
 abbrev own_records : TreeView → List (List ValueType)
 own_records t = field_types (names_of_records t.records) t.records
@@ -167,53 +237,34 @@ own_records t = field_types (names_of_records t.records) t.records
 abbrev own_globals : TreeView → List ℕ
 own_globals t = global_records (names_of_records t.records) t.globals
 
-abbrev own_locals : TreeView → List (List ValueType)
-own_locals t = local_types (names_of_records t.records) t.threads
-
 abbrev own : TreeView → ProgramView
-own t = numbered_by t (own_records t) (own_globals t) (own_locals t) (texts_of t) (lockings_of t)
+own t = numbered_by t (own_records t) (own_globals t) (all_local_types t) (texts_of t) (lockings_of t)
 
 -- each reference has one of n records
 record AreThereIn (t : TreeView) (n : ℕ) : Type 0 where
   of_fields : All (λ (ts : List ValueType). All (IsInRange n) ts) (own_records t)
   of_globals : All (λ (r : ℕ). r < n) (own_globals t)
-  of_locals : All (λ (ts : List ValueType). All (IsInRange n) ts) (own_locals t)
+  of_locals : All (λ (ts : List ValueType). All (IsInRange n) ts) (all_local_types t)
 
-own_parts : (t : TreeView) (end : Counts) → IsCounted t (texts_of t) end → end.sections ≤ 256 → end.sites ≤ 1024
-    → end.statements ≤ 4096
+own_parts : (t : TreeView) (end : Counts) → IsCounted t end
     → IsWellNumbered (own t) end.sections end.sites end.statements
-own_parts t end h few_sections few_sites few_statements =
+own_parts t end h =
     let names = names_of_records t.records in
-    let start = before_threads t in
-    let counted = threads_counted t.records t.globals start t.threads h.sound in
-    let none_declared : start.sections ≡ 0 = ap (λ (c : Counts). c.sections) (records_keep t.records none_yet) in
-    let no_statement : start.statements ≡ 0 = ap (λ (c : Counts). c.statements) (records_keep t.records none_yet) in
-    let no_site : (after_records none_yet t.records).sites ≡ 0 =
-    ap (λ (c : Counts). c.sites) (records_keep t.records none_yet) in
+    let typed = (fine_typed t end h.fine).0 in
+    let counts = fine_counts t end h.fine in
+    let within = typed_within t typed in
     let as_long = length-map t.records (λ (r : Record). r.name) in
     let long_records = length-map t.records (λ (r : Record). types_of names r.fields) in
     let long_globals = length-map t.globals (λ (g : GlobalObject). record_number names g.of) in
-    let long_locals = length-map t.threads (λ (x : Thread). types_of names x.locals) in
-    let long_texts = as_many_texts t.records t.globals start t.threads in
+    let long_locals = length-map {B = List ValueType} t.threads (local_types_of t) in
+    let long_texts = as_many_texts t (record { sites = length t.globals; sections = 0; fresh = 0 }) t.threads in
+    let long_sites = length-append (own_globals t) (all_made (texts_of t)) in
     let there : AreThereIn t (length (own_records t)) =
     subst (AreThereIn t) (as_long ∙ sym long_records) (record {
       of_fields = fields_there names t.records h.fine_fields;
       of_globals = globals_there names t.globals h.known_globals;
-      of_locals = locals_there names t.threads h.fine_locals;
+      of_locals = locals_there t t.threads h.fine_variables h.fine_locals;
     }) in
-    let sections_are : end.sections ≡ length (sections_of (texts_of t)) =
-    omega (arith, ap (λ (c : Counts). c.sections) h.end_is, counted.sections 0, none_declared) in
-    let sites_are : end.sites ≡ length (sites_of (global_records names t.globals) (texts_of t)) =
-    omega (
-      arith,
-      ap (λ (c : Counts). c.sites) h.end_is,
-      counted.sites,
-      no_site,
-      long_globals,
-      length-append (global_records names t.globals) (all_made (texts_of t)),
-    ) in
-    let statements_are : end.statements ≡ total_statements (texts_of t) =
-    omega (arith, ap (λ (c : Counts). c.statements) h.end_is, counted.statements, no_statement) in
     record {
       of_tree = record {
         records_are = refl;
@@ -223,7 +274,7 @@ own_parts t end h few_sections few_sites few_statements =
         lockings_are =
             refl;
       };
-      sound = h.sound;
+      sound = typed_sound t typed;
       records_there = record {
         of_fields = there.of_fields;
         of_globals = there.of_globals;
@@ -236,43 +287,32 @@ own_parts t end h few_sections few_sites few_statements =
         few_globals = omega (arith, long_globals, h.few_globals);
         few_threads = omega (arith, long_texts, h.few_threads);
         as_many = long_locals ∙ sym long_texts;
-        few_locals = few_locals names t.threads h.fine_locals;
-        few_statements = omega (arith, statements_are, few_statements);
-        few_sections = omega (arith, sections_are, few_sections);
-        few_sites = omega (arith, sites_are, few_sites);
+        few_locals = all_few (all_local_types t) (typed_few_types t typed);
+        few_statements = within.statements_within;
+        few_sections = within.sections_within;
+        few_sites = omega (arith, within.sites_within, long_sites, long_globals);
       };
-      numbered = subst (λ n. AllNumbered n (texts_of t)) none_declared counted.numbered;
-      sited = subst (λ n. AllSited n (texts_of t)) (omega (arith, no_site, long_globals)) counted.sited;
-      as_many_lockings = omega (arith, threads_many t.records t.globals start t.threads 0 []);
-      section_count = sections_are;
-      site_count = sites_are;
-      statement_count = statements_are;
+      numbered = typed_sections t typed;
+      sited = subst (λ n. AllSited n (texts_of t)) (sym long_globals) (typed_sites t typed);
+      as_many_lockings =
+          omega (arith, threads_many (declared_in t) t.threads [] (text_clean t typed).1, typed_section_count t typed);
+      section_count = counts.sections_are;
+      site_count = omega (arith, counts.sites_are, long_sites, long_globals);
+      statement_count = counts.statements_are;
     }
 
 pub well_numbered : (t : TreeView) (end : Counts) (records : List (List ValueType)) (globals : List ℕ)
     (locals : List (List ValueType)) (texts : List TextView) (lockings : List Locking) (sections sites statements : ℕ)
-    → IsCounted t texts end
-    → records ≡ field_types (names_of_records t.records) t.records
-    → globals ≡ global_records (names_of_records t.records) t.globals
-    → locals ≡ local_types (names_of_records t.records) t.threads
-    → lockings ≡ lockings_of t → sections ≡ end.sections → sites ≡ end.sites → statements ≡ end.statements
-    → sections ≤ 256 → sites ≤ 1024 → statements ≤ 4096
+    → IsCounted t end → records ≡ own_records t → globals ≡ own_globals t → locals ≡ all_local_types t
+    → texts ≡ texts_of t → lockings ≡ lockings_of t → sections ≡ end.sections → sites ≡ end.sites
+    → statements ≡ end.statements
     → IsWellNumbered (numbered_by t records globals locals texts lockings) sections sites statements
-well_numbered t end records globals locals texts lockings sections sites statements h e f g m i j k few_sections
-    few_sites few_statements =
-    subst (λ (a : List (List ValueType)). IsWellNumbered (numbered_by t a globals locals texts lockings) sections sites
-    statements) (sym e)
-    (subst (λ (a : List ℕ). IsWellNumbered (numbered_by t (own_records t) a locals texts lockings) sections sites
-    statements) (sym f)
-    (subst (λ (a : List (List ValueType)). IsWellNumbered
-    (numbered_by t (own_records t) (own_globals t) a texts lockings) sections sites statements) (sym g)
-    (subst (λ (a : List TextView). IsWellNumbered
-    (numbered_by t (own_records t) (own_globals t) (own_locals t) a lockings) sections sites statements)
-    (sym h.texts_are)
-    (subst (λ (a : List Locking). IsWellNumbered
-    (numbered_by t (own_records t) (own_globals t) (own_locals t) (texts_of t) a) sections sites statements) (sym m)
-    (subst (λ n. IsWellNumbered (own t) n sites statements) (sym i)
-    (subst (λ n. IsWellNumbered (own t) end.sections n statements) (sym j)
-    (subst (λ n. IsWellNumbered (own t) end.sections end.sites n) (sym k)
-    (own_parts t end (subst (λ (a : List TextView). IsCounted t a end) h.texts_are h) (omega arith) (omega arith)
-    (omega arith)))))))))
+well_numbered t end records globals locals texts lockings sections sites statements h e f g m o i j k =
+    subst (λ n. IsWellNumbered (numbered_by t records globals locals texts lockings) n sites statements) (sym i)
+    (subst (λ n. IsWellNumbered (numbered_by t records globals locals texts lockings) end.sections n statements) (sym j)
+    (subst (λ n. IsWellNumbered (numbered_by t records globals locals texts lockings) end.sections end.sites n) (sym k)
+    (subst (λ (p : ProgramView). IsWellNumbered p end.sections end.sites end.statements) (sym same)
+    (own_parts t end h))))
+  where
+    same : numbered_by t records globals locals texts lockings ≡ own t
+    same = λ x. numbered_by t (e x) (f x) (g x) (m x) (o x)

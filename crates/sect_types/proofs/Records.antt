@@ -4,14 +4,12 @@ use Rattle.std.proofs.Common.{append_assoc, length-append, arith, Bool, true, �
 use Rattle.std.proofs.lemmas.Bool.Decides.{nat_tests}
 use Rattle.sect_types.proofs.Lists.{drop_next}
 use Rattle.sect_front.specs.declared.tree.Record.{Record}
-use Rattle.sect_front.specs.declared.tree.GlobalObject.{GlobalObject}
 use Rattle.sect_types.specs.declared.rule.Fault.{Fault}
 use Rattle.sect_types.specs.declared.rule.Fault.TheVariants as fault
-use Rattle.sect_types.specs.Sight.{Sight, names_of_records, names_of_declared, all_fields}
+use Rattle.sect_types.specs.Sight.{names_of_records, names_of_declared, all_fields}
 use Rattle.sect_types.specs.Items.{Item, ARecord, field_items, record_items}
-use Rattle.sect_types.specs.Rules.{Counts, judge}
+use Rattle.sect_types.specs.Rules.{Declared, Counts, judge}
 use Rattle.sect_types.specs.steps.Walks.{Walks}
-use Rattle.sect_types.specs.Numbered.{after_records}
 use Rattle.sect_types.specs.steps.Listing.{AreRecords, all_known, fields_fine}
 
 pub both_true : (a b : Bool) → a ≡ true → b ≡ true → (a && b) ≡ true
@@ -20,44 +18,37 @@ both_true a b e h = cc
 pub at_most : (m n : ℕ) → m ≤ n → nat_le m n ≡ true
 at_most m n h = grind (arith, nat_tests)
 
-pub go_on : (gs : List GlobalObject) (all rs : List Record) (i : ℕ) (r : Record) (names new : List (List ℕ))
+pub go_on : (d : Declared) (all rs : List Record) (i : ℕ) (r : Record) (names new : List (List ℕ))
     (fields more : List (List (List ℕ))) (old now then : Counts)
     → i < length rs → r ≡ get_or rs i r
-    → AreRecords gs all (drop i rs) names fields old now
-    → ((w : List Item) → judge all gs now (ARecord r.name names ∷ field_items [] r.fields w) ≡ judge all gs then w)
+    → AreRecords d all (drop i rs) names fields old now
+    → ((w : List Item) → judge d now (ARecord r.name names ∷ field_items [] r.fields w) ≡ judge d then w)
     → new ≡ names ++ r.name ∷ []
     → more ≡ fields ++ names_of_declared r.fields ∷ []
-    → then ≡ record now { declared = now.declared + 1 + length r.fields }
-    → length names < 64 → length r.fields ≤ 16 → all_known (names_of_records all) r.fields ≡ true
-    → AreRecords gs all (drop (i + 1) rs) new more old then
-go_on gs all rs i r names new fields more old now then h e so_far step named with_fields counts few few_fields
-    known_fields = record {
+    → then.sites ≡ now.sites
+    → length names < 64 → length r.fields ≤ 16 → all_known (names_of_records d.records) r.fields ≡ true
+    → AreRecords d all (drop (i + 1) rs) new more old then
+go_on d all rs i r names new fields more old now then h e so_far step named with_fields sites few few_fields known =
+    record {
       walks = λ w.
           so_far.walks w
-          ∙ (ap (λ l. judge all gs now (record_items names l w)) at
+          ∙ (ap (λ l. judge d now (record_items names l w)) at
           ∙ (step (record_items (names ++ r.name ∷ []) rest w)
-          ∙ ap (λ n. judge all gs then (record_items n rest w)) (sym named)));
+          ∙ ap (λ n. judge d then (record_items n rest w)) (sym named)));
       named = ap (λ n. n ++ names_of_records rest) named
           ∙ (append_assoc names (r.name ∷ []) (names_of_records rest)
           ∙ (ap (λ l. names ++ names_of_records l) (sym at) ∙ so_far.named));
       with_fields = ap (λ n. n ++ all_fields rest) with_fields
           ∙ (append_assoc fields (names_of_declared r.fields ∷ []) (all_fields rest)
           ∙ (ap (λ l. fields ++ all_fields l) (sym at) ∙ so_far.with_fields));
-      counts = ap (λ c. after_records c rest) counts ∙ (ap (after_records now) (sym at) ∙ so_far.counts);
+      sites = sites ∙ so_far.sites;
       few = omega (arith, ap length named, length-append names (r.name ∷ []));
       fine =
           so_far.fine
-          ∙ (ap (fields_fine (names_of_records all)) at
-          ∙ ap (λ b. b && fields_fine (names_of_records all) rest)
-          (both_true (all_known (names_of_records all) r.fields) (nat_le (length r.fields) 16) known_fields
+          ∙ (ap (fields_fine (names_of_records d.records)) at
+          ∙ ap (λ b. b && fields_fine (names_of_records d.records) rest)
+          (both_true (all_known (names_of_records d.records) r.fields) (nat_le (length r.fields) 16) known
           (at_most (length r.fields) 16 few_fields)));
-      room = omega (
-        arith,
-        ap length named,
-        length-append names (r.name ∷ []),
-        so_far.room,
-        ap (λ (c : Counts). c.declared) counts,
-      );
     }
   where
     rest : List Record
@@ -67,17 +58,17 @@ go_on gs all rs i r names new fields more old now then h e so_far step named wit
     at = drop_next rs i r h e
 
 -- a fault in what comes next is the fault of the whole
-pub fault_after : (s : Sight) (all first rest : List Item → List Item) (old now new : Counts) (e : Fault)
-    → ((w : List Item) → judge s.records s.globals old (all w) ≡ judge s.records s.globals now (first (rest w)))
-    → Walks {A = ℕ} s first now new (Err e) → Walks {A = ℕ} s all old new (Err e)
-fault_after s all first rest old now new fault.Memory h k = k
-fault_after s all first rest old now new (fault.Broken i r) h k = λ w. h w ∙ k (rest w)
+pub fault_after : (d : Declared) (all first rest : List Item → List Item) (old now new : Counts) (e : Fault)
+    → ((w : List Item) → judge d old (all w) ≡ judge d now (first (rest w)))
+    → Walks {A = ℕ} d first now new (Err e) → Walks {A = ℕ} d all old new (Err e)
+fault_after d all first rest old now new fault.Memory h k = k
+fault_after d all first rest old now new (fault.Broken i r) h k = λ w. h w ∙ k (rest w)
 
-pub fault_next : (gs : List GlobalObject) (all rs : List Record) (i : ℕ) (r : Record) (names : List (List ℕ))
+pub fault_next : (d : Declared) (all rs : List Record) (i : ℕ) (r : Record) (names : List (List ℕ))
     (fields : List (List (List ℕ))) (old now : Counts)
     → i < length rs → r ≡ get_or rs i r
-    → AreRecords gs all (drop i rs) names fields old now
-    → (w : List Item) → judge all gs old (record_items [] all w) ≡ judge all gs now
-    (ARecord r.name names ∷ field_items [] r.fields (record_items (names ++ r.name ∷ []) (drop (i + 1) rs) w))
-fault_next gs all rs i r names fields old now h e so_far w =
-    so_far.walks w ∙ ap (λ l. judge all gs now (record_items names l w)) (drop_next rs i r h e)
+    → AreRecords d all (drop i rs) names fields old now
+    → (w : List Item) → judge d old (record_items [] all w) ≡ judge d now (ARecord r.name names ∷
+    field_items [] r.fields (record_items (names ++ r.name ∷ []) (drop (i + 1) rs) w))
+fault_next d all rs i r names fields old now h e so_far w =
+    so_far.walks w ∙ ap (λ l. judge d now (record_items names l w)) (drop_next rs i r h e)

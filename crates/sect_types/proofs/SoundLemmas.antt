@@ -122,7 +122,7 @@ base_has : (s : Sight) (k : Kind) (d : Denoted) → IsThere s d → same_kind k 
 base_has s k d h e = denoted_has s d (type_of (names_of_records s.records) k)
     (h ∙ ap Some (sym (same_types (names_of_records s.records) k (kind_of d) e)))
 
-accepts_has : (s : Sight) (k : Kind) (v : Given) → IsGiven s v → accepts k v ≡ true
+pub accepts_has : (s : Sight) (k : Kind) (v : Given) → IsGiven s v → accepts k v ≡ true
     → HasType (environment s) (value_by v) (type_of (names_of_records s.records) k)
 accepts_has s kind.Int (given.Number n) h e = tt
 accepts_has s kind.Int given.Null h e = absurd (true≢false (sym e))

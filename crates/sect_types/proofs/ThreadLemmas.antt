@@ -1,99 +1,150 @@
--- One thread more.
-use Rattle.std.proofs.Common.{◌≡◌, ℕ, ◌+◌, ◌<◌, ◌≤◌, false, List, [], ◌∷◌, ◌++◌, drop, get_or, length, Result, Ok, Err}
-use Rattle.std.proofs.Common.{sym, ap, subst, ◌∙◌, append_assoc, length-append, arith, true, ◌&&◌, nat_le}
+-- One procedure or thread more.
+use Rattle.std.proofs.Common.{◌≡◌, ℕ, zero, suc, ◌+◌, ◌<◌, ◌≤◌, false, List, [], ◌∷◌, ◌++◌, drop, get_or, map, length}
+use Rattle.std.proofs.Common.{Result, Ok, Err, sym, ap, subst, ◌∙◌, append_assoc, length-append, arith, true, ◌&&◌}
+use Rattle.std.proofs.Common.{nat_le}
+use Rattle.std.specs.Prelude.{max}
+use Rattle.std.specs.Result.{IsErrAnd}
 use Rattle.sect_types.proofs.Lists.{drop_next}
 use Rattle.sect_front.specs.Syntax.{BlockView}
-use Rattle.sect_front.specs.declared.tree.Record.{Record}
-use Rattle.sect_front.specs.declared.tree.GlobalObject.{GlobalObject}
+use Rattle.sect_front.specs.Depth.{block_depth, procedures_depth, threads_depth}
 use Rattle.sect_front.specs.declared.tree.Declaration.{Declaration}
+use Rattle.sect_front.specs.declared.tree.Procedure.{Procedure}
 use Rattle.sect_front.specs.declared.tree.Thread.{Thread}
+use Rattle.sect_front.specs.TreeView.{TreeView}
+use Rattle.sect_types.specs.declared.place.Place.{Place}
+use Rattle.sect_types.specs.declared.place.Place.TheVariants.{InThread, InProcedure}
 use Rattle.sect_types.specs.declared.rule.Fault.{Fault}
 use Rattle.sect_types.specs.declared.rule.Fault.TheVariants as fault
-use Rattle.sect_types.specs.Sight.{Sight, names_of_records}
-use Rattle.sect_types.specs.Items.{Item, AThread, local_items, block_items, thread_items}
-use Rattle.sect_types.specs.Rules.{Counts, judge, sight}
+use Rattle.sect_types.specs.Sight.{Sight, names_of_records, names_of_declared}
+use Rattle.sect_types.specs.Items.{Item, AProcedure, AThread, variables, local_items, block_items, procedure_items}
+use Rattle.sect_types.specs.Items.{thread_items}
+use Rattle.sect_types.specs.Rules.{Declared, declared_in, Counts, judge, sight}
 use Rattle.sect_types.specs.steps.Walks.{Walks}
-use Rattle.sect_types.specs.Statements.{TextView}
-use Rattle.sect_types.specs.Numbered.{numbered_block, within_thread, after_thread, numbered_threads, after_threads}
-use Rattle.sect_types.specs.steps.Threads.{AreThreads, AreThreadsSound}
+use Rattle.sect_types.specs.steps.Standing.{StandingView, declared_by}
+use Rattle.sect_types.specs.steps.Threads.{VariablesView, variables_shown, variables_fine, local_names, AreProcedures}
+use Rattle.sect_types.specs.steps.Threads.{AreThreads}
 use Rattle.sect_types.specs.steps.Listing.{all_known, locals_fine}
-use Rattle.sect_types.specs.Environments.{environment}
-use Rattle.sect_types.specs.Sound.{IsSound}
+use Rattle.std.proofs.lemmas.Bool.Decides.{nat_tests}
+use Rattle.sect_types.specs.steps.Capped.{HaveFewVariables}
+use Rattle.sect_types.proofs.SoundLemmas.{both}
 use Rattle.sect_types.proofs.Records.{both_true, at_most}
-use Rattle.sect_types.proofs.Keeps.{body_keeps}
 
 -- what comes first, and then a walk
-walks_then : {A : Type 0} (rs : List Record) (gs : List GlobalObject) (ls : List Declaration)
-    (all first : List Item → List Item) (old now new : Counts) (r : Result A Fault)
-    → ((w : List Item) → judge rs gs old (all w) ≡ judge rs gs now (first w)) → Walks (sight rs gs ls) first now new r
-    → Walks (sight rs gs []) all old new r
-walks_then rs gs ls all first old now new (Ok a) h k = λ w. h w ∙ k w
-walks_then rs gs ls all first old now new (Err fault.Memory) h k = k
-walks_then rs gs ls all first old now new (Err (fault.Broken i r)) h k = λ w. h w ∙ k w
+pub walks_then : {A : Type 0} (d : Declared) (all first : List Item → List Item) (old now new : Counts)
+    (r : Result A Fault)
+    → ((w : List Item) → judge d old (all w) ≡ judge d now (first w)) → Walks d first now new r → Walks d all old new r
+walks_then d all first old now new (Ok a) h k = λ w. h w ∙ k w
+walks_then d all first old now new (Err fault.Memory) h k = k
+walks_then d all first old now new (Err (fault.Broken i r)) h k = λ w. h w ∙ k w
 
-pub walks_thread : {A : Type 0} (rs : List Record) (gs : List GlobalObject) (x : List ℕ) (names : List (List ℕ))
-    (ls list : List Declaration) (b : BlockView) (s : Sight) (c0 c1 c2 c3 : Counts) (r : Result A Fault)
-    → list ≡ ls → s ≡ sight rs gs list
-    → ((w : List Item) → judge rs gs c0 (AThread x names ∷ w) ≡ judge rs gs c1 w)
-    → ((w : List Item) → judge rs gs c1 (local_items [] list w) ≡ judge rs gs c2 w)
-    → Walks s (block_items s.locals false b) c2 c3 r
-    → Walks (sight rs gs []) (λ w. AThread x names ∷ local_items [] ls (block_items ls false b w)) c0 c3 r
-walks_thread rs gs x names ls list b s c0 c1 c2 c3 r e f named listed walked =
-    subst (λ l. Walks (sight rs gs []) (λ w. AThread x names ∷ local_items [] l (block_items l false b w)) c0 c3 r) e
-    (walks_then rs gs list (λ w. AThread x names ∷ local_items [] list (block_items list false b w))
-    (block_items list false b) c0 c2 c3 r
-    (λ w. named (local_items [] list (block_items list false b w)) ∙ listed (block_items list false b w))
-    (subst (λ (t : Sight). Walks t (block_items t.locals false b) c2 c3 r) f walked))
+-- a fault that is handed on
+pub handed_on : {A : Type 0} (d : Declared) (all : List Item → List Item) (old new : Counts) (e : Fault)
+    (r : Result A Fault) → IsErrAnd r (λ x. x ≡ e) → Walks {A = ℕ} d all old new (Err e) → Walks d all old new r
+handed_on d all old new e (Ok a) is walks = absurd is
+handed_on {A} d all old new e (Err x) is walks =
+    subst (λ y. Walks {A = A} d all old new (Err y)) (sym is) (go e walks)
+  where
+    go : (y : Fault) → Walks {A = ℕ} d all old new (Err y) → Walks {A = A} d all old new (Err y)
+    go fault.Memory k = tt
+    go (fault.Broken n q) k = k
 
-pub go_on : (rs : List Record) (gs : List GlobalObject) (all ts : List Thread) (i : ℕ) (t : Thread)
-    (names new : List (List ℕ)) (texts more : List TextView) (text : TextView) (old now then : Counts)
-    → i < length ts → t ≡ get_or ts i t
-    → AreThreads rs gs all (drop i ts) names texts old now
-    → ((w : List Item) → judge rs gs now
-    (AThread t.name names ∷ local_items [] t.locals (block_items t.locals false t.body w)) ≡ judge rs gs then w)
-    → new ≡ names ++ t.name ∷ []
-    → more ≡ texts ++ text ∷ []
-    → text ≡ numbered_block (sight rs gs t.locals) (within_thread now t) t.body
-    → then ≡ after_thread now t
-    → length names < 64 → length t.locals ≤ 64 → all_known (names_of_records rs) t.locals ≡ true
-    → IsSound (environment (sight rs gs t.locals)) false text
-    → AreThreads rs gs all (drop (i + 1) ts) new more old then
-go_on rs gs all ts i t names new texts more text old now then h e so_far step named pushed is counts few few_locals
-    known_locals text_sound = record {
+-- the body of what has these locals, in this place
+pub walks_body : {A : Type 0} (t : TreeView) (head : Item) (ls list : List Declaration) (at : Place) (b : BlockView)
+    (s : Sight) (st : StandingView) (c0 c1 c2 c3 : Counts) (r : Result A Fault)
+    → list ≡ ls → s ≡ sight t.records t.globals list → st ≡ record { procedures = t.procedures; at = at }
+    → ((w : List Item) → judge (declared_in t) c0 (head ∷ w) ≡ judge (declared_in t) c1 w)
+    → ((w : List Item) → judge (declared_in t) c1 (local_items [] list w) ≡ judge (declared_in t) c2 w)
+    → Walks (declared_by s st.procedures) (block_items s.locals st.at b) c2 c3 r
+    → Walks (declared_in t) (λ w. head ∷ local_items [] ls (block_items ls at b w)) c0 c3 r
+walks_body t head ls list at b s st c0 c1 c2 c3 r e f g named listed walked =
+    subst (λ l. Walks (declared_in t) (λ w. head ∷ local_items [] l (block_items l at b w)) c0 c3 r) e
+    (walks_then (declared_in t) (λ w. head ∷ local_items [] list (block_items list at b w)) (block_items list at b)
+    c0 c2 c3 r (λ w. named (local_items [] list (block_items list at b w)) ∙ listed (block_items list at b w))
+    (subst (λ (x : StandingView). Walks (declared_by (sight t.records t.globals list) x.procedures)
+    (block_items list x.at b) c2 c3 r) g
+    (subst (λ (x : Sight). Walks (declared_by x st.procedures) (block_items x.locals st.at b) c2 c3 r) f walked)))
+
+-- a procedure more
+pub procedure_more : (d : Declared) (all ps : List Procedure) (i : ℕ) (p : Procedure) (names new : List (List ℕ))
+    (scopes more : List VariablesView) (v : VariablesView) (old now then : Counts)
+    → i < length ps → p ≡ get_or ps i p
+    → AreProcedures d all (drop i ps) names scopes old now
+    → ((w : List Item) → judge d now (AProcedure p.name names ∷ local_items [] (variables p)
+    (block_items (variables p) (InProcedure (length names)) p.body w)) ≡ judge d then w)
+    → new ≡ names ++ p.name ∷ [] → more ≡ scopes ++ v ∷ [] → v ≡ variables_shown p
+    → length names < 64 → length (variables p) ≤ 64 → all_known (names_of_records d.records) (variables p) ≡ true
+    → AreProcedures d all (drop (i + 1) ps) new more old then
+procedure_more d all ps i p names new scopes more v old now then h e so_far step named pushed is few few_own known =
+    record {
       walks = λ w.
           so_far.walks w
-          ∙ (ap (λ l. judge rs gs now (thread_items names l w)) at
+          ∙ (ap (λ l. judge d now (procedure_items (length names) names l w)) at
+          ∙ (step (procedure_items (length names + 1) (names ++ p.name ∷ []) rest w)
+          ∙ (ap (λ n. judge d then (procedure_items n (names ++ p.name ∷ []) rest w)) (sym long)
+          ∙ ap (λ n. judge d then (procedure_items (length n) n rest w)) (sym named))));
+      shown =
+          ap (λ x. x ++ map variables_shown rest) pushed
+          ∙ (append_assoc scopes (v ∷ []) (map variables_shown rest)
+          ∙ (ap (λ x. scopes ++ x ∷ map variables_shown rest) is
+          ∙ (ap (λ l. scopes ++ map variables_shown l) (sym at) ∙ so_far.shown)));
+      few = omega (arith, ap length named, long);
+      long = omega (arith, ap length named, long, ap length at, so_far.long);
+      fine =
+          so_far.fine
+          ∙ (ap (variables_fine (names_of_records d.records)) at
+          ∙ ap (λ b. b && variables_fine (names_of_records d.records) rest)
+          (both_true (all_known (names_of_records d.records) (variables p)) (nat_le (length (variables p)) 64) known
+          (at_most (length (variables p)) 64 few_own)));
+    }
+  where
+    rest : List Procedure
+    rest = drop (i + 1) ps
+
+    at : drop i ps ≡ p ∷ drop (i + 1) ps
+    at = drop_next ps i p h e
+
+    long : length (names ++ p.name ∷ []) ≡ length names + 1
+    long = length-append names (p.name ∷ [])
+
+pub procedure_fails : (d : Declared) (all ps : List Procedure) (i : ℕ) (p : Procedure) (names : List (List ℕ))
+    (scopes : List VariablesView) (old now : Counts) → i < length ps → p ≡ get_or ps i p
+    → AreProcedures d all (drop i ps) names scopes old now
+    → (w : List Item) → judge d old (procedure_items 0 [] all w) ≡ judge d now (AProcedure p.name names
+    ∷ local_items [] (variables p) (block_items (variables p) (InProcedure (length names)) p.body
+    (procedure_items (length names + 1) (names ++ p.name ∷ []) (drop (i + 1) ps) w)))
+procedure_fails d all ps i p names scopes old now h e so_far w =
+    so_far.walks w ∙ ap (λ l. judge d now (procedure_items (length names) names l w)) (drop_next ps i p h e)
+
+-- a thread more
+pub thread_more : (d : Declared) (all ts : List Thread) (i : ℕ) (t : Thread) (names new : List (List ℕ))
+    (locals more : List (List (List ℕ))) (own : List (List ℕ)) (old now then : Counts)
+    → i < length ts → t ≡ get_or ts i t
+    → AreThreads d all (drop i ts) names locals old now
+    → ((w : List Item) → judge d now (AThread t.name names ∷ local_items [] t.locals
+    (block_items t.locals (InThread false 1) t.body w)) ≡ judge d then w)
+    → new ≡ names ++ t.name ∷ [] → more ≡ locals ++ own ∷ [] → own ≡ names_of_declared t.locals
+    → length names < 64 → length t.locals ≤ 64 → all_known (names_of_records d.records) t.locals ≡ true
+    → AreThreads d all (drop (i + 1) ts) new more old then
+thread_more d all ts i t names new locals more own old now then h e so_far step named pushed is few few_own known =
+    record {
+      walks = λ w.
+          so_far.walks w
+          ∙ (ap (λ l. judge d now (thread_items names l w)) at
           ∙ (step (thread_items (names ++ t.name ∷ []) rest w)
-          ∙ ap (λ n. judge rs gs then (thread_items n rest w)) (sym named)));
-      numbered =
-          ap (λ x. x ++ numbered_threads rs gs then rest) pushed
-          ∙ (append_assoc texts (text ∷ []) (numbered_threads rs gs then rest)
-          ∙ (ap (λ x. texts ++ x ∷ numbered_threads rs gs then rest) is
-          ∙ (ap (λ c. texts ++ numbered_block (sight rs gs t.locals) (within_thread now t) t.body ∷ numbered_threads rs
-          gs c
-          rest) counts
-          ∙ (ap (λ l. texts ++ numbered_threads rs gs now l) (sym at) ∙ so_far.numbered))));
-      counts = ap (λ c. after_threads c rest) counts ∙ (ap (after_threads now) (sym at) ∙ so_far.counts);
+          ∙ ap (λ n. judge d then (thread_items n rest w)) (sym named)));
+      named =
+          ap (λ x. x ++ local_names rest) pushed
+          ∙ (append_assoc locals (own ∷ []) (local_names rest)
+          ∙ (ap (λ x. locals ++ x ∷ local_names rest) is
+          ∙ (ap (λ l. locals ++ local_names l) (sym at) ∙ so_far.named)));
+      few = omega (arith, ap length named, length-append names (t.name ∷ []));
       long = omega (arith, ap length named, length-append names (t.name ∷ []), ap length at, so_far.long);
       fine =
           so_far.fine
-          ∙ (ap (locals_fine (names_of_records rs)) at
-          ∙ ap (λ b. b && locals_fine (names_of_records rs) rest)
-          (both_true (all_known (names_of_records rs) t.locals) (nat_le (length t.locals) 64) known_locals
-          (at_most (length t.locals) 64 few_locals)));
-      sound = λ after sound_after.
-          subst (AreThreadsSound rs gs all) (sym (ap (λ x. x ++ after) pushed ∙ append_assoc texts (text ∷ []) after))
-          (so_far.sound (text ∷ after) (subst (λ l. AreThreadsSound rs gs l (text ∷ after)) (sym at)
-          (text_sound, sound_after)));
-      few = omega (arith, ap length named, length-append names (t.name ∷ []));
-      room = omega (
-        arith,
-        ap length named,
-        length-append names (t.name ∷ []),
-        so_far.room,
-        ap (λ (c : Counts). c.declared) counts,
-        body_keeps t.body (within_thread now t),
-      );
+          ∙ (ap (locals_fine (names_of_records d.records)) at
+          ∙ ap (λ b. b && locals_fine (names_of_records d.records) rest)
+          (both_true (all_known (names_of_records d.records) t.locals) (nat_le (length t.locals) 64) known
+          (at_most (length t.locals) 64 few_own)));
     }
   where
     rest : List Thread
@@ -102,12 +153,61 @@ go_on rs gs all ts i t names new texts more text old now then h e so_far step na
     at : drop i ts ≡ t ∷ drop (i + 1) ts
     at = drop_next ts i t h e
 
-pub fault_next : (rs : List Record) (gs : List GlobalObject) (all ts : List Thread) (i : ℕ) (t : Thread)
-    (names : List (List ℕ)) (texts : List TextView) (old now : Counts)
-    → i < length ts → t ≡ get_or ts i t
-    → AreThreads rs gs all (drop i ts) names texts old now
-    → (w : List Item) → judge rs gs old (thread_items [] all w) ≡ judge rs gs now
-    (AThread t.name names ∷ local_items [] t.locals
-    (block_items t.locals false t.body (thread_items (names ++ t.name ∷ []) (drop (i + 1) ts) w)))
-fault_next rs gs all ts i t names texts old now h e so_far w =
-    so_far.walks w ∙ ap (λ l. judge rs gs now (thread_items names l w)) (drop_next ts i t h e)
+pub thread_fails : (d : Declared) (all ts : List Thread) (i : ℕ) (t : Thread) (names : List (List ℕ))
+    (locals : List (List (List ℕ))) (old now : Counts) → i < length ts → t ≡ get_or ts i t
+    → AreThreads d all (drop i ts) names locals old now
+    → (w : List Item) → judge d old (thread_items [] all w) ≡ judge d now (AThread t.name names
+    ∷ local_items [] t.locals (block_items t.locals (InThread false 1) t.body
+    (thread_items (names ++ t.name ∷ []) (drop (i + 1) ts) w)))
+thread_fails d all ts i t names locals old now h e so_far w =
+    so_far.walks w ∙ ap (λ l. judge d now (thread_items names l w)) (drop_next ts i t h e)
+
+-- no procedure or thread is deeper than all
+pub procedure_depth : (ps : List Procedure) (i : ℕ) (p : Procedure) → i < length ps
+    → block_depth (get_or ps i p).body + 1 ≤ procedures_depth ps
+procedure_depth [] i p h = absurd (omega arith)
+procedure_depth (q ∷ ps) zero p h = omega arith
+procedure_depth (q ∷ ps) (suc i) p h = omega (arith, procedure_depth ps i p (omega arith))
+
+pub thread_depth : (ts : List Thread) (i : ℕ) (t : Thread) → i < length ts
+    → block_depth (get_or ts i t).body + 1 ≤ threads_depth ts
+thread_depth [] i t h = absurd (omega arith)
+thread_depth (u ∷ ts) zero t h = omega arith
+thread_depth (u ∷ ts) (suc i) t h = omega (arith, thread_depth ts i t (omega arith))
+
+is_at_most : (m n : ℕ) → nat_le m n ≡ true → m ≤ n
+is_at_most m n h = grind (arith, nat_tests)
+
+-- few variables are few parameters and few locals
+pub few_variables : (records : List (List ℕ)) (ps : List Procedure) → variables_fine records ps ≡ true
+    → HaveFewVariables ps
+few_variables records [] h = tt
+few_variables records (p ∷ ps) h =
+    let parts = both (all_known records (variables p) && nat_le (length (variables p)) 64) (variables_fine records ps)
+    h in
+    let own = both (all_known records (variables p)) (nat_le (length (variables p)) 64) parts.0 in (
+      omega (arith, is_at_most (length (variables p)) 64 own.1, length-append p.parameters p.locals),
+      few_variables records ps parts.1,
+    )
+
+-- want of memory says nothing of the items
+pub for_memory : {A : Type 0} (d : Declared) (all : List Item → List Item) (old new : Counts) (r : Result A Fault)
+    → IsErrAnd r (λ x. x ≡ fault.Memory) → Walks d all old new r
+for_memory d all old new (Ok a) is = absurd is
+for_memory {A} d all old new (Err e) is = subst (λ x. Walks {A = A} d all old new (Err x)) (sym is) tt
+
+-- a fault of what comes third or fourth
+pub third_fails : (d : Declared) (one two three four : List Item → List Item) (c0 c1 c2 c3 : Counts) (e : Fault)
+    → ((w : List Item) → judge d c0 (one w) ≡ judge d c1 w) → ((w : List Item) → judge d c1 (two w) ≡ judge d c2 w)
+    → Walks {A = ℕ} d three c2 c3 (Err e) → Walks {A = ℕ} d (λ w. one (two (three (four w)))) c0 c3 (Err e)
+third_fails d one two three four c0 c1 c2 c3 fault.Memory f g k = tt
+third_fails d one two three four c0 c1 c2 c3 (fault.Broken i r) f g k =
+    λ w. f (two (three (four w))) ∙ (g (three (four w)) ∙ k (four w))
+
+pub fourth_fails : (d : Declared) (one two three four : List Item → List Item) (c0 c1 c2 c3 c4 : Counts) (e : Fault)
+    → ((w : List Item) → judge d c0 (one w) ≡ judge d c1 w) → ((w : List Item) → judge d c1 (two w) ≡ judge d c2 w)
+    → ((w : List Item) → judge d c2 (three w) ≡ judge d c3 w)
+    → Walks {A = ℕ} d four c3 c4 (Err e) → Walks {A = ℕ} d (λ w. one (two (three (four w)))) c0 c4 (Err e)
+fourth_fails d one two three four c0 c1 c2 c3 c4 fault.Memory f g h k = tt
+fourth_fails d one two three four c0 c1 c2 c3 c4 (fault.Broken i r) f g h k =
+    λ w. f (two (three (four w))) ∙ (g (three (four w)) ∙ (h (four w) ∙ k w))

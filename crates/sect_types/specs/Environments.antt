@@ -3,7 +3,6 @@ use Rattle.std.specs.Prelude.{ℕ, ⊤, ◌<◌, List, map, unwrap_or}
 use Rattle.sect_front.specs.declared.tree.Record.{Record}
 use Rattle.sect_front.specs.declared.tree.GlobalObject.{GlobalObject}
 use Rattle.sect_front.specs.declared.tree.Declaration.{Declaration}
-use Rattle.sect_front.specs.declared.tree.Thread.{Thread}
 use Rattle.sect_front.specs.declared.tree.Kind.{Kind}
 use Rattle.sect_front.specs.declared.tree.Kind.TheVariants as kind
 use Rattle.sect_types.specs.declared.types.ValueType.{ValueType}
@@ -34,9 +33,6 @@ field_types records rs = map (λ (r : Record). types_of records r.fields) rs
 
 abbrev pub global_records : List (List ℕ) → List GlobalObject → List ℕ
 global_records records gs = map (λ (g : GlobalObject). record_number records g.of) gs
-
-abbrev pub local_types : List (List ℕ) → List Thread → List (List ValueType)
-local_types records ts = map (λ (t : Thread). types_of records t.locals) ts
 
 -- the declarations that a statement sees, by number
 abbrev pub environment : Sight → Environment

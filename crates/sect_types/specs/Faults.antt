@@ -4,7 +4,7 @@ use Rattle.sect_types.specs.declared.rule.Fault.{Fault}
 use Rattle.sect_types.specs.declared.rule.Fault.TheVariants as fault
 use Rattle.sect_types.specs.declared.rule.TypeFault.{TypeFault}
 use Rattle.sect_types.specs.declared.rule.TypeFault.TheVariants.{Memory, Unknown, Twice, WrongType, SharedOutside}
-use Rattle.sect_types.specs.declared.rule.TypeFault.TheVariants.{Nested, TooMany}
+use Rattle.sect_types.specs.declared.rule.TypeFault.TheVariants.{Nested, TooMany, Recursion, Arguments}
 
 -- the refusal that a walk's fault becomes
 abbrev pub type_fault : Fault → TypeFault
@@ -15,3 +15,5 @@ type_fault (fault.Broken i rule.WrongType) = WrongType i
 type_fault (fault.Broken i rule.SharedOutside) = SharedOutside i
 type_fault (fault.Broken i rule.Nested) = Nested i
 type_fault (fault.Broken i rule.TooMany) = TooMany i
+type_fault (fault.Broken i rule.Recursion) = Recursion i
+type_fault (fault.Broken i rule.Arguments) = Arguments i

@@ -1,27 +1,26 @@
 -- Typed trees, and the first item at fault.
 use Rattle.std.specs.Prelude.{◌≡◌, ℕ, zero, suc, ◌≤◌, true, List, [], ◌∷◌, Result, Ok, Err, ⊤}
-use Rattle.sect_front.specs.declared.tree.Record.{Record}
-use Rattle.sect_front.specs.declared.tree.GlobalObject.{GlobalObject}
 use Rattle.sect_front.specs.TreeView.{TreeView}
 use Rattle.sect_types.specs.declared.rule.Rule.{Rule}
 use Rattle.sect_types.specs.declared.rule.Rule.TheVariants.{Unknown, Twice, WrongType, SharedOutside, Nested, TooMany}
+use Rattle.sect_types.specs.declared.rule.Rule.TheVariants.{Recursion, Arguments}
 use Rattle.sect_types.specs.declared.rule.TypeFault.{TypeFault}
 use Rattle.sect_types.specs.declared.rule.TypeFault.TheVariants as fault
 use Rattle.sect_types.specs.Items.{Item, items}
-use Rattle.sect_types.specs.Rules.{Counts, breaks, after}
+use Rattle.sect_types.specs.Rules.{Declared, declared_in, Counts, breaks, after}
 
 -- the rule r is broken at item i of the list, before which the counts are c
-abbrev pub BreaksFrom : List Record → List GlobalObject → Counts → List Item → ℕ → Rule → Type 0
-BreaksFrom rs gs c [] i r = ⊥
-BreaksFrom rs gs c (item ∷ more) zero r = breaks rs gs c item r ≡ true
-BreaksFrom rs gs c (item ∷ more) (suc i) r = BreaksFrom rs gs (after c item) more i r
+abbrev pub BreaksFrom : Declared → Counts → List Item → ℕ → Rule → Type 0
+BreaksFrom d c [] i r = ⊥
+BreaksFrom d c (item ∷ more) zero r = breaks d c item r ≡ true
+BreaksFrom d c (item ∷ more) (suc i) r = BreaksFrom d (after d c item) more i r
 
 abbrev pub none_yet : Counts
-none_yet = record { declared = 0; statements = 0; sites = 0; sections = 0 }
+none_yet = record { items = 0; statements = 0; sites = 0; sections = 0; calls = 0 }
 
 -- the rule is broken at the item of that number
 abbrev pub Breaks : TreeView → ℕ → Rule → Type 0
-Breaks t i r = BreaksFrom t.records t.globals none_yet (items t) i r
+Breaks t i r = BreaksFrom (declared_in t) none_yet (items t) i r
 
 -- no rule is broken at any item
 abbrev pub IsTyped : TreeView → Type 0
@@ -35,16 +34,17 @@ number_of_rule WrongType = 12
 number_of_rule SharedOutside = 13
 number_of_rule Nested = 14
 number_of_rule TooMany = 15
+number_of_rule Recursion = 16
+number_of_rule Arguments = 17
 
 -- the item is the first at which a rule is broken, and the rule the least that is broken there
-pub record IsFirstFrom (rs : List Record) (gs : List GlobalObject) (c : Counts) (list : List Item) (i : ℕ)
-    (r : Rule) : Type 0 where
-  pub broken : BreaksFrom rs gs c list i r
-  pub first : (j : ℕ) (q : Rule) → BreaksFrom rs gs c list j q → i ≤ j
-  pub least : (q : Rule) → BreaksFrom rs gs c list i q → number_of_rule r ≤ number_of_rule q
+pub record IsFirstFrom (d : Declared) (c : Counts) (list : List Item) (i : ℕ) (r : Rule) : Type 0 where
+  pub broken : BreaksFrom d c list i r
+  pub first : (j : ℕ) (q : Rule) → BreaksFrom d c list j q → i ≤ j
+  pub least : (q : Rule) → BreaksFrom d c list i q → number_of_rule r ≤ number_of_rule q
 
 abbrev pub IsFirstFault : TreeView → ℕ → Rule → Type 0
-IsFirstFault t i r = IsFirstFrom t.records t.globals none_yet (items t) i r
+IsFirstFault t i r = IsFirstFrom (declared_in t) none_yet (items t) i r
 
 -- a program is given for a typed tree alone, and a refusal names the first item at fault and its least rule
 abbrev pub Judges : {A : Type 0} → TreeView → Result A TypeFault → Type 0
@@ -56,3 +56,5 @@ Judges t (Err (fault.WrongType i)) = IsFirstFault t i WrongType
 Judges t (Err (fault.SharedOutside i)) = IsFirstFault t i SharedOutside
 Judges t (Err (fault.Nested i)) = IsFirstFault t i Nested
 Judges t (Err (fault.TooMany i)) = IsFirstFault t i TooMany
+Judges t (Err (fault.Recursion i)) = IsFirstFault t i Recursion
+Judges t (Err (fault.Arguments i)) = IsFirstFault t i Arguments

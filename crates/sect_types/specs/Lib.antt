@@ -1,12 +1,15 @@
 pub mod Sight
 pub mod Resolve
 pub mod Items
+pub mod Sums
 pub mod Rules
 pub mod Statements
 pub mod Coding
 pub mod Texts
 pub mod Falls
 pub mod Numbered
+pub mod Expanded
+pub mod LocalNames
 pub mod First
 pub mod Faults
 pub mod Environments
@@ -21,3 +24,5 @@ pub mod Store
 pub mod Meaning
 pub mod Whole
 pub mod steps
+pub mod Clean
+pub mod Templates

@@ -1,6 +1,6 @@
 -- Which locks the sections of a text take. `Program::locking` says so of each.
 use Rattle.std.specs.Prelude.{List, [], ◌∷◌}
-use Rattle.sect_front.specs.Syntax.{StatementView, Primitive, If, IfElse, While, Atomic, BlockView, End, Then}
+use Rattle.sect_front.specs.Syntax.{StatementView, Primitive, If, IfElse, While, Atomic, Call, BlockView, End, Then}
 use Rattle.sect_front.specs.TreeView.{TreeView}
 use Rattle.sect_front.specs.declared.tree.Locking.{Locking}
 use Rattle.sect_front.specs.declared.tree.Thread.{Thread}
@@ -13,6 +13,7 @@ abbrev mutual
   statement_lockings (IfElse t a b) w = block_lockings a (block_lockings b w)
   statement_lockings (While t a) w = block_lockings a w
   statement_lockings (Atomic l a) w = l ∷ w
+  statement_lockings (Call f vs) w = w
 
   pub block_lockings : BlockView → List Locking → List Locking
   block_lockings End w = w

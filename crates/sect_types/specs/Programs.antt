@@ -2,31 +2,20 @@
 use Rattle.std.specs.Prelude.{◌≡◌, ◌≤◌, ◌<◌, ℕ, ◌+◌, List, [], ◌∷◌, ◌++◌, true, length, All, slice_index_or}
 use Rattle.sect_front.specs.TreeView.{TreeView}
 use Rattle.sect_types.specs.declared.limits.TheConstants.{MOST_RECORDS, MOST_FIELDS, MOST_GLOBALS, MOST_THREADS}
-use Rattle.sect_types.specs.declared.limits.TheConstants.{MOST_LOCALS, MOST_STATEMENTS, MOST_SITES, MOST_SECTIONS}
+use Rattle.sect_types.specs.declared.limits.TheConstants.{MOST_ALL_LOCALS, MOST_STATEMENTS, MOST_SITES, MOST_SECTIONS}
 use Rattle.sect_types.specs.declared.types.ValueType.{ValueType}
 use Rattle.sect_types.specs.Sight.{names_of_records}
-use Rattle.sect_types.specs.Rules.{Counts}
 use Rattle.sect_types.specs.Statements.{TextView, statement_count, made_in}
 use Rattle.sect_front.specs.declared.tree.Locking.{Locking}
 use Rattle.sect_types.specs.Lockings.{lockings_of}
-use Rattle.sect_types.specs.Numbered.{after_records, numbered_threads, after_threads}
-use Rattle.sect_types.specs.Environments.{Environment, field_types, global_records, local_types, IsInRange}
+use Rattle.sect_types.specs.Expanded.{texts_of, all_local_types}
+use Rattle.sect_types.specs.Environments.{Environment, field_types, global_records, IsInRange}
 use Rattle.sect_types.specs.Sound.{AreSound}
 use Rattle.sect_types.specs.Sections.{sections_of, AllNumbered, AllSited}
-use Rattle.sect_types.specs.First.{none_yet, IsTyped}
-
--- what stands before the first thread
-abbrev pub before_threads : TreeView → Counts
-before_threads t =
-    let c = after_records none_yet t.records in
-    record c { declared = c.declared + length t.globals; sites = c.sites + length t.globals }
-
--- the texts of the threads, by number
-abbrev pub texts_of : TreeView → List TextView
-texts_of t = numbered_threads t.records t.globals (before_threads t) t.threads
+use Rattle.sect_types.specs.First.{IsTyped}
 
 -- a program: its tree; the types of the fields of each record; the record of each global; the types of the locals of
--- each thread; the text of each thread; which locks each section takes
+-- each thread, the fresh ones after its own; the expanded text of each thread; which locks each section takes
 pub record ProgramView : Type 0 where
   pub source : TreeView
   pub records : List (List ValueType)
@@ -60,7 +49,7 @@ pub record IsWithinLimits (p : ProgramView) : Type 0 where
   pub few_globals : length p.globals ≤ MOST_GLOBALS
   pub few_threads : length p.texts ≤ MOST_THREADS
   pub as_many : length p.locals ≡ length p.texts
-  pub few_locals : All (λ (ts : List ValueType). length ts ≤ MOST_LOCALS) p.locals
+  pub few_locals : All (λ (ts : List ValueType). length ts ≤ MOST_ALL_LOCALS) p.locals
   pub few_statements : total_statements p.texts ≤ MOST_STATEMENTS
   pub few_sections : length (sections_of p.texts) ≤ MOST_SECTIONS
   pub few_sites : length (sites_of p.globals p.texts) ≤ MOST_SITES
@@ -75,7 +64,7 @@ pub record AreRecordsThere (p : ProgramView) : Type 0 where
 pub record IsOfTree (p : ProgramView) : Type 0 where
   pub records_are : p.records ≡ field_types (names_of_records p.source.records) p.source.records
   pub globals_are : p.globals ≡ global_records (names_of_records p.source.records) p.source.globals
-  pub locals_are : p.locals ≡ local_types (names_of_records p.source.records) p.source.threads
+  pub locals_are : p.locals ≡ all_local_types p.source
   pub texts_are : p.texts ≡ texts_of p.source
   pub lockings_are : p.lockings ≡ lockings_of p.source
 

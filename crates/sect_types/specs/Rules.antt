@@ -1,21 +1,27 @@
 -- The rules, and the first item that breaks one.
 use Rattle.std.specs.Prelude.{◌≤◌, ℕ, ◌+◌, Bool, true, false, not, ◌&&◌, ◌||◌, List, [], ◌∷◌, length, Option, Some}
-use Rattle.std.specs.Prelude.{None, is_some, nat_le, if◌then◌else◌}
+use Rattle.std.specs.Prelude.{None, is_some, nat_le, nat_lt, nat_eq, if◌then◌else◌, slice_get}
 use Rattle.sect_front.specs.declared.tree.Primitive as leaf
 use Rattle.sect_front.specs.declared.tree.Primitive.TheVariants as primitive
 use Rattle.sect_front.specs.declared.tree.Test.{Test}
+use Rattle.sect_front.specs.declared.tree.Operand.{Operand}
 use Rattle.sect_front.specs.declared.tree.Kind.{Kind}
 use Rattle.sect_front.specs.declared.tree.Kind.TheVariants as kind
 use Rattle.sect_front.specs.declared.tree.Comparison.{Comparison}
 use Rattle.sect_front.specs.declared.tree.Record.{Record}
 use Rattle.sect_front.specs.declared.tree.GlobalObject.{GlobalObject}
 use Rattle.sect_front.specs.declared.tree.Declaration.{Declaration}
+use Rattle.sect_front.specs.declared.tree.Procedure.{Procedure}
 use Rattle.sect_front.specs.TreeView.{TreeView}
+use Rattle.sect_front.specs.declared.limits.TheConstants.{MOST_DEPTH}
 use Rattle.sect_types.specs.declared.limits.TheConstants.{MOST_RECORDS, MOST_FIELDS, MOST_GLOBALS, MOST_THREADS}
 use Rattle.sect_types.specs.declared.limits.TheConstants.{MOST_LOCALS, MOST_STATEMENTS, MOST_SITES, MOST_SECTIONS}
-use Rattle.sect_types.specs.declared.limits.TheConstants.{MOST_DECLARED_ITEMS}
+use Rattle.sect_types.specs.declared.limits.TheConstants.{MOST_PROCEDURES, MOST_CALLS}
 use Rattle.sect_types.specs.declared.rule.Rule.{Rule}
 use Rattle.sect_types.specs.declared.rule.Rule.TheVariants.{Unknown, Twice, WrongType, SharedOutside, Nested, TooMany}
+use Rattle.sect_types.specs.declared.rule.Rule.TheVariants.{Recursion, Arguments}
+use Rattle.sect_types.specs.declared.place.Place.{Place}
+use Rattle.sect_types.specs.declared.place.Place.TheVariants.{InThread, InProcedure}
 use Rattle.sect_types.specs.declared.resolve.Denoted.{Denoted}
 use Rattle.sect_types.specs.declared.resolve.Denoted.TheVariants as denoted
 use Rattle.sect_types.specs.declared.resolve.Given.{Given}
@@ -23,30 +29,79 @@ use Rattle.sect_types.specs.declared.resolve.Looked.{Looked}
 use Rattle.sect_types.specs.declared.resolve.Looked.TheVariants as looked
 use Rattle.sect_types.specs.Sight.{Sight, has_name, names_of_records, names_of_globals, base_of, operand_of}
 use Rattle.sect_types.specs.Resolve.{same_kind, accepts, comparable, looked_of}
-use Rattle.sect_types.specs.Items.{Head, PrimitiveHead, TestHead, AtomicHead, Item, ARecord, AField, AGlobal, AThread}
-use Rattle.sect_types.specs.Items.{ALocal, AStatement}
+use Rattle.sect_types.specs.declared.sums.Sums.{Sums}
+use Rattle.sect_types.specs.Sums.{sums, sums_at, number_of, returns}
+use Rattle.sect_types.specs.Items.{Head, PrimitiveHead, TestHead, AtomicHead, CallHead, is_inside, Item, ARecord}
+use Rattle.sect_types.specs.Items.{AField}
+use Rattle.sect_types.specs.Items.{AGlobal, AProcedure, AThread, ALocal, AStatement}
 
--- what stands before an item: declarations, statements, sites, sections
+-- what all items see: the declarations, and what a call of each procedure comes to
+pub record Declared : Type 0 where
+  pub records : List Record
+  pub globals : List GlobalObject
+  pub procedures : List Procedure
+  pub table : List Sums
+
+abbrev pub declared_in : TreeView → Declared
+declared_in t = record {
+  records = t.records;
+  globals = t.globals;
+  procedures = t.procedures;
+  table = sums t.procedures;
+}
+
+abbrev pub sight : List Record → List GlobalObject → List Declaration → Sight
+sight rs gs ls = record { records = rs; globals = gs; locals = ls }
+
+abbrev pub seen : Declared → List Declaration → Sight
+seen d ls = sight d.records d.globals ls
+
+-- what stands before an item: items; and of the expanded text statements, sites, sections and calls
 pub record Counts : Type 0 where
-  pub declared : ℕ
+  pub items : ℕ
   pub statements : ℕ
   pub sites : ℕ
   pub sections : ℕ
+  pub calls : ℕ
+
+-- what a call comes to
+abbrev pub sums_of_call : Declared → List ℕ → Sums
+sums_of_call d f = sums_at d.table (number_of d.procedures f)
+
+abbrev pub plus_sums : Counts → Sums → Counts
+plus_sums c s = record {
+  items = c.items;
+  statements = c.statements + s.statements;
+  sites = c.sites + s.sites;
+  sections = c.sections;
+  calls = c.calls + s.calls;
+}
+
+abbrev pub after_item : Counts → Counts
+after_item c = record c { items = c.items + 1 }
 
 abbrev pub after_primitive : Counts → leaf.Primitive → Counts
-after_primitive c (primitive.New x r) = record c { statements = c.statements + 1; sites = c.sites + 1 }
-after_primitive c _ = record c { statements = c.statements + 1 }
+after_primitive c (primitive.New x r) =
+    record c { items = c.items + 1; statements = c.statements + 1; sites = c.sites + 1 }
+after_primitive c _ = record c { items = c.items + 1; statements = c.statements + 1 }
 
-abbrev pub after_head : Counts → Head → Counts
-after_head c (PrimitiveHead p) = after_primitive c p
-after_head c (TestHead t) = record c { statements = c.statements + 1 }
-after_head c AtomicHead = record c { statements = c.statements + 1; sections = c.sections + 1 }
+abbrev pub after_head : Declared → Counts → Head → Counts
+after_head d c (PrimitiveHead p) = after_primitive c p
+after_head d c (TestHead t) = record c { items = c.items + 1; statements = c.statements + 1 }
+after_head d c AtomicHead =
+    record c { items = c.items + 1; statements = c.statements + 1; sections = c.sections + 1 }
+after_head d c (CallHead f vs) = plus_sums (after_item c) (sums_of_call d f)
 
--- what stands before the next item. A global is a site
-abbrev pub after : Counts → Item → Counts
-after c (AStatement h ls inside) = after_head c h
-after c (AGlobal r x before) = record c { declared = c.declared + 1; sites = c.sites + 1 }
-after c _ = record c { declared = c.declared + 1 }
+-- the first in a thread, the second in a procedure
+abbrev pub by_place : {X : Type 0} → Place → X → X → X
+by_place (InThread inside depth) x y = x
+by_place (InProcedure p) x y = y
+
+-- what stands before the next item. A procedure's statements count for nothing where they stand; a global is a site
+abbrev pub after : Declared → Counts → Item → Counts
+after d c (AStatement h ls at) = by_place at (after_head d c h) (after_item c)
+after d c (AGlobal r x before) = record c { items = c.items + 1; sites = c.sites + 1 }
+after d c _ = after_item c
 
 -- 10: a name that nothing has
 abbrev pub has_field : Looked → Bool
@@ -72,34 +127,32 @@ knows_kind records (kind.Record r) = has_name r records
 abbrev pub knows_test : Sight → Test → Bool
 knows_test s t = is_some (operand_of s t.left) && is_some (operand_of s t.right)
 
-abbrev pub knows_head : Sight → Head → Bool
-knows_head s (PrimitiveHead p) = knows_primitive s p
-knows_head s (TestHead t) = knows_test s t
-knows_head s AtomicHead = true
+abbrev pub knows_operands : Sight → List Operand → Bool
+knows_operands s [] = true
+knows_operands s (v ∷ vs) = is_some (operand_of s v) && knows_operands s vs
 
-abbrev pub sight : List Record → List GlobalObject → List Declaration → Sight
-sight rs gs ls = record { records = rs; globals = gs; locals = ls }
+abbrev pub knows_head : Declared → Sight → Head → Bool
+knows_head d s (PrimitiveHead p) = knows_primitive s p
+knows_head d s (TestHead t) = knows_test s t
+knows_head d s AtomicHead = true
+knows_head d s (CallHead f vs) = is_some (number_of d.procedures f) && knows_operands s vs
 
--- what is declared, before any locals
-abbrev pub declared_in : TreeView → Sight
-declared_in t = sight t.records t.globals []
-
-abbrev pub unknown : List Record → List GlobalObject → Item → Bool
-unknown rs gs (ARecord x before) = false
-unknown rs gs (AField k x before) = not (knows_kind (names_of_records rs) k)
-unknown rs gs (AGlobal r x before) = not (has_name r (names_of_records rs))
-unknown rs gs (AThread x before) = false
-unknown rs gs (ALocal k x before) = not (knows_kind (names_of_records rs) k)
-unknown rs gs (AStatement h ls inside) = not (knows_head (sight rs gs ls) h)
+abbrev pub unknown : Declared → Item → Bool
+unknown d (AField k x before) = not (knows_kind (names_of_records d.records) k)
+unknown d (AGlobal r x before) = not (has_name r (names_of_records d.records))
+unknown d (ALocal k x before) = not (knows_kind (names_of_records d.records) k)
+unknown d (AStatement h ls at) = not (knows_head d (seen d ls) h)
+unknown d _ = false
 
 -- 11: a name that an earlier declaration has
-abbrev pub twice : List GlobalObject → Item → Bool
-twice gs (ARecord x before) = has_name x before
-twice gs (AField k x before) = has_name x before
-twice gs (AGlobal r x before) = has_name x before
-twice gs (AThread x before) = has_name x before
-twice gs (ALocal k x before) = has_name x before || has_name x (names_of_globals gs)
-twice gs (AStatement h ls inside) = false
+abbrev pub twice : Declared → Item → Bool
+twice d (ARecord x before) = has_name x before
+twice d (AField k x before) = has_name x before
+twice d (AGlobal r x before) = has_name x before
+twice d (AProcedure x before) = has_name x before
+twice d (AThread x before) = has_name x before
+twice d (ALocal k x before) = has_name x before || has_name x (names_of_globals d.globals)
+twice d (AStatement h ls at) = false
 
 -- 12: sides that differ in type
 abbrev pub local_accepts : Option Denoted → Option Given → Bool
@@ -135,58 +188,119 @@ abbrev pub compares : Comparison → Option Given → Option Given → Bool
 compares c (Some v) (Some w) = comparable c v w
 compares c _ _ = false
 
-abbrev pub head_agrees : Sight → Head → Bool
-head_agrees s (PrimitiveHead p) = primitive_agrees s p
-head_agrees s (TestHead t) = compares t.comparison (operand_of s t.left) (operand_of s t.right)
-head_agrees s AtomicHead = true
+-- the procedure that is called
+abbrev pub procedure_at : List Procedure → Option ℕ → Option Procedure
+procedure_at ps None = None
+procedure_at ps (Some q) = slice_get ps q
 
-abbrev pub mistyped : List Record → List GlobalObject → Item → Bool
-mistyped rs gs (AStatement h ls inside) = knows_head (sight rs gs ls) h && not (head_agrees (sight rs gs ls) h)
-mistyped rs gs _ = false
+abbrev pub procedure_of : List Procedure → List ℕ → Option Procedure
+procedure_of ps f = procedure_at ps (number_of ps f)
 
--- 13: shared outside a section
+-- as many arguments as parameters
+abbrev pub as_many : Option Procedure → List Operand → Bool
+as_many None vs = true
+as_many (Some p) vs = nat_eq (length p.parameters) (length vs)
+
+-- at a call, where the numbers agree; types are compared as they are written
+abbrev pub kind_accepts : Kind → Option Given → Bool
+kind_accepts k None = false
+kind_accepts k (Some v) = accepts k v
+
+abbrev pub all_accept : Sight → List Declaration → List Operand → Bool
+all_accept s (d ∷ ds) (v ∷ vs) = kind_accepts d.kind (operand_of s v) && all_accept s ds vs
+all_accept s _ _ = true
+
+abbrev pub call_agrees : Sight → Option Procedure → List Operand → Bool
+call_agrees s None vs = true
+call_agrees s (Some p) vs = not (as_many (Some p) vs) || all_accept s p.parameters vs
+
+abbrev pub head_agrees : Declared → Sight → Head → Bool
+head_agrees d s (PrimitiveHead p) = primitive_agrees s p
+head_agrees d s (TestHead t) = compares t.comparison (operand_of s t.left) (operand_of s t.right)
+head_agrees d s AtomicHead = true
+head_agrees d s (CallHead f vs) = call_agrees s (procedure_of d.procedures f) vs
+
+abbrev pub mistyped : Declared → Item → Bool
+mistyped d (AStatement h ls at) = knows_head d (seen d ls) h && not (head_agrees d (seen d ls) h)
+mistyped d _ = false
+
+-- 13: shared outside a section and outside a procedure
 abbrev pub shares : Head → Bool
 shares (PrimitiveHead (primitive.New x r)) = true
 shares (PrimitiveHead (primitive.Load x y f)) = true
 shares (PrimitiveHead (primitive.Store y f v)) = true
 shares (PrimitiveHead (primitive.Print v)) = true
+shares (CallHead f vs) = true
 shares _ = false
 
 abbrev pub outside : Item → Bool
-outside (AStatement h ls inside) = shares h && not inside
+outside (AStatement h ls at) = shares h && not (is_inside at)
 outside _ = false
 
--- 14: a section in a section
+-- 14: a section in a section or in a procedure
 abbrev pub is_atomic : Head → Bool
 is_atomic AtomicHead = true
 is_atomic _ = false
 
 abbrev pub nested : Item → Bool
-nested (AStatement h ls inside) = is_atomic h && inside
+nested (AStatement h ls at) = is_atomic h && is_inside at
 nested _ = false
 
--- 15: too many
-abbrev pub passes_limit : Counts → Head → Bool
-passes_limit c (PrimitiveHead (primitive.New x r)) = nat_le MOST_STATEMENTS c.statements || nat_le MOST_SITES c.sites
-passes_limit c AtomicHead = nat_le MOST_STATEMENTS c.statements || nat_le MOST_SECTIONS c.sections
-passes_limit c _ = nat_le MOST_STATEMENTS c.statements
+-- 15: too many, of which the statements of procedures are none where they stand. At a call its expansion is counted
+abbrev pub depth_at : Place → ℕ
+depth_at (InThread inside depth) = depth
+depth_at (InProcedure p) = 0
 
-abbrev pub too_many : Counts → Item → Bool
-too_many c (ARecord x before) = nat_le MOST_RECORDS (length before)
-too_many c (AField k x before) = nat_le MOST_FIELDS (length before)
-too_many c (AGlobal r x before) = nat_le MOST_GLOBALS (length before)
-too_many c (AThread x before) = nat_le MOST_THREADS (length before)
-too_many c (ALocal k x before) = nat_le MOST_LOCALS (length before)
-too_many c (AStatement h ls inside) = passes_limit c h
+abbrev pub passes_by : Counts → ℕ → Sums → Bool
+passes_by c depth s =
+    nat_lt MOST_STATEMENTS (c.statements + s.statements) || (nat_lt MOST_SITES (c.sites + s.sites)
+    || (nat_lt MOST_CALLS (c.calls + s.calls) || nat_lt MOST_DEPTH (depth + s.deep)))
+
+-- a call that breaks 10, 13 or 17 has no expansion
+abbrev pub expands : Declared → Sight → Bool → List ℕ → List Operand → Bool
+expands d s inside f vs = knows_head d s (CallHead f vs) && (inside && as_many (procedure_of d.procedures f) vs)
+
+abbrev pub passes_limit : Declared → Counts → Sight → Place → Head → Bool
+passes_limit d c s at (PrimitiveHead (primitive.New x r)) =
+    nat_le MOST_STATEMENTS c.statements || nat_le MOST_SITES c.sites
+passes_limit d c s at AtomicHead = nat_le MOST_STATEMENTS c.statements || nat_le MOST_SECTIONS c.sections
+passes_limit d c s at (CallHead f vs) =
+    expands d s (is_inside at) f vs && passes_by c (depth_at at) (sums_of_call d f)
+passes_limit d c s at _ = nat_le MOST_STATEMENTS c.statements
+
+abbrev pub too_many : Declared → Counts → Item → Bool
+too_many d c (ARecord x before) = nat_le MOST_RECORDS (length before)
+too_many d c (AField k x before) = nat_le MOST_FIELDS (length before)
+too_many d c (AGlobal r x before) = nat_le MOST_GLOBALS (length before)
+too_many d c (AProcedure x before) = nat_le MOST_PROCEDURES (length before)
+too_many d c (AThread x before) = nat_le MOST_THREADS (length before)
+too_many d c (ALocal k x before) = nat_le MOST_LOCALS (length before)
+too_many d c (AStatement h ls at) = by_place at (passes_limit d c (seen d ls) at h) false
+
+-- 16: a call in a procedure of one that is it or reaches it by calls
+abbrev pub returns_to : List Procedure → Place → Option ℕ → Bool
+returns_to ps (InProcedure p) (Some q) = returns ps p q
+returns_to ps _ _ = false
+
+abbrev pub recursive : Declared → Item → Bool
+recursive d (AStatement (CallHead f vs) ls at) = returns_to d.procedures at (number_of d.procedures f)
+recursive d _ = false
+
+-- 17: another number of arguments than of parameters
+abbrev pub miscounted : Declared → Item → Bool
+miscounted d (AStatement (CallHead f vs) ls at) = not (as_many (procedure_of d.procedures f) vs)
+miscounted d _ = false
 
 -- rule by rule
-abbrev pub breaks : List Record → List GlobalObject → Counts → Item → Rule → Bool
-breaks rs gs c item Unknown = unknown rs gs item
-breaks rs gs c item Twice = twice gs item
-breaks rs gs c item WrongType = mistyped rs gs item
-breaks rs gs c item SharedOutside = outside item
-breaks rs gs c item Nested = nested item
-breaks rs gs c item TooMany = too_many c item
+abbrev pub breaks : Declared → Counts → Item → Rule → Bool
+breaks d c item Unknown = unknown d item
+breaks d c item Twice = twice d item
+breaks d c item WrongType = mistyped d item
+breaks d c item SharedOutside = outside item
+breaks d c item Nested = nested item
+breaks d c item TooMany = too_many d c item
+breaks d c item Recursion = recursive d item
+breaks d c item Arguments = miscounted d item
 
 abbrev pub least : (Rule → Bool) → Option Rule
 least b =
@@ -195,14 +309,13 @@ least b =
     (if b WrongType then Some WrongType else
     (if b SharedOutside then Some SharedOutside else
     (if b Nested then Some Nested else
-    (if b TooMany then Some TooMany else None)))))
+    (if b TooMany then Some TooMany else
+    (if b Recursion then Some Recursion else
+    (if b Arguments then Some Arguments else None)))))))
 
 -- the least rule that an item breaks
-abbrev pub rule_of : List Record → List GlobalObject → Counts → Item → Option Rule
-rule_of rs gs c item = least (breaks rs gs c item)
-
-abbrev pub place_of : Counts → ℕ
-place_of c = c.declared + c.statements
+abbrev pub rule_of : Declared → Counts → Item → Option Rule
+rule_of d c item = least (breaks d c item)
 
 -- the first fault of a list of items
 pub data Verdict : Type 0 where
@@ -213,13 +326,13 @@ abbrev pub fault_or : Option Rule → ℕ → Verdict → Verdict
 fault_or None i rest = rest
 fault_or (Some r) i rest = Faulty i r
 
-abbrev pub judge : List Record → List GlobalObject → Counts → List Item → Verdict
-judge rs gs c [] = Fine c
-judge rs gs c (item ∷ more) = fault_or (rule_of rs gs c item) (place_of c) (judge rs gs (after c item) more)
+abbrev pub judge : Declared → Counts → List Item → Verdict
+judge d c [] = Fine c
+judge d c (item ∷ more) = fault_or (rule_of d c item) c.items (judge d (after d c item) more)
 
 -- what the counts may reach
-pub record IsWithin (declared statements sites sections : ℕ) : Type 0 where
-  pub few_declared : declared ≤ MOST_DECLARED_ITEMS
+pub record IsWithin (statements sites sections calls : ℕ) : Type 0 where
   pub few_statements : statements ≤ MOST_STATEMENTS
   pub few_sites : sites ≤ MOST_SITES
   pub few_sections : sections ≤ MOST_SECTIONS
+  pub few_calls : calls ≤ MOST_CALLS

@@ -2,21 +2,20 @@
 
 ghost use Rattle.std.specs.Prelude.{◌≡◌, ◌≤◌, ◌<◌, ◌+◌, ◌++◌, ◌∷◌, [], ◌||◌, not, true, IfOk, OnOk, nat_le, length};
 ghost use Rattle.sect_types.specs.Sight.{has_name, names_of_records, names_of_globals, names_of_declared, all_fields};
-ghost use Rattle.sect_types.specs.Items.{ARecord, AField, AGlobal, AThread, ALocal, record_items, field_items};
+ghost use Rattle.sect_types.specs.Items.{ARecord, AField, AGlobal, AProcedure, AThread, ALocal, record_items};
+ghost use Rattle.sect_types.specs.Items.{field_items};
 ghost use Rattle.sect_types.specs.Items.{global_items, local_items};
-ghost use Rattle.sect_types.specs.Rules.{knows_kind as knows, sight, declared_in};
+ghost use Rattle.sect_types.specs.Rules.{knows_kind as knows, declared_in};
 ghost use Rattle.sect_types.specs.steps.Walks.{Walks, rule_in, declared_rule};
-ghost use Rattle.sect_types.specs.Numbered.{after_records};
 ghost use Rattle.sect_types.specs.steps.Listing.{Knows, all_known, fields_fine, globals_known};
 
 use crate::limits::{
-    MOST_DECLARED_ITEMS, MOST_FIELDS, MOST_GLOBALS, MOST_LOCALS, MOST_RECORD_ITEMS, MOST_RECORDS,
-    MOST_SITES, MOST_THREADS,
+    MOST_FIELDS, MOST_GLOBALS, MOST_LOCALS, MOST_PROCEDURES, MOST_RECORDS, MOST_SITES, MOST_THREADS,
 };
 use crate::names::{NameSet, Names};
 use crate::rule::{Fault, Rule};
 use crate::spot::Spot;
-use sect_front::{Declaration, GlobalObject, Kind, Name, Record, Thread, Tree};
+use sect_front::{Declaration, GlobalObject, Kind, Name, Procedure, Record, Thread, Tree};
 use std::alloc::{AllocError, Global};
 
 fn judge_declared(
@@ -61,11 +60,10 @@ fn pass_field(
     field: &Declaration,
 ) -> Result<(), Fault>
     requires known { Knows known.now tree.now.records }
-    requires room { spot.old.declared < MOST_DECLARED_ITEMS }
     ensures walks { Walks (declared_in tree.now)
         (λ w. AField field.now.kind field.now.name names.old ∷ w) spot.old spot.new result }
     ensures names { OnOk result (names.new ≡ names.old ++ field.now.name ∷ []) }
-    ensures spot { OnOk result (spot.new ≡ record spot.old { declared = spot.old.declared + 1 }) }
+    ensures sites { OnOk result (spot.new.sites ≡ spot.old.sites) }
     ensures few { OnOk result (length names.old < 16) }
     ensures known { OnOk result (knows (names_of_records tree.now.records) field.now.kind ≡ true) }
 {
@@ -73,7 +71,7 @@ fn pass_field(
     match judge_declared(names, &field.name, known, false, MOST_FIELDS) {
         Ok(()) => {
             names.add(field.name)?;
-            spot.pass_declared();
+            spot.pass_item()?;
             Ok(())
         }
         Err(rule) => Err(Fault::Broken(spot.item(), rule)),
@@ -89,12 +87,10 @@ pub fn fields(
     list: &[Declaration],
 ) -> Result<Names, Fault>
     requires known { Knows known.now tree.now.records }
-    requires room { spot.old.declared + 16 < MOST_DECLARED_ITEMS }
     ensures walks { Walks (declared_in tree.now) (field_items [] list.now)
         spot.old spot.new result }
     ensures names { IfOk result (λ names. names ≡ names_of_declared list.now) }
-    ensures spot { OnOk result (spot.new
-        ≡ record spot.old { declared = spot.old.declared + length list.now }) }
+    ensures sites { OnOk result (spot.new.sites ≡ spot.old.sites) }
     ensures few { OnOk result (length list.now ≤ 16) }
     ensures known { OnOk result (all_known (names_of_records tree.now.records) list.now ≡ true) }
 {
@@ -117,17 +113,16 @@ pub fn known_records(alloc: Global, tree: &Tree) -> Result<NameSet, AllocError>
 }
 
 fn pass_record(tree: &Tree, names: &mut Names, spot: &mut Spot, of: &Record) -> Result<(), Fault>
-    requires room { spot.old.declared < MOST_DECLARED_ITEMS }
     ensures walks { Walks (declared_in tree.now) (λ w. ARecord of.now.name names.old ∷ w)
         spot.old spot.new result }
     ensures names { OnOk result (names.new ≡ names.old ++ of.now.name ∷ []) }
-    ensures spot { OnOk result (spot.new ≡ record spot.old { declared = spot.old.declared + 1 }) }
+    ensures sites { OnOk result (spot.new.sites ≡ spot.old.sites) }
     ensures few { OnOk result (length names.old < 64) }
 {
     match judge_declared(names, &of.name, true, false, MOST_RECORDS) {
         Ok(()) => {
             names.add(of.name)?;
-            spot.pass_declared();
+            spot.pass_item()?;
             Ok(())
         }
         Err(rule) => Err(Fault::Broken(spot.item(), rule)),
@@ -143,13 +138,11 @@ fn whole_record(
     of: &Record,
 ) -> Result<Names, Fault>
     requires known { Knows known.now tree.now.records }
-    requires room { spot.old.declared + 17 < MOST_DECLARED_ITEMS }
     ensures walks { Walks (declared_in tree.now) (λ w. ARecord of.now.name names.old
         ∷ field_items [] of.now.fields w) spot.old spot.new result }
     ensures names { OnOk result (names.new ≡ names.old ++ of.now.name ∷ []) }
     ensures fields { IfOk result (λ inner. inner ≡ names_of_declared of.now.fields) }
-    ensures spot { OnOk result (spot.new
-        ≡ record spot.old { declared = spot.old.declared + 1 + length of.now.fields }) }
+    ensures sites { OnOk result (spot.new.sites ≡ spot.old.sites) }
     ensures few { OnOk result (length names.old < 64) }
     ensures few_fields { OnOk result (length of.now.fields ≤ 16) }
     ensures known_fields { OnOk result (all_known (names_of_records tree.now.records)
@@ -167,13 +160,11 @@ pub fn records(
     spot: &mut Spot,
 ) -> Result<(Names, Vec<Names>), Fault>
     requires known { Knows known.now tree.now.records }
-    requires start { spot.old.declared ≡ 0 }
     ensures walks { Walks (declared_in tree.now) (record_items [] tree.now.records)
         spot.old spot.new result }
     ensures names { IfOk result (λ r. r.0 ≡ names_of_records tree.now.records) }
     ensures fields { IfOk result (λ r. r.1.items ≡ all_fields tree.now.records) }
-    ensures spot { OnOk result (spot.new ≡ after_records spot.old tree.now.records) }
-    ensures room { OnOk result (spot.new.declared ≤ MOST_RECORD_ITEMS) }
+    ensures sites { OnOk result (spot.new.sites ≡ spot.old.sites) }
     ensures few { OnOk result (length tree.now.records ≤ 64) }
     ensures fine { OnOk result (fields_fine (names_of_records tree.now.records) tree.now.records
         ≡ true) }
@@ -197,13 +188,11 @@ fn pass_global(
     global: &GlobalObject,
 ) -> Result<(), Fault>
     requires known { Knows known.now tree.now.records }
-    requires room { spot.old.declared < MOST_DECLARED_ITEMS }
     requires sites { spot.old.sites < MOST_SITES }
     ensures walks { Walks (declared_in tree.now)
         (λ w. AGlobal global.now.of global.now.name names.old ∷ w) spot.old spot.new result }
     ensures names { OnOk result (names.new ≡ names.old ++ global.now.name ∷ []) }
-    ensures spot { OnOk result (spot.new
-        ≡ record spot.old { declared = spot.old.declared + 1; sites = spot.old.sites + 1 }) }
+    ensures sites { OnOk result (spot.new.sites ≡ spot.old.sites + 1) }
     ensures few { OnOk result (length names.old < 256) }
     ensures known { OnOk result (has_name global.now.of (names_of_records tree.now.records)
         ≡ true) }
@@ -217,7 +206,7 @@ fn pass_global(
     ) {
         Ok(()) => {
             names.add(global.name)?;
-            spot.pass_global();
+            spot.pass_global()?;
             Ok(())
         }
         Err(rule) => Err(Fault::Broken(spot.item(), rule)),
@@ -227,17 +216,11 @@ fn pass_global(
 /// The names of the globals.
 pub fn globals(alloc: Global, tree: &Tree, known: &NameSet, spot: &mut Spot) -> Result<Names, Fault>
     requires known { Knows known.now tree.now.records }
-    requires room { spot.old.declared ≤ MOST_RECORD_ITEMS }
     requires start { spot.old.sites ≡ 0 }
     ensures walks { Walks (declared_in tree.now) (global_items [] tree.now.globals)
         spot.old spot.new result }
     ensures names { IfOk result (λ names. names ≡ names_of_globals tree.now.globals) }
-    ensures spot { OnOk result (spot.new
-        ≡ record spot.old {
-          declared = spot.old.declared + length tree.now.globals;
-          sites =
-              spot.old.sites + length tree.now.globals;
-        }) }
+    ensures sites { OnOk result (spot.new.sites ≡ length tree.now.globals) }
     ensures few { OnOk result (length tree.now.globals ≤ 256) }
     ensures known { OnOk result (globals_known (names_of_records tree.now.records)
         tree.now.globals ≡ true) }
@@ -259,11 +242,9 @@ fn pass_local(
 ) -> Result<(), Fault>
     requires known { Knows known.now tree.now.records }
     requires globals { global_names.now ≡ names_of_globals tree.now.globals }
-    requires room { spot.old.declared < MOST_DECLARED_ITEMS }
     ensures walks { Walks (declared_in tree.now)
         (λ w. ALocal local.now.kind local.now.name names.old ∷ w) spot.old spot.new result }
     ensures names { OnOk result (names.new ≡ names.old ++ local.now.name ∷ []) }
-    ensures spot { OnOk result (spot.new ≡ record spot.old { declared = spot.old.declared + 1 }) }
     ensures few { OnOk result (length names.old < 64) }
     ensures known { OnOk result (knows (names_of_records tree.now.records) local.now.kind ≡ true) }
 {
@@ -277,7 +258,7 @@ fn pass_local(
     ) {
         Ok(()) => {
             names.add(local.name)?;
-            spot.pass_declared();
+            spot.pass_item()?;
             Ok(())
         }
         Err(rule) => Err(Fault::Broken(spot.item(), rule)),
@@ -295,12 +276,9 @@ pub fn locals(
 ) -> Result<Names, Fault>
     requires known { Knows known.now tree.now.records }
     requires globals { global_names.now ≡ names_of_globals tree.now.globals }
-    requires room { spot.old.declared + 64 < MOST_DECLARED_ITEMS }
     ensures walks { Walks (declared_in tree.now) (local_items [] list.now)
         spot.old spot.new result }
     ensures names { IfOk result (λ names. names ≡ names_of_declared list.now) }
-    ensures spot { OnOk result (spot.new
-        ≡ record spot.old { declared = spot.old.declared + length list.now }) }
     ensures few { OnOk result (length list.now ≤ 64) }
     ensures known { OnOk result (all_known (names_of_records tree.now.records) list.now ≡ true) }
 {
@@ -311,23 +289,44 @@ pub fn locals(
     Ok(names)
 }
 
+/// Passes a procedure, before its variables.
+pub fn pass_procedure(
+    tree: &Tree,
+    names: &mut Names,
+    spot: &mut Spot,
+    procedure: &Procedure,
+) -> Result<(), Fault>
+    ensures walks { Walks (declared_in tree.now) (λ w. AProcedure procedure.now.name names.old ∷ w)
+        spot.old spot.new result }
+    ensures names { OnOk result (names.new ≡ names.old ++ procedure.now.name ∷ []) }
+    ensures few { OnOk result (length names.old < 64) }
+{
+    match judge_declared(names, &procedure.name, true, false, MOST_PROCEDURES) {
+        Ok(()) => {
+            names.add(procedure.name)?;
+            spot.pass_item()?;
+            Ok(())
+        }
+        Err(rule) => Err(Fault::Broken(spot.item(), rule)),
+    }
+}
+
+/// Passes a thread, before its locals.
 pub fn pass_thread(
     tree: &Tree,
     names: &mut Names,
     spot: &mut Spot,
     thread: &Thread,
 ) -> Result<(), Fault>
-    requires room { spot.old.declared < MOST_DECLARED_ITEMS }
     ensures walks { Walks (declared_in tree.now) (λ w. AThread thread.now.name names.old ∷ w)
         spot.old spot.new result }
     ensures names { OnOk result (names.new ≡ names.old ++ thread.now.name ∷ []) }
-    ensures spot { OnOk result (spot.new ≡ record spot.old { declared = spot.old.declared + 1 }) }
     ensures few { OnOk result (length names.old < 64) }
 {
     match judge_declared(names, &thread.name, true, false, MOST_THREADS) {
         Ok(()) => {
             names.add(thread.name)?;
-            spot.pass_declared();
+            spot.pass_item()?;
             Ok(())
         }
         Err(rule) => Err(Fault::Broken(spot.item(), rule)),

@@ -2,10 +2,15 @@
 #![tactic(auto)]
 
 mod action;
+mod called;
 mod declare;
+mod expand;
 mod limits;
+mod local_name;
 mod locking;
+mod moved;
 mod names;
+mod place;
 mod program;
 mod resolve;
 mod rule;
@@ -13,8 +18,10 @@ mod scope;
 mod section;
 mod spot;
 mod store;
+mod sums;
 mod text;
 mod types;
+mod variables;
 mod walk;
 
 pub use action::{Action, Base, Condition, Field, Label, Value};
@@ -22,6 +29,7 @@ pub use limits::{
     MOST_FIELDS, MOST_GLOBALS, MOST_LOCALS, MOST_RECORDS, MOST_SECTIONS, MOST_SITES,
     MOST_STATEMENTS, MOST_THREADS,
 };
+pub use local_name::LocalName;
 pub use program::{Program, check_types};
 pub use rule::TypeFault;
 pub use section::Section;

@@ -15,7 +15,7 @@ fn put_statement(out: &mut Vec<Locking>, statement: &Statement) -> Result<(), Al
         → out.new.items ++ w ≡ out.old.items ++ statement_lockings (statement_of statement.now) w) }
 {
     match statement {
-        Statement::Primitive(_) => Ok(()),
+        Statement::Primitive(_) | Statement::Call(_, _) => Ok(()),
         Statement::If(_, then) => put_block(out, then),
         Statement::IfElse(_, then, other) => {
             put_block(out, then)?;

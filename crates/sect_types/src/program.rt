@@ -1,42 +1,46 @@
 //! Typed programs.
 
 ghost use Rattle.std.specs.Prelude.{List, IsOkUnless, ◌≡◌, ◌≤◌, ◌<◌, ◌+◌, ◌++◌, ◌∷◌, [], true, false, IfOk, OnOk, Some};
-ghost use Rattle.std.specs.Prelude.{length, slice_get};
-ghost use Rattle.sect_types.specs.Sight.{names_of_records, names_of_globals, all_fields};
-ghost use Rattle.sect_types.specs.Items.{AThread, items, record_items, global_items, local_items, block_items};
-ghost use Rattle.sect_types.specs.Items.{thread_items};
-ghost use Rattle.sect_types.specs.Rules.{sight, declared_in};
+ghost use Rattle.std.specs.Prelude.{length, map, slice_get, slice_index_or};
+ghost use Rattle.sect_front.specs.Depth.{block_depth, procedures_depth, threads_depth};
+ghost use Rattle.sect_front.specs.declared.limits.TheConstants.{MOST_DEPTH};
+ghost use Rattle.sect_types.specs.Sight.{names_of_records, names_of_globals, names_of_declared, all_fields};
+ghost use Rattle.sect_types.specs.Items.{AProcedure, AThread, variables as variables_by, record_items, global_items};
+ghost use Rattle.sect_types.specs.Items.{local_items, block_items, procedure_items, thread_items};
+ghost use Rattle.sect_types.specs.declared.place.Place.TheVariants.{InThread, InProcedure};
+ghost use Rattle.sect_types.specs.Rules.{declared_in};
 ghost use Rattle.sect_types.specs.steps.Walks.{Walks};
 ghost use Rattle.sect_types.specs.steps.Listing.{Knows, all_known, fields_fine, globals_known, locals_fine};
-ghost use Rattle.sect_types.specs.Environments.{environment};
 ghost use Rattle.sect_types.specs.Sound.{IsSound, AreSound};
-ghost use Rattle.sect_types.specs.declared.types.ValueType.{ValueType};
 ghost use Rattle.sect_types.specs.declared.rule.TypeFault.TheVariants.{Memory};
 ghost use Rattle.sect_types.specs.Sections.{sections_of, AllNumbered, AllSited};
 ghost use Rattle.sect_types.specs.steps.Found.{section_shown};
-ghost use Rattle.sect_types.specs.Numbered.{numbered_block, within_thread, after_thread, after_threads};
-ghost use Rattle.sect_types.specs.Numbered.{numbered_threads};
+ghost use Rattle.sect_types.specs.Expanded.{fresh_in};
+ghost use Rattle.sect_types.specs.LocalNames.{all_local_names};
 ghost use Rattle.sect_types.specs.First.{Judges, none_yet, IsTyped};
-ghost use Rattle.sect_types.specs.steps.Threads.{AreThreadsSound};
+ghost use Rattle.sect_types.specs.steps.Threads.{variables_shown, variables_fine, local_names as names_of_locals};
 ghost use Rattle.sect_types.specs.steps.Counted.{IsCounted};
 ghost use Rattle.sect_types.specs.Programs.{IsWellNumbered, IsWithinLimits, AreRecordsThere, IsOfTree, environment_at};
 ghost use Rattle.sect_types.specs.Programs.{numbered_by, sites_of, total_statements};
 
-use crate::declare::{globals, known_records, locals, pass_thread, records};
-use crate::limits::{
-    MOST_DECLARED_ITEMS, MOST_SECTIONS, MOST_SHARED_ITEMS, MOST_SITES, MOST_STATEMENTS,
-    MOST_THREADS,
-};
+use crate::called::Called;
+use crate::declare::{globals, known_records, locals, pass_procedure, pass_thread, records};
+use crate::expand::{FreshLocals, World, expand};
+use crate::limits::{MOST_SECTIONS, MOST_SITES, MOST_STATEMENTS, MOST_THREADS};
+use crate::local_name::LocalName;
 use crate::locking::lockings;
 use crate::names::{NameSet, Names};
+use crate::place::Standing;
 use crate::rule::{Fault, TypeFault};
 use crate::scope::Scope;
 use crate::section::{Section, find};
 use crate::spot::Spot;
+use crate::sums::table;
 use crate::text::Text;
 use crate::types::{Types, field_types, global_records, local_types};
+use crate::variables::{Variables, all_of};
 use crate::walk::walk_block;
-use sect_front::{Locking, Thread, Tree, is_same};
+use sect_front::{Locking, Procedure, Thread, Tree, is_same};
 use std::alloc::{AllocError, Global};
 use std::marker::Model;
 
@@ -49,34 +53,116 @@ struct Shown<'a> {
     global_names: &'a Names,
 }
 
-/// The text of a thread by numbers.
-fn whole_thread(
+/// Judges a procedure, and gives its variables with their names.
+fn pass_whole_procedure(
     alloc: Global,
     tree: &Tree,
     shown: &Shown<'_>,
+    called: &Called<'_>,
     names: &mut Names,
     spot: &mut Spot,
-    thread: &Thread,
-) -> Result<Text, Fault>
+    procedure: &Procedure,
+) -> Result<Variables, Fault>
     requires known { Knows shown.now.known.now tree.now.records }
     requires records { shown.now.record_names.now ≡ names_of_records tree.now.records }
     requires fields { shown.now.field_names.now ≡ all_fields tree.now.records }
     requires globals { shown.now.global_names.now ≡ names_of_globals tree.now.globals }
-    requires room { spot.old.declared + 65 < MOST_DECLARED_ITEMS }
+    requires procedures { called.now ≡ tree.now.procedures }
+    requires there { length names.old < length tree.now.procedures }
+    requires shallow { block_depth procedure.now.body ≤ MOST_DEPTH }
+    ensures walks { Walks (declared_in tree.now) (λ w. AProcedure procedure.now.name names.old
+        ∷ local_items [] (variables_by procedure.now) (block_items (variables_by procedure.now)
+        (InProcedure (length names.old)) procedure.now.body w)) spot.old spot.new result }
+    ensures names { OnOk result (names.new ≡ names.old ++ procedure.now.name ∷ []) }
+    ensures shown { IfOk result (λ v. v ≡ variables_shown procedure.now) }
+    ensures few { OnOk result (length names.old < 64) }
+    ensures few_variables { OnOk result (length (variables_by procedure.now) ≤ 64) }
+    ensures known_variables { OnOk result (all_known (names_of_records tree.now.records)
+        (variables_by procedure.now) ≡ true) }
+{
+    let number = names.len();
+    pass_procedure(tree, names, spot, procedure)?;
+    let list = all_of(alloc, procedure)?;
+    let names = locals(
+        alloc,
+        tree,
+        shown.known,
+        shown.global_names,
+        spot,
+        list.as_slice(),
+    )?;
+    let scope = Scope::new(
+        tree.records(),
+        shown.record_names,
+        shown.field_names,
+        tree.globals(),
+        shown.global_names,
+        list.as_slice(),
+        &names,
+    );
+    let returning = called.returning(alloc, number)?;
+    let standing = Standing::in_procedure(called, number, returning.as_slice());
+    walk_block(&scope, spot, &standing, &procedure.body)?;
+    Ok(Variables::new(list, names))
+}
+
+/// Judges all procedures, and gives the variables of each with their names.
+fn procedures(
+    alloc: Global,
+    tree: &Tree,
+    shown: &Shown<'_>,
+    called: &Called<'_>,
+    spot: &mut Spot,
+) -> Result<Vec<Variables>, Fault>
+    requires known { Knows shown.now.known.now tree.now.records }
+    requires records { shown.now.record_names.now ≡ names_of_records tree.now.records }
+    requires fields { shown.now.field_names.now ≡ all_fields tree.now.records }
+    requires globals { shown.now.global_names.now ≡ names_of_globals tree.now.globals }
+    requires procedures { called.now ≡ tree.now.procedures }
+    requires shallow { procedures_depth tree.now.procedures ≤ MOST_DEPTH }
+    ensures walks { Walks (declared_in tree.now) (procedure_items 0 [] tree.now.procedures)
+        spot.old spot.new result }
+    ensures shown { IfOk result (λ all. all.items ≡ map variables_shown tree.now.procedures) }
+    ensures few { OnOk result (length tree.now.procedures ≤ 64) }
+    ensures fine { OnOk result (variables_fine (names_of_records tree.now.records)
+        tree.now.procedures ≡ true) }
+{
+    let mut names = Names::new(alloc);
+    let mut all = Vec::new(alloc);
+    for procedure in tree.procedures() {
+        match pass_whole_procedure(alloc, tree, shown, called, &mut names, spot, procedure) {
+            Ok(variables) => all.push(variables)?,
+            Err(fault) => return Err(fault),
+        }
+    }
+    Ok(all)
+}
+
+/// Judges a thread, and gives the names of its locals.
+fn whole_thread(
+    alloc: Global,
+    tree: &Tree,
+    shown: &Shown<'_>,
+    standing: &Standing<'_>,
+    names: &mut Names,
+    spot: &mut Spot,
+    thread: &Thread,
+) -> Result<Names, Fault>
+    requires known { Knows shown.now.known.now tree.now.records }
+    requires records { shown.now.record_names.now ≡ names_of_records tree.now.records }
+    requires fields { shown.now.field_names.now ≡ all_fields tree.now.records }
+    requires globals { shown.now.global_names.now ≡ names_of_globals tree.now.globals }
+    requires standing { standing.now ≡ record { procedures = tree.now.procedures; at = InThread false 1 } }
+    requires shallow { block_depth thread.now.body + 1 ≤ MOST_DEPTH }
     ensures walks { Walks (declared_in tree.now) (λ w. AThread thread.now.name names.old
-        ∷ local_items [] thread.now.locals (block_items thread.now.locals false
+        ∷ local_items [] thread.now.locals (block_items thread.now.locals (InThread false 1)
         thread.now.body w)) spot.old spot.new result }
     ensures names { OnOk result (names.new ≡ names.old ++ thread.now.name ∷ []) }
-    ensures text { IfOk result (λ text. text ≡ numbered_block
-        (sight tree.now.records tree.now.globals thread.now.locals) (within_thread spot.old
-        thread.now) thread.now.body) }
-    ensures spot { OnOk result (spot.new ≡ after_thread spot.old thread.now) }
+    ensures locals { IfOk result (λ own. own ≡ names_of_declared thread.now.locals) }
     ensures few { OnOk result (length names.old < 64) }
     ensures few_locals { OnOk result (length thread.now.locals ≤ 64) }
     ensures known_locals { OnOk result (all_known (names_of_records tree.now.records)
         thread.now.locals ≡ true) }
-    ensures sound { IfOk result (λ text. IsSound (environment
-        (sight tree.now.records tree.now.globals thread.now.locals)) false text) }
 {
     pass_thread(tree, names, spot, thread)?;
     let list = thread.locals.as_slice();
@@ -90,42 +176,40 @@ fn whole_thread(
         list,
         &local_names,
     );
-    walk_block(alloc, &scope, spot, false, &thread.body)
+    walk_block(&scope, spot, standing, &thread.body)?;
+    Ok(local_names)
 }
 
-/// The texts of all threads.
+/// Judges all threads, and gives the names of the locals of each.
 fn threads(
     alloc: Global,
     tree: &Tree,
     shown: &Shown<'_>,
+    standing: &Standing<'_>,
     spot: &mut Spot,
-) -> Result<Vec<Text>, Fault>
+) -> Result<Vec<Names>, Fault>
     requires known { Knows shown.now.known.now tree.now.records }
     requires records { shown.now.record_names.now ≡ names_of_records tree.now.records }
     requires fields { shown.now.field_names.now ≡ all_fields tree.now.records }
     requires globals { shown.now.global_names.now ≡ names_of_globals tree.now.globals }
-    requires room { spot.old.declared ≤ MOST_SHARED_ITEMS }
+    requires standing { standing.now ≡ record { procedures = tree.now.procedures; at = InThread false 1 } }
+    requires shallow { threads_depth tree.now.threads ≤ MOST_DEPTH }
     ensures walks { Walks (declared_in tree.now) (thread_items [] tree.now.threads)
         spot.old spot.new result }
-    ensures texts { IfOk result (λ texts. texts.items
-        ≡ numbered_threads tree.now.records tree.now.globals spot.old tree.now.threads) }
-    ensures spot { OnOk result (spot.new ≡ after_threads spot.old tree.now.threads) }
+    ensures locals { IfOk result (λ all. all.items ≡ names_of_locals tree.now.threads) }
     ensures few { OnOk result (length tree.now.threads ≤ 64) }
     ensures fine { OnOk result (locals_fine (names_of_records tree.now.records) tree.now.threads
         ≡ true) }
-    ensures sound { IfOk result
-        (λ texts. AreThreadsSound tree.now.records tree.now.globals tree.now.threads
-        texts.items) }
 {
     let mut names = Names::new(alloc);
-    let mut texts = Vec::new(alloc);
+    let mut all = Vec::new(alloc);
     for thread in tree.threads() {
-        match whole_thread(alloc, tree, shown, &mut names, spot, thread) {
-            Ok(text) => texts.push(text)?,
+        match whole_thread(alloc, tree, shown, standing, &mut names, spot, thread) {
+            Ok(locals) => all.push(locals)?,
             Err(fault) => return Err(fault),
         }
     }
-    Ok(texts)
+    Ok(all)
 }
 
 /// What a program keeps beside its tree.
@@ -134,6 +218,7 @@ struct Parts {
     records: Vec<Types>,
     globals: Vec<u16>,
     locals: Vec<Types>,
+    fresh: Vec<FreshLocals>,
     texts: Vec<Text>,
     lockings: Vec<Locking>,
     section_count: u16,
@@ -145,27 +230,43 @@ struct Parts {
 fn number_tree(
     alloc: Global,
     tree: &Tree,
-    record_names: &Names,
-    texts: Vec<Text>,
+    shown: &Shown<'_>,
+    called: &Called<'_>,
+    variables: &[Variables],
+    local_names: &[Names],
     spot: &Spot,
 ) -> Result<Parts, AllocError>
-    requires names { record_names.now ≡ names_of_records tree.now.records }
-    requires fields { fields_fine (names_of_records tree.now.records) tree.now.records ≡ true }
-    requires globals { globals_known (names_of_records tree.now.records) tree.now.globals ≡ true }
-    requires locals { locals_fine (names_of_records tree.now.records) tree.now.threads ≡ true }
-    requires counted { IsCounted tree.now texts.items spot.now }
-    ensures { IfOk result (λ p. IsWellNumbered (numbered_by tree.now
+    requires records { shown.now.record_names.now ≡ names_of_records tree.now.records }
+    requires fields { shown.now.field_names.now ≡ all_fields tree.now.records }
+    requires globals { shown.now.global_names.now ≡ names_of_globals tree.now.globals }
+    requires procedures { called.now ≡ tree.now.procedures }
+    requires variables { variables.now ≡ map variables_shown tree.now.procedures }
+    requires locals { local_names.now ≡ names_of_locals tree.now.threads }
+    requires counted { IsCounted tree.now spot.now }
+    ensures numbers { IfOk result (λ p. IsWellNumbered (numbered_by tree.now
         p.records.items p.globals.items p.locals.items p.texts.items p.lockings.items)
         p.section_count p.site_count p.statement_count) }
+    ensures fresh { IfOk result (λ p. p.fresh.items ≡ map (fresh_in tree.now) tree.now.threads) }
 {
-    let records = field_types(alloc, record_names, tree.records())?;
-    let globals = global_records(alloc, record_names, tree.globals())?;
-    let locals = local_types(alloc, record_names, tree.threads())?;
+    let records = field_types(alloc, shown.record_names, tree.records())?;
+    let globals = global_records(alloc, shown.record_names, tree.globals())?;
+    let world = World::new(
+        tree.records(),
+        shown.record_names,
+        shown.field_names,
+        tree.globals(),
+        shown.global_names,
+        called,
+        variables,
+    );
+    let (texts, fresh) = expand(alloc, &world, tree.threads(), local_names)?;
+    let locals = local_types(alloc, shown.record_names, tree.threads(), fresh.as_slice())?;
     let lockings = lockings(alloc, tree)?;
     Ok(Parts {
         records,
         globals,
         locals,
+        fresh,
         texts,
         lockings,
         section_count: spot.sections(),
@@ -179,12 +280,16 @@ fn judge_tree(alloc: Global, tree: &Tree, spot: &mut Spot) -> Result<Parts, Faul
     requires { spot.old ≡ none_yet }
     ensures walks { Walks (declared_in tree.now)
         (λ w. record_items [] tree.now.records (global_items [] tree.now.globals
-        (thread_items [] tree.now.threads w))) spot.old spot.new result }
+        (procedure_items 0 [] tree.now.procedures (thread_items [] tree.now.threads w))))
+        spot.old spot.new result }
     ensures parts { IfOk result (λ p. IsWellNumbered (numbered_by tree.now
         p.records.items p.globals.items p.locals.items p.texts.items p.lockings.items)
         p.section_count p.site_count p.statement_count) }
+    ensures fresh { IfOk result (λ p. p.fresh.items ≡ map (fresh_in tree.now) tree.now.threads) }
 {
+    let _ = tree.is_empty();
     let known = known_records(alloc, tree)?;
+    let called = Called::new(alloc, tree.procedures())?;
     let (record_names, field_names) = records(alloc, tree, &known, spot)?;
     let global_names = globals(alloc, tree, &known, spot)?;
     let shown = Shown {
@@ -193,8 +298,19 @@ fn judge_tree(alloc: Global, tree: &Tree, spot: &mut Spot) -> Result<Parts, Faul
         field_names: field_names.as_slice(),
         global_names: &global_names,
     };
-    let texts = threads(alloc, tree, &shown, spot)?;
-    let parts = number_tree(alloc, tree, &record_names, texts, spot)?;
+    let variables = procedures(alloc, tree, &shown, &called, spot)?;
+    let table = table(alloc, &called)?;
+    let standing = Standing::in_thread(&called, table.as_slice());
+    let local_names = threads(alloc, tree, &shown, &standing, spot)?;
+    let parts = number_tree(
+        alloc,
+        tree,
+        &shown,
+        &called,
+        variables.as_slice(),
+        local_names.as_slice(),
+        spot,
+    )?;
     Ok(parts)
 }
 
@@ -208,6 +324,7 @@ pub struct Program {
     records: Vec<Types>,
     globals: Vec<u16>,
     locals: Vec<Types>,
+    fresh: Vec<FreshLocals>,
     texts: Vec<Text>,
     lockings: Vec<Locking>,
     section_count: u16,
@@ -229,9 +346,13 @@ impl Model for Program {
     ghost view = { λ p.
         numbered_by p.tree p.records.items p.globals.items p.locals.items p.texts.items p.lockings.items };
 
+    ghost use Rattle.std.specs.Prelude.{◌≡◌, map};
+    ghost use Rattle.sect_types.specs.Expanded.{fresh_in};
+
     ghost invariant = { λ p. IsProgram
         (numbered_by p.tree p.records.items p.globals.items p.locals.items p.texts.items p.lockings.items)
-        p.section_count p.site_count p.statement_count };
+        p.section_count p.site_count p.statement_count
+        × (p.fresh.items ≡ map (fresh_in p.tree) p.tree.threads) };
 }
 
 impl Program {
@@ -286,6 +407,28 @@ impl Program {
         ensures { result.now ≡ self.now.locals }
     {
         self.locals.as_slice()
+    }
+
+    /// What a local of a thread is called.
+    pub fn local_name(&self, thread: u16, number: u16) -> LocalName
+        requires { number < length (slice_index_or self.now.locals thread []) }
+        ensures { slice_get (slice_index_or (all_local_names self.now.source) thread []) number ≡ Some result }
+    {
+        let own = self.tree.threads()[thread as usize].locals.as_slice();
+        match own.get(number as usize) {
+            Some(local) => LocalName {
+                name: local.name,
+                call: None,
+            },
+            None => {
+                let place = number as usize - own.len();
+                let fresh = self.fresh[thread as usize].as_slice()[place];
+                LocalName {
+                    name: fresh.declared.name,
+                    call: Some(fresh.call as u32),
+                }
+            }
+        }
     }
 
     /// How many threads there are, at most 64.
@@ -362,6 +505,7 @@ pub fn check_types(alloc: Global, tree: Tree) -> Result<Program, TypeFault>
         records: parts.records,
         globals: parts.globals,
         locals: parts.locals,
+        fresh: parts.fresh,
         texts: parts.texts,
         lockings: parts.lockings,
         section_count: parts.section_count,

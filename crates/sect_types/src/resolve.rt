@@ -121,7 +121,8 @@ fn value_at(denoted: &Denoted) -> Value
     }
 }
 
-fn value(given: &Given) -> Value
+/// The value of an operand.
+pub fn value(given: &Given) -> Value
     ensures { result ≡ value_by given.now }
 {
     match given {

@@ -1,5 +1,6 @@
 //! The rules that a typed program obeys, and the faults that name them.
 
+use crate::spot::Uncounted;
 use std::alloc::{AllocError, AllocFailed};
 use thiserror::Error;
 
@@ -12,12 +13,16 @@ pub enum Rule {
     Twice,
     /// Types that don't agree.
     WrongType,
-    /// A load, a store, a `new` or a `print` outside a section.
+    /// A load, a store, a `new`, a `print` or a `call` outside a section and outside a procedure.
     SharedOutside,
-    /// A section in a section.
+    /// A section in a section or in a procedure.
     Nested,
     /// An item that passes a limit.
     TooMany,
+    /// A call in a procedure of one that is it or reaches it by calls.
+    Recursion,
+    /// A call with another number of arguments than the procedure has parameters.
+    Arguments,
 }
 
 /// Why a walk through the items ends early.
@@ -28,8 +33,8 @@ pub enum Fault {
     Broken(u32, Rule),
 }
 
-/// Why a tree has no program. An item is a record, a field, a global, a thread, a local or a statement; items are
-/// numbered from 0 in text order.
+/// Why a tree has no program. An item is a record, a field, a global, a procedure, a thread, a parameter, a local or a
+/// statement; items are numbered from 0 in text order.
 #[derive(Debug, Drop, Error)]
 pub enum TypeFault {
     /// Want of memory.
@@ -44,15 +49,21 @@ pub enum TypeFault {
     /// All names in the item are known, and their types don't agree.
     #[error("12 WrongType item {item}")]
     WrongType { item: u32 },
-    /// The item is a load, a store, a `new` or a `print` and stands outside `atomic`.
+    /// The item is a load, a store, a `new`, a `print` or a `call` and stands outside `atomic` and outside `proc`.
     #[error("13 SharedOutside item {item}")]
     SharedOutside { item: u32 },
-    /// The item is an `atomic` inside `atomic`.
+    /// The item is an `atomic` inside `atomic` or `proc`.
     #[error("14 Nested item {item}")]
     Nested { item: u32 },
-    /// The item is the first of its kind past a limit.
+    /// The item is the first of its kind past a limit, or a call whose expansion passes one.
     #[error("15 TooMany item {item}")]
     TooMany { item: u32 },
+    /// The item is a call in a procedure of one that is it or reaches it by calls.
+    #[error("16 Recursion item {item}")]
+    Recursion { item: u32 },
+    /// The item is a call with another number of arguments than the procedure has parameters.
+    #[error("17 Arguments item {item}")]
+    Arguments { item: u32 },
 }
 
 impl From<AllocError> for Fault {
@@ -77,6 +88,17 @@ impl<T: Drop> From<AllocFailed<T>> for Fault {
     }
 }
 
+impl From<Uncounted> for Fault {
+    ghost use Rattle.std.specs.Prelude.{◌≡◌};
+    ghost use Rattle.sect_types.specs.declared.rule.Fault.TheVariants.{Memory};
+
+    ghost from_gives = { λ _ e. e ≡ Memory };
+
+    fn from(_past: Uncounted) -> Fault {
+        Fault::Memory
+    }
+}
+
 impl From<Fault> for TypeFault {
     ghost use Rattle.std.specs.Prelude.{◌≡◌};
     ghost use Rattle.sect_types.specs.Faults.{type_fault};
@@ -93,6 +115,8 @@ impl From<Fault> for TypeFault {
                 Rule::SharedOutside => TypeFault::SharedOutside { item },
                 Rule::Nested => TypeFault::Nested { item },
                 Rule::TooMany => TypeFault::TooMany { item },
+                Rule::Recursion => TypeFault::Recursion { item },
+                Rule::Arguments => TypeFault::Arguments { item },
             },
         }
     }

@@ -1,17 +1,27 @@
 //! What the names of a statement denote.
 
-ghost use Rattle.std.specs.Prelude.{◌≡◌};
+ghost use Rattle.std.specs.Prelude.{◌≡◌, ◌≤◌, ◌+◌, length};
 ghost use Rattle.sect_types.specs.Sight.{base_of, operand_of, field_of, names_of_records, names_of_globals};
 ghost use Rattle.sect_types.specs.Sight.{names_of_declared, all_fields};
 ghost use Rattle.sect_types.specs.Resolve.{looked_of, primitive_of, test_of};
+ghost use Rattle.sect_types.specs.Numbered.{action_in, condition_in};
+ghost use Rattle.sect_types.specs.Expanded.{argument_in, moved_action as moved_action_by};
+ghost use Rattle.sect_types.specs.Expanded.{moved_condition as moved_condition_by};
+ghost use Rattle.sect_types.specs.declared.limits.TheConstants.{MOST_ALL_LOCALS};
+ghost use Rattle.sect_types.specs.steps.Walks.{rule_in};
+ghost use Rattle.sect_types.specs.Rules.{knows_operands, kind_accepts, all_accept};
 
-use crate::action::{Action, Condition, Field};
+use crate::action::{Action, Condition, Field, Value};
+use crate::moved::{moved_action, moved_condition, moved_value};
 use crate::names::Names;
 use crate::resolve::{
-    Denoted, FieldAt, Given, Looked, assign, compute, condition, kind_of, load, make, print, store,
+    Denoted, FieldAt, Given, Looked, accepts, assign, compute, condition, kind_of, load, make,
+    print, store, value,
 };
 use crate::rule::Rule;
-use sect_front::{Declaration, GlobalObject, Kind, Name, Operand, Primitive, Record, Test};
+use sect_front::{
+    Comparison, Declaration, GlobalObject, Kind, Name, Operand, Primitive, Record, Test,
+};
 use std::marker::Model;
 
 /// The declarations that a statement sees, with their names by number.
@@ -128,6 +138,41 @@ impl<'a> Scope<'a> {
         }
     }
 
+    /// Whether the names in all of these operands are known.
+    pub fn knows_all(&self, operands: &[Operand]) -> bool
+        ensures { result ≡ knows_operands self.now operands.now }
+    {
+        for operand in operands {
+            if self.operand(operand).is_none() {
+                return false;
+            }
+        }
+        true
+    }
+
+    /// Whether a variable of this type can be set to the operand.
+    fn accepts(&self, kind: Kind, operand: &Operand) -> bool
+        ensures { result ≡ kind_accepts kind (operand_of self.now operand.now) }
+    {
+        match self.operand(operand) {
+            None => false,
+            Some(given) => accepts(kind, &given),
+        }
+    }
+
+    /// Whether these parameters can be set to these operands, of which there are as many.
+    pub fn accepts_all(&self, parameters: &[Declaration], operands: &[Operand]) -> bool
+        requires { length parameters.now ≡ length operands.now }
+        ensures { result ≡ all_accept self.now parameters.now operands.now }
+    {
+        for place in 0..parameters.len() {
+            if !self.accepts(parameters[place].kind, &operands[place]) {
+                return false;
+            }
+        }
+        true
+    }
+
     /// A statement without a block by numbers; if it is a `new`, its object has this site.
     pub fn primitive(&self, site: u16, primitive: &Primitive) -> Result<Action, Rule>
         ensures { result ≡ primitive_of self.now site primitive.now }
@@ -152,6 +197,63 @@ impl<'a> Scope<'a> {
                 store(to, &field, self.operand(v))
             }
             Primitive::Print(v) => print(self.operand(v)),
+        }
+    }
+
+    /// The rule of types that a statement without a block breaks, if any.
+    pub fn judge_primitive(&self, primitive: &Primitive) -> Result<(), Rule>
+        ensures { rule_in result ≡ rule_in (primitive_of self.now 0 primitive.now) }
+    {
+        match self.primitive(0, primitive) {
+            Ok(_) => Ok(()),
+            Err(rule) => Err(rule),
+        }
+    }
+
+    /// The rule of types that a test breaks, if any.
+    pub fn judge_test(&self, test: &Test) -> Result<(), Rule>
+        ensures { rule_in result ≡ rule_in (test_of self.now test.now) }
+    {
+        match self.test(test) {
+            Ok(_) => Ok(()),
+            Err(rule) => Err(rule),
+        }
+    }
+
+    /// The argument of a call by numbers, where the variables have the numbers from `first` on.
+    pub fn argument(&self, first: u16, operand: &Operand) -> Value
+        requires { first + length self.now.locals ≤ MOST_ALL_LOCALS }
+        ensures { result ≡ argument_in first (operand_of self.now operand.now) }
+    {
+        match self.operand(operand) {
+            None => Value::Null,
+            Some(given) => moved_value(first, &value(&given)),
+        }
+    }
+
+    /// A statement without a block by numbers, where the variables have the numbers from `first` on.
+    pub fn action(&self, first: u16, site: u16, primitive: &Primitive) -> Action
+        requires { first + length self.now.locals ≤ MOST_ALL_LOCALS }
+        ensures { result ≡ moved_action_by first (action_in (primitive_of self.now site primitive.now)) }
+    {
+        match self.primitive(site, primitive) {
+            Err(_) => Action::Print(Value::Null),
+            Ok(action) => moved_action(first, &action),
+        }
+    }
+
+    /// A test by numbers, where the variables have the numbers from `first` on.
+    pub fn condition(&self, first: u16, test: &Test) -> Condition
+        requires { first + length self.now.locals ≤ MOST_ALL_LOCALS }
+        ensures { result ≡ moved_condition_by first (condition_in (test_of self.now test.now)) }
+    {
+        match self.test(test) {
+            Err(_) => Condition {
+                left: Value::Null,
+                comparison: Comparison::Equal,
+                right: Value::Null,
+            },
+            Ok(condition) => moved_condition(first, &condition),
         }
     }
 

@@ -1,20 +1,29 @@
 //! How far a walk through the items has come.
 
-ghost use Rattle.std.specs.Prelude.{◌≡◌, ◌+◌, ◌<◌, ◌≤◌, false, nat_le};
-ghost use Rattle.sect_types.specs.Items.{PrimitiveHead, AtomicHead};
-ghost use Rattle.sect_types.specs.Rules.{passes_limit, after_primitive, after_head, place_of};
+ghost use Rattle.std.specs.Prelude.{◌≡◌, ◌+◌, ◌<◌, ◌≤◌, OnOk, false, nat_le};
+ghost use Rattle.sect_types.specs.Items.{PrimitiveHead, TestHead, AtomicHead};
+ghost use Rattle.sect_types.specs.Rules.{passes_by, after_item, after_primitive, plus_sums};
+ghost use Rattle.sect_types.specs.steps.Spots.{full_for, full_for_section};
+ghost use Rattle.sect_types.specs.steps.Capped.{IsSmall};
 
-use crate::limits::{MOST_DECLARED_ITEMS, MOST_SECTIONS, MOST_SITES, MOST_STATEMENTS};
-use sect_front::Primitive;
+use crate::limits::{MOST_CALLS, MOST_SECTIONS, MOST_SITES, MOST_STATEMENTS};
+use crate::sums::Sums;
+use sect_front::{MOST_DEPTH, Primitive};
 use std::marker::Model;
 
-/// What stands before the next item: how many declarations, statements, sites and sections.
+/// There are more items than are counted.
+#[derive(Clone, Copy)]
+pub struct Uncounted;
+
+/// What stands before the next item: how many items; and of the expanded text how many statements, sites, sections and
+/// calls.
 #[derive(Drop)]
 pub struct Spot {
-    declared: u32,
+    items: u32,
     statements: u32,
     sites: u16,
     sections: u16,
+    calls: u16,
 }
 
 impl Model for Spot {
@@ -23,33 +32,35 @@ impl Model for Spot {
     ghost Value = { Counts };
 
     ghost view = { λ s. record {
-      declared = s.declared;
+      items = s.items;
       statements = s.statements;
       sites = s.sites;
       sections = s.sections;
+      calls = s.calls;
     } };
 
-    ghost invariant = { λ s. IsWithin s.declared s.statements s.sites s.sections };
+    ghost invariant = { λ s. IsWithin s.statements s.sites s.sections s.calls };
 }
 
 impl Spot {
     /// The start of the text.
     pub fn start() -> Spot
-        ensures { result ≡ record { declared = 0; statements = 0; sites = 0; sections = 0 } }
+        ensures { result ≡ record { items = 0; statements = 0; sites = 0; sections = 0; calls = 0 } }
     {
         Spot {
-            declared: 0,
+            items: 0,
             statements: 0,
             sites: 0,
             sections: 0,
+            calls: 0,
         }
     }
 
     /// The number of the next item.
     pub fn item(&self) -> u32
-        ensures { result ≡ place_of self.now }
+        ensures { result ≡ self.now.items }
     {
-        self.declared + self.statements
+        self.items
     }
 
     /// How many statements stand before.
@@ -60,7 +71,7 @@ impl Spot {
         self.statements
     }
 
-    /// How many sites stand before, which is the number of the next one.
+    /// How many sites stand before.
     pub fn sites(&self) -> u16
         ensures count { result ≡ self.now.sites }
         ensures few { result ≤ MOST_SITES }
@@ -78,7 +89,7 @@ impl Spot {
 
     /// Whether this statement passes a limit here.
     pub fn is_full_for(&self, primitive: &Primitive) -> bool
-        ensures { result ≡ passes_limit self.now (PrimitiveHead primitive.now) }
+        ensures { result ≡ full_for self.now primitive.now }
     {
         match primitive {
             Primitive::New(_, _) => self.statements >= MOST_STATEMENTS || self.sites >= MOST_SITES,
@@ -95,61 +106,94 @@ impl Spot {
 
     /// Whether a section passes a limit here.
     pub fn is_full_for_section(&self) -> bool
-        ensures { result ≡ passes_limit self.now AtomicHead }
+        ensures { result ≡ full_for_section self.now }
     {
         self.statements >= MOST_STATEMENTS || self.sections >= MOST_SECTIONS
     }
 
-    /// Passes a record, a field, a thread or a local.
-    pub fn pass_declared(&mut self)
-        requires { self.old.declared < MOST_DECLARED_ITEMS }
-        ensures { self.new ≡ record self.old { declared = self.old.declared + 1 } }
+    /// Whether an expansion that comes to this passes a limit here, in a block of this depth.
+    pub fn passes(&self, sums: Sums, depth: usize) -> bool
+        requires small { IsSmall sums }
+        requires shallow { depth ≤ MOST_DEPTH }
+        ensures { result ≡ passes_by self.now depth sums }
     {
-        self.declared += 1;
+        self.statements + u32::from(sums.statements) > MOST_STATEMENTS
+            || self.sites + sums.sites > MOST_SITES
+            || self.calls + sums.calls > MOST_CALLS
+            || depth + usize::from(sums.deep) > MOST_DEPTH
+    }
+
+    /// Passes an item that isn't counted but as an item.
+    pub fn pass_item(&mut self) -> Result<(), Uncounted>
+        ensures { OnOk result (self.new ≡ after_item self.old) }
+    {
+        if self.items == u32::MAX {
+            return Err(Uncounted);
+        }
+        self.items += 1;
+        Ok(())
     }
 
     /// Passes a global, which is a site too.
-    pub fn pass_global(&mut self)
-        requires room { self.old.declared < MOST_DECLARED_ITEMS }
-        requires sites { self.old.sites < MOST_SITES }
-        ensures { self.new ≡ record self.old {
-          declared = self.old.declared + 1;
-          sites =
-              self.old.sites + 1;
-        } }
+    pub fn pass_global(&mut self) -> Result<(), Uncounted>
+        requires { self.old.sites < MOST_SITES }
+        ensures { OnOk result (self.new
+            ≡ record self.old { items = self.old.items + 1; sites = self.old.sites + 1 }) }
     {
-        self.declared += 1;
+        self.pass_item()?;
         self.sites += 1;
+        Ok(())
     }
 
     /// Passes a statement without a block.
-    pub fn pass_primitive(&mut self, primitive: &Primitive)
-        requires { passes_limit self.old (PrimitiveHead primitive.now) ≡ false }
-        ensures { self.new ≡ after_primitive self.old primitive.now }
+    pub fn pass_primitive(&mut self, primitive: &Primitive) -> Result<(), Uncounted>
+        requires { full_for self.old primitive.now ≡ false }
+        ensures { OnOk result (self.new ≡ after_primitive self.old primitive.now) }
     {
+        self.pass_item()?;
         if let Primitive::New(_, _) = primitive {
             self.sites += 1;
         }
         self.statements += 1;
+        Ok(())
     }
 
     /// Passes an `if` or a `while`.
-    pub fn pass_test(&mut self)
+    pub fn pass_test(&mut self) -> Result<(), Uncounted>
         requires { nat_le MOST_STATEMENTS self.old.statements ≡ false }
-        ensures { self.new ≡ record self.old { statements = self.old.statements + 1 } }
+        ensures { OnOk result (self.new
+            ≡ record self.old { items = self.old.items + 1; statements = self.old.statements + 1 }) }
     {
+        self.pass_item()?;
         self.statements += 1;
+        Ok(())
     }
 
-    /// Passes an `atomic`, and gives the number of its section.
-    pub fn pass_section(&mut self) -> u16
-        requires { passes_limit self.old AtomicHead ≡ false }
-        ensures spot { self.new ≡ after_head self.old AtomicHead }
-        ensures number { result ≡ self.old.sections }
+    /// Passes an `atomic`.
+    pub fn pass_section(&mut self) -> Result<(), Uncounted>
+        requires { full_for_section self.old ≡ false }
+        ensures { OnOk result (self.new ≡ record self.old {
+          items = self.old.items + 1;
+          statements = self.old.statements + 1;
+          sections = self.old.sections + 1;
+        }) }
     {
-        let number = self.sections;
+        self.pass_item()?;
         self.sections += 1;
         self.statements += 1;
-        number
+        Ok(())
+    }
+
+    /// Passes a call whose expansion comes to this.
+    pub fn pass_sums(&mut self, sums: Sums) -> Result<(), Uncounted>
+        requires small { IsSmall sums }
+        requires room { passes_by self.old 0 sums ≡ false }
+        ensures { OnOk result (self.new ≡ plus_sums (after_item self.old) sums) }
+    {
+        self.pass_item()?;
+        self.statements += u32::from(sums.statements);
+        self.sites += sums.sites;
+        self.calls += sums.calls;
+        Ok(())
     }
 }

@@ -1,13 +1,16 @@
 //! Types by number.
 
-ghost use Rattle.std.specs.Prelude.{◌≡◌, ◌++◌, ◌∷◌, [], true, IfOk, OnOk, OnErr};
+ghost use Rattle.std.specs.Prelude.{◌≡◌, ◌++◌, ◌∷◌, [], true, IfOk, OnOk, OnErr, length};
 ghost use Rattle.sect_types.specs.Rules.{knows_kind};
 ghost use Rattle.sect_types.specs.steps.Listing.{all_known, fields_fine, globals_known, locals_fine};
 ghost use Rattle.sect_types.specs.Sight.{has_name};
 ghost use Rattle.sect_types.specs.Environments.{record_number as record_number_by, type_of as type_by};
 ghost use Rattle.sect_types.specs.Environments.{types_of as types_by, field_types as field_types_by};
-ghost use Rattle.sect_types.specs.Environments.{global_records as global_records_by, local_types as local_types_by};
+ghost use Rattle.sect_types.specs.Environments.{global_records as global_records_by};
+ghost use Rattle.sect_types.specs.steps.FreshTypes.{fresh_types as fresh_types_by, local_types as local_types_by};
+ghost use Rattle.sect_types.specs.steps.FreshTypes.{fresh_known, all_fresh_known};
 
+use crate::expand::FreshLocals;
 use crate::names::Names;
 use sect_front::{Declaration, GlobalObject, Kind, Name, Record, Thread};
 use std::alloc::{AllocError, Global};
@@ -129,18 +132,40 @@ pub(crate) fn global_records(
     Ok(all)
 }
 
-/// The types of the locals of each thread.
+/// The types of the locals of a thread, the fresh ones after its own.
+fn all_types_of(
+    alloc: Global,
+    record_names: &Names,
+    thread: &Thread,
+    fresh: &FreshLocals,
+) -> Result<Types, AllocError>
+    requires own { all_known record_names.now thread.now.locals ≡ true }
+    requires fresh { fresh_known record_names.now fresh.now ≡ true }
+    ensures { IfOk result (λ types. types ≡ types_by record_names.now thread.now.locals
+        ++ fresh_types_by record_names.now fresh.now) }
+{
+    let mut types = types_of(alloc, record_names, thread.locals.as_slice())?;
+    for local in fresh.as_slice() {
+        types.push(type_of(record_names, &local.declared.kind))?;
+    }
+    Ok(types)
+}
+
+/// The types of the locals of each thread, the fresh ones after its own.
 pub(crate) fn local_types(
     alloc: Global,
     record_names: &Names,
     threads: &[Thread],
+    fresh: &[FreshLocals],
 ) -> Result<Vec<Types>, AllocError>
-    requires { locals_fine record_names.now threads.now ≡ true }
-    ensures { IfOk result (λ all. all.items ≡ local_types_by record_names.now threads.now) }
+    requires many { length threads.now ≡ length fresh.now }
+    requires own { locals_fine record_names.now threads.now ≡ true }
+    requires fresh { all_fresh_known record_names.now fresh.now ≡ true }
+    ensures { IfOk result (λ all. all.items ≡ local_types_by record_names.now threads.now fresh.now) }
 {
     let mut all = Vec::new(alloc);
-    for thread in threads {
-        let types = types_of(alloc, record_names, thread.locals.as_slice())?;
+    for number in 0..threads.len() {
+        let types = all_types_of(alloc, record_names, &threads[number], &fresh[number])?;
         all.push(types)?;
     }
     Ok(all)

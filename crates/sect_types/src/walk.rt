@@ -1,26 +1,24 @@
-//! A walk through the statements of a thread.
+//! A walk through the statements of a thread or a procedure.
 
-ghost use Rattle.std.specs.Prelude.{◌≡◌, ◌∷◌, ◌&&◌, List, IfOk, OnOk, IfErr, false, not};
-ghost use Rattle.sect_types.specs.Sight.{Sight};
-ghost use Rattle.sect_types.specs.Items.{PrimitiveHead, TestHead, AtomicHead, AStatement, statement_items, block_items};
-ghost use Rattle.sect_types.specs.Rules.{rule_of, passes_limit, shares, after_primitive, after_head};
+ghost use Rattle.std.specs.Prelude.{◌≡◌, ◌∷◌, ◌+◌, ◌≤◌, ◌&&◌, IfOk, Some, false, not, nat_le};
+ghost use Rattle.sect_types.specs.Sums.{number_of};
+ghost use Rattle.sect_types.specs.declared.limits.TheConstants.{MOST_STATEMENTS};
+ghost use Rattle.sect_types.specs.Items.{PrimitiveHead, TestHead, AtomicHead, CallHead, AStatement, is_inside};
+ghost use Rattle.sect_types.specs.Items.{statement_items, block_items};
+ghost use Rattle.sect_types.specs.Rules.{rule_of, shares, by_place, depth_at};
+ghost use Rattle.sect_types.specs.steps.Spots.{full_for, full_for_section};
 ghost use Rattle.sect_types.specs.steps.Walks.{Walks, rule_in, then_rest};
-ghost use Rattle.sect_types.specs.Statements.{TextView, Stop, Do};
-ghost use Rattle.sect_types.specs.Environments.{environment};
-ghost use Rattle.sect_types.specs.Sound.{IsSound, IsSoundCondition};
-ghost use Rattle.sect_types.specs.Texts.{step_then};
-ghost use Rattle.sect_types.specs.Numbered.{action_in, condition_in, after_statement, after_block, numbered_statement};
-ghost use Rattle.sect_types.specs.Numbered.{numbered_block};
+ghost use Rattle.sect_types.specs.steps.Standing.{declared_by};
 ghost use Rattle.sect_types.specs.Resolve.{primitive_of, test_of};
+ghost use Rattle.sect_front.specs.Depth.{statement_depth, block_depth};
 ghost use Rattle.sect_front.specs.Trees.{statement_of};
+ghost use Rattle.sect_front.specs.declared.limits.TheConstants.{MOST_DEPTH};
 
-use crate::action::{Action, Condition};
+use crate::place::Standing;
 use crate::rule::{Fault, Rule};
 use crate::scope::Scope;
 use crate::spot::Spot;
-use crate::text::{Step, Text};
-use sect_front::{Block, Primitive, Statement, Test};
-use std::alloc::Global;
+use sect_front::{Block, Name, Operand, Primitive, Statement, Test};
 
 /// Whether a statement touches what threads share.
 fn is_shared(primitive: &Primitive) -> bool
@@ -35,189 +33,228 @@ fn is_shared(primitive: &Primitive) -> bool
     }
 }
 
-/// The statement by numbers, or the least rule that it breaks.
+/// The least rule that a statement without a block breaks, if any.
 fn judge_primitive(
     scope: &Scope<'_>,
     spot: &Spot,
-    inside: bool,
+    standing: &Standing<'_>,
     primitive: &Primitive,
-) -> Result<Action, Rule>
-    ensures rule { rule_in result
-        ≡ then_rest (rule_in (primitive_of scope.now spot.now.sites primitive.now))
-        (shares (PrimitiveHead primitive.now) && not inside)
-        (passes_limit spot.now (PrimitiveHead primitive.now)) }
-    ensures room { OnOk result (passes_limit spot.now (PrimitiveHead primitive.now) ≡ false) }
-    ensures action { IfOk result (λ a. a
-        ≡ action_in (primitive_of scope.now spot.now.sites primitive.now)) }
-    ensures sound { IfOk result (λ a. IsSound (environment scope.now) inside (Do a Stop)) }
+) -> Result<(), Rule>
+    ensures rule { rule_in result ≡ then_rest (rule_in (primitive_of scope.now 0 primitive.now))
+        (shares (PrimitiveHead primitive.now) && not (is_inside standing.now.at))
+        (by_place standing.now.at (full_for spot.now primitive.now) false) }
 {
-    let action = scope.primitive(spot.sites(), primitive)?;
-    if is_shared(primitive) && !inside {
+    scope.judge_primitive(primitive)?;
+    if is_shared(primitive) && !standing.is_inside() {
         return Err(Rule::SharedOutside);
     }
-    if spot.is_full_for(primitive) {
-        return Err(Rule::TooMany);
-    }
-    Ok(action)
-}
-
-/// The test by numbers, or the least rule that its `if` or `while` breaks.
-#[tactic(auto, using(crate::proofs::SoundLemmas::test_stands))]
-fn judge_test(scope: &Scope<'_>, spot: &Spot, test: &Test) -> Result<Condition, Rule>
-    ensures rule { rule_in result ≡ then_rest (rule_in (test_of scope.now test.now)) false
-        (passes_limit spot.now (TestHead test.now)) }
-    ensures room { OnOk result (passes_limit spot.now (TestHead test.now) ≡ false) }
-    ensures condition { IfOk result (λ c. c ≡ condition_in (test_of scope.now test.now)) }
-    ensures sound { IfOk result (λ c. IsSoundCondition (environment scope.now) c) }
-{
-    let condition = scope.test(test)?;
-    if spot.is_full() {
-        return Err(Rule::TooMany);
-    }
-    Ok(condition)
-}
-
-/// The least rule that an `atomic` breaks, if any.
-fn judge_atomic(spot: &Spot, inside: bool) -> Result<(), Rule>
-    ensures room { OnOk result (passes_limit spot.now AtomicHead ≡ false) }
-    ensures outside { OnOk result (inside ≡ false) }
-    ensures rule { (s : Sight) → rule_of s.records s.globals spot.now (AStatement AtomicHead
-        s.locals inside) ≡ rule_in result }
-{
-    if inside {
-        return Err(Rule::Nested);
-    }
-    if spot.is_full_for_section() {
+    if standing.is_in_thread() && spot.is_full_for(primitive) {
         return Err(Rule::TooMany);
     }
     Ok(())
+}
+
+/// The least rule that an `if` or a `while` with this test breaks, if any.
+fn judge_test(
+    scope: &Scope<'_>,
+    spot: &Spot,
+    standing: &Standing<'_>,
+    test: &Test,
+) -> Result<(), Rule>
+    ensures rule { rule_in result ≡ then_rest (rule_in (test_of scope.now test.now)) false
+        (by_place standing.now.at (nat_le MOST_STATEMENTS spot.now.statements) false) }
+{
+    scope.judge_test(test)?;
+    if standing.is_in_thread() && spot.is_full() {
+        return Err(Rule::TooMany);
+    }
+    Ok(())
+}
+
+/// The least rule that an `atomic` breaks, if any.
+fn judge_atomic(scope: &Scope<'_>, spot: &Spot, standing: &Standing<'_>) -> Result<(), Rule>
+    ensures rule { rule_in result ≡ rule_of (declared_by scope.now standing.now.procedures)
+        spot.now (AStatement AtomicHead scope.now.locals standing.now.at) }
+{
+    if standing.is_inside() {
+        return Err(Rule::Nested);
+    }
+    if standing.is_in_thread() && spot.is_full_for_section() {
+        return Err(Rule::TooMany);
+    }
+    Ok(())
+}
+
+/// The number of the procedure that is called, or the least rule that the call breaks.
+fn judge_call(
+    scope: &Scope<'_>,
+    spot: &Spot,
+    standing: &Standing<'_>,
+    name: &Name,
+    operands: &[Operand],
+) -> Result<usize, Rule>
+    requires { depth_at standing.now.at ≤ MOST_DEPTH }
+    ensures rule { rule_in result ≡ rule_of (declared_by scope.now standing.now.procedures)
+        spot.now (AStatement (CallHead name.now operands.now) scope.now.locals standing.now.at) }
+    ensures number { IfOk result (λ n. number_of standing.now.procedures name.now ≡ Some n) }
+{
+    let Some(number) = standing.number_of(name) else {
+        return Err(Rule::Unknown);
+    };
+    if !scope.knows_all(operands) {
+        return Err(Rule::Unknown);
+    }
+    let parameters = standing.procedures()[number].parameters.as_slice();
+    let agrees = parameters.len() == operands.len();
+    if agrees && !scope.accepts_all(parameters, operands) {
+        return Err(Rule::WrongType);
+    }
+    if !standing.is_inside() {
+        return Err(Rule::SharedOutside);
+    }
+    if agrees && standing.passes(spot, number) {
+        return Err(Rule::TooMany);
+    }
+    if standing.is_returned_to(number) {
+        return Err(Rule::Recursion);
+    }
+    if !agrees {
+        return Err(Rule::Arguments);
+    }
+    Ok(number)
 }
 
 /// Passes a statement without a block.
 fn pass_primitive(
     scope: &Scope<'_>,
     spot: &mut Spot,
-    inside: bool,
+    standing: &Standing<'_>,
     primitive: &Primitive,
-) -> Result<Action, Fault>
-    ensures walks { Walks scope.now
-        (λ w. AStatement (PrimitiveHead primitive.now) scope.now.locals inside ∷ w)
+) -> Result<(), Fault>
+    ensures { Walks (declared_by scope.now standing.now.procedures)
+        (λ w. AStatement (PrimitiveHead primitive.now) scope.now.locals standing.now.at ∷ w)
         spot.old spot.new result }
-    ensures action { IfOk result (λ a. a
-        ≡ action_in (primitive_of scope.now spot.old.sites primitive.now)) }
-    ensures spot { OnOk result (spot.new ≡ after_primitive spot.old primitive.now) }
-    ensures sound { IfOk result (λ a. IsSound (environment scope.now) inside (Do a Stop)) }
 {
-    match judge_primitive(scope, spot, inside, primitive) {
-        Ok(action) => {
-            spot.pass_primitive(primitive);
-            Ok(action)
-        }
-        Err(rule) => Err(Fault::Broken(spot.item(), rule)),
+    if let Err(rule) = judge_primitive(scope, spot, standing, primitive) {
+        return Err(Fault::Broken(spot.item(), rule));
     }
+    if standing.is_in_thread() {
+        spot.pass_primitive(primitive)?;
+    } else {
+        spot.pass_item()?;
+    }
+    Ok(())
 }
 
 /// Passes the test of an `if` or a `while`.
 fn pass_test(
     scope: &Scope<'_>,
     spot: &mut Spot,
-    inside: bool,
+    standing: &Standing<'_>,
     test: &Test,
-) -> Result<Condition, Fault>
-    ensures walks { Walks scope.now (λ w. AStatement (TestHead test.now) scope.now.locals inside
-        ∷ w) spot.old spot.new result }
-    ensures condition { IfOk result (λ c. c ≡ condition_in (test_of scope.now test.now)) }
-    ensures spot { OnOk result (spot.new ≡ after_head spot.old (TestHead test.now)) }
-    ensures sound { IfOk result (λ c. IsSoundCondition (environment scope.now) c) }
+) -> Result<(), Fault>
+    ensures { Walks (declared_by scope.now standing.now.procedures)
+        (λ w. AStatement (TestHead test.now) scope.now.locals standing.now.at ∷ w)
+        spot.old spot.new result }
 {
-    match judge_test(scope, spot, test) {
-        Ok(condition) => {
-            spot.pass_test();
-            Ok(condition)
+    if let Err(rule) = judge_test(scope, spot, standing, test) {
+        return Err(Fault::Broken(spot.item(), rule));
+    }
+    if standing.is_in_thread() {
+        spot.pass_test()?;
+    } else {
+        spot.pass_item()?;
+    }
+    Ok(())
+}
+
+/// Passes an `atomic`.
+fn pass_atomic(scope: &Scope<'_>, spot: &mut Spot, standing: &Standing<'_>) -> Result<(), Fault>
+    ensures { Walks (declared_by scope.now standing.now.procedures)
+        (λ w. AStatement AtomicHead scope.now.locals standing.now.at ∷ w)
+        spot.old spot.new result }
+{
+    if let Err(rule) = judge_atomic(scope, spot, standing) {
+        return Err(Fault::Broken(spot.item(), rule));
+    }
+    spot.pass_section()?;
+    Ok(())
+}
+
+/// Passes a call.
+fn pass_call(
+    scope: &Scope<'_>,
+    spot: &mut Spot,
+    standing: &Standing<'_>,
+    name: &Name,
+    operands: &[Operand],
+) -> Result<(), Fault>
+    requires { depth_at standing.now.at ≤ MOST_DEPTH }
+    ensures { Walks (declared_by scope.now standing.now.procedures)
+        (λ w. AStatement (CallHead name.now operands.now) scope.now.locals standing.now.at ∷ w)
+        spot.old spot.new result }
+{
+    match judge_call(scope, spot, standing, name, operands) {
+        Ok(number) => {
+            standing.pass_call(spot, number)?;
+            Ok(())
         }
         Err(rule) => Err(Fault::Broken(spot.item(), rule)),
     }
 }
 
-/// Passes an `atomic`, and gives the number of its section.
-fn pass_atomic(scope: &Scope<'_>, spot: &mut Spot, inside: bool) -> Result<u16, Fault>
-    ensures walks { Walks scope.now (λ w. AStatement AtomicHead scope.now.locals inside ∷ w)
-        spot.old spot.new result }
-    ensures number { IfOk result (λ n. n ≡ spot.old.sections) }
-    ensures spot { OnOk result (spot.new ≡ after_head spot.old AtomicHead) }
-    ensures outside { OnOk result (inside ≡ false) }
-{
-    match judge_atomic(spot, inside) {
-        Ok(()) => Ok(spot.pass_section()),
-        Err(rule) => Err(Fault::Broken(spot.item(), rule)),
-    }
-}
-
-/// A statement by numbers.
+/// Passes a statement.
 #[cycle(walk)]
 fn walk_statement(
-    alloc: Global,
     scope: &Scope<'_>,
     spot: &mut Spot,
-    inside: bool,
+    standing: &Standing<'_>,
     statement: &Statement,
-) -> Result<Step, Fault>
-    ensures walks { Walks scope.now (statement_items scope.now.locals inside (statement_of statement.now))
+) -> Result<(), Fault>
+    requires { depth_at standing.now.at + statement_depth (statement_of statement.now) ≤ MOST_DEPTH }
+    ensures { Walks (declared_by scope.now standing.now.procedures)
+        (statement_items scope.now.locals standing.now.at (statement_of statement.now))
         spot.old spot.new result }
-    ensures step { IfOk result (λ step. (k : TextView) → step_then step k
-        ≡ numbered_statement scope.now spot.old (statement_of statement.now) k) }
-    ensures spot { OnOk result (spot.new ≡ after_statement spot.old (statement_of statement.now)) }
-    ensures sound { IfOk result
-        (λ step. IsSound (environment scope.now) inside (step_then step Stop)) }
 {
     match statement {
-        Statement::Primitive(primitive) => {
-            let action = pass_primitive(scope, spot, inside, primitive)?;
-            Ok(Step::Do(action))
-        }
+        Statement::Primitive(primitive) => pass_primitive(scope, spot, standing, primitive),
         Statement::If(test, then) => {
-            let condition = pass_test(scope, spot, inside, test)?;
-            let yes = walk_block(alloc, scope, spot, inside, then)?;
-            Ok(Step::If(condition, yes, Text::new(alloc)))
+            pass_test(scope, spot, standing, test)?;
+            walk_block(scope, spot, &standing.deeper(), then)
         }
         Statement::IfElse(test, then, other) => {
-            let condition = pass_test(scope, spot, inside, test)?;
-            let yes = walk_block(alloc, scope, spot, inside, then)?;
-            let no = walk_block(alloc, scope, spot, inside, other)?;
-            Ok(Step::If(condition, yes, no))
+            pass_test(scope, spot, standing, test)?;
+            walk_block(scope, spot, &standing.deeper(), then)?;
+            walk_block(scope, spot, &standing.deeper(), other)
         }
         Statement::While(test, body) => {
-            let condition = pass_test(scope, spot, inside, test)?;
-            let body = walk_block(alloc, scope, spot, inside, body)?;
-            Ok(Step::While(condition, body))
+            pass_test(scope, spot, standing, test)?;
+            walk_block(scope, spot, &standing.deeper(), body)
         }
         Statement::Atomic(_, body) => {
-            let number = pass_atomic(scope, spot, inside)?;
-            let body = walk_block(alloc, scope, spot, true, body)?;
-            Ok(Step::Section(number, body))
+            pass_atomic(scope, spot, standing)?;
+            walk_block(scope, spot, &standing.in_section(), body)
+        }
+        Statement::Call(name, operands) => {
+            pass_call(scope, spot, standing, name, operands.as_slice())
         }
     }
 }
 
-/// The statements of a block by numbers.
+/// Passes the statements of a block.
 #[cycle(walk)]
 pub fn walk_block(
-    alloc: Global,
     scope: &Scope<'_>,
     spot: &mut Spot,
-    inside: bool,
+    standing: &Standing<'_>,
     block: &Block,
-) -> Result<Text, Fault>
-    ensures walks { Walks scope.now (block_items scope.now.locals inside block.now)
-        spot.old spot.new result }
-    ensures text { IfOk result (λ text. text ≡ numbered_block scope.now spot.old block.now) }
-    ensures spot { OnOk result (spot.new ≡ after_block spot.old block.now) }
-    ensures sound { IfOk result (λ text. IsSound (environment scope.now) inside text) }
+) -> Result<(), Fault>
+    requires { depth_at standing.now.at + block_depth block.now ≤ MOST_DEPTH }
+    ensures { Walks (declared_by scope.now standing.now.procedures)
+        (block_items scope.now.locals standing.now.at block.now) spot.old spot.new result }
 {
-    let mut text = Text::new(alloc);
     for statement in block.as_slice() {
-        let step = walk_statement(alloc, scope, spot, inside, statement)?;
-        text.push(step)?;
+        walk_statement(scope, spot, standing, statement)?;
     }
-    Ok(text)
+    Ok(())
 }

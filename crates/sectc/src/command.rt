@@ -181,6 +181,8 @@ mod hostile_tests;
 #[cfg(test)]
 mod lock_tests;
 #[cfg(test)]
+mod procedure_tests;
+#[cfg(test)]
 mod run_tests;
 #[cfg(test)]
 mod schedule_tests;

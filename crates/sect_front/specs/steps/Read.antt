@@ -1,6 +1,6 @@
 -- One more token of a text.
 use Rattle.std.specs.Prelude.{◌≡◌, List, [], ◌∷◌, ◌++◌, Option, Some, None, option_and_then, Result, Ok, Err, ⊤, ℕ}
-use Rattle.sect_front.specs.Syntax.{End}
+use Rattle.sect_front.specs.Syntax.{BlockView, End}
 use Rattle.sect_front.specs.TreeView.{TreeView}
 use Rattle.sect_front.specs.steps.WithinView.{WithinView}
 use Rattle.sect_front.specs.steps.Step.{Next, Stays, Ends, Stuck, step_of}
@@ -9,6 +9,7 @@ use Rattle.sect_front.specs.declared.token.Token.{Token}
 use Rattle.sect_front.specs.declared.token.Token.TheVariants as token
 use Rattle.sect_front.specs.declared.tree.Record.{Record}
 use Rattle.sect_front.specs.declared.tree.GlobalObject.{GlobalObject}
+use Rattle.sect_front.specs.declared.tree.Procedure.{Procedure}
 use Rattle.sect_front.specs.declared.tree.Thread.{Thread}
 use Rattle.sect_front.specs.declared.tree.Declaration.{Declaration}
 use Rattle.sect_front.specs.declared.tree.Kind.{Kind}
@@ -23,25 +24,41 @@ use Rattle.sect_front.specs.declared.reader.RecordStage.{RecordStage}
 use Rattle.sect_front.specs.declared.reader.RecordStage.TheVariants as in_record
 use Rattle.sect_front.specs.declared.reader.GlobalStage.{GlobalStage}
 use Rattle.sect_front.specs.declared.reader.GlobalStage.TheVariants as in_global
+use Rattle.sect_front.specs.declared.reader.ProcedureStage.{ProcedureStage}
+use Rattle.sect_front.specs.declared.reader.ProcedureStage.TheVariants as in_procedure
 use Rattle.sect_front.specs.declared.reader.ThreadStage.{ThreadStage}
 use Rattle.sect_front.specs.declared.reader.ThreadStage.TheVariants as in_thread
+use Rattle.sect_front.specs.declared.reader.Owner.{Owner}
+use Rattle.sect_front.specs.declared.reader.Owner.TheVariants as owner
+use Rattle.sect_front.specs.declared.reader.BodyStage.{BodyStage}
+use Rattle.sect_front.specs.declared.reader.BodyStage.TheVariants as in_body
 use Rattle.sect_front.specs.declared.reader.Stage.{Stage}
 use Rattle.sect_front.specs.declared.reader.Stage.TheVariants as stage
 
 -- one more declaration
 abbrev pub with_record : TreeView → Record → TreeView
-with_record s r = record { records = s.records ++ r ∷ []; globals = s.globals; threads = s.threads }
+with_record s r =
+    record { records = s.records ++ r ∷ []; globals = s.globals; procedures = s.procedures; threads = s.threads }
 
 abbrev pub with_global : TreeView → GlobalObject → TreeView
-with_global s g = record { records = s.records; globals = s.globals ++ g ∷ []; threads = s.threads }
+with_global s g =
+    record { records = s.records; globals = s.globals ++ g ∷ []; procedures = s.procedures; threads = s.threads }
+
+abbrev pub with_procedure : TreeView → Procedure → TreeView
+with_procedure s p =
+    record { records = s.records; globals = s.globals; procedures = s.procedures ++ p ∷ []; threads = s.threads }
 
 abbrev pub with_thread : TreeView → Thread → TreeView
-with_thread s t = record { records = s.records; globals = s.globals; threads = s.threads ++ t ∷ [] }
+with_thread s t =
+    record { records = s.records; globals = s.globals; procedures = s.procedures; threads = s.threads ++ t ∷ [] }
 
 abbrev pub begin_step : TreeView → Part → Token → Option ReaderView
 begin_step s part.Records token.Record = Some (reading s (stage.Record in_record.AfterWord))
 begin_step s part.Records token.Global = Some (reading s (stage.Global in_global.AfterWord))
 begin_step s part.Globals token.Global = Some (reading s (stage.Global in_global.AfterWord))
+begin_step s part.Records token.Proc = Some (reading s (stage.Procedure in_procedure.AfterWord))
+begin_step s part.Globals token.Proc = Some (reading s (stage.Procedure in_procedure.AfterWord))
+begin_step s part.Procedures token.Proc = Some (reading s (stage.Procedure in_procedure.AfterWord))
 begin_step s _ token.Thread = Some (reading s (stage.Thread in_thread.AfterWord))
 begin_step _ _ _ = None
 
@@ -73,11 +90,40 @@ global_step s (in_global.AfterName r g) token.Semicolon =
     Some (reading (with_global s (record { of = r; name = g })) (stage.Between part.Globals))
 global_step _ _ _ = None
 
--- a stage in a thread
-abbrev pub at_thread : TreeView → ThreadStage → Option ReaderView
-at_thread s t = Some (reading s (stage.Thread t))
+-- a stage in a procedure, up to its `{`
+abbrev pub at_procedure : TreeView → ProcedureStage → Option ReaderView
+at_procedure s p = Some (reading s (stage.Procedure p))
 
--- nothing of a thread's statements has been read
+-- a stage in a body
+abbrev pub at_body : TreeView → BodyStage → Option ReaderView
+at_body s b = Some (reading s (stage.Body b))
+
+-- where a parameter has to stand
+abbrev pub parameter_step : TreeView → List ℕ → List Declaration → Token → Option ReaderView
+parameter_step s n ps token.Int = at_procedure s (in_procedure.AfterKind n ps kind.Int)
+parameter_step s n ps (token.Name r) = at_procedure s (in_procedure.AfterKind n ps (kind.Record r))
+parameter_step _ _ _ _ = None
+
+abbrev pub procedure_step : TreeView → ProcedureStage → Token → Option ReaderView
+procedure_step s in_procedure.AfterWord (token.Name n) = at_procedure s (in_procedure.AfterName n)
+procedure_step s (in_procedure.AfterName n) token.OpenParen = at_procedure s (in_procedure.Open n)
+procedure_step s (in_procedure.Open n) token.CloseParen = at_procedure s (in_procedure.AfterClose n [])
+procedure_step s (in_procedure.Open n) t = parameter_step s n [] t
+procedure_step s (in_procedure.AfterKind n ps k) (token.Name x) = at_procedure s (in_procedure.AfterParameter n ps k x)
+procedure_step s (in_procedure.AfterParameter n ps k x) token.Comma =
+    at_procedure s (in_procedure.AfterComma n (ps ++ record { kind = k; name = x } ∷ []))
+procedure_step s (in_procedure.AfterParameter n ps k x) token.CloseParen =
+    at_procedure s (in_procedure.AfterClose n (ps ++ record { kind = k; name = x } ∷ []))
+procedure_step s (in_procedure.AfterComma n ps) t = parameter_step s n ps t
+procedure_step s (in_procedure.AfterClose n ps) token.OpenBrace = at_body s (in_body.Locals (owner.Procedure n ps) [])
+procedure_step _ _ _ = None
+
+abbrev pub thread_step : TreeView → ThreadStage → Token → Option ReaderView
+thread_step s in_thread.AfterWord (token.Name n) = Some (reading s (stage.Thread (in_thread.AfterName n)))
+thread_step s (in_thread.AfterName n) token.OpenBrace = at_body s (in_body.Locals (owner.Thread n) [])
+thread_step _ _ _ = None
+
+-- no statement has been read
 abbrev pub fresh : WithinView
 fresh = record { frames = []; before = End; place = place.Start }
 
@@ -85,35 +131,42 @@ fresh = record { frames = []; before = End; place = place.Start }
 abbrev pub begun : List ℕ → WithinView
 begun x = record { frames = []; before = End; place = place.Inside (line.AfterName x) }
 
-abbrev pub goes_on : TreeView → List ℕ → List Declaration → Next → Option ReaderView
-goes_on s n ls (Stays x) = at_thread s (in_thread.Inside n ls x)
-goes_on s n ls (Ends b) =
+-- the last brace of a procedure or a thread
+abbrev pub end_step : TreeView → Owner → List Declaration → BlockView → Option ReaderView
+end_step s (owner.Procedure n ps) ls b =
+    let p : Procedure = record { name = n; parameters = ps; locals = ls; body = b } in
+    Some (reading (with_procedure s p) (stage.Between part.Procedures))
+end_step s (owner.Thread n) ls b =
     Some (reading (with_thread s (record { name = n; locals = ls; body = b })) (stage.Between part.Threads))
-goes_on s n ls Stuck = None
+
+abbrev pub goes_on : TreeView → Owner → List Declaration → Next → Option ReaderView
+goes_on s o ls (Stays x) = at_body s (in_body.Inside o ls x)
+goes_on s o ls (Ends b) = end_step s o ls b
+goes_on s o ls Stuck = None
 
 -- a token that is no name, behind what may be a local's type
-abbrev pub after_kind_step : TreeView → List ℕ → List Declaration → Kind → Token → Option ReaderView
-after_kind_step s n ls kind.Int t = None
-after_kind_step s n ls (kind.Record x) t = goes_on s n ls (step_of (begun x) t)
+abbrev pub after_kind_step : TreeView → Owner → List Declaration → Kind → Token → Option ReaderView
+after_kind_step s o ls kind.Int t = None
+after_kind_step s o ls (kind.Record x) t = goes_on s o ls (step_of (begun x) t)
 
-abbrev pub thread_step : TreeView → ThreadStage → Token → Option ReaderView
-thread_step s in_thread.AfterWord (token.Name n) = at_thread s (in_thread.AfterName n)
-thread_step s (in_thread.AfterName n) token.OpenBrace = at_thread s (in_thread.Locals n [])
-thread_step s (in_thread.Locals n ls) token.Int = at_thread s (in_thread.AfterKind n ls kind.Int)
-thread_step s (in_thread.Locals n ls) (token.Name r) = at_thread s (in_thread.AfterKind n ls (kind.Record r))
-thread_step s (in_thread.Locals n ls) t = goes_on s n ls (step_of fresh t)
-thread_step s (in_thread.AfterKind n ls k) (token.Name x) = at_thread s (in_thread.AfterLocal n ls k x)
-thread_step s (in_thread.AfterKind n ls k) t = after_kind_step s n ls k t
-thread_step s (in_thread.AfterLocal n ls k x) token.Semicolon =
-    at_thread s (in_thread.Locals n (ls ++ record { kind = k; name = x } ∷ []))
-thread_step s (in_thread.Inside n ls x) t = goes_on s n ls (step_of x t)
-thread_step _ _ _ = None
+abbrev pub body_step : TreeView → BodyStage → Token → Option ReaderView
+body_step s (in_body.Locals o ls) token.Int = at_body s (in_body.AfterKind o ls kind.Int)
+body_step s (in_body.Locals o ls) (token.Name r) = at_body s (in_body.AfterKind o ls (kind.Record r))
+body_step s (in_body.Locals o ls) t = goes_on s o ls (step_of fresh t)
+body_step s (in_body.AfterKind o ls k) (token.Name x) = at_body s (in_body.AfterLocal o ls k x)
+body_step s (in_body.AfterKind o ls k) t = after_kind_step s o ls k t
+body_step s (in_body.AfterLocal o ls k x) token.Semicolon =
+    at_body s (in_body.Locals o (ls ++ record { kind = k; name = x } ∷ []))
+body_step s (in_body.Inside o ls x) t = goes_on s o ls (step_of x t)
+body_step _ _ _ = None
 
 abbrev pub read_at : TreeView → Stage → Token → Option ReaderView
 read_at s (stage.Between p) t = begin_step s p t
 read_at s (stage.Record r) t = record_step s r t
 read_at s (stage.Global g) t = global_step s g t
+read_at s (stage.Procedure p) t = procedure_step s p t
 read_at s (stage.Thread h) t = thread_step s h t
+read_at s (stage.Body b) t = body_step s b t
 
 abbrev pub read_one : ReaderView → Token → Option ReaderView
 read_one r t = read_at r.source r.stage t

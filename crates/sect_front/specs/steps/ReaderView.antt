@@ -12,4 +12,4 @@ reading s g = record { source = s; stage = g }
 
 -- a source without declarations
 abbrev pub empty : TreeView
-empty = record { records = []; globals = []; threads = [] }
+empty = record { records = []; globals = []; procedures = []; threads = [] }

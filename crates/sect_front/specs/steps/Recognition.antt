@@ -13,6 +13,7 @@ keyword_table =
     (codes "record", token.Record) ∷
     (codes "protected_by", token.ProtectedBy) ∷
     (codes "global", token.Global) ∷
+    (codes "proc", token.Proc) ∷
     (codes "thread", token.Thread) ∷
     (codes "int", token.Int) ∷
     (codes "null", token.Null) ∷
@@ -23,6 +24,7 @@ keyword_table =
     (codes "while", token.While) ∷
     (codes "atomic", token.Atomic) ∷
     (codes "all", token.All) ∷
+    (codes "call", token.Call) ∷
     (codes "class", token.Class) ∷ []
 
 -- the token beside these bytes in a table
@@ -57,7 +59,7 @@ abbrev pub as_number : Option ℕ → Option Token
 as_number None = None
 as_number (Some n) = Some (token.Number n)
 
--- the sign that a byte is alone: one of { } ( ) ; . = + - * <
+-- the sign that a byte is alone: one of { } ( ) ; , . = + - * <
 abbrev pub single_sign : ℕ → Option Token
 single_sign b =
     if b == 123 then Some token.OpenBrace else (
@@ -65,12 +67,13 @@ single_sign b =
     if b == 40 then Some token.OpenParen else (
     if b == 41 then Some token.CloseParen else (
     if b == 59 then Some token.Semicolon else (
+    if b == 44 then Some token.Comma else (
     if b == 46 then Some token.Dot else (
     if b == 61 then Some token.Equal else (
     if b == 43 then Some token.Plus else (
     if b == 45 then Some token.Minus else (
     if b == 42 then Some token.Star else (
-    if b == 60 then Some token.Less else None))))))))))
+    if b == 60 then Some token.Less else None)))))))))))
 
 -- the sign that a byte and `=` are: == != <=
 abbrev pub double_sign : ℕ → Option Token

@@ -1,12 +1,15 @@
 -- One more token.
-use Rattle.std.specs.Prelude.{◌≡◌, List, [], ◌∷◌, Option, Some, None, Result, Ok, Err, ⊤}
-use Rattle.sect_front.specs.Syntax.{StatementView, BlockView, Primitive, If, IfElse, While, Atomic, End}
+use Rattle.std.specs.Prelude.{◌≡◌, ℕ, List, [], ◌∷◌, ◌++◌, Option, Some, None, Result, Ok, Err, ⊤}
+use Rattle.sect_front.specs.Syntax.{StatementView, BlockView, Primitive, If, IfElse, While, Atomic, Call, End}
 use Rattle.sect_front.specs.Trees.{append}
 use Rattle.sect_front.specs.steps.WithinView.{WithinView}
-use Rattle.sect_front.specs.steps.Advance.{advance_of}
+use Rattle.sect_front.specs.steps.Advance.{advance_of, operand_of}
 use Rattle.sect_front.specs.declared.token.Token.{Token}
 use Rattle.sect_front.specs.declared.token.Token.TheVariants as token
+use Rattle.sect_front.specs.declared.tree.Operand.{Operand}
 use Rattle.sect_front.specs.declared.partial.PartialHead.TheVariants as line
+use Rattle.sect_front.specs.declared.partial.PartialCall.{PartialCall}
+use Rattle.sect_front.specs.declared.partial.PartialCall.TheVariants as call
 use Rattle.sect_front.specs.declared.partial.Branch.TheVariants as branch
 use Rattle.sect_front.specs.declared.partial.PartialBranch.TheVariants as head
 use Rattle.sect_front.specs.declared.partial.Move.{Move}
@@ -42,8 +45,27 @@ start_step fs b token.Print = stays fs b (place.Inside line.AfterPrint)
 start_step fs b token.If = stays fs b (place.Inside (line.Branch branch.If head.AfterWord))
 start_step fs b token.While = stays fs b (place.Inside (line.Branch branch.While head.AfterWord))
 start_step fs b token.Atomic = stays fs b (place.Inside line.AfterAtomic)
+start_step fs b token.Call = stays fs b (place.InCall call.AfterWord)
 start_step fs b token.CloseBrace = close_step fs b
 start_step fs b _ = Stuck
+
+-- where an argument has to stand, and is one or not
+abbrev pub argument_step : List Frame → BlockView → List ℕ → List Operand → Option Operand → Next
+argument_step fs b f vs None = Stuck
+argument_step fs b f vs (Some v) = stays fs b (place.InCall (call.AfterArgument f vs v))
+
+-- a token of a call
+abbrev pub call_step : List Frame → BlockView → PartialCall → Token → Next
+call_step fs b call.AfterWord (token.Name f) = stays fs b (place.InCall (call.AfterName f))
+call_step fs b (call.AfterName f) token.OpenParen = stays fs b (place.InCall (call.Open f))
+call_step fs b (call.Open f) token.CloseParen = stays fs b (place.InCall (call.AfterClose f []))
+call_step fs b (call.Open f) t = argument_step fs b f [] (operand_of t)
+call_step fs b (call.AfterArgument f vs v) token.Comma = stays fs b (place.InCall (call.AfterComma f (vs ++ v ∷ [])))
+call_step fs b (call.AfterArgument f vs v) token.CloseParen =
+    stays fs b (place.InCall (call.AfterClose f (vs ++ v ∷ [])))
+call_step fs b (call.AfterComma f vs) t = argument_step fs b f vs (operand_of t)
+call_step fs b (call.AfterClose f vs) token.Semicolon = stays fs (append b (Call f vs)) place.Start
+call_step _ _ _ _ = Stuck
 
 abbrev pub moved : List Frame → BlockView → Move → Next
 moved fs b (move.To l) = stays fs b (place.Inside l)
@@ -67,6 +89,7 @@ after_else fs b _ = Stuck
 abbrev pub step_at : List Frame → BlockView → Partial → Token → Next
 step_at fs b place.Start t = start_step fs b t
 step_at fs b (place.Inside l) t = moved_if fs b (advance_of l t)
+step_at fs b (place.InCall c) t = call_step fs b c t
 step_at fs b (place.AfterThen v a) t = after_then fs b (If v a) (place.AfterElse v a) t
 step_at fs b (place.AfterElse v a) t = after_else (frame.Else b v a ∷ fs) End t
 

@@ -1,4 +1,4 @@
--- How far the statements of a thread have been read.
+-- How far the statements of a procedure or a thread have been read.
 use Rattle.std.specs.Prelude.{List}
 use Rattle.sect_front.specs.Syntax.{BlockView}
 use Rattle.sect_front.specs.declared.within.Frame.{Frame}

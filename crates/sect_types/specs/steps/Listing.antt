@@ -1,14 +1,13 @@
 -- Declarations of which the first have been passed.
-use Rattle.std.specs.Prelude.{◌≡◌, ◌≤◌, ℕ, ◌+◌, ◌*◌, Bool, true, ◌&&◌, nat_le, List, [], ◌∷◌, ◌++◌, length}
+use Rattle.std.specs.Prelude.{◌≡◌, ◌≤◌, ℕ, ◌+◌, Bool, true, ◌&&◌, nat_le, List, [], ◌∷◌, ◌++◌, length}
 use Rattle.sect_front.specs.declared.tree.Record.{Record}
 use Rattle.sect_front.specs.declared.tree.GlobalObject.{GlobalObject}
 use Rattle.sect_front.specs.declared.tree.Declaration.{Declaration}
 use Rattle.sect_types.specs.Sight.{has_name, names_of_records, names_of_globals, names_of_declared, all_fields}
 use Rattle.sect_types.specs.declared.types.ValueType.{ValueType}
-use Rattle.sect_types.specs.Environments.{types_of, field_types, global_records, local_types}
+use Rattle.sect_types.specs.Environments.{types_of, field_types, global_records}
 use Rattle.sect_types.specs.Items.{Item, record_items, field_items, global_items, local_items}
-use Rattle.sect_types.specs.Rules.{Counts, judge, knows_kind}
-use Rattle.sect_types.specs.Numbered.{after_records}
+use Rattle.sect_types.specs.Rules.{Declared, Counts, judge, knows_kind}
 use Rattle.sect_front.specs.declared.tree.Thread.{Thread}
 
 -- the set has the names of these records
@@ -35,40 +34,39 @@ locals_fine records [] = true
 locals_fine records (t ∷ ts) = (all_known records t.locals && nat_le (length t.locals) 64) && locals_fine records ts
 
 -- the fields `rest` of `all` are left, and those before them have these names
-pub record IsListed (rs : List Record) (gs : List GlobalObject) (all rest : List Declaration) (names : List (List ℕ))
+pub record IsListed (d : Declared) (all rest : List Declaration) (names : List (List ℕ))
     (old now : Counts) : Type 0 where
-  pub walks : (w : List Item) → judge rs gs old (field_items [] all w) ≡ judge rs gs now (field_items names rest w)
+  pub walks : (w : List Item) → judge d old (field_items [] all w) ≡ judge d now (field_items names rest w)
   pub named : names ++ names_of_declared rest ≡ names_of_declared all
-  pub counts : now ≡ record old { declared = old.declared + length names }
+  pub sites : now.sites ≡ old.sites
   pub few : length names ≤ 16
-  pub known : all_known (names_of_records rs) all ≡ all_known (names_of_records rs) rest
+  pub known : all_known (names_of_records d.records) all ≡ all_known (names_of_records d.records) rest
 
 -- the records `rest` of `all` are left
-pub record AreRecords (gs : List GlobalObject) (all rest : List Record) (names : List (List ℕ))
+pub record AreRecords (d : Declared) (all rest : List Record) (names : List (List ℕ))
     (fields : List (List (List ℕ))) (old now : Counts) : Type 0 where
-  pub walks : (w : List Item) → judge all gs old (record_items [] all w) ≡ judge all gs now (record_items names rest w)
+  pub walks : (w : List Item) → judge d old (record_items [] all w) ≡ judge d now (record_items names rest w)
   pub named : names ++ names_of_records rest ≡ names_of_records all
   pub with_fields : fields ++ all_fields rest ≡ all_fields all
-  pub counts : after_records now rest ≡ after_records old all
+  pub sites : now.sites ≡ old.sites
   pub few : length names ≤ 64
-  pub room : now.declared ≤ 17 * length names
-  pub fine : fields_fine (names_of_records all) all ≡ fields_fine (names_of_records all) rest
+  pub fine : fields_fine (names_of_records d.records) all ≡ fields_fine (names_of_records d.records) rest
 
-pub record AreGlobals (rs : List Record) (all rest : List GlobalObject) (names : List (List ℕ))
+pub record AreGlobals (d : Declared) (all rest : List GlobalObject) (names : List (List ℕ))
     (old now : Counts) : Type 0 where
-  pub walks : (w : List Item) → judge rs all old (global_items [] all w) ≡ judge rs all now (global_items names rest w)
+  pub walks : (w : List Item) → judge d old (global_items [] all w) ≡ judge d now (global_items names rest w)
   pub named : names ++ names_of_globals rest ≡ names_of_globals all
-  pub counts : now ≡ record old { declared = old.declared + length names; sites = old.sites + length names }
+  pub sites : now.sites ≡ old.sites + length names
   pub few : length names ≤ 256
-  pub known : globals_known (names_of_records rs) all ≡ globals_known (names_of_records rs) rest
+  pub known : globals_known (names_of_records d.records) all ≡ globals_known (names_of_records d.records) rest
 
-pub record AreLocals (rs : List Record) (gs : List GlobalObject) (all rest : List Declaration) (names : List (List ℕ))
+-- the locals `rest` of `all` are left, before which these names stand
+pub record AreLocals (d : Declared) (all rest : List Declaration) (names : List (List ℕ))
     (old now : Counts) : Type 0 where
-  pub walks : (w : List Item) → judge rs gs old (local_items [] all w) ≡ judge rs gs now (local_items names rest w)
+  pub walks : (w : List Item) → judge d old (local_items [] all w) ≡ judge d now (local_items names rest w)
   pub named : names ++ names_of_declared rest ≡ names_of_declared all
-  pub counts : now ≡ record old { declared = old.declared + length names }
   pub few : length names ≤ 64
-  pub known : all_known (names_of_records rs) all ≡ all_known (names_of_records rs) rest
+  pub known : all_known (names_of_records d.records) all ≡ all_known (names_of_records d.records) rest
 
 -- the declarations `rest` of `all` have no types yet, and those before them have these
 pub record AreTyped (records : List (List ℕ)) (all rest : List Declaration) (types : List ValueType) : Type 0 where
@@ -83,8 +81,3 @@ pub record AreFieldsTyped (records : List (List ℕ)) (all rest : List Record)
 pub record AreGlobalsNumbered (records : List (List ℕ)) (all rest : List GlobalObject) (numbers : List ℕ) : Type 0 where
   pub numbered : numbers ++ global_records records rest ≡ global_records records all
   pub known : globals_known records rest ≡ true
-
-pub record AreLocalsTyped (records : List (List ℕ)) (all rest : List Thread)
-    (types : List (List ValueType)) : Type 0 where
-  pub typed : types ++ local_types records rest ≡ local_types records all
-  pub fine : locals_fine records rest ≡ true

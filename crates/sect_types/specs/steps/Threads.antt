@@ -1,32 +1,47 @@
--- Threads of which the first have been passed.
-use Rattle.std.specs.Prelude.{◌≡◌, ◌≤◌, ℕ, ◌+◌, ◌*◌, List, [], ◌++◌, length}
+-- Procedures and threads of which the first have been passed.
+use Rattle.std.specs.Prelude.{◌≡◌, ◌≤◌, ℕ, ◌+◌, Bool, true, ◌&&◌, nat_le, List, [], ◌∷◌, ◌++◌, map, length}
 use Rattle.sect_front.specs.declared.tree.Record.{Record}
 use Rattle.sect_front.specs.declared.tree.GlobalObject.{GlobalObject}
+use Rattle.sect_front.specs.declared.tree.Declaration.{Declaration}
+use Rattle.sect_front.specs.declared.tree.Procedure.{Procedure}
 use Rattle.sect_front.specs.declared.tree.Thread.{Thread}
-use Rattle.sect_types.specs.Sight.{names_of_records}
-use Rattle.sect_types.specs.Items.{Item, thread_items}
-use Rattle.sect_types.specs.declared.limits.TheConstants.{MOST_SHARED_ITEMS}
-use Rattle.sect_types.specs.Rules.{Counts, judge}
-use Rattle.sect_types.specs.Statements.{TextView}
-use Rattle.sect_types.specs.Numbered.{numbered_threads, after_threads}
-use Rattle.sect_types.specs.steps.Listing.{locals_fine}
-use Rattle.sect_types.specs.Environments.{field_types, global_records, local_types}
-use Rattle.sect_types.specs.Sound.{AreSound}
+use Rattle.sect_types.specs.Sight.{names_of_records, names_of_declared}
+use Rattle.sect_types.specs.Items.{Item, variables, procedure_items, thread_items}
+use Rattle.sect_types.specs.Rules.{Declared, Counts, judge}
+use Rattle.sect_types.specs.steps.Listing.{all_known, locals_fine}
 
--- the texts of these threads are sound
-abbrev pub AreThreadsSound : List Record → List GlobalObject → List Thread → List TextView → Type 0
-AreThreadsSound rs gs ts texts =
-    AreSound (field_types (names_of_records rs) rs) (global_records (names_of_records rs) gs)
-    (local_types (names_of_records rs) ts) texts
+-- the variables of a procedure with their names
+pub record VariablesView : Type 0 where
+  pub list : List Declaration
+  pub names : List (List ℕ)
 
--- the threads `rest` of `all` are left
-pub record AreThreads (rs : List Record) (gs : List GlobalObject) (all rest : List Thread) (names : List (List ℕ))
-    (texts : List TextView) (old now : Counts) : Type 0 where
-  pub walks : (w : List Item) → judge rs gs old (thread_items [] all w) ≡ judge rs gs now (thread_items names rest w)
-  pub numbered : texts ++ numbered_threads rs gs now rest ≡ numbered_threads rs gs old all
-  pub counts : after_threads now rest ≡ after_threads old all
+abbrev pub variables_shown : Procedure → VariablesView
+variables_shown p = record { list = variables p; names = names_of_declared (variables p) }
+
+-- the variables of each procedure are of known types, and few
+abbrev pub variables_fine : List (List ℕ) → List Procedure → Bool
+variables_fine records [] = true
+variables_fine records (p ∷ ps) =
+    (all_known records (variables p) && nat_le (length (variables p)) 64) && variables_fine records ps
+
+abbrev pub local_names : List Thread → List (List (List ℕ))
+local_names ts = map (λ (t : Thread). names_of_declared t.locals) ts
+
+-- the procedures `rest` of `all` are left
+pub record AreProcedures (d : Declared) (all rest : List Procedure) (names : List (List ℕ))
+    (scopes : List VariablesView) (old now : Counts) : Type 0 where
+  pub walks : (w : List Item)
+      → judge d old (procedure_items 0 [] all w) ≡ judge d now (procedure_items (length names) names rest w)
+  pub shown : scopes ++ map variables_shown rest ≡ map variables_shown all
   pub few : length names ≤ 64
   pub long : length names + length rest ≡ length all
-  pub room : now.declared ≤ MOST_SHARED_ITEMS + 65 * length names
-  pub fine : locals_fine (names_of_records rs) all ≡ locals_fine (names_of_records rs) rest
-  pub sound : (more : List TextView) → AreThreadsSound rs gs rest more → AreThreadsSound rs gs all (texts ++ more)
+  pub fine : variables_fine (names_of_records d.records) all ≡ variables_fine (names_of_records d.records) rest
+
+-- the threads `rest` of `all` are left
+pub record AreThreads (d : Declared) (all rest : List Thread) (names : List (List ℕ))
+    (locals : List (List (List ℕ))) (old now : Counts) : Type 0 where
+  pub walks : (w : List Item) → judge d old (thread_items [] all w) ≡ judge d now (thread_items names rest w)
+  pub named : locals ++ local_names rest ≡ local_names all
+  pub few : length names ≤ 64
+  pub long : length names + length rest ≡ length all
+  pub fine : locals_fine (names_of_records d.records) all ≡ locals_fine (names_of_records d.records) rest

@@ -4,16 +4,14 @@ use Rattle.sect_types.specs.declared.rule.Rule.{Rule}
 use Rattle.sect_types.specs.declared.rule.Rule.TheVariants.{Unknown, Twice, SharedOutside, TooMany}
 use Rattle.sect_types.specs.declared.rule.Fault.{Fault}
 use Rattle.sect_types.specs.declared.rule.Fault.TheVariants as fault
-use Rattle.sect_types.specs.Sight.{Sight}
 use Rattle.sect_types.specs.Items.{Item}
-use Rattle.sect_types.specs.Rules.{Counts, judge, Faulty}
+use Rattle.sect_types.specs.Rules.{Declared, Counts, judge, Faulty}
 
 -- these items, given before those of what follows, lead from the old counts to the new ones, or to the fault
-abbrev pub Walks : {A : Type 0} → Sight → (List Item → List Item) → Counts → Counts → Result A Fault → Type 0
-Walks s items old new (Ok a) = (w : List Item)
-    → judge s.records s.globals old (items w) ≡ judge s.records s.globals new w
-Walks s items old new (Err fault.Memory) = ⊤
-Walks s items old new (Err (fault.Broken i r)) = (w : List Item) → judge s.records s.globals old (items w) ≡ Faulty i r
+abbrev pub Walks : {A : Type 0} → Declared → (List Item → List Item) → Counts → Counts → Result A Fault → Type 0
+Walks d items old new (Ok a) = (w : List Item) → judge d old (items w) ≡ judge d new w
+Walks d items old new (Err fault.Memory) = ⊤
+Walks d items old new (Err (fault.Broken i r)) = (w : List Item) → judge d old (items w) ≡ Faulty i r
 
 -- the rule that was answered
 abbrev pub rule_in : {A : Type 0} → Result A Rule → Option Rule

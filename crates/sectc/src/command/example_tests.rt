@@ -150,8 +150,23 @@ thread p { int t; atomic all { t = a.bal; } }
 thread q { atomic { a.bal = 2; } }
 ";
 
+/// `examples/procedure.sect`
+pub(super) const PROCEDURE: &str =
+    "// Two threads move money by one procedure: its statements stand for each call, so both accounts are locked.
+// section 0: W a, W b
+// section 1: W a, W b
+record Acct { int bal; }
+global Acct a; global Acct b;
+proc move(Acct x, Acct y, int n) {
+  int t;
+  t = x.bal; t = t - n; x.bal = t;
+  t = y.bal; t = t + n; y.bal = t; }
+thread p { atomic { call move(a, b, 3); } }
+thread q { atomic { call move(b, a, 1); } }
+";
+
 /// The text of each example, and the lines that are printed of it.
-pub(super) const EXAMPLES: [(&str, &str); 14] = [
+pub(super) const EXAMPLES: [(&str, &str); 15] = [
     (EMPTY_SECTION, "section 0: none\n"),
     (ACCOUNT, "section 0: W a\n"),
     (TWO_THREADS, "section 0: W a\nsection 1: W a\n"),
@@ -174,6 +189,7 @@ pub(super) const EXAMPLES: [(&str, &str); 14] = [
     (NULL_REFERENCE, "section 0: R head, W b\nsection 1: R b\n"),
     (NEVER_FILLED, "section 0: R a\n"),
     (PROTECTED, "section 0: W g\n"),
+    (PROCEDURE, "section 0: W a, W b\nsection 1: W a, W b\n"),
     (LOCKS_EVERYTHING, "section 0: W all\nsection 1: W a\n"),
 ];
 

@@ -10,7 +10,7 @@ use std::test::Fail;
 use std::thread::Threads;
 
 /// The program of each example, and how many threads it has.
-const PROGRAMS: [(&str, u8); 14] = [
+const PROGRAMS: [(&str, u8); 15] = [
     (EMPTY_SECTION, 1),
     (ACCOUNT, 1),
     (TWO_THREADS, 2),
@@ -25,6 +25,7 @@ const PROGRAMS: [(&str, u8); 14] = [
     (NEVER_FILLED, 1),
     (PROTECTED, 1),
     (LOCKS_EVERYTHING, 2),
+    (PROCEDURE, 2),
 ];
 
 /// Rounds in which each of these programs comes to its end, though each thread has but one turn a round.

@@ -6,5 +6,5 @@ field_name-name-requires c =
     item_there c.args.program.now c.args.path.now _ c.fields-field-items.ensures.fields c.requires _ _
     c.loop-field-test.true
 
-pub variable_name-name-requires : goal.variable_name-name-requires
-variable_name-name-requires c = rw c.base.ensures (base_there c.args.program.now c.args.path.now c.requires)
+pub base_of-requires : goal.base_of-requires
+base_of-requires c = rw c.base.ensures (base_there c.args.program.now c.args.path.now c.requires)

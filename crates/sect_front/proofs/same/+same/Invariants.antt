@@ -1,4 +1,4 @@
-use Rattle.std.proofs.Common.{◌≡◌, ◌*◌, ◌+◌, length, take}
+use Rattle.std.proofs.Common.{◌≡◌, ◌*◌, ◌+◌, take}
 use Rattle.sect_front.specs.Trees.{statement_of, block_of, statement_size, block_size}
 use Rattle.sect_front.proofs.same.+same.Given as goal
 

@@ -1,8 +1,8 @@
 use Rattle.sect_names.proofs.Named.{base_there, item_there}
 use Rattle.sect_names.proofs.printing.put_path.Goals as goal
 
-pub variable_name-requires : goal.variable_name-requires
-variable_name-requires c = rw c.base.ensures (base_there c.args.program.now c.args.path.now c.requires)
+pub put_variable-requires : goal.put_variable-requires
+put_variable-requires c = rw c.base.ensures (base_there c.args.program.now c.args.path.now c.requires)
 
 pub field_name-requires : goal.field_name-requires
 field_name-requires c =

@@ -1,7 +1,9 @@
 use Rattle.std.proofs.Common.{drop}
+use Rattle.sect_types.specs.Rules.{declared_in}
 use Rattle.sect_types.specs.steps.Threads.{AreThreads}
 use Rattle.sect_types.proofs.program.threads.Given as goal
 
 abbrev pub invariant-loop-thread : goal.invariant-loop-thread
-invariant-loop-thread l = AreThreads l.tree.records l.tree.globals l.tree.threads (drop l.thread-index l.thread-items)
-    l.names l.texts.items l.fn.spot l.spot
+invariant-loop-thread l =
+    AreThreads (declared_in l.tree) l.tree.threads (drop l.thread-index l.thread-items) l.names l.all.items l.fn.spot
+    l.spot

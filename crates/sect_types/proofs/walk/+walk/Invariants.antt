@@ -1,5 +1,6 @@
 use Rattle.std.proofs.Common.{◌+◌, ◌*◌, drop}
 use Rattle.sect_front.specs.Trees.{statement_of, block_of, statement_size, block_size}
+use Rattle.sect_types.specs.steps.Standing.{declared_by}
 use Rattle.sect_types.proofs.Passing.{IsPassed}
 use Rattle.sect_types.proofs.walk.+walk.Given as goal
 
@@ -11,5 +12,6 @@ decreases-walk_block l = 2 * block_size l.block.now + 1
 
 abbrev pub invariant-walk_block-loop-statement : goal.invariant-walk_block-loop-statement
 invariant-walk_block-loop-statement l =
-    IsPassed l.scope l.inside l.block (block_of l.statement-items) (block_of (drop l.statement-index l.statement-items))
-    l.fn.spot l.spot l.text
+    IsPassed (declared_by l.scope l.standing.procedures) l.scope.locals l.standing.at l.block
+    (block_of l.statement-items)
+    (block_of (drop l.statement-index l.statement-items)) l.fn.spot l.spot

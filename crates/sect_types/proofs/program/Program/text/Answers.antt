@@ -11,7 +11,7 @@ returns-clause-sound c =
     let p = c.args.self.now in
     let sound : AreSound p.records p.globals p.locals p.texts =
     subst (λ (q : ProgramView). AreSound q.records q.globals q.locals q.texts) c.self.view_is
-    c.self.invariant.numbers.sound in
+    c.self.invariant.0.numbers.sound in
     let texts = ap (λ (q : ProgramView). q.texts) c.self.view_is in
     let within : c.args.thread < length c.self.inside.texts.items = omega (arith, ap length texts, c.requires) in
     let at = slice_get-get_or c.self.inside.texts.items c.args.thread c.index.result.now within

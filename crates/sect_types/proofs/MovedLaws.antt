@@ -1,0 +1,64 @@
+-- TextView whose variables are moved stay sound where the types are moved with them.
+use Rattle.std.proofs.Common.{◌≡◌, ℕ, ◌+◌, List, Some, slice_get}
+use Rattle.sect_front.specs.declared.tree.Comparison.{Comparison}
+use Rattle.sect_front.specs.declared.tree.Comparison.TheVariants as comparison
+use Rattle.sect_types.specs.declared.types.ValueType.{ValueType}
+use Rattle.sect_types.specs.declared.types.ValueType.TheVariants.{Int, Refers}
+use Rattle.sect_types.specs.declared.action.Base.{Base}
+use Rattle.sect_types.specs.declared.action.Base.TheVariants as base
+use Rattle.sect_types.specs.declared.action.Value.{Value}
+use Rattle.sect_types.specs.declared.action.Value.TheVariants as value
+use Rattle.sect_types.specs.declared.action.Condition.{Condition}
+use Rattle.sect_types.specs.declared.action.Action.{Action}
+use Rattle.sect_types.specs.declared.action.Action.TheVariants as action
+use Rattle.sect_types.specs.Environments.{Environment}
+use Rattle.sect_types.specs.Sound.{type_at, HasType, IsSoundAction, AreComparable, IsSoundCondition}
+use Rattle.sect_types.specs.Expanded.{moved_value, moved_base, moved_action, moved_condition}
+
+abbrev pub with_locals : Environment → List ValueType → Environment
+with_locals e ls = record { records = e.records; globals = e.globals; locals = ls }
+
+-- the types of the variables stand among those of the thread's locals from number n on
+abbrev pub StandFrom : ℕ → List ValueType → List ValueType → Type 0
+StandFrom n few all = (i : ℕ) (ty : ValueType) → slice_get few i ≡ Some ty → slice_get all (n + i) ≡ Some ty
+
+pub moved_type : (e : Environment) (n : ℕ) (all : List ValueType) → StandFrom n e.locals all
+    → (v : Value) (ty : ValueType) →
+    HasType e v ty → HasType (with_locals e all) (moved_value n v) ty
+moved_type e n all h (value.Number m) Int p = p
+moved_type e n all h (value.Number m) (Refers r) p = p
+moved_type e n all h value.Null Int p = p
+moved_type e n all h value.Null (Refers r) p = p
+moved_type e n all h (value.Local i) ty p = h i ty p
+moved_type e n all h (value.Global g) ty p = p
+
+moved_at : (e : Environment) (n : ℕ) (all : List ValueType) → StandFrom n e.locals all → (b : Base) (ty : ValueType) →
+    type_at e b ≡ Some ty → type_at (with_locals e all) (moved_base n b) ≡ Some ty
+moved_at e n all h (base.Local i) ty p = h i ty p
+moved_at e n all h (base.Global g) ty p = p
+
+pub moved_sound : (e : Environment) (n : ℕ) (all : List ValueType) → StandFrom n e.locals all → (a : Action) →
+    IsSoundAction e a → IsSoundAction (with_locals e all) (moved_action n a)
+moved_sound e n all h (action.Assign x v) p = (p.0, h x p.0 p.1, moved_type e n all h v p.0 p.2)
+moved_sound e n all h (action.Compute x v o w) p =
+    (h x Int p.0, moved_type e n all h v Int p.1, moved_type e n all h w Int p.2)
+moved_sound e n all h (action.New x r site) p = (p.0, h x (Refers r) p.1)
+moved_sound e n all h (action.Load x b f) p = (p.0, moved_at e n all h b (Refers f.of) p.1, p.2, h x p.0 p.3)
+moved_sound e n all h (action.Store b f v) p =
+    (p.0, moved_at e n all h b (Refers f.of) p.1, p.2, moved_type e n all h v p.0 p.3)
+moved_sound e n all h (action.Print v) p = moved_type e n all h v Int p
+
+moved_comparable : (e : Environment) (n : ℕ) (all : List ValueType) → StandFrom n e.locals all
+    → (c : Comparison) (v w : Value) →
+    AreComparable e c v w → AreComparable (with_locals e all) c (moved_value n v) (moved_value n w)
+moved_comparable e n all h comparison.Equal v w p =
+    (p.0, moved_type e n all h v p.0 p.1, moved_type e n all h w p.0 p.2)
+moved_comparable e n all h comparison.NotEqual v w p =
+    (p.0, moved_type e n all h v p.0 p.1, moved_type e n all h w p.0 p.2)
+moved_comparable e n all h comparison.Less v w p = (moved_type e n all h v Int p.0, moved_type e n all h w Int p.1)
+moved_comparable e n all h comparison.LessOrEqual v w p =
+    (moved_type e n all h v Int p.0, moved_type e n all h w Int p.1)
+
+pub moved_holds : (e : Environment) (n : ℕ) (all : List ValueType) → StandFrom n e.locals all → (c : Condition) →
+    IsSoundCondition e c → IsSoundCondition (with_locals e all) (moved_condition n c)
+moved_holds e n all h c p = moved_comparable e n all h c.comparison c.left c.right p

@@ -1,0 +1,153 @@
+-- The expanded texts of all threads, with their fresh locals.
+use Rattle.std.proofs.Common.{◌≡◌, ℕ, zero, suc, ◌+◌, ◌<◌, ◌≤◌, List, [], ◌∷◌, ◌++◌, map, drop, get_or}
+use Rattle.std.proofs.Common.{refl, sym, ◌∙◌, ap, arith, subst, length, append_assoc}
+use Rattle.std.proofs.lemmas.List.{drop_all, append-nil}
+use Rattle.sect_front.specs.declared.tree.Thread.{Thread}
+use Rattle.sect_front.specs.TreeView.{TreeView}
+use Rattle.sect_types.specs.declared.expand.Fresh.{Fresh}
+use Rattle.sect_types.specs.Sight.{Sight}
+use Rattle.sect_types.specs.Rules.{sight, declared_in}
+use Rattle.sect_types.specs.Sums.{sums, block_sums}
+use Rattle.sect_types.specs.Statements.{TextView}
+use Rattle.sect_types.specs.First.{IsTyped}
+use Rattle.sect_types.specs.Expanded.{At, past_thread, expanded_thread, expanded_threads, texts_of, fresh_in}
+use Rattle.sect_types.specs.steps.Expanding.{WorldView, FrontView, Fits, block_there, thread_start, thread_end}
+use Rattle.sect_types.specs.steps.Expanding.{thread_text}
+use Rattle.sect_types.specs.steps.Expanding.{AllFit, tree_of, AreWritten, AreFlat}
+use Rattle.sect_types.specs.Items.{variables}
+use Rattle.sect_types.specs.declared.place.Place.TheVariants.{InProcedure}
+use Rattle.sect_types.proofs.SiteLaws.{typed_clean}
+use Rattle.sect_types.specs.steps.Expansion.{view_of}
+use Rattle.sect_types.proofs.Lists.{drop_next}
+use Rattle.sect_types.proofs.Walked.{before_threads}
+use Rattle.sect_types.proofs.SectionLaws.{sections_in, block_flat}
+use Rattle.sect_types.proofs.Counting.{thread_sums, before_add, threads_add}
+use Rattle.sect_types.proofs.WithinLimits.{HaveFewLocals, typed_few, block_takes, calls_take}
+use Rattle.sect_types.proofs.Threading.{SamePlace, same_texts}
+
+-- the text of a thread
+pub thread_written : (w : WorldView) (sites sections most : ℕ) (h : Thread) (s : Sight) (f : FrontView)
+    (text : TextView)
+    → most ≡ length w.procedures → s ≡ sight w.records w.globals h.locals → f ≡ thread_start sites sections h
+    → text ≡ block_there w most (view_of s 0) f h.body → text ≡ thread_text w sites sections h
+thread_written w sites sections most h s f text e g i j =
+    j ∙ (λ k. block_there w (e k) (view_of (g k) 0) (i k) h.body)
+
+place : ℕ → ℕ → At
+place sites sections = record { sites = sites; sections = sections; fresh = 0 }
+
+pub starts : (w : WorldView) (threads : List Thread) (sites : ℕ) → sites ≡ length w.globals
+    → AllFit w (length w.globals) 0 threads
+    → AreWritten w threads threads sites 0 [] []
+starts w threads sites e fits = record {
+  written = ap (λ n. expanded_threads (tree_of w threads) (record { sites = n; sections = 0; fresh = 0 }) threads) e;
+  listed = refl;
+  fits = subst (λ n. AllFit w n 0 threads) (sym e) fits;
+}
+
+goes_on : (w : WorldView) (all : List Thread) (h : Thread) (rest : List Thread) (sites sections more later : ℕ)
+    (texts : List TextView) (fresh : List (List Fresh)) (text : TextView) (own : List Fresh)
+    → AreWritten w all (h ∷ rest) sites sections texts fresh → text ≡ thread_text w sites sections h
+    → own ≡ (thread_end w sites sections h).fresh → more ≡ (thread_end w sites sections h).at.sites
+    → later ≡ (thread_end w sites sections h).at.sections
+    → AreWritten w all rest more later (texts ++ text ∷ []) (fresh ++ own ∷ [])
+goes_on w all h rest sites sections more later texts fresh text own a e g i j =
+    let t = tree_of w all in
+    let at : At = record { sites = sites; sections = sections; fresh = 0 } in
+    let next : At = record { sites = more; sections = later; fresh = 0 } in
+    let same = sym (same_texts t (past_thread t at h) next rest
+    (record { same_sites = sym i; same_sections = sym j })) in
+    record {
+      written = append_assoc texts (text ∷ []) (expanded_threads t next rest) ∙ (λ k. texts ++ (e k ∷ same k))
+          ∙ a.written;
+      listed = append_assoc fresh (own ∷ []) (map (fresh_in t) rest) ∙ (λ k. fresh ++ (g k ∷ map (fresh_in t) rest))
+          ∙ a.listed;
+      fits = subst (λ n. AllFit w n later rest) (sym i)
+          (subst (λ n. AllFit w (thread_end w sites sections h).at.sites n rest) (sym j) a.fits.2);
+    }
+
+next_thread : (w : WorldView) (all : List Thread) (i : ℕ) (h : Thread) (sites sections : ℕ) (texts : List TextView)
+    (fresh : List (List Fresh)) → i < length all → h ≡ get_or all i h
+    → AreWritten w all (drop i all) sites sections texts fresh
+    → AreWritten w all (h ∷ drop (i + 1) all) sites sections texts fresh
+next_thread w all i h sites sections texts fresh lt is a =
+    subst (λ l. AreWritten w all l sites sections texts fresh) (drop_next all i h lt is) a
+
+pub thread_few : (w : WorldView) (all : List Thread) (i : ℕ) (h : Thread) (sites sections : ℕ) (texts : List TextView)
+    (fresh : List (List Fresh)) → i < length all → h ≡ get_or all i h
+    → AreWritten w all (drop i all) sites sections texts fresh → length h.locals ≤ 64
+thread_few w all i h sites sections texts fresh lt is a =
+    (next_thread w all i h sites sections texts fresh lt is a).fits.0
+
+pub thread_fits : (w : WorldView) (all : List Thread) (i : ℕ) (h : Thread) (sites sections : ℕ) (texts : List TextView)
+    (fresh : List (List Fresh)) → i < length all → h ≡ get_or all i h
+    → AreWritten w all (drop i all) sites sections texts fresh → Fits (thread_end w sites sections h)
+thread_fits w all i h sites sections texts fresh lt is a =
+    (next_thread w all i h sites sections texts fresh lt is a).fits.1
+
+pub one_thread : (w : WorldView) (all : List Thread) (i : ℕ) (h : Thread) (sites sections more later : ℕ)
+    (texts : List TextView) (fresh : List (List Fresh)) (text : TextView) (own : List Fresh) → i < length all
+    → h ≡ get_or all i h → AreWritten w all (drop i all) sites sections texts fresh
+    → text ≡ thread_text w sites sections h → own ≡ (thread_end w sites sections h).fresh
+    → more ≡ (thread_end w sites sections h).at.sites → later ≡ (thread_end w sites sections h).at.sections
+    → AreWritten w all (drop (i + 1) all) more later (texts ++ text ∷ []) (fresh ++ own ∷ [])
+one_thread w all i h sites sections more later texts fresh text own lt is a =
+    goes_on w all h (drop (i + 1) all) sites sections more later texts fresh text own
+    (next_thread w all i h sites sections texts fresh lt is a)
+
+ended : (w : WorldView) (all : List Thread) (i sites sections : ℕ) (texts : List TextView) (fresh : List (List Fresh))
+    → length all ≤ i → AreWritten w all (drop i all) sites sections texts fresh
+    → AreWritten w all [] sites sections texts fresh
+ended w all i sites sections texts fresh le a =
+    subst (λ l. AreWritten w all l sites sections texts fresh) (drop_all i all le) a
+
+pub ends_texts : (w : WorldView) (all : List Thread) (i sites sections : ℕ) (texts : List TextView)
+    (fresh : List (List Fresh)) → length all ≤ i → AreWritten w all (drop i all) sites sections texts fresh
+    → texts ≡ texts_of (tree_of w all)
+ends_texts w all i sites sections texts fresh le a =
+    sym (append-nil texts) ∙ (ended w all i sites sections texts fresh le a).written
+
+pub ends_fresh : (w : WorldView) (all : List Thread) (i sites sections : ℕ) (texts : List TextView)
+    (fresh : List (List Fresh)) → length all ≤ i → AreWritten w all (drop i all) sites sections texts fresh
+    → fresh ≡ map (fresh_in (tree_of w all)) all
+ends_fresh w all i sites sections texts fresh le a =
+    sym (append-nil fresh) ∙ (ended w all i sites sections texts fresh le a).listed
+
+fit_all : (t : TreeView) (w : WorldView) (sites section : ℕ) (hs : List Thread) → w.procedures ≡ t.procedures
+    → sites + (thread_sums (declared_in t) hs).sites ≤ 1024 → section + sections_in hs ≤ 256 → HaveFewLocals hs
+    → (thread_sums (declared_in t) hs).statements ≤ 4096 → (thread_sums (declared_in t) hs).calls ≤ 4096
+    → AllFit w sites section hs
+fit_all t w sites section [] e s n l c d = tt
+fit_all t w sites section (h ∷ hs) e s n l c d =
+    let fresh = block_takes t.procedures (sums t.procedures) (calls_take (length t.procedures) t.procedures) h.body in
+    let same = ap (λ ps. block_sums ps (sums ps) h.body) e in
+    let of_sites = ap (λ x. x.sites) same in
+    let of_fresh = ap (λ x. x.fresh) same in
+    let of_calls = ap (λ x. x.calls) same in (
+      l.0,
+      record {
+        few_sites = omega (arith, s, of_sites);
+        few_sections = omega (arith, n);
+        few_locals = omega (arith, l.0, c, fresh, of_fresh);
+        few_calls = omega (arith, d, of_calls);
+      },
+      fit_all t w (thread_end w sites section h).at.sites (thread_end w sites section h).at.sections hs e
+          (omega (arith, s, of_sites)) (omega (arith, n)) l.1 (omega (arith, c)) (omega (arith, d)),
+    )
+
+-- the threads of a typed tree fit
+pub typed_fits : (t : TreeView) (w : WorldView) → w.procedures ≡ t.procedures → w.globals ≡ t.globals → IsTyped t
+    → AllFit w (length w.globals) 0 t.threads
+typed_fits t w e g h =
+    let few = typed_few t h in
+    let x = before_add t in
+    let y = threads_add (declared_in t) (before_threads t) [] t.threads in
+    fit_all t w (length w.globals) 0 t.threads e (omega (arith, few.0.few_sites, x.sites_add, y.sites_add, ap length g))
+    (omega (arith, few.0.few_sections, x.sections_add, y.sections_add)) few.1
+    (omega (arith, few.0.few_statements, x.statements_add, y.statements_add))
+    (omega (arith, few.0.few_calls, x.calls_add, y.calls_add))
+
+-- no body of a procedure of a typed tree has a section
+pub typed_flat : (t : TreeView) → IsTyped t → AreFlat t.procedures
+typed_flat t h q p e =
+    block_flat (declared_in t) (variables p) (InProcedure q) p.body refl (typed_clean t h q p e)

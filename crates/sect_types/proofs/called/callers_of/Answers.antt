@@ -1,0 +1,8 @@
+use Rattle.std.proofs.Common.{◌≡◌, ◌∙◌, ◌++◌, ◌∷◌, [], ap, arith, length, length-append, ℕ, sym}
+use Rattle.sect_types.specs.steps.Called.{callers_of}
+use Rattle.sect_types.proofs.Reversing.{no_callers, empty_row}
+use Rattle.sect_types.proofs.called.callers_of.Goals as goal
+
+pub loop-number-init : goal.loop-number-init
+loop-number-init c =
+    no_callers c.args.procedures.now c.loop.callers.items (omega (arith, c.loop.invariant.0)) c.loop.invariant.1

@@ -1,0 +1,13 @@
+use Rattle.std.proofs.Common.{◌≡◌, ap, ◌∙◌, sym, subst, arith, Some, false, length}
+use Rattle.sect_types.specs.Sums.{sums, sums_at}
+use Rattle.sect_types.specs.Rules.{by_place, depth_at, passes_by}
+use Rattle.sect_types.specs.steps.Capped.{IsSmall}
+use Rattle.sect_types.specs.steps.Standing.{StandingView}
+use Rattle.sect_types.proofs.Standings.{said, small, passes_capped}
+use Rattle.sect_types.proofs.place.Standing.passes.Goals as goal
+
+pub passes-requires-clause-small : goal.passes-requires-clause-small
+passes-requires-clause-small c =
+    subst IsSmall
+    (sym (said c.self.inside.called.now c.self.inside.at c.in-InThread.field-0 c.in-InThread.depth c.args.number
+    c.self.inside.table.now c.self.inside.returning.now c.in-InThread.is c.self.invariant)) (small _)

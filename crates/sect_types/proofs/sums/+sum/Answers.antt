@@ -1,0 +1,17 @@
+use Rattle.std.proofs.Common.{arith, ap}
+use Rattle.sect_front.specs.Trees.{statement_of, statement_size, block_size}
+use Rattle.sect_front.proofs.Bodies.{size_at}
+use Rattle.sect_types.proofs.sums.+sum.Goals as goal
+
+pub block_sums-statement_sums-requires : goal.block_sums-statement_sums-requires
+block_sums-statement_sums-requires t c = (
+  omega (
+    arith,
+    size_at c.as_slice-statement-items.result.now c.loop-statement.statement-index c.statement-item.result
+        (omega arith),
+    ap (λ s. statement_size (statement_of s)) c.statement-item.is,
+    ap block_size c.loop-statement.invariant.0,
+    c.decreases,
+  ),
+  c.requires,
+)

@@ -1,0 +1,222 @@
+-- The expanded text of a thread, by numbers.
+use Rattle.std.specs.Prelude.{ℕ, zero, suc, ◌+◌, List, [], ◌∷◌, ◌++◌, length, map, Option, Some, None, slice_get}
+use Rattle.sect_front.specs.declared.tree.Primitive as leaf
+use Rattle.sect_front.specs.declared.tree.Operand.{Operand}
+use Rattle.sect_front.specs.declared.tree.Kind.{Kind}
+use Rattle.sect_front.specs.declared.tree.Kind.TheVariants as kind
+use Rattle.sect_front.specs.declared.tree.Declaration.{Declaration}
+use Rattle.sect_front.specs.declared.tree.Record.{Record}
+use Rattle.sect_front.specs.declared.tree.GlobalObject.{GlobalObject}
+use Rattle.sect_types.specs.declared.types.ValueType.{ValueType}
+use Rattle.sect_types.specs.declared.resolve.Given.{Given}
+use Rattle.sect_types.specs.declared.action.Base.{Base}
+use Rattle.sect_types.specs.declared.action.Base.TheVariants as base
+use Rattle.sect_types.specs.declared.action.Value.{Value}
+use Rattle.sect_types.specs.declared.action.Value.TheVariants as value
+use Rattle.sect_types.specs.declared.action.Condition.{Condition}
+use Rattle.sect_types.specs.declared.action.Action.{Action}
+use Rattle.sect_types.specs.declared.action.Action.TheVariants as action
+use Rattle.sect_types.specs.Sight.{Sight, operand_of, names_of_records}
+use Rattle.sect_types.specs.Resolve.{primitive_of, test_of, value_by}
+use Rattle.sect_types.specs.Numbered.{action_in, condition_in}
+use Rattle.sect_types.specs.Environments.{type_of, types_of}
+use Rattle.sect_types.specs.Rules.{sight}
+use Rattle.sect_types.specs.Statements.{TextView, Stop, Do, Choose, Loop, Section, joined}
+use Rattle.sect_front.specs.declared.tree.Procedure.{Procedure}
+use Rattle.sect_front.specs.declared.tree.Thread.{Thread}
+use Rattle.sect_front.specs.TreeView.{TreeView}
+use Rattle.sect_front.specs.Syntax.{StatementView, Primitive, If, IfElse, While, Atomic, Call, BlockView, End, Then}
+use Rattle.sect_types.specs.Items.{variables}
+use Rattle.sect_types.specs.declared.sums.Sums.{Sums}
+use Rattle.sect_types.specs.declared.expand.Fresh.{Fresh}
+use Rattle.sect_types.specs.Sums.{sums, sums_within, statement_sums, block_sums, number_of}
+
+-- the variables from number n on
+abbrev pub moved_value : ℕ → Value → Value
+moved_value n (value.Local i) = value.Local (n + i)
+moved_value n v = v
+
+abbrev pub moved_base : ℕ → Base → Base
+moved_base n (base.Local i) = base.Local (n + i)
+moved_base n (base.Global g) = base.Global g
+
+abbrev pub moved_action : ℕ → Action → Action
+moved_action n (action.Assign x v) = action.Assign (n + x) (moved_value n v)
+moved_action n (action.Compute x v o w) = action.Compute (n + x) (moved_value n v) o (moved_value n w)
+moved_action n (action.New x r site) = action.New (n + x) r site
+moved_action n (action.Load x b f) = action.Load (n + x) (moved_base n b) f
+moved_action n (action.Store b f v) = action.Store (moved_base n b) f (moved_value n v)
+moved_action n (action.Print v) = action.Print (moved_value n v)
+
+abbrev pub moved_condition : ℕ → Condition → Condition
+moved_condition n c = record { left = moved_value n c.left; comparison = c.comparison; right = moved_value n c.right }
+
+-- what statements see, and the number of the first of their variables: 0 in a thread's own text
+pub record View : Type 0 where
+  pub sight : Sight
+  pub first : ℕ
+
+-- the next site, the next section, the next fresh local
+pub record At : Type 0 where
+  pub sites : ℕ
+  pub sections : ℕ
+  pub fresh : ℕ
+
+abbrev pub past : At → Sums → At
+past a s = record a { sites = a.sites + s.sites; fresh = a.fresh + s.fresh }
+
+-- the expansion of a call of that procedure with these arguments, and what follows it
+abbrev pub Expander : Type 0
+Expander = Option ℕ → View → At → List Operand → TextView → TextView
+
+-- how many sections stand in statements
+abbrev mutual
+  pub statement_sections : StatementView → ℕ
+  statement_sections (Primitive p) = 0
+  statement_sections (If t a) = block_sections a
+  statement_sections (IfElse t a b) = block_sections a + block_sections b
+  statement_sections (While t a) = block_sections a
+  statement_sections (Atomic l a) = 1 + block_sections a
+  statement_sections (Call f vs) = 0
+
+  pub block_sections : BlockView → ℕ
+  block_sections End = 0
+  block_sections (Then s b) = statement_sections s + block_sections b
+
+abbrev pub past_statement : List Procedure → List Sums → At → StatementView → At
+past_statement ps table a s =
+    past (record a { sections = a.sections + statement_sections s }) (statement_sums ps table s)
+
+abbrev pub past_block : List Procedure → List Sums → At → BlockView → At
+past_block ps table a b = past (record a { sections = a.sections + block_sections b }) (block_sums ps table b)
+
+abbrev pub action_at : View → At → leaf.Primitive → Action
+action_at v a p = moved_action v.first (action_in (primitive_of v.sight a.sites p))
+
+abbrev mutual
+  -- a statement by numbers, and what follows it
+  pub expanded_statement : List Procedure → List Sums → Expander → View → At → StatementView → TextView
+      → TextView
+  expanded_statement ps table call v a (Primitive p) k = Do (action_at v a p) k
+  expanded_statement ps table call v a (If t b) k =
+      Choose (moved_condition v.first (condition_in (test_of v.sight t))) (expanded_block ps table call v a b) Stop k
+  expanded_statement ps table call v a (IfElse t b c) k =
+      Choose (moved_condition v.first (condition_in (test_of v.sight t))) (expanded_block ps table call v a b)
+      (expanded_block ps table call v (past_block ps table a b) c) k
+  expanded_statement ps table call v a (While t b) k =
+      Loop (moved_condition v.first (condition_in (test_of v.sight t))) (expanded_block ps table call v a b) k
+  expanded_statement ps table call v a (Atomic l b) k =
+      Section a.sections (expanded_block ps table call v (record a { sections = a.sections + 1 }) b) k
+  expanded_statement ps table call v a (Call f vs) k = call (number_of ps f) v a vs k
+
+  pub expanded_block : List Procedure → List Sums → Expander → View → At → BlockView → TextView
+  expanded_block ps table call v a End = Stop
+  expanded_block ps table call v a (Then s b) =
+      expanded_statement ps table call v a s (expanded_block ps table call v (past_statement ps table a s) b)
+
+-- 0 or null
+abbrev pub cleared : Kind → Value
+cleared kind.Int = value.Number 0
+cleared (kind.Record r) = value.Null
+
+-- the locals from number x on are set to 0 or null
+abbrev pub clear_locals : ℕ → List Declaration → TextView → TextView
+clear_locals x [] k = k
+clear_locals x (d ∷ ds) k = Do (action.Assign x (cleared d.kind)) (clear_locals (x + 1) ds k)
+
+-- the argument, by numbers; where it isn't typed this says nothing
+abbrev pub argument_in : ℕ → Option Given → Value
+argument_in n None = value.Null
+argument_in n (Some v) = moved_value n (value_by v)
+
+-- the parameters from number x on are set to the arguments; where these are too few this says nothing
+abbrev pub set_parameters : View → ℕ → List Declaration → List Operand → TextView → TextView
+set_parameters v x [] vs k = k
+set_parameters v x (d ∷ ds) [] k = Do (action.Assign x value.Null) (set_parameters v (x + 1) ds [] k)
+set_parameters v x (d ∷ ds) (u ∷ us) k =
+    Do (action.Assign x (argument_in v.first (operand_of v.sight u))) (set_parameters v (x + 1) ds us k)
+
+abbrev pub after_call : At → Procedure → At
+after_call a p = record a { fresh = a.fresh + (length p.parameters + length p.locals) }
+
+-- one assignment a parameter, one a local, then the body, whose variables are the next fresh locals
+abbrev pub call_of : List Record → List GlobalObject → List Procedure → List Sums → Expander
+    → Option Procedure → Expander
+call_of rs gs ps table call None q v a vs k = k
+call_of rs gs ps table call (Some p) q v a vs k =
+    set_parameters v a.fresh p.parameters vs
+    (clear_locals (a.fresh + length p.parameters) p.locals
+    (joined (expanded_block ps table call (record { sight = sight rs gs (variables p); first = a.fresh })
+    (after_call a p) p.body) k))
+
+abbrev pub procedure_numbered : List Procedure → Option ℕ → Option Procedure
+procedure_numbered ps None = None
+procedure_numbered ps (Some q) = slice_get ps q
+
+-- where calls stand in one another at most n deep
+abbrev pub expand_within : ℕ → List Record → List GlobalObject → List Procedure → Expander
+expand_within zero rs gs ps q v a vs k = k
+expand_within (suc n) rs gs ps q v a vs k =
+    call_of rs gs ps (sums_within n ps) (expand_within n rs gs ps) (procedure_numbered ps q) q v a vs k
+
+-- the text of a thread
+abbrev pub expanded_thread : TreeView → At → Thread → TextView
+expanded_thread t a h =
+    expanded_block t.procedures (sums t.procedures)
+    (expand_within (length t.procedures) t.records t.globals t.procedures)
+    (record { sight = sight t.records t.globals h.locals; first = 0 }) (record a { fresh = length h.locals }) h.body
+
+abbrev pub past_thread : TreeView → At → Thread → At
+past_thread t a h = past_block t.procedures (sums t.procedures) a h.body
+
+abbrev pub expanded_threads : TreeView → At → List Thread → List TextView
+expanded_threads t a [] = []
+expanded_threads t a (h ∷ hs) = expanded_thread t a h ∷ expanded_threads t (past_thread t a h) hs
+
+-- the texts of the threads, by number
+abbrev pub texts_of : TreeView → List TextView
+texts_of t = expanded_threads t (record { sites = length t.globals; sections = 0; fresh = 0 }) t.threads
+
+abbrev pub of_call : ℕ → List Declaration → List Fresh
+of_call c ds = map (λ d. record { declared = d; call = c }) ds
+
+-- the fresh locals of a call that has that number
+abbrev pub Freshens : Type 0
+Freshens = Option ℕ → ℕ → List Fresh
+
+abbrev mutual
+  pub statement_fresh : List Procedure → List Sums → Freshens → ℕ → StatementView → List Fresh
+  statement_fresh ps table call c (Primitive p) = []
+  statement_fresh ps table call c (If t a) = block_fresh ps table call c a
+  statement_fresh ps table call c (IfElse t a b) =
+      block_fresh ps table call c a ++ block_fresh ps table call (c + (block_sums ps table a).calls) b
+  statement_fresh ps table call c (While t a) = block_fresh ps table call c a
+  statement_fresh ps table call c (Atomic l a) = block_fresh ps table call c a
+  statement_fresh ps table call c (Call f vs) = call (number_of ps f) c
+
+  pub block_fresh : List Procedure → List Sums → Freshens → ℕ → BlockView → List Fresh
+  block_fresh ps table call c End = []
+  block_fresh ps table call c (Then s b) =
+      statement_fresh ps table call c s ++ block_fresh ps table call (c + (statement_sums ps table s).calls) b
+
+-- its parameters, its locals, and then those of the calls in its body, which have the next numbers
+abbrev pub fresh_of : List Procedure → List Sums → Freshens → Option Procedure → ℕ → List Fresh
+fresh_of ps table call None c = []
+fresh_of ps table call (Some p) c = of_call c (variables p) ++ block_fresh ps table call (c + 1) p.body
+
+abbrev pub fresh_within : ℕ → List Procedure → Freshens
+fresh_within zero ps q c = []
+fresh_within (suc n) ps q c = fresh_of ps (sums_within n ps) (fresh_within n ps) (procedure_numbered ps q) c
+
+-- the fresh locals of a thread, in the order of their numbers
+abbrev pub fresh_in : TreeView → Thread → List Fresh
+fresh_in t h = block_fresh t.procedures (sums t.procedures) (fresh_within (length t.procedures) t.procedures) 0 h.body
+
+-- the types of the locals of a thread, the fresh ones after its own
+abbrev pub local_types_of : TreeView → Thread → List ValueType
+local_types_of t h =
+    types_of (names_of_records t.records) h.locals
+    ++ map (λ (f : Fresh). type_of (names_of_records t.records) f.declared.kind) (fresh_in t h)
+
+abbrev pub all_local_types : TreeView → List (List ValueType)
+all_local_types t = map (local_types_of t) t.threads

@@ -1,0 +1,134 @@
+-- How far an expansion has come.
+use Rattle.std.specs.Prelude.{◌≡◌, ◌≤◌, ◌+◌, ◌*◌, ℕ, ⊤, List, [], ◌∷◌, ◌++◌, map, length, slice_get}
+use Rattle.sect_front.specs.declared.tree.Thread.{Thread}
+use Rattle.sect_front.specs.TreeView.{TreeView}
+use Rattle.sect_types.specs.Rules.{sight}
+use Rattle.sect_front.specs.declared.tree.Record.{Record}
+use Rattle.sect_front.specs.declared.tree.GlobalObject.{GlobalObject}
+use Rattle.sect_front.specs.declared.tree.Procedure.{Procedure}
+use Rattle.sect_front.specs.declared.tree.Operand.{Operand}
+use Rattle.sect_front.specs.Syntax.{StatementView, BlockView}
+use Rattle.sect_front.specs.Trees.{block_size}
+use Rattle.sect_types.specs.declared.limits.TheConstants.{MOST_ALL_LOCALS, MOST_SITES, MOST_SECTIONS, MOST_CALLS}
+use Rattle.sect_types.specs.declared.expand.Fresh.{Fresh}
+use Rattle.std.specs.Prelude.{Option, Some, None}
+use Rattle.sect_types.specs.declared.action.Value.{Value}
+use Rattle.sect_types.specs.declared.action.Value.TheVariants as value
+use Rattle.sect_types.specs.Expanded.{block_sections, expanded_threads, texts_of, fresh_in}
+use Rattle.sect_types.specs.Expanded.{argument_in}
+use Rattle.sect_types.specs.Sight.{operand_of, names_of_records, names_of_globals, all_fields}
+use Rattle.sect_types.specs.Statements.{TextView, joined}
+use Rattle.sect_types.specs.Sums.{sums_within, statement_sums, block_sums, sums_at}
+use Rattle.sect_types.specs.Expanded.{View, At, past, past_statement, past_block, expanded_statement, expanded_block}
+use Rattle.sect_types.specs.Expanded.{expand_within, statement_fresh, block_fresh, fresh_within}
+use Rattle.sect_types.specs.steps.Threads.{VariablesView, variables_shown}
+
+-- what all threads see
+pub record WorldView : Type 0 where
+  pub records : List Record
+  pub globals : List GlobalObject
+  pub procedures : List Procedure
+
+-- no body of a procedure has a section
+abbrev pub AreFlat : List Procedure → Type 0
+AreFlat ps = (q : ℕ) (p : Procedure) → slice_get ps q ≡ Some p → block_sections p.body ≡ 0
+
+-- the names are those of the declarations, and the variables those of the procedures
+pub record IsWorld (w : WorldView) (record_names : List (List ℕ)) (field_names : List (List (List ℕ)))
+    (global_names : List (List ℕ)) (variables : List VariablesView) : Type 0 where
+  pub of_records : record_names ≡ names_of_records w.records
+  pub of_fields : field_names ≡ all_fields w.records
+  pub of_globals : global_names ≡ names_of_globals w.globals
+  pub of_procedures : variables ≡ map variables_shown w.procedures
+  pub flat : AreFlat w.procedures
+
+-- the next site, section and fresh local, the number of the next call of the thread, and its fresh locals
+pub record FrontView : Type 0 where
+  pub at : At
+  pub calls : ℕ
+  pub fresh : List Fresh
+
+-- all is within the limits
+pub record Fits (f : FrontView) : Type 0 where
+  pub few_sites : f.at.sites ≤ MOST_SITES
+  pub few_sections : f.at.sections ≤ MOST_SECTIONS
+  pub few_locals : f.at.fresh ≤ MOST_ALL_LOCALS
+  pub few_calls : f.calls ≤ MOST_CALLS
+
+-- past a statement, where calls stand in one another at most n deep
+abbrev pub front_past_statement : WorldView → ℕ → FrontView → StatementView → FrontView
+front_past_statement w n f s = record {
+  at = past_statement w.procedures (sums_within n w.procedures) f.at s;
+  calls = f.calls + (statement_sums w.procedures (sums_within n w.procedures) s).calls;
+  fresh = f.fresh ++ statement_fresh w.procedures (sums_within n w.procedures) (fresh_within n w.procedures) f.calls s;
+}
+
+abbrev pub front_past_block : WorldView → ℕ → FrontView → BlockView → FrontView
+front_past_block w n f b = record {
+  at = past_block w.procedures (sums_within n w.procedures) f.at b;
+  calls = f.calls + (block_sums w.procedures (sums_within n w.procedures) b).calls;
+  fresh = f.fresh ++ block_fresh w.procedures (sums_within n w.procedures) (fresh_within n w.procedures) f.calls b;
+}
+
+-- the statement that is expanded, and what follows it
+abbrev pub expanded_there : WorldView → ℕ → View → FrontView → StatementView → TextView → TextView
+expanded_there w n v f s k =
+    expanded_statement w.procedures (sums_within n w.procedures) (expand_within n w.records w.globals w.procedures) v
+    f.at s k
+
+abbrev pub block_there : WorldView → ℕ → View → FrontView → BlockView → TextView
+block_there w n v f b =
+    expanded_block w.procedures (sums_within n w.procedures) (expand_within n w.records w.globals w.procedures) v f.at b
+
+-- where a thread begins
+abbrev pub thread_start : ℕ → ℕ → Thread → FrontView
+thread_start sites sections h = record {
+  at = record { sites = sites; sections = sections; fresh = length h.locals };
+  calls = 0;
+  fresh = [];
+}
+
+abbrev pub thread_end : WorldView → ℕ → ℕ → Thread → FrontView
+thread_end w sites sections h = front_past_block w (length w.procedures) (thread_start sites sections h) h.body
+
+abbrev pub thread_text : WorldView → ℕ → ℕ → Thread → TextView
+thread_text w sites sections h =
+    block_there w (length w.procedures) (record { sight = sight w.records w.globals h.locals; first = 0 })
+    (thread_start sites sections h) h.body
+
+-- the expansion of each thread is within the limits
+abbrev pub AllFit : WorldView → ℕ → ℕ → List Thread → Type 0
+AllFit w sites sections [] = ⊤
+AllFit w sites sections (h ∷ hs) =
+    (length h.locals ≤ 64) × Fits (thread_end w sites sections h)
+    × AllFit w (thread_end w sites sections h).at.sites (thread_end w sites sections h).at.sections hs
+
+abbrev pub tree_of : WorldView → List Thread → TreeView
+tree_of w hs = record { records = w.records; globals = w.globals; procedures = w.procedures; threads = hs }
+
+-- more than twice the blocks of any procedure
+abbrev pub most_size : List Procedure → ℕ
+most_size [] = 3
+most_size (p ∷ ps) = most_size ps + 2 * block_size p.body
+
+-- an argument, where there is one
+abbrev pub argument_of : View → Option Operand → Value
+argument_of v None = value.Null
+argument_of v (Some u) = argument_in v.first (operand_of v.sight u)
+
+-- the statements `rest` of `all` are left
+pub record IsFront (w : WorldView) (n : ℕ) (v : View) (block all rest : BlockView) (old now : FrontView)
+    (before text : TextView) : Type 0 where
+  pub whole : all ≡ block
+  pub written : (k : TextView)
+      → joined text (joined (block_there w n v now rest) k) ≡ joined before (joined (block_there w n v old block) k)
+  pub past : front_past_block w n now rest ≡ front_past_block w n old block
+
+-- the threads `rest` are left, before which these texts were written and these fresh locals listed
+pub record AreWritten (w : WorldView) (all rest : List Thread) (sites sections : ℕ) (texts : List TextView)
+    (fresh : List (List Fresh)) : Type 0 where
+  pub written : texts ++ expanded_threads (tree_of w all) (record { sites = sites; sections = sections; fresh = 0 })
+      rest
+      ≡ texts_of (tree_of w all)
+  pub listed : fresh ++ map (fresh_in (tree_of w all)) rest ≡ map (fresh_in (tree_of w all)) all
+  pub fits : AllFit w sites sections rest

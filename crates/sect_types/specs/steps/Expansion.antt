@@ -1,0 +1,147 @@
+-- What is written while a text is expanded.
+use Rattle.std.specs.Prelude.{◌≡◌, ◌≤◌, ℕ, Bool, true, ◌&&◌, ◌+◌, List, [], ◌∷◌, ◌++◌, ⊤, length, map, slice_get}
+use Rattle.std.specs.Prelude.{Option, Some, None}
+use Rattle.sect_front.specs.declared.tree.Operand.{Operand}
+use Rattle.sect_front.specs.declared.tree.Procedure.{Procedure}
+use Rattle.sect_front.specs.declared.tree.Thread.{Thread}
+use Rattle.sect_front.specs.TreeView.{TreeView}
+use Rattle.sect_front.specs.Syntax.{StatementView, BlockView}
+use Rattle.sect_front.specs.Trees.{block_size}
+use Rattle.sect_types.specs.declared.limits.TheConstants.{MOST_CALLS, MOST_LOCALS, MOST_ALL_LOCALS, MOST_SITES}
+use Rattle.sect_types.specs.declared.limits.TheConstants.{MOST_SECTIONS}
+use Rattle.sect_types.specs.declared.sums.Sums.{Sums}
+use Rattle.sect_types.specs.declared.action.Value.{Value}
+use Rattle.sect_types.specs.declared.action.Value.TheVariants as value
+use Rattle.sect_types.specs.declared.types.ValueType.{ValueType}
+use Rattle.sect_types.specs.steps.Listing.{all_known}
+use Rattle.sect_types.specs.Environments.{type_of}
+use Rattle.sect_types.specs.Sight.{Sight, operand_of}
+use Rattle.sect_types.specs.Rules.{sight, knows_kind}
+use Rattle.sect_types.specs.Items.{variables}
+use Rattle.sect_types.specs.Sums.{sums, sums_within, statement_sums, block_sums, sums_at}
+use Rattle.sect_types.specs.Statements.{TextView, joined}
+use Rattle.sect_types.specs.declared.expand.Fresh.{Fresh}
+use Rattle.sect_types.specs.Expanded.{View, At, Expander, argument_in, block_sections, expanded_statement}
+use Rattle.sect_types.specs.Expanded.{expanded_block, expand_within}
+use Rattle.sect_types.specs.Expanded.{block_fresh, fresh_within, fresh_in, local_types_of, past_thread}
+use Rattle.sect_types.specs.Expanded.{expanded_threads, texts_of}
+
+-- the new text is the old one, then what the function puts before what follows
+abbrev pub Appends : TextView → TextView → (TextView → TextView) → Type 0
+Appends old new f = (k : TextView) → joined new k ≡ joined old (f k)
+
+-- between two positions stands what comes to these sums, and so many sections
+pub record IsPast (old new : At) (s : Sums) (sections : ℕ) : Type 0 where
+  pub of_sites : new.sites ≡ old.sites + s.sites
+  pub of_sections : new.sections ≡ old.sections + sections
+  pub of_fresh : new.fresh ≡ old.fresh + s.fresh
+
+-- behind it the limits aren't passed
+pub record HasRoom (a : At) (s : Sums) (sections : ℕ) : Type 0 where
+  pub for_sites : a.sites + s.sites ≤ MOST_SITES
+  pub for_sections : a.sections + sections ≤ MOST_SECTIONS
+  pub for_fresh : a.fresh + s.fresh ≤ MOST_ALL_LOCALS
+
+-- what a call comes to, and what is put in its place, where calls stand in one another at most n deep
+abbrev pub table_by : TreeView → ℕ → List Sums
+table_by t n = sums_within n t.procedures
+
+abbrev pub calls_by : TreeView → ℕ → Expander
+calls_by t n = expand_within n t.records t.globals t.procedures
+
+abbrev pub view_of : Sight → ℕ → View
+view_of s n = record { sight = s; first = n }
+
+abbrev pub statement_by : TreeView → ℕ → Sight → ℕ → At → StatementView → TextView → TextView
+statement_by t n s first a f k = expanded_statement t.procedures (table_by t n) (calls_by t n) (view_of s first) a f k
+
+abbrev pub block_by : TreeView → ℕ → Sight → ℕ → At → BlockView → TextView
+block_by t n s first a b = expanded_block t.procedures (table_by t n) (calls_by t n) (view_of s first) a b
+
+-- what the bodies of procedures see; and none has a section
+pub record IsCallees (t : TreeView) (called : List Procedure) (scopes : List Sight) : Type 0 where
+  pub procedures_are : called ≡ t.procedures
+  pub scopes_are : scopes ≡ map (λ (p : Procedure). sight t.records t.globals (variables p)) t.procedures
+  pub flat : (q : ℕ) (p : Procedure) → slice_get t.procedures q ≡ Some p → block_sections p.body ≡ 0
+
+-- how many statements with blocks all bodies have
+abbrev pub total_size : List Procedure → ℕ
+total_size [] = 0
+total_size (p ∷ ps) = block_size p.body + total_size ps
+
+-- the statements `rest` are left of a block
+pub record IsExpanding (t : TreeView) (n : ℕ) (s : Sight) (first : ℕ) (block all rest : BlockView)
+    (old now : At) (before text : TextView) : Type 0 where
+  pub whole : all ≡ block
+  pub written : (k : TextView)
+      → joined text (joined (block_by t n s first now rest) k) ≡ joined before
+      (joined (block_by t n s first old block) k)
+  pub past : (e : At) → IsPast now e (block_sums t.procedures (table_by t n) rest) (block_sections rest)
+      → IsPast old e (block_sums t.procedures (table_by t n) block) (block_sections block)
+  pub room : HasRoom now (block_sums t.procedures (table_by t n) rest) (block_sections rest)
+
+abbrev pub argument_of : View → Option Operand → Value
+argument_of v None = value.Null
+argument_of v (Some u) = argument_in v.first (operand_of v.sight u)
+
+-- the argument at an index; where there is none this says nothing
+abbrev pub argument_at : View → List Operand → ℕ → Value
+argument_at v vs i = argument_of v (slice_get vs i)
+
+-- before the body of a thread
+abbrev pub at_thread : At → Thread → At
+at_thread a h = record a { fresh = length h.locals }
+
+-- the expanded texts of these threads pass no limit
+abbrev pub RoomFor : TreeView → At → List Thread → Type 0
+RoomFor t a [] = ⊤
+RoomFor t a (h ∷ hs) =
+    (length h.locals ≤ MOST_LOCALS)
+    × HasRoom (at_thread a h) (block_sums t.procedures (sums t.procedures) h.body) (block_sections h.body)
+    × RoomFor t (past_thread t a h) hs
+
+-- the threads `rest` are left, before which these texts were written
+pub record AreExpanded (t : TreeView) (now : At) (rest : List Thread) (texts : List TextView) : Type 0 where
+  pub written : texts ++ expanded_threads t now rest ≡ texts_of t
+  pub room : RoomFor t now rest
+
+-- what the statements of each thread see
+abbrev pub thread_sights : TreeView → List Sight
+thread_sights t = map (λ (h : Thread). sight t.records t.globals h.locals) t.threads
+
+-- the types of these fresh locals are known
+abbrev pub fresh_known : List (List ℕ) → List Fresh → Bool
+fresh_known records [] = true
+fresh_known records (f ∷ fs) = knows_kind records f.declared.kind && fresh_known records fs
+
+-- the fresh locals of the statements that are left
+pub record ArePut (t : TreeView) (n : ℕ) (block all rest : BlockView) (old now : ℕ) (before fresh : List Fresh) : Type 0
+  where
+    pub whole : all ≡ block
+    pub put : fresh ++ block_fresh t.procedures (table_by t n) (fresh_within n t.procedures) now rest
+        ≡ before ++ block_fresh t.procedures (table_by t n) (fresh_within n t.procedures) old block
+    pub calls : now + (block_sums t.procedures (table_by t n) rest).calls
+        ≡ old + (block_sums t.procedures (table_by t n) block).calls
+
+-- these fresh locals have no types yet
+pub record AreFreshTyped (t : TreeView) (records : List (List ℕ)) (h : Thread) (all rest : List Fresh)
+    (types : List ValueType) : Type 0 where
+  pub whole : all ≡ fresh_in t h
+  pub typed : types ++ map (λ (f : Fresh). type_of records f.declared.kind) rest ≡ local_types_of t h
+  pub known : fresh_known records rest ≡ true
+
+-- all types of a thread's locals are known, and its calls are within the limit
+pub record IsReadyForTypes (t : TreeView) (records : List (List ℕ)) (h : Thread) : Type 0 where
+  pub known : all_known records h.locals ≡ true
+  pub known_fresh : fresh_known records (fresh_in t h) ≡ true
+  pub room : (block_sums t.procedures (sums t.procedures) h.body).calls ≤ MOST_CALLS
+
+abbrev pub AllReadyForTypes : TreeView → List (List ℕ) → List Thread → Type 0
+AllReadyForTypes t records [] = ⊤
+AllReadyForTypes t records (h ∷ hs) = IsReadyForTypes t records h × AllReadyForTypes t records hs
+
+-- the threads `rest` have no types yet
+pub record AreTypesOf (t : TreeView) (records : List (List ℕ)) (all rest : List Thread)
+    (types : List (List ValueType)) : Type 0 where
+  pub typed : types ++ map (local_types_of t) rest ≡ map (local_types_of t) all
+  pub ready : AllReadyForTypes t records rest

@@ -1,0 +1,526 @@
+//! The expanded texts of threads: a call is replaced by an assignment to each fresh variable and the body of the
+//! procedure.
+
+ghost use Rattle.std.specs.Prelude.{◌≡◌, ◌+◌, ◌≤◌, ◌<◌, ◌++◌, List, IfOk, OnOk, Some, length, map, slice_get};
+ghost use Rattle.sect_front.specs.Trees.{statement_of};
+ghost use Rattle.sect_types.specs.Statements.{TextView, joined};
+ghost use Rattle.sect_types.specs.Sight.{names_of_records, names_of_globals, names_of_declared, all_fields};
+ghost use Rattle.sect_types.specs.Rules.{sight};
+ghost use Rattle.sect_types.specs.Sums.{primitive_sums, number_of as number_by};
+ghost use Rattle.sect_front.specs.declared.tree.Procedure.{Procedure as Spec};
+ghost use Rattle.sect_types.specs.Expanded.{set_parameters, clear_locals, of_call, texts_of, fresh_in};
+ghost use Rattle.sect_types.specs.declared.limits.TheConstants.{MOST_ALL_LOCALS, MOST_SITES};
+ghost use Rattle.sect_front.specs.Syntax.{Call};
+ghost use Rattle.sect_types.specs.steps.Threads.{variables_shown, local_names as names_of_locals};
+ghost use Rattle.sect_types.specs.steps.Expanding.{Fits, front_past_statement, front_past_block, expanded_there};
+ghost use Rattle.sect_types.specs.steps.Expansion.{argument_at as argument_at_by, view_of};
+ghost use Rattle.sect_types.specs.Expanded.{cleared as cleared_by};
+ghost use Rattle.sect_types.specs.steps.Expanding.{AreFlat, block_there, AllFit, thread_end, thread_text, tree_of};
+
+use crate::action::{Action, Value};
+use crate::called::Called;
+use crate::names::Names;
+use crate::scope::Scope;
+use crate::text::{Step, Text};
+use crate::variables::Variables;
+use sect_front::{
+    Block, Declaration, GlobalObject, Kind, Literal, Name, Operand, Primitive, Procedure, Record,
+    Statement, Thread,
+};
+use std::alloc::{AllocError, Global};
+use std::marker::Model;
+
+/// A fresh local: its declaration, and the number of its call in the thread.
+#[derive(Clone, Copy)]
+pub struct Fresh {
+    pub declared: Declaration,
+    pub call: u16,
+}
+
+/// What the expansion of each thread sees.
+#[derive(Drop)]
+pub struct World<'a> {
+    records: &'a [Record],
+    record_names: &'a Names,
+    field_names: &'a [Names],
+    globals: &'a [GlobalObject],
+    global_names: &'a Names,
+    called: &'a Called<'a>,
+    variables: &'a [Variables],
+}
+
+impl<'a> Model for World<'a> {
+    ghost use Rattle.std.specs.Coded.{codes};
+    ghost use Rattle.sect_front.specs.Coding.{block_code};
+    ghost use Rattle.sect_types.specs.steps.Expanding.{WorldView, IsWorld};
+
+    ghost Value = { WorldView };
+
+    ghost coded = { Prim.hlevel (codes, block_code) };
+
+    ghost view = { λ w. record { records = w.records.now; globals = w.globals.now; procedures = w.called.now } };
+
+    ghost invariant = { λ w. IsWorld
+        (record { records = w.records.now; globals = w.globals.now; procedures = w.called.now })
+        w.record_names.now w.field_names.now w.global_names.now w.variables.now };
+}
+
+impl<'a> World<'a> {
+    /// These declarations, whose names are given beside them.
+    pub fn new(
+        records: &'a [Record],
+        record_names: &'a Names,
+        field_names: &'a [Names],
+        globals: &'a [GlobalObject],
+        global_names: &'a Names,
+        called: &'a Called<'a>,
+        variables: &'a [Variables],
+    ) -> World<'a>
+        requires records { record_names.now ≡ names_of_records records.now }
+        requires fields { field_names.now ≡ all_fields records.now }
+        requires globals { global_names.now ≡ names_of_globals globals.now }
+        requires variables { variables.now ≡ map variables_shown called.now }
+        requires flat { AreFlat called.now }
+        ensures { result ≡ record {
+          records = records.now;
+          globals = globals.now;
+          procedures = called.now;
+        } }
+    {
+        World {
+            records,
+            record_names,
+            field_names,
+            globals,
+            global_names,
+            called,
+            variables,
+        }
+    }
+
+    /// How many procedures there are.
+    fn len(&self) -> usize
+        ensures { result ≡ length self.now.procedures }
+    {
+        self.called.procedures().len()
+    }
+
+    /// The number of the first procedure of this name.
+    fn number_of(&self, name: &Name) -> Option<usize>
+        ensures { result ≡ number_by self.now.procedures name.now }
+    {
+        self.called.number_of(name)
+    }
+
+    /// The procedure of this number.
+    fn procedure(&self, number: usize) -> &Procedure
+        requires { number < length self.now.procedures }
+        ensures there { slice_get self.now.procedures number ≡ Some result.now }
+        ensures flat { AreFlat self.now.procedures }
+    {
+        &self.called.procedures()[number]
+    }
+
+    /// Its variables.
+    fn variables(&self, number: usize) -> &Variables
+        requires { number < length self.now.procedures }
+        ensures { (p : Spec) → slice_get self.now.procedures number ≡ Some p
+            → result.now ≡ variables_shown p }
+    {
+        self.variables.get(number).unwrap()
+    }
+
+    /// What statements with these variables see.
+    fn scope<'b>(&'b self, list: &'b [Declaration], names: &'b Names) -> Scope<'b>
+        requires { names.now ≡ names_of_declared list.now }
+        ensures { result ≡ sight self.now.records self.now.globals list.now }
+    {
+        Scope::new(
+            self.records,
+            self.record_names,
+            self.field_names,
+            self.globals,
+            self.global_names,
+            list,
+            names,
+        )
+    }
+}
+
+/// How far the expansion has come: the next site and section; and in the thread the number of the next call, how many
+/// locals it declares, and its fresh ones.
+#[derive(Drop)]
+pub struct Front {
+    sites: u16,
+    sections: u16,
+    calls: u16,
+    own: u16,
+    fresh: Vec<Fresh>,
+}
+
+impl Model for Front {
+    ghost use Rattle.std.specs.Prelude.{◌+◌, length};
+    ghost use Rattle.sect_types.specs.steps.Expanding.{FrontView};
+
+    ghost Value = { FrontView };
+
+    ghost view = { λ f. record {
+      at = record { sites = f.sites; sections = f.sections; fresh = f.own + length f.fresh.items };
+      calls = f.calls;
+      fresh = f.fresh.items;
+    } };
+}
+
+impl Front {
+    /// Takes a site if the statement is a `new`.
+    fn pass_primitive(&mut self, primitive: &Primitive)
+        requires { self.old.at.sites + (primitive_sums primitive.now).sites ≤ MOST_SITES }
+        ensures { self.new ≡ record self.old {
+          at = record self.old.at { sites = self.old.at.sites + (primitive_sums primitive.now).sites };
+        } }
+    {
+        if let Primitive::New(_, _) = primitive {
+            self.sites += 1;
+        }
+    }
+
+    /// Takes the number of a section.
+    fn pass_section(&mut self) -> u16
+        requires { self.old.at.sections < 256 }
+        ensures number { result ≡ self.old.at.sections }
+        ensures front { self.new ≡ record self.old { at = record self.old.at { sections = self.old.at.sections + 1 } } }
+    {
+        let number = self.sections;
+        self.sections += 1;
+        number
+    }
+
+    /// The number of the next fresh local.
+    fn next(&self) -> u16
+        requires { self.now.at.fresh ≤ MOST_ALL_LOCALS }
+        ensures { result ≡ self.now.at.fresh }
+    {
+        self.own + self.fresh.len() as u16
+    }
+
+    /// Takes a call and its fresh locals.
+    fn pass_call(&mut self, variables: &[Declaration]) -> Result<(), AllocError>
+        requires { self.old.calls < 4096 }
+        ensures { OnOk result (self.new ≡ record {
+          at = record self.old.at { fresh = self.old.at.fresh + length variables.now };
+          calls = self.old.calls + 1;
+          fresh = self.old.fresh ++ of_call self.old.calls variables.now;
+        }) }
+    {
+        put_variables(variables, self.calls, &mut self.fresh)?;
+        self.calls += 1;
+        Ok(())
+    }
+}
+
+/// Adds the variables of a call that has this number.
+fn put_variables(
+    variables: &[Declaration],
+    call: u16,
+    out: &mut Vec<Fresh>,
+) -> Result<(), AllocError>
+    ensures { OnOk result (out.new.items ≡ out.old.items ++ of_call call variables.now) }
+{
+    for declared in variables {
+        out.push(Fresh {
+            declared: *declared,
+            call,
+        })?;
+    }
+    Ok(())
+}
+
+/// The argument at an index.
+fn argument_at(scope: &Scope<'_>, first: u16, operands: &[Operand], place: usize) -> Value
+    requires { first + length scope.now.locals ≤ MOST_ALL_LOCALS }
+    ensures { result ≡ argument_at_by (view_of scope.now first) operands.now place }
+{
+    match operands.get(place) {
+        None => Value::Null,
+        Some(operand) => scope.argument(first, operand),
+    }
+}
+
+/// What a local is set to before it is first used.
+fn cleared(kind: &Kind) -> Value
+    ensures { result ≡ cleared_by kind.now }
+{
+    match kind {
+        Kind::Int => Value::Number(Literal::new(0)),
+        Kind::Record(_) => Value::Null,
+    }
+}
+
+/// Sets the parameters, which have the numbers from `fresh` on, to the arguments.
+fn put_parameters(
+    scope: &Scope<'_>,
+    first: u16,
+    fresh: u16,
+    parameters: &[Declaration],
+    operands: &[Operand],
+    out: &mut Text,
+) -> Result<(), AllocError>
+    requires own { first + length scope.now.locals ≤ MOST_ALL_LOCALS }
+    requires fresh { fresh + length parameters.now ≤ MOST_ALL_LOCALS }
+    ensures { OnOk result ((k : TextView) → joined out.new k
+        ≡ joined out.old (set_parameters (record { sight = scope.now; first = first }) fresh
+        parameters.now operands.now k)) }
+{
+    for place in 0..parameters.len() {
+        let value = argument_at(scope, first, operands, place);
+        out.push(Step::Do(Action::Assign(fresh + place as u16, value)))?;
+    }
+    Ok(())
+}
+
+/// Sets the locals, which have the numbers from `fresh` on, to 0 or null.
+fn put_cleared(fresh: u16, list: &[Declaration], out: &mut Text) -> Result<(), AllocError>
+    requires { fresh + length list.now ≤ MOST_ALL_LOCALS }
+    ensures { OnOk result ((k : TextView) → joined out.new k
+        ≡ joined out.old (clear_locals fresh list.now k)) }
+{
+    for place in 0..list.len() {
+        let value = cleared(&list[place].kind);
+        out.push(Step::Do(Action::Assign(fresh + place as u16, value)))?;
+    }
+    Ok(())
+}
+
+/// Adds the expansion of a call, where calls stand in one another at most `most` deep.
+#[cycle(expand)]
+fn expand_call(
+    alloc: Global,
+    world: &World<'_>,
+    most: usize,
+    scope: &Scope<'_>,
+    first: u16,
+    front: &mut Front,
+    name: &Name,
+    operands: &[Operand],
+    out: &mut Text,
+) -> Result<(), AllocError>
+    requires own { first + length scope.now.locals ≤ MOST_ALL_LOCALS }
+    requires fits { Fits (front_past_statement world.now most front.old (Call name.now operands.now)) }
+    ensures text { OnOk result ((k : TextView) → joined out.new k
+        ≡ joined out.old (expanded_there world.now most (record { sight = scope.now; first = first })
+        front.old (Call name.now operands.now) k)) }
+    ensures front { OnOk result (front.new
+        ≡ front_past_statement world.now most front.old (Call name.now operands.now)) }
+{
+    let Some(number) = world.number_of(name) else {
+        return Ok(());
+    };
+    if most == 0 {
+        return Ok(());
+    }
+    let procedure = world.procedure(number);
+    let variables = world.variables(number);
+    let fresh = front.next();
+    let parameters = procedure.parameters.as_slice();
+    put_parameters(scope, first, fresh, parameters, operands, out)?;
+    let cleared = fresh + parameters.len() as u16;
+    put_cleared(cleared, procedure.locals.as_slice(), out)?;
+    front.pass_call(variables.as_slice())?;
+    let inner = world.scope(variables.as_slice(), variables.names());
+    expand_block(
+        alloc,
+        world,
+        most - 1,
+        &inner,
+        fresh,
+        front,
+        &procedure.body,
+        out,
+    )?;
+    Ok(())
+}
+
+/// Adds a statement, where calls stand in one another at most `most` deep.
+#[cycle(expand)]
+fn expand_statement(
+    alloc: Global,
+    world: &World<'_>,
+    most: usize,
+    scope: &Scope<'_>,
+    first: u16,
+    front: &mut Front,
+    statement: &Statement,
+    out: &mut Text,
+) -> Result<(), AllocError>
+    requires own { first + length scope.now.locals ≤ MOST_ALL_LOCALS }
+    requires fits { Fits (front_past_statement world.now most front.old (statement_of statement.now)) }
+    ensures text { OnOk result ((k : TextView) → joined out.new k
+        ≡ joined out.old (expanded_there world.now most (record { sight = scope.now; first = first })
+        front.old (statement_of statement.now) k)) }
+    ensures front { OnOk result (front.new
+        ≡ front_past_statement world.now most front.old (statement_of statement.now)) }
+{
+    match statement {
+        Statement::Primitive(primitive) => {
+            let action = scope.action(first, front.sites, primitive);
+            front.pass_primitive(primitive);
+            out.push(Step::Do(action))?;
+            Ok(())
+        }
+        Statement::If(test, then) => {
+            let condition = scope.condition(first, test);
+            let mut yes = Text::new(alloc);
+            expand_block(alloc, world, most, scope, first, front, then, &mut yes)?;
+            out.push(Step::If(condition, yes, Text::new(alloc)))?;
+            Ok(())
+        }
+        Statement::IfElse(test, then, other) => {
+            let condition = scope.condition(first, test);
+            let mut yes = Text::new(alloc);
+            expand_block(alloc, world, most, scope, first, front, then, &mut yes)?;
+            let mut no = Text::new(alloc);
+            expand_block(alloc, world, most, scope, first, front, other, &mut no)?;
+            out.push(Step::If(condition, yes, no))?;
+            Ok(())
+        }
+        Statement::While(test, body) => {
+            let condition = scope.condition(first, test);
+            let mut inner = Text::new(alloc);
+            expand_block(alloc, world, most, scope, first, front, body, &mut inner)?;
+            out.push(Step::While(condition, inner))?;
+            Ok(())
+        }
+        Statement::Atomic(_, body) => {
+            let number = front.pass_section();
+            let mut inner = Text::new(alloc);
+            expand_block(alloc, world, most, scope, first, front, body, &mut inner)?;
+            out.push(Step::Section(number, inner))?;
+            Ok(())
+        }
+        Statement::Call(name, operands) => {
+            let operands = operands.as_slice();
+            expand_call(alloc, world, most, scope, first, front, name, operands, out)
+        }
+    }
+}
+
+/// Adds the statements of a block, where calls stand in one another at most `most` deep.
+#[cycle(expand)]
+fn expand_block(
+    alloc: Global,
+    world: &World<'_>,
+    most: usize,
+    scope: &Scope<'_>,
+    first: u16,
+    front: &mut Front,
+    block: &Block,
+    out: &mut Text,
+) -> Result<(), AllocError>
+    requires own { first + length scope.now.locals ≤ MOST_ALL_LOCALS }
+    requires fits { Fits (front_past_block world.now most front.old block.now) }
+    ensures text { OnOk result ((k : TextView) → joined out.new k
+        ≡ joined out.old (joined (block_there world.now most (record { sight = scope.now; first = first })
+        front.old block.now) k)) }
+    ensures front { OnOk result (front.new ≡ front_past_block world.now most front.old block.now) }
+{
+    for statement in block.as_slice() {
+        expand_statement(alloc, world, most, scope, first, front, statement, out)?;
+    }
+    Ok(())
+}
+
+/// The fresh locals of a thread.
+#[derive(Drop)]
+pub struct FreshLocals {
+    list: Vec<Fresh>,
+}
+
+impl Model for FreshLocals {
+    ghost use Rattle.std.specs.Prelude.{List};
+    ghost use Rattle.sect_types.specs.declared.expand.Fresh.{Fresh};
+
+    ghost Value = { List Fresh };
+
+    ghost view = { λ f. f.list.items };
+}
+
+impl FreshLocals {
+    /// The fresh locals, by number after those that the thread declares.
+    pub fn as_slice(&self) -> &[Fresh]
+        ensures { result.now ≡ self.now }
+    {
+        self.list.as_slice()
+    }
+}
+
+/// The expanded text of a thread, with its fresh locals.
+fn expand_thread(
+    alloc: Global,
+    world: &World<'_>,
+    sites: &mut u16,
+    sections: &mut u16,
+    thread: &Thread,
+    names: &Names,
+) -> Result<(Text, FreshLocals), AllocError>
+    requires few { length thread.now.locals ≤ 64 }
+    requires names { names.now ≡ names_of_declared thread.now.locals }
+    requires fits { Fits (thread_end world.now sites.old sections.old thread.now) }
+    ensures sites { OnOk result (sites.new ≡ (thread_end world.now sites.old sections.old thread.now).at.sites) }
+    ensures sections { OnOk result (sections.new
+        ≡ (thread_end world.now sites.old sections.old thread.now).at.sections) }
+    ensures text { IfOk result (λ r. r.0 ≡ thread_text world.now sites.old sections.old thread.now) }
+    ensures fresh { IfOk result (λ r. r.1 ≡ (thread_end world.now sites.old sections.old thread.now).fresh) }
+{
+    let list = thread.locals.as_slice();
+    let mut front = Front {
+        sites: *sites,
+        sections: *sections,
+        calls: 0,
+        own: list.len() as u16,
+        fresh: Vec::new(alloc),
+    };
+    let scope = world.scope(list, names);
+    let most = world.len();
+    let mut text = Text::new(alloc);
+    expand_block(
+        alloc,
+        world,
+        most,
+        &scope,
+        0,
+        &mut front,
+        &thread.body,
+        &mut text,
+    )?;
+    *sites = front.sites;
+    *sections = front.sections;
+    Ok((text, FreshLocals { list: front.fresh }))
+}
+
+/// The expanded texts of all threads, with the fresh locals of each.
+pub fn expand(
+    alloc: Global,
+    world: &World<'_>,
+    threads: &[Thread],
+    local_names: &[Names],
+) -> Result<(Vec<Text>, Vec<FreshLocals>), AllocError>
+    requires globals { length world.now.globals ≤ 256 }
+    requires names { local_names.now ≡ names_of_locals threads.now }
+    requires fits { AllFit world.now (length world.now.globals) 0 threads.now }
+    ensures texts { IfOk result (λ r. r.0.items ≡ texts_of (tree_of world.now threads.now)) }
+    ensures fresh { IfOk result (λ r. r.1.items
+        ≡ map (fresh_in (tree_of world.now threads.now)) threads.now) }
+{
+    let mut sites = world.globals.len() as u16;
+    let mut sections = 0;
+    let mut texts = Vec::new(alloc);
+    let mut fresh = Vec::new(alloc);
+    for number in 0..threads.len() {
+        let thread = &threads[number];
+        let names = &local_names[number];
+        let (text, locals) = expand_thread(alloc, world, &mut sites, &mut sections, thread, names)?;
+        texts.push(text)?;
+        fresh.push(locals)?;
+    }
+    Ok((texts, fresh))
+}

@@ -102,11 +102,11 @@ module _ (p : ProgramView) (t : ℕ) where
   paths (suc k) = bases ++ flat_map longer (paths k)
 
   module _ (limits : IsWithinLimits p) where
-    few_bases : length bases ≤ 320
+    few_bases : length bases ≤ 4416
     few_bases =
-        let locals : length (slice_index_or p.locals t []) ≤ 64 =
+        let locals : length (slice_index_or p.locals t []) ≤ 4160 =
         elim (cases_lt t (length p.locals)) [
-          | inl there ↦ All-get_or (λ (ts : List ValueType). length ts ≤ 64) p.locals t [] there limits.few_locals
+          | inl there ↦ All-get_or (λ (ts : List ValueType). length ts ≤ 4160) p.locals t [] there limits.few_locals
           | inr past ↦ omega (arith, ap length (get_or_past p.locals t [] past))
         ] in
         let globals : length p.globals ≤ 256 = limits.few_globals in
@@ -124,11 +124,11 @@ module _ (p : ProgramView) (t : ℕ) where
     sixteen : (q : PathView) → length (longer q) ≡ 16
     sixteen q = length-map (below 16) (λ n. dot q (field_at (reach q) n))
 
-    more_paths : (k : ℕ) → length (paths (suc k)) ≤ 320 + 16 * length (paths k)
+    more_paths : (k : ℕ) → length (paths (suc k)) ≤ 4416 + 16 * length (paths k)
     more_paths k = let b = few_bases in
         omega (arith, b, length-append bases (flat_map longer (paths k)), length-sixteen longer sixteen (paths k))
 
-    few_paths : (k : ℕ) → k ≤ 3 → length (paths k) ≤ 1398080
+    few_paths : (k : ℕ) → k ≤ 3 → length (paths k) ≤ 19293504
     few_paths zero most = let b = few_bases in omega (arith, b)
     few_paths (suc zero) most = let b = few_bases in let m = more_paths 0 in omega (arith, b, m)
     few_paths (suc (suc zero)) most = let b = few_bases in let m = more_paths 0 in let n = more_paths 1 in

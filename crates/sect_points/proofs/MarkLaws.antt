@@ -1,7 +1,7 @@
 -- Laws of what grows and of what is moved on.
 use Rattle.std.proofs.Common.{◌≡◌, ℕ, ◌+◌, ◌<◌, ◌≤◌, ◌⊎◌, ◌↔◌, Bool, true, false, true≢false, ◌||◌, List, [], ◌∷◌}
 use Rattle.std.proofs.Common.{length, refl, sym, ap, ◌∙◌, subst, inl, inr, arith}
-use Rattle.std.proofs.Common.{◌++◌, take, get_or, ◌/◌, ◌%◌}
+use Rattle.std.proofs.Common.{◌++◌, take, get_or, ◌*◌, ◌/◌, ◌%◌}
 use Rattle.std.specs.Prelude.{slice_index}
 use Rattle.std.specs.Int.{bit_at}
 use Rattle.std.proofs.lemmas.Bool.{cases_eq, cases_lt}
@@ -29,11 +29,71 @@ use Rattle.sect_types.specs.declared.action.Field.{Field}
 use Rattle.sect_points.specs.steps.Marks.{IsUntouched, MissesBases, Marked, HasMark, IsMarkable, Suits, Grows, Grown}
 use Rattle.sect_points.specs.steps.Marks.{grown, GrewBy, Reads, ReadsValue, ReadsBase, ReadsGrowth, IsBase, AreBases}
 use Rattle.sect_points.specs.steps.Marks.{MovedBy, IsGrowth, Handles, Covers, IsThere, IsBaseAlone, IsOnlyBase}
-use Rattle.sect_points.specs.steps.Marks.{IsStretch, IsGoing, IsLeft, IsSpan}
+use Rattle.sect_points.specs.steps.Marks.{IsStretch, IsGoing, IsLeft, IsSpan, local_row, local_of}
+use Rattle.sect_points.specs.Rows.{RowHas}
 use Rattle.sect_points.proofs.SetLaws.{both_false, one_true, adds_as, spread_below, spread_more, spread_all}
 use Rattle.sect_points.proofs.SolvingLaws.{moved_more, moved_below, base_below, action_same}
 use Rattle.sect_points.specs.declared.holders.Holder.{Holder}
 use Rattle.sect_points.specs.declared.holders.Holder.TheVariants.{Local, Slot}
+
+-- a local is known by its row of marks and by its place there
+local_same : (t x u y : ℕ) → x / 1024 < 5 → y / 1024 < 5 → local_row u y ≡ local_row t x → y % 1024 ≡ x % 1024
+    → Local u y ≡ Local t x
+local_same t x u y part other row at =
+    let thread : u ≡ t = omega (arith, part, other, row) in
+    let local : y ≡ x = omega (arith, part, other, row, at) in
+    ap (λ v. Local v y) thread ∙ ap (λ z. Local t z) local
+
+-- the mark of a local is set
+pub local_marked : (old new : Marked) (t x : ℕ) (sites : List ℕ) → IsMarkable old (Local t x)
+    → ((other : ℕ) → HasSite sites other ↔ (other ≡ x % 1024))
+    → ((other site : ℕ) → RowHas new.locals other site
+    ↔ (RowHas old.locals other site ⊎ ((other ≡ local_row t x) × HasSite sites site)))
+    → new.fields ≡ old.fields → (h : Holder) → HasMark new h ↔ (HasMark old h ⊎ (h ≡ Local t x))
+local_marked old new t x sites place only join fields (Local u y) = (
+  λ m. elim ((join (local_row u y) (y % 1024)).0 m.1) [
+    | inl k ↦ inl (m.0, k)
+    | inr k ↦ inr (local_same t x u y place.0 m.0 k.0 ((only (y % 1024)).0 k.1))
+  ],
+  λ m. elim m [
+    | inl k ↦ (k.0, (join (local_row u y) (y % 1024)).1 (inl k.1))
+    | inr is ↦
+        let thread : u ≡ t = cc in
+        let local : y ≡ x = cc in (
+          subst (λ z. z / 1024 < 5) (sym local) place.0,
+          (join (local_row u y) (y % 1024)).1 (inr (
+            ap (λ v. local_row v y) thread ∙ ap (λ z. local_row t z) local,
+            (only (y % 1024)).1 (ap (λ z. z % 1024) local),
+          )),
+        )
+  ],
+)
+local_marked old new t x sites place only join fields (Slot o f) = (
+  λ m. inl (subst (λ rows. RowHas rows f o) fields m),
+  λ m. elim m [
+    | inl k ↦ subst (λ rows. RowHas rows f o) (sym fields) k
+    | inr is ↦ (let e : Slot o f ≡ Local t x = is in absurd cc)
+  ],
+)
+
+-- the marks of a row of locals are taken away
+pub row_taken : (old new : Marked) (row : ℕ) (words : List ℕ)
+    → ((at : ℕ) → HasSite words at ↔ RowHas old.locals row at)
+    → ((other at : ℕ) → RowHas new.locals other at ↔ (RowHas old.locals other at × (other ≡ row → ⊥)))
+    → new.fields ≡ old.fields → (h : Holder) → HasMark old h
+    → HasMark new h ⊎ ((at : ℕ) × (h ≡ local_of row at) × HasSite words at)
+row_taken old new row words sites left fields (Local u y) m = elim (cases_eq (local_row u y) row) [
+  | inl same ↦
+      let thread : u ≡ row / 5 = omega (arith, m.0, same) in
+      let local : y ≡ row % 5 * 1024 + y % 1024 = omega (arith, m.0, same) in
+      inr (
+        y % 1024,
+        ap (λ v. Local v y) thread ∙ ap (λ z. Local (row / 5) z) local,
+        (sites (y % 1024)).1 (subst (λ r. RowHas old.locals r (y % 1024)) same m.1),
+      )
+  | inr apart ↦ inl (m.0, (left (local_row u y) (y % 1024)).1 (m.1, apart))
+]
+row_taken old new row words sites left fields (Slot o f) m = inl (subst (λ rows. RowHas rows f o) (sym fields) m)
 
 -- the places of sets that have the same
 pub place_back : (old new : PointsToView) (h : Holder) → SameHolders old new → HasSet new h → HasSet old h
@@ -559,13 +619,13 @@ pub gone_taken : (list : List ThreadAction) (old new : PointsToView) (before aft
 gone_taken list old new before after grew k r none e h = none (subst (λ m. HasMark m k) (r.same e).1 h)
 
 -- the next marked local is moved on
-pub left_more : (from x t : ℕ) (words : List ℕ) (list : List ThreadAction) (now new moved moved' : PointsToView)
-    (before after : Marked) (grew : Bool) → IsNext (HasSite words) from x
-    → IsLeft now moved before (λ h. (y : ℕ) × (from ≤ y) × (h ≡ Local t y) × HasSite words y)
+pub left_more : (from x : ℕ) (at : ℕ → Holder) (words : List ℕ) (list : List ThreadAction)
+    (now new moved moved' : PointsToView) (before after : Marked) (grew : Bool) → IsNext (HasSite words) from x
+    → IsLeft now moved before (λ h. (y : ℕ) × (from ≤ y) × (h ≡ at y) × HasSite words y)
     → IsStretch list now new before after grew
-    → Within (InSets moved) (InSets moved') → ((s : ℕ) → InSets now (Local t x) s → InSets moved' (Local t x) s)
-    → IsLeft new moved' after (λ h. (y : ℕ) × (x + 1 ≤ y) × (h ≡ Local t y) × HasSite words y)
-left_more from x t words list now new moved moved' before after grew next left r more here h s k =
+    → Within (InSets moved) (InSets moved') → ((s : ℕ) → InSets now (at x) s → InSets moved' (at x) s)
+    → IsLeft new moved' after (λ h. (y : ℕ) × (x + 1 ≤ y) × (h ≡ at y) × HasSite words y)
+left_more from x at words list now new moved moved' before after grew next left r more here h s k =
     elim (r.marked h s k) [
       | inr m ↦ inr (inl m)
       | inl old ↦ elim (left h s old) [
@@ -573,8 +633,8 @@ left_more from x t words list now new moved moved' before after grew next left r
         | inr j ↦ elim j [
           | inl m ↦ inr (inl (r.keeps h m))
           | inr (y, le, is, has) ↦ elim (cases_eq y x) [
-            | inl same ↦ inl (subst (λ h. InSets moved' h s) (sym (is ∙ ap (λ z. Local t z) same))
-                (here s (subst (λ h. InSets now h s) (is ∙ ap (λ z. Local t z) same) old)))
+            | inl same ↦ inl (subst (λ h. InSets moved' h s) (sym (is ∙ ap at same))
+                (here s (subst (λ h. InSets now h s) (is ∙ ap at same) old)))
             | inr apart ↦ elim (cases_lt y x) [
               | inl lt ↦ absurd (next.3 y le lt has)
               | inr ge ↦ inr (inr (y, omega arith, is, has))
@@ -585,11 +645,11 @@ left_more from x t words list now new moved moved' before after grew next left r
     ]
 
 -- past the last marked local
-pub left_all : (from t : ℕ) (words : List ℕ) (now moved : PointsToView) (marks : Marked)
+pub left_all : (from : ℕ) (at : ℕ → Holder) (words : List ℕ) (now moved : PointsToView) (marks : Marked)
     → ((y : ℕ) → from ≤ y → HasSite words y → ⊥)
-    → IsLeft now moved marks (λ h. (y : ℕ) × (from ≤ y) × (h ≡ Local t y) × HasSite words y)
+    → IsLeft now moved marks (λ h. (y : ℕ) × (from ≤ y) × (h ≡ at y) × HasSite words y)
     → IsLeft now moved marks (λ h. ⊥)
-left_all from t words now moved marks none left h s k = elim (left h s k) [
+left_all from at words now moved marks none left h s k = elim (left h s k) [
   | inl j ↦ inl j
   | inr j ↦ elim j [ inl m ↦ inr (inl m) | inr (y, le, is, has) ↦ absurd (none y le has) ]
 ]

@@ -1,5 +1,5 @@
 -- Rounds over the marks, until nothing grows.
-use Rattle.std.proofs.Common.{◌≡◌, ℕ, ◌+◌, ◌<◌, ◌≤◌, ◌↔◌, Bool, true, false, true≢false, ◌||◌, List, [], ◌∷◌}
+use Rattle.std.proofs.Common.{◌≡◌, ℕ, ◌+◌, ◌*◌, ◌<◌, ◌≤◌, ◌↔◌, Bool, true, false, true≢false, ◌||◌, List, [], ◌∷◌}
 use Rattle.std.proofs.Common.{length, refl, sym, ap, ◌∙◌, subst, inl, inr, arith}
 use Rattle.std.proofs.Common.{◌++◌, take, get_or}
 use Rattle.std.proofs.lemmas.Bool.{cases_eq, cases_lt}
@@ -15,8 +15,7 @@ use Rattle.sect_points.specs.Flow.{Within, Moved, IsLeastFlow}
 use Rattle.sect_points.specs.Sets.{PointsToView, InSets, IsEmpty, SameHolders}
 use Rattle.sect_points.specs.Sets.{sets_room}
 use Rattle.sect_points.specs.steps.Solving.{AllFit}
-use Rattle.sect_types.specs.declared.action.Field.{Field}
-use Rattle.sect_points.specs.steps.Marks.{Marked, HasMark, IsMarkable, Suits, Grows}
+use Rattle.sect_points.specs.steps.Marks.{Marked, HasMark, IsMarkable, Suits, Grows, local_row}
 use Rattle.sect_points.specs.steps.Marks.{grown, IsBase}
 use Rattle.sect_points.specs.steps.Marks.{MovedBy}
 use Rattle.sect_points.specs.steps.Marks.{IsStretch, IsGoing, IsLeft, IsSpan}
@@ -28,7 +27,7 @@ use Rattle.sect_points.specs.declared.holders.Holder.{Holder}
 use Rattle.sect_points.specs.declared.holders.Holder.TheVariants.{Local, Slot}
 use Rattle.sect_points.proofs.MarkLaws.{stretch_none, stretch_then, stretch_by, covers_all, fits_after}
 
--- the locals of the first t threads and the first f fields had their turns
+-- the locals of the first t rows of marks and the first f fields had their turns
 pub record IsRounding (t f : ℕ) (list : List ThreadAction) (old now moved : PointsToView) (marks : Marked)
     (grew : Bool) : Type 0 where
   pub going : IsGoing list now moved marks
@@ -36,7 +35,7 @@ pub record IsRounding (t f : ℕ) (list : List ThreadAction) (old now moved : Po
   pub less : grew ≡ true → sets_room now < sets_room old
   pub most : sets_room now ≤ sets_room old
   pub places : SameHolders old now
-  pub locals : grew ≡ false → (u x : ℕ) → u < t → HasMark marks (Local u x) → ⊥
+  pub locals : grew ≡ false → (u x : ℕ) → local_row u x < t → HasMark marks (Local u x) → ⊥
   pub slots : grew ≡ false → (o g : ℕ) → g < f → HasMark marks (Slot o g) → ⊥
 
 pub rounding_none : (list : List ThreadAction) (old moved : PointsToView) (marks : Marked)
@@ -60,7 +59,7 @@ rounding_step : (t f t' f' : ℕ) (list : List ThreadAction) (old now new moved 
     (marks marks' : Marked) (grew second both : Bool) → IsRounding t f list old now moved marks grew
     → IsSpan now new marks marks' second → IsGoing list new moved' marks' → IsLeft new moved' marks' (λ h. ⊥)
     → both ≡ (second || grew)
-    → (both ≡ false → (u x : ℕ) → u < t' → HasMark marks' (Local u x) → ⊥)
+    → (both ≡ false → (u x : ℕ) → local_row u x < t' → HasMark marks' (Local u x) → ⊥)
     → (both ≡ false → (o g : ℕ) → g < f' → HasMark marks' (Slot o g) → ⊥)
     → IsRounding t' f' list old new moved' marks' both
 rounding_step t f t' f' list old now new moved moved' marks marks' grew second both r span going left is locals slots =
@@ -85,12 +84,12 @@ rounding_step t f t' f' list old now new moved moved' marks marks' grew second b
 pub rounding_local : (t : ℕ) (list : List ThreadAction) (old now new moved moved' : PointsToView)
     (marks marks' : Marked) (grew second both : Bool) → IsRounding t 0 list old now moved marks grew
     → IsSpan now new marks marks' second → IsGoing list new moved' marks' → IsLeft new moved' marks' (λ h. ⊥)
-    → (second ≡ false → (x : ℕ) → HasMark marks' (Local t x) → ⊥) → both ≡ (second || grew)
+    → (second ≡ false → (u x : ℕ) → local_row u x ≡ t → HasMark marks' (Local u x) → ⊥) → both ≡ (second || grew)
     → IsRounding (t + 1) 0 list old new moved' marks' both
 rounding_local t list old now new moved moved' marks marks' grew second both r span going left gone is =
     rounding_step t 0 (t + 1) 0 list old now new moved moved' marks marks' grew second both r span going left is
-    (λ e u x lt m. let f = both_false grew second (sym is ∙ e) in elim (cases_eq u t) [
-      | inl same ↦ gone f.1 x (subst (λ v. HasMark marks' (Local v x)) same m)
+    (λ e u x lt m. let f = both_false grew second (sym is ∙ e) in elim (cases_eq (local_row u x) t) [
+      | inl same ↦ gone f.1 u x same m
       | inr apart ↦ r.locals f.0 u x (omega arith) (span.fewer f.1 (Local u x) m)
     ])
     (λ e o g lt. absurd (omega arith))
@@ -110,7 +109,7 @@ rounding_slot t f list old now new moved moved' marks marks' grew second both r 
 
 -- where nothing grew, all has been moved on
 pub rounding_all : (t f : ℕ) (list : List ThreadAction) (old now moved : PointsToView) (marks : Marked)
-    → IsRounding t f list old now moved marks false → length old.locals ≤ t → 16 ≤ f
+    → IsRounding t f list old now moved marks false → length old.locals * 5 ≤ t → 16 ≤ f
     → Within (InSets now) (InSets moved)
 rounding_all t f list old now moved marks r few all (Slot o g) s k = elim (r.left (Slot o g) s k) [
   | inl j ↦ j
@@ -120,7 +119,7 @@ rounding_all t f list old now moved marks r few all (Local u x) s k = elim (r.le
   | inl j ↦ j
   | inr j ↦ elim j [
     | inl m ↦ elim (cases_lt u (length now.locals)) [
-      | inl lt ↦ absurd (r.locals refl u x (omega (arith, lt, r.places.locals)) m)
+      | inl lt ↦ absurd (r.locals refl u x (omega (arith, lt, r.places.locals, few, m.0)) m)
       | inr past ↦ absurd (row_past [] x s (omega arith)
           (subst (λ rows. RowHas rows x s) (get_or_past now.locals u [] past) k))
     ]

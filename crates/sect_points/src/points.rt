@@ -24,11 +24,11 @@ pub fn points_to(alloc: Global, program: &Program) -> Result<PointsTo, AllocErro
     let statements = placed_statements(alloc, program)?;
     let mut sets = empty_sets(alloc, program)?;
     let mut moved = empty_sets(alloc, program)?;
+    program.typing();
     let mut marks = Marks::new(alloc, sets.locals().len())?;
     let readers = Readers::new(alloc, statements)?;
     sets.bounds();
     moved.bounds();
-    program.typing();
     close(&mut sets, &mut moved, &readers, &mut marks);
     Ok(sets)
 }

@@ -8,21 +8,18 @@ ghost use Rattle.sect_points.specs.steps.Solving.{FitsValue, FitsBase, FitsActio
 ghost use Rattle.sect_points.specs.Sets.{AreBelow};
 ghost use Rattle.sect_points.specs.steps.Marks.{Suits, Grows, AreBases, IsBase, MovedBy, IsOnlyBase, IsThere};
 ghost use Rattle.sect_points.specs.steps.Marks.{IsUntouched, grown, Covers, Handles, IsStretch, IsGoing, IsLeft};
-ghost use Rattle.sect_points.specs.steps.Marks.{IsSpan, HasMark};
+ghost use Rattle.sect_points.specs.steps.Marks.{IsSpan, HasMark, local_row};
 ghost use Rattle.sect_types.specs.Lists.{Has};
 ghost use Rattle.sect_points.specs.declared.holders.ThreadAction.{ThreadAction};
 ghost use Rattle.sect_points.specs.declared.holders.Holder.{Holder};
 ghost use Rattle.sect_points.specs.declared.holders.Holder.TheVariants.{Local, Slot};
 
 use crate::holders::{Growth, Holder, ThreadAction};
-use crate::marks::Marks;
+use crate::marks::{LOCAL_ROWS, Marks};
 use crate::readers::Readers;
 use crate::sets::{MOST_FIELDS, PointsTo};
 use crate::sites::{MOST_SITES, SiteSet};
-use sect_types::{Action, Base, Value};
-
-/// The most threads of a program.
-const MOST_THREADS: u16 = 64;
+use sect_types::{Action, Base, MOST_THREADS, Value};
 
 /// The sites of a value.
 fn value_sites(sets: &PointsTo, thread: u16, value: Value) -> SiteSet
@@ -259,12 +256,12 @@ fn carry_local(
     pass(sets, readers, Growth::Local(thread, local), &new, marks)
 }
 
-/// Moves on what the locals of a thread have got.
+/// Moves on what the locals of a row of marks have got.
 fn carry_locals(
     sets: &mut PointsTo,
     moved: &mut PointsTo,
     readers: &Readers,
-    thread: u16,
+    row: u16,
     marks: &mut Marks,
 ) -> bool
     requires fits { AllFit sets.old readers.now }
@@ -274,14 +271,16 @@ fn carry_locals(
     ensures span { IsSpan sets.old sets.new marks.old marks.new result }
     ensures going { IsGoing readers.now sets.new moved.new marks.new }
     ensures left { IsLeft sets.new moved.new marks.new (λ h. ⊥) }
-    ensures gone { result ≡ false → (local : ℕ) → HasMark marks.new (Local thread local) → ⊥ }
+    ensures gone { result ≡ false → (thread local : ℕ) → local_row thread local ≡ row
+        → HasMark marks.new (Local thread local) → ⊥ }
 {
-    let grown = marks.take_locals(thread);
+    let grown = marks.take_locals(row);
     let mut grew = false;
     let mut from = 0;
-    while let Some(local) = grown.next(from) {
-        grew = carry_local(sets, moved, readers, thread, local, marks) || grew;
-        from = local + 1;
+    while let Some(at) = grown.next(from) {
+        let local = row % LOCAL_ROWS * MOST_SITES + at;
+        grew = carry_local(sets, moved, readers, row / LOCAL_ROWS, local, marks) || grew;
+        from = at + 1;
     }
     grew
 }
@@ -334,8 +333,8 @@ fn round(sets: &mut PointsTo, moved: &mut PointsTo, readers: &Readers, marks: &m
     ensures still { result ≡ false → Within (InSets sets.new) (InSets moved.new) }
 {
     let mut grew = false;
-    for thread in 0..MOST_THREADS {
-        grew = carry_locals(sets, moved, readers, thread, marks) || grew;
+    for row in 0..MOST_THREADS as u16 * LOCAL_ROWS {
+        grew = carry_locals(sets, moved, readers, row, marks) || grew;
     }
     for field in 0..MOST_FIELDS {
         grew = carry_field(sets, moved, readers, field, marks) || grew;

@@ -1,7 +1,7 @@
 -- What a statement by numbers names is declared.
-use Rattle.std.proofs.Common.{◌≡◌, Bool, ℕ, ◌+◌, ◌<◌, ◌≤◌, List, length, Option, Some, None, Result, Ok, Err, IfOk}
+use Rattle.std.proofs.Common.{◌≡◌, Bool, ℕ, ◌≤◌, length, Some, Result, Ok, Err, IfOk}
 use Rattle.std.proofs.Common.{IfSome}
-use Rattle.std.proofs.Common.{refl, sym, subst, arith, slice_get}
+use Rattle.std.proofs.Common.{subst, arith}
 use Rattle.std.proofs.lemmas.List.{length-map}
 use Rattle.std.proofs.lemmas.Option.{slice_get_within}
 use Rattle.sect_front.specs.declared.tree.Comparison.{Comparison}

@@ -1,9 +1,7 @@
 -- Counting that stops one past each limit says the same.
 use Rattle.std.proofs.Common.{◌≡◌, ℕ, zero, suc, ◌+◌, ◌<◌, ◌≤◌, List, [], ◌∷◌, ◌++◌, Option, Some, None, refl, sym}
-use Rattle.std.proofs.Common.{◌∙◌, ap, subst, arith, map, length, min, max, slice_get, drop, get_or}
-use Rattle.std.specs.Prelude.{slice_index_or}
-use Rattle.std.specs.List.{AllByRecursion}
-use Rattle.std.proofs.lemmas.List.{drop_all, map-append}
+use Rattle.std.proofs.Common.{◌∙◌, ap, arith, map, length, min, max, slice_get, drop, get_or}
+use Rattle.std.proofs.lemmas.List.{drop_all}
 use Rattle.sect_front.specs.declared.tree.Primitive as leaf
 use Rattle.sect_front.specs.declared.tree.Primitive.TheVariants as primitive
 use Rattle.sect_front.specs.declared.tree.Procedure.{Procedure}
@@ -12,10 +10,21 @@ use Rattle.sect_front.specs.Trees.{statement_of, block_of}
 use Rattle.sect_types.specs.declared.sums.Sums.{Sums}
 use Rattle.sect_types.specs.Sums.{nothing, both, around, primitive_sums, call_sums, or_nothing, number_of, sums_at}
 use Rattle.sect_types.specs.Sums.{statement_sums, block_sums}
-use Rattle.sect_types.specs.Sums.{procedure_sums, sums_within, sums}
+use Rattle.sect_types.specs.Sums.{procedure_sums, sums_within}
 use Rattle.sect_front.specs.Syntax.{StatementView, Primitive, If, IfElse, While, Atomic, Call, BlockView, End, Then}
 use Rattle.sect_types.specs.steps.Capped.{capped, IsSmall, AreSmall, HaveFewVariables}
 use Rattle.sect_types.proofs.Lists.{drop_next}
+
+-- sums are the same by their parts
+same_sums : {a b : Sums} → a.statements ≡ b.statements → a.sites ≡ b.sites → a.calls ≡ b.calls → a.fresh ≡ b.fresh
+    → a.deep ≡ b.deep → a ≡ b
+same_sums statements sites calls fresh deep i = record {
+  statements = statements i;
+  sites = sites i;
+  calls = calls i;
+  fresh = fresh i;
+  deep = deep i;
+}
 
 -- what is small is counted whole
 pub small_is : (a : Sums) → IsSmall a → capped a ≡ a
@@ -25,14 +34,7 @@ small_is a h =
     let the_calls : min a.calls 4097 ≡ a.calls = omega (arith, h.calls) in
     let the_fresh : min a.fresh 4097 ≡ a.fresh = omega (arith, h.fresh) in
     let the_deep : min a.deep 33 ≡ a.deep = omega (arith, h.deep) in
-    λ i. record {
-      statements = the_statements i;
-      sites = the_sites i;
-      calls = the_calls i;
-      fresh = the_fresh i;
-      deep =
-          the_deep i;
-    }
+    same_sums the_statements the_sites the_calls the_fresh the_deep
 
 pub cap_both : (a b : Sums) → capped (both (capped a) (capped b)) ≡ capped (both a b)
 cap_both a b =
@@ -42,14 +44,7 @@ cap_both a b =
     let the_calls : min (min a.calls 4097 + min b.calls 4097) 4097 ≡ min (a.calls + b.calls) 4097 = omega arith in
     let the_fresh : min (min a.fresh 4097 + min b.fresh 4097) 4097 ≡ min (a.fresh + b.fresh) 4097 = omega arith in
     let the_deep : min (max (min a.deep 33) (min b.deep 33)) 33 ≡ min (max a.deep b.deep) 33 = omega arith in
-    λ i. record {
-      statements = the_statements i;
-      sites = the_sites i;
-      calls = the_calls i;
-      fresh = the_fresh i;
-      deep =
-          the_deep i;
-    }
+    same_sums the_statements the_sites the_calls the_fresh the_deep
 
 pub cap_around : (a : Sums) → capped (around (capped a)) ≡ capped (around a)
 cap_around a =
@@ -58,14 +53,7 @@ cap_around a =
     let the_calls : min (min a.calls 4097) 4097 ≡ min a.calls 4097 = omega arith in
     let the_fresh : min (min a.fresh 4097) 4097 ≡ min a.fresh 4097 = omega arith in
     let the_deep : min (1 + min a.deep 33) 33 ≡ min (1 + a.deep) 33 = omega arith in
-    λ i. record {
-      statements = the_statements i;
-      sites = the_sites i;
-      calls = the_calls i;
-      fresh = the_fresh i;
-      deep =
-          the_deep i;
-    }
+    same_sums the_statements the_sites the_calls the_fresh the_deep
 
 pub cap_call : (n : ℕ) (a : Sums) → capped (call_sums n (capped a)) ≡ capped (call_sums n a)
 cap_call n a =
@@ -74,14 +62,7 @@ cap_call n a =
     let the_calls : min (1 + min a.calls 4097) 4097 ≡ min (1 + a.calls) 4097 = omega arith in
     let the_fresh : min (n + min a.fresh 4097) 4097 ≡ min (n + a.fresh) 4097 = omega arith in
     let the_deep : min (min a.deep 33) 33 ≡ min a.deep 33 = omega arith in
-    λ i. record {
-      statements = the_statements i;
-      sites = the_sites i;
-      calls = the_calls i;
-      fresh = the_fresh i;
-      deep =
-          the_deep i;
-    }
+    same_sums the_statements the_sites the_calls the_fresh the_deep
 
 pub cap_primitive : (p : leaf.Primitive) → primitive_sums p ≡ capped (primitive_sums p)
 cap_primitive (primitive.Assign x v) = refl
@@ -104,14 +85,7 @@ cap_next s x r =
     4097 = omega arith in
     let the_deep : min (max (min (max s.deep (min x.deep 33)) 33) r.deep) 33 ≡ min (max s.deep (max x.deep r.deep)) 33 =
     omega arith in
-    λ i. record {
-      statements = the_statements i;
-      sites = the_sites i;
-      calls = the_calls i;
-      fresh = the_fresh i;
-      deep =
-          the_deep i;
-    }
+    same_sums the_statements the_sites the_calls the_fresh the_deep
 
 -- the first i statements of a block come to this
 pub record AreSummed (ps : List Procedure) (table : List Sums) (ss : List Statement) (i : ℕ) (s : Sums) : Type 0 where
@@ -125,14 +99,7 @@ both_nothing s =
     let the_calls : s.calls + 0 ≡ s.calls = omega arith in
     let the_fresh : s.fresh + 0 ≡ s.fresh = omega arith in
     let the_deep : max s.deep 0 ≡ s.deep = omega arith in
-    λ i. record {
-      statements = the_statements i;
-      sites = the_sites i;
-      calls = the_calls i;
-      fresh = the_fresh i;
-      deep =
-          the_deep i;
-    }
+    same_sums the_statements the_sites the_calls the_fresh the_deep
 
 nothing_both : (s : Sums) → both nothing s ≡ s
 nothing_both s =
@@ -141,14 +108,7 @@ nothing_both s =
     let the_calls : 0 + s.calls ≡ s.calls = omega arith in
     let the_fresh : 0 + s.fresh ≡ s.fresh = omega arith in
     let the_deep : max 0 s.deep ≡ s.deep = omega arith in
-    λ i. record {
-      statements = the_statements i;
-      sites = the_sites i;
-      calls = the_calls i;
-      fresh = the_fresh i;
-      deep =
-          the_deep i;
-    }
+    same_sums the_statements the_sites the_calls the_fresh the_deep
 
 pub none_summed : (ps : List Procedure) (table : List Sums) (ss : List Statement) (s : Sums) → s ≡ nothing → IsSmall s
     → AreSummed ps table ss 0 s
@@ -206,14 +166,7 @@ cap_cap s =
     let the_calls : min (min s.calls 4097) 4097 ≡ min s.calls 4097 = omega arith in
     let the_fresh : min (min s.fresh 4097) 4097 ≡ min s.fresh 4097 = omega arith in
     let the_deep : min (min s.deep 33) 33 ≡ min s.deep 33 = omega arith in
-    λ i. record {
-      statements = the_statements i;
-      sites = the_sites i;
-      calls = the_calls i;
-      fresh = the_fresh i;
-      deep =
-          the_deep i;
-    }
+    same_sums the_statements the_sites the_calls the_fresh the_deep
 
 cap_at : (table : List Sums) (q : Option ℕ) → capped (sums_at (map capped table) q) ≡ capped (sums_at table q)
 cap_at table None = refl

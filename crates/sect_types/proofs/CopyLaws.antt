@@ -1,23 +1,22 @@
 -- The texts of a typed tree by copies of templates, each made once.
-use Rattle.std.specs.Prelude.{◌||◌, ◌-◌, ◌≤◌, Bool, true, false, is_some}
+use Rattle.std.specs.Prelude.{◌-◌, ◌≤◌, true, false}
 use Rattle.std.specs.List.{list_any}
-use Rattle.std.proofs.Common.{◌≡◌, ◌⊎◌, inl, inr, ℕ, zero, suc, ◌+◌, List, [], ◌∷◌, Option, Some, None}
-use Rattle.std.proofs.Common.{refl, sym, ◌∙◌, ap, arith, subst, length}
+use Rattle.std.proofs.Common.{◌≡◌, inl, inr, ℕ, zero, suc, ◌+◌, List, [], ◌∷◌, Option, Some, None}
+use Rattle.std.proofs.Common.{refl, sym, ◌∙◌, ap, arith, length}
 use Rattle.sect_front.specs.declared.tree.Record.{Record}
 use Rattle.sect_front.specs.declared.tree.GlobalObject.{GlobalObject}
 use Rattle.sect_types.specs.Rules.{sight}
 use Rattle.sect_front.specs.declared.tree.Procedure.{Procedure}
 use Rattle.sect_front.specs.declared.tree.Thread.{Thread}
 use Rattle.sect_front.specs.TreeView.{TreeView}
-use Rattle.sect_types.specs.declared.sums.Sums.{Sums}
 use Rattle.sect_types.specs.Sums.{sums, sums_at, sums_within, block_calls, calls_in}
 use Rattle.sect_types.specs.First.{IsTyped}
-use Rattle.sect_types.specs.Expanded.{View, At, Expander, expanded_block, procedure_numbered, expand_within}
+use Rattle.sect_types.specs.Expanded.{View, At, procedure_numbered, expand_within}
 use Rattle.sect_types.specs.Expanded.{past_thread, expanded_thread, expanded_threads, texts_of}
 use Rattle.sect_types.specs.Templates.{copied_thread, copied_threads, copy_within}
 use Rattle.sect_types.proofs.FuelLaws.{Agree, chain, one_more}
 use Rattle.sect_types.proofs.EnoughLaws.{IsAcyclic, two, witness, holds, calls_there, ends, no_way}
-use Rattle.sect_types.proofs.TextLaws.{SameAt, AreSame, block_text, one_text}
+use Rattle.sect_types.proofs.TextLaws.{SameAt, block_text, one_text}
 use Rattle.sect_types.proofs.CycleLaws.{typed_acyclic}
 use Rattle.sect_types.proofs.TemplateLaws.{expand_by, calls_copied, template_copied}
 

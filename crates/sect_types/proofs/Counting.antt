@@ -1,13 +1,13 @@
 -- The counts at the end of a text that breaks no rule.
 use Rattle.std.specs.Prelude.{Bool, true, false, if◌then◌else◌}
 use Rattle.std.proofs.Common.{◌≡◌, ℕ, zero, suc, ◌+◌, List, [], ◌∷◌, ◌++◌, Option, Some, None}
-use Rattle.std.proofs.Common.{refl, sym, ◌∙◌, ap, arith, subst, length, length-append}
+use Rattle.std.proofs.Common.{refl, sym, ◌∙◌, arith, subst, length, length-append}
 use Rattle.sect_front.specs.declared.tree.Primitive as leaf
 use Rattle.sect_front.specs.declared.tree.Primitive.TheVariants as primitive
 use Rattle.sect_front.specs.declared.tree.Declaration.{Declaration}
 use Rattle.sect_front.specs.declared.tree.Record.{Record}
 use Rattle.sect_front.specs.declared.tree.GlobalObject.{GlobalObject}
-use Rattle.sect_types.specs.Statements.{TextView, statement_count, made_in}
+use Rattle.sect_types.specs.Statements.{made_in}
 use Rattle.sect_types.specs.Sections.{sections_of}
 use Rattle.sect_types.specs.Programs.{total_statements, all_made}
 use Rattle.sect_front.specs.Syntax.{StatementView, Primitive, If, IfElse, While, Atomic, Call, BlockView, End, Then}
@@ -17,17 +17,17 @@ use Rattle.sect_front.specs.TreeView.{TreeView}
 use Rattle.sect_types.specs.declared.place.Place.{Place}
 use Rattle.sect_types.specs.declared.place.Place.TheVariants.{InThread, InProcedure}
 use Rattle.sect_types.specs.Items.{deeper, in_section, Item, ARecord, AField, AGlobal, AProcedure, AThread, ALocal}
-use Rattle.sect_types.specs.Items.{AStatement, PrimitiveHead, TestHead, AtomicHead, CallHead, statement_items}
+use Rattle.sect_types.specs.Items.{AStatement, PrimitiveHead, TestHead, AtomicHead, statement_items}
 use Rattle.sect_types.specs.Items.{block_items, field_items, record_items, global_items, local_items, procedure_items}
 use Rattle.sect_types.specs.Items.{thread_items, variables, items}
 use Rattle.sect_types.specs.declared.sums.Sums.{Sums}
-use Rattle.sect_types.specs.Sums.{nothing, both, sums, statement_sums, block_sums, primitive_sums}
+use Rattle.sect_types.specs.Sums.{nothing, both, statement_sums, block_sums, primitive_sums}
 use Rattle.sect_types.specs.declared.rule.Rule.{Rule}
 use Rattle.sect_types.specs.declared.rule.Rule.TheVariants.{Unknown, Twice, WrongType, SharedOutside, Nested, TooMany}
 use Rattle.sect_types.specs.declared.rule.Rule.TheVariants.{Recursion, Arguments}
-use Rattle.sect_types.specs.Rules.{Declared, Counts, breaks, after, rule_of, Verdict, Fine, Faulty, fault_or, judge}
+use Rattle.sect_types.specs.Rules.{Declared, Counts, breaks, after, rule_of, Verdict, Fine, fault_or, judge}
 use Rattle.sect_types.specs.Rules.{least, declared_in}
-use Rattle.sect_types.specs.First.{BreaksFrom, none_yet, IsTyped}
+use Rattle.sect_types.specs.First.{none_yet, IsTyped}
 use Rattle.sect_types.specs.Clean.{AreCleanThreads}
 use Rattle.sect_types.specs.Expanded.{At, statement_sections, block_sections, past_thread, expanded_thread}
 use Rattle.sect_types.specs.Expanded.{expanded_threads, texts_of}

@@ -1,21 +1,20 @@
 -- No typed text has recursion.
-use Rattle.std.specs.Prelude.{Bool, true, false, ◌||◌, nat_eq, eqb}
+use Rattle.std.specs.Prelude.{true, false, eqb}
 use Rattle.std.specs.List.{list_any}
-use Rattle.std.proofs.Common.{◌≡◌, ◌⊎◌, inl, inr, ℕ, ◌+◌, List, [], ◌∷◌, Option, Some, None}
-use Rattle.std.proofs.Common.{refl, sym, ◌∙◌, ap, arith, subst, length, slice_get}
+use Rattle.std.proofs.Common.{◌≡◌, ◌⊎◌, inl, inr, ℕ, List, [], Option, Some, None}
+use Rattle.std.proofs.Common.{refl, sym, ◌∙◌, subst, slice_get}
 use Rattle.std.proofs.lemmas.Bool.{eqb-true}
 use Rattle.sect_front.specs.declared.tree.Declaration.{Declaration}
 use Rattle.sect_front.specs.Syntax.{StatementView, Primitive, If, IfElse, While, Atomic, Call, BlockView, End, Then}
 use Rattle.sect_front.specs.declared.tree.Procedure.{Procedure}
 use Rattle.sect_front.specs.TreeView.{TreeView}
-use Rattle.sect_types.specs.declared.place.Place.{Place}
 use Rattle.sect_types.specs.declared.place.Place.TheVariants.{InProcedure}
 use Rattle.sect_types.specs.Items.{variables}
 use Rattle.sect_types.specs.Sums.{number_of, prepend, statement_calls, block_calls, calls_in, returns}
 use Rattle.sect_types.specs.Rules.{Declared, returns_to, declared_in}
 use Rattle.sect_types.specs.First.{IsTyped}
 use Rattle.sect_types.specs.Clean.{IsCleanStatement, IsCleanBlock}
-use Rattle.sect_types.proofs.EnoughLaws.{or_cases, Calls, IsAcyclic}
+use Rattle.sect_types.proofs.EnoughLaws.{or_cases, IsAcyclic}
 use Rattle.sect_types.proofs.SiteLaws.{AreClean, typed_clean}
 
 -- a call is of a procedure that doesn't return

@@ -1,5 +1,5 @@
 -- A block of which the first statements have been expanded.
-use Rattle.std.proofs.Common.{◌≡◌, ℕ, zero, suc, ◌+◌, ◌<◌, ◌≤◌, List, [], ◌∷◌, ◌++◌, Option, Some, None, drop, get_or}
+use Rattle.std.proofs.Common.{◌≡◌, ℕ, zero, suc, ◌+◌, ◌<◌, ◌≤◌, List, [], ◌∷◌, Option, Some, None, drop, get_or}
 use Rattle.std.proofs.Common.{length, refl, sym, ap, subst, ◌∙◌, append_assoc, append-nil, arith, Result, Ok, Err}
 use Rattle.std.proofs.Common.{OnOk}
 use Rattle.sect_types.specs.declared.text.Step.{Step}
@@ -20,10 +20,10 @@ use Rattle.sect_types.specs.Sight.{operand_of}
 use Rattle.sect_types.specs.Items.{variables}
 use Rattle.sect_types.specs.Rules.{sight}
 use Rattle.sect_types.specs.Sums.{number_of, sums_within, statement_sums, block_sums}
-use Rattle.sect_types.specs.Statements.{TextView, Stop, Do, Choose, Loop, Section, joined}
+use Rattle.sect_types.specs.Statements.{TextView, Stop, Do, joined}
 use Rattle.sect_types.specs.Expanded.{View, At, Expander, argument_in, cleared, set_parameters, clear_locals, call_of}
 use Rattle.sect_types.specs.Expanded.{after_call, expand_within}
-use Rattle.sect_types.specs.Expanded.{procedure_numbered, expanded_statement, expanded_block, statement_sections}
+use Rattle.sect_types.specs.Expanded.{procedure_numbered, expanded_block, statement_sections}
 use Rattle.sect_types.specs.Expanded.{block_sections}
 use Rattle.sect_types.specs.Expanded.{statement_fresh, block_fresh, fresh_within}
 use Rattle.sect_types.specs.steps.Expanding.{WorldView, FrontView, Fits, front_past_statement, front_past_block}

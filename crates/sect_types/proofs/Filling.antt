@@ -1,5 +1,5 @@
 -- The assignments before the body of a call.
-use Rattle.std.proofs.Common.{◌≡◌, ℕ, zero, suc, ◌+◌, ◌<◌, ◌≤◌, List, [], ◌∷◌, ◌++◌, Option, Some, None, length, drop}
+use Rattle.std.proofs.Common.{◌≡◌, ℕ, zero, suc, ◌+◌, ◌<◌, ◌≤◌, List, [], ◌∷◌, Option, Some, None, length, drop}
 use Rattle.std.proofs.Common.{refl, sym, ap, ◌∙◌, arith}
 use Rattle.std.specs.Prelude.{slice_get, slice_index_or}
 use Rattle.std.proofs.lemmas.List.{drop_all}
@@ -12,11 +12,10 @@ use Rattle.sect_types.specs.declared.action.Value.TheVariants as value
 use Rattle.sect_types.specs.declared.action.Action.TheVariants as action
 use Rattle.sect_types.specs.declared.text.Step.{Step}
 use Rattle.sect_types.specs.declared.text.Step.TheVariants as step
-use Rattle.sect_types.specs.Sight.{operand_of}
 use Rattle.sect_types.specs.Statements.{TextView, Stop, Do, Choose, Loop, Section, joined}
 use Rattle.sect_types.specs.Texts.{step_then}
 use Rattle.sect_types.specs.steps.Expanding.{argument_of}
-use Rattle.sect_types.specs.Expanded.{View, argument_in, set_parameters, clear_locals, cleared}
+use Rattle.sect_types.specs.Expanded.{View, set_parameters, clear_locals, cleared}
 
 pub joined_step : (t : TextView) (st : Step) (k : TextView)
     → joined (joined t (step_then st Stop)) k ≡ joined t (step_then st k)

@@ -1,7 +1,7 @@
 -- The types of fresh locals are known, and are those of the program.
-use Rattle.std.specs.Prelude.{Bool, true, false, ◌&&◌, nat_le}
-use Rattle.std.proofs.Common.{◌≡◌, ℕ, zero, suc, ◌+◌, List, [], ◌∷◌, ◌++◌, map, Option, Some, None, refl, sym, ◌∙◌, ap}
-use Rattle.std.proofs.Common.{length, slice_get, subst}
+use Rattle.std.specs.Prelude.{Bool, true, false, ◌&&◌}
+use Rattle.std.proofs.Common.{◌≡◌, ℕ, zero, suc, ◌+◌, List, [], ◌∷◌, ◌++◌, map, Option, Some, None, refl, ap}
+use Rattle.std.proofs.Common.{length}
 use Rattle.sect_front.specs.declared.tree.Declaration.{Declaration}
 use Rattle.sect_front.specs.declared.tree.Procedure.{Procedure}
 use Rattle.sect_front.specs.declared.tree.Thread.{Thread}
@@ -9,13 +9,12 @@ use Rattle.sect_front.specs.Syntax.{StatementView, Primitive, If, IfElse, While,
 use Rattle.sect_front.specs.TreeView.{TreeView}
 use Rattle.sect_types.specs.declared.expand.Fresh.{Fresh}
 use Rattle.sect_types.specs.declared.sums.Sums.{Sums}
-use Rattle.sect_types.specs.declared.types.ValueType.{ValueType}
 use Rattle.sect_types.specs.Sight.{names_of_records}
 use Rattle.sect_types.specs.Items.{variables}
 use Rattle.sect_types.specs.Rules.{knows_kind}
 use Rattle.sect_types.specs.Sums.{sums, sums_within, number_of, statement_sums, block_sums}
 use Rattle.sect_types.specs.Expanded.{Freshens, of_call, statement_fresh, block_fresh, fresh_of, fresh_within, fresh_in}
-use Rattle.sect_types.specs.Expanded.{procedure_numbered, local_types_of, all_local_types}
+use Rattle.sect_types.specs.Expanded.{procedure_numbered, local_types_of}
 use Rattle.sect_types.specs.steps.Listing.{all_known}
 use Rattle.sect_types.specs.steps.Threads.{variables_fine}
 use Rattle.sect_types.specs.steps.FreshTypes.{local_types, fresh_known, all_fresh_known}

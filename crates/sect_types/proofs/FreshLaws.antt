@@ -10,7 +10,6 @@ use Rattle.sect_types.specs.Items.{variables}
 use Rattle.sect_types.specs.declared.sums.Sums.{Sums}
 use Rattle.sect_types.specs.Sums.{sums_within, statement_sums, block_sums, number_of, prepend, statement_calls}
 use Rattle.sect_types.specs.Sums.{block_calls, calls_in}
-use Rattle.sect_types.specs.declared.expand.Fresh.{Fresh}
 use Rattle.sect_types.specs.Expanded.{Freshens, of_call, statement_fresh, block_fresh, fresh_of, fresh_within}
 use Rattle.sect_types.specs.Expanded.{procedure_numbered}
 use Rattle.sect_types.proofs.FuelLaws.{Agree, or_false, same_statement, same_block, chain, one_more}

@@ -1,8 +1,7 @@
 -- How far an expansion has come, statement by statement.
-use Rattle.std.specs.Prelude.{◌-◌, max}
 use Rattle.std.proofs.Common.{◌≡◌, ℕ, zero, suc, ◌+◌, ◌*◌, ◌<◌, ◌≤◌, List, [], ◌∷◌, ◌++◌, map, drop, get_or}
 use Rattle.std.proofs.Common.{Option, Some, None, refl, sym, ◌∙◌, ap, arith, subst, length, append_assoc, slice_get}
-use Rattle.std.proofs.lemmas.List.{drop_all, append-nil, map-append, length-map}
+use Rattle.std.proofs.lemmas.List.{drop_all, append-nil}
 use Rattle.std.proofs.Common.{length-append}
 use Rattle.sect_front.specs.declared.tree.Declaration.{Declaration}
 use Rattle.sect_front.specs.declared.tree.Operand.{Operand}
@@ -12,21 +11,19 @@ use Rattle.sect_front.specs.declared.tree.Primitive.TheVariants as primitive
 use Rattle.sect_front.specs.declared.tree.Locking.{Locking}
 use Rattle.sect_front.specs.declared.tree.Test.{Test}
 use Rattle.sect_front.specs.declared.tree.Statement.{Statement}
-use Rattle.sect_front.specs.Syntax.{StatementView, Primitive, If, IfElse, While, Atomic, Call, BlockView, End, Then}
-use Rattle.sect_front.specs.Trees.{statement_of, block_of, statement_size, block_size}
+use Rattle.sect_front.specs.Syntax.{StatementView, Primitive, IfElse, Atomic, Call, BlockView, End, Then}
+use Rattle.sect_front.specs.Trees.{statement_of, block_of, block_size}
 use Rattle.sect_types.specs.declared.expand.Fresh.{Fresh}
 use Rattle.sect_types.specs.declared.sums.Sums.{Sums}
 use Rattle.sect_types.specs.Items.{variables}
-use Rattle.sect_types.specs.Sums.{sums_within, statement_sums, block_sums, sums_at, number_of, primitive_sums, nothing}
+use Rattle.sect_types.specs.Sums.{sums_within, block_sums, sums_at, number_of, primitive_sums, nothing}
 use Rattle.sect_types.specs.Statements.{TextView, Stop, Choose, joined}
 use Rattle.sect_types.specs.declared.action.Condition.{Condition}
 use Rattle.sect_types.specs.Resolve.{test_of}
 use Rattle.sect_types.specs.Numbered.{condition_in}
 use Rattle.sect_types.specs.Expanded.{moved_condition}
-use Rattle.sect_types.specs.Expanded.{View, At, expand_within, set_parameters, clear_locals, of_call, statement_fresh}
+use Rattle.sect_types.specs.Expanded.{View, expand_within, set_parameters, clear_locals, of_call}
 use Rattle.sect_types.specs.Expanded.{block_fresh, fresh_of, fresh_within}
-use Rattle.sect_types.specs.Expanded.{statement_sections, block_sections, procedure_numbered, past_statement}
-use Rattle.sect_types.specs.Expanded.{past_block}
 use Rattle.sect_types.specs.steps.Expanding.{WorldView, FrontView, Fits, front_past_statement, front_past_block}
 use Rattle.sect_types.specs.steps.Expanding.{expanded_there, block_there, IsFront, most_size, tree_of, AreFlat}
 use Rattle.sect_types.specs.steps.Expansion.{Appends, table_by, view_of}
@@ -37,7 +34,6 @@ use Rattle.std.specs.Option.{option_map}
 use Rattle.std.proofs.lemmas.Option.{slice_get-map}
 use Rattle.sect_types.specs.steps.Threads.{VariablesView, variables_shown}
 use Rattle.sect_types.proofs.Lists.{drop_next}
-use Rattle.sect_types.proofs.CountLaws.{of_call_long, sums_of}
 use Rattle.sect_types.proofs.Writing.{called, statement_follows, call_by_parts, alone, either_written}
 
 -- two fronts of the same parts

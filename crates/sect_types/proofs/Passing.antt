@@ -1,11 +1,10 @@
 -- A block of which the first statements have been passed.
 use Rattle.std.proofs.Common.{◌≡◌, ℕ, zero, suc, ◌+◌, ◌<◌, ◌≤◌, subst, arith, sym, List, [], ◌∷◌, drop, get_or}
 use Rattle.std.proofs.Common.{length, ap, ◌∙◌, Result, Ok, Err}
-use Rattle.std.specs.Prelude.{max}
 use Rattle.std.specs.Result.{IsErrAnd}
 use Rattle.sect_front.specs.declared.tree.Test.{Test}
 use Rattle.sect_types.proofs.Lists.{drop_next}
-use Rattle.sect_front.specs.Syntax.{StatementView, BlockView, Then}
+use Rattle.sect_front.specs.Syntax.{BlockView, Then}
 use Rattle.sect_front.specs.Trees.{statement_of, block_of}
 use Rattle.sect_front.specs.Depth.{statement_depth, block_depth}
 use Rattle.sect_front.specs.declared.tree.Statement.{Statement}

@@ -1,7 +1,7 @@
 -- What typing means for the numbers of a program.
 use Rattle.std.specs.Prelude.{All, unwrap_or}
 use Rattle.std.proofs.Common.{◌≡◌, ℕ, zero, suc, ◌+◌, ◌≤◌, ◌<◌, true, false, ◌&&◌, nat_le, List, [], ◌∷◌, ◌++◌, map}
-use Rattle.std.proofs.Common.{length, length-append, refl, sym, ap, ◌∙◌, subst, arith, Option, Some, None, is_some}
+use Rattle.std.proofs.Common.{length, length-append, refl, sym, ◌∙◌, subst, arith, Option, Some, None, is_some}
 use Rattle.std.proofs.Common.{true≢false, slice_get}
 use Rattle.std.proofs.lemmas.List.{length-map, map-append}
 use Rattle.std.proofs.lemmas.List.Elements.{All-nil, All-cons, All-append}
@@ -18,7 +18,7 @@ use Rattle.sect_front.specs.TreeView.{TreeView}
 use Rattle.sect_front.specs.Syntax.{StatementView, Primitive, If, IfElse, While, Atomic, Call, BlockView, End, Then}
 use Rattle.sect_types.specs.declared.types.ValueType.{ValueType}
 use Rattle.sect_types.specs.declared.place.Place.{Place}
-use Rattle.sect_types.specs.declared.place.Place.TheVariants.{InThread, InProcedure}
+use Rattle.sect_types.specs.declared.place.Place.TheVariants.{InThread}
 use Rattle.sect_types.specs.declared.sums.Sums.{Sums}
 use Rattle.sect_types.specs.Sight.{names_of_records, has_name, place}
 use Rattle.sect_types.specs.Items.{deeper, in_section, variables}
@@ -32,21 +32,20 @@ use Rattle.sect_types.specs.Statements.{TextView}
 use Rattle.sect_types.specs.steps.Listing.{all_known, fields_fine, locals_fine, globals_known}
 use Rattle.sect_types.specs.steps.Threads.{variables_fine}
 use Rattle.sect_types.specs.Environments.{record_number, type_of, types_of, field_types, global_records, IsInRange}
-use Rattle.sect_types.specs.Sections.{sections_of, AllSited}
-use Rattle.sect_types.specs.First.{IsTyped}
-use Rattle.sect_types.specs.Programs.{ProgramView, numbered_by, total_statements, all_made, sites_of, IsWellNumbered}
+use Rattle.sect_types.specs.Sections.{AllSited}
+use Rattle.sect_types.specs.Programs.{ProgramView, numbered_by, all_made, IsWellNumbered}
 use Rattle.sect_types.specs.steps.Counted.{IsCounted}
 use Rattle.sect_types.specs.Lockings.{statement_lockings, block_lockings, threads_lockings, lockings_of}
 use Rattle.sect_types.specs.Clean.{IsCleanStatement, IsCleanBlock, AreCleanThreads}
 use Rattle.sect_types.proofs.Heads.{placed}
 use Rattle.sect_types.proofs.SoundLemmas.{both, place_within}
-use Rattle.sect_types.proofs.Standing.{types_in, fresh_types, call_types}
+use Rattle.sect_types.proofs.Standing.{fresh_types, call_types}
 use Rattle.sect_types.proofs.Walked.{text_clean}
 use Rattle.sect_types.proofs.SiteLaws.{typed_sites}
 use Rattle.sect_types.proofs.SectionLaws.{block_flat, inside_section, sections_in, typed_sections, typed_section_count}
 use Rattle.sect_types.proofs.TypeLaws.{typed_sound}
-use Rattle.sect_types.proofs.Counting.{AreCounted, fine_typed, fine_counts}
-use Rattle.sect_types.proofs.WithinLimits.{AreFewTypes, AreWithinLimits, typed_few_types, typed_within}
+use Rattle.sect_types.proofs.Counting.{fine_typed, fine_counts}
+use Rattle.sect_types.proofs.WithinLimits.{AreFewTypes, typed_few_types, typed_within}
 
 at_most : (m n : ℕ) → nat_le m n ≡ true → m ≤ n
 at_most m n h = grind (arith, nat_tests)

@@ -1,7 +1,7 @@
 -- A procedure that is reached is reached by no more calls than there are procedures.
-use Rattle.std.specs.Prelude.{◌||◌, ◌-◌, ◌<◌, ◌≤◌, Bool, true, false, is_some, nat_eq, eqb}
+use Rattle.std.specs.Prelude.{◌||◌, ◌-◌, ◌<◌, Bool, true, false, nat_eq, eqb}
 use Rattle.std.specs.List.{list_any, IsDistinct}
-use Rattle.std.proofs.Common.{◌≡◌, ◌⊎◌, inl, inr, ℕ, zero, suc, ◌+◌, List, [], ◌∷◌, Option, Some, None}
+use Rattle.std.proofs.Common.{◌≡◌, inl, inr, ℕ, zero, suc, List, [], ◌∷◌}
 use Rattle.std.proofs.Common.{refl, sym, arith, subst, length, slice_get}
 use Rattle.std.proofs.lemmas.Bool.{eqb-true}
 use Rattle.std.proofs.lemmas.Map.Steps.{length-le_from_distinct_below}

@@ -1,9 +1,8 @@
 -- Clean statements by numbers.
 use Rattle.std.specs.Prelude.{Bool, true, false, not, ◌&&◌}
-use Rattle.std.proofs.Common.{◌≡◌, ℕ, ◌+◌, List, [], ◌++◌, Option, Some, None, Result, Ok, Err, IfOk, refl, sym, ◌∙◌}
-use Rattle.std.proofs.Common.{ap, arith, length, length-append}
+use Rattle.std.proofs.Common.{◌≡◌, ℕ, List, Some, None, Result, Ok, Err, IfOk, refl, sym, ◌∙◌}
+use Rattle.std.proofs.Common.{length}
 use Rattle.sect_front.specs.declared.tree.Primitive as leaf
-use Rattle.sect_front.specs.declared.tree.Primitive.TheVariants as primitive
 use Rattle.sect_front.specs.declared.tree.Test.{Test}
 use Rattle.sect_front.specs.declared.tree.Declaration.{Declaration}
 use Rattle.sect_types.specs.declared.rule.Rule.{Rule}
@@ -14,9 +13,9 @@ use Rattle.sect_types.specs.Sight.{Sight, operand_of}
 use Rattle.sect_types.specs.Resolve.{primitive_of, test_of}
 use Rattle.sect_types.specs.Rules.{knows_primitive, primitive_agrees, knows_test, compares, shares, Declared, seen}
 use Rattle.sect_types.specs.Numbered.{action_in, condition_in}
-use Rattle.sect_types.specs.Environments.{Environment, environment}
+use Rattle.sect_types.specs.Environments.{environment}
 use Rattle.sect_types.specs.Sound.{IsSoundAction, IsSoundCondition, is_shared}
-use Rattle.sect_types.specs.Statements.{Stop, Do, made_by}
+use Rattle.sect_types.specs.Statements.{made_by}
 use Rattle.sect_types.specs.Sections.{IsSite}
 use Rattle.sect_types.specs.steps.Walks.{rule_in}
 use Rattle.sect_types.proofs.Heads.{primitive_law, test_law, of_types}

@@ -1,8 +1,8 @@
 -- The callers of each procedure, as they are gathered.
-use Rattle.std.proofs.Common.{◌≡◌, ◌≢◌, ◌⊎◌, inl, inr, ℕ, zero, suc, ◌+◌, ◌<◌, ◌≤◌, Bool, true, false, List, [], ◌∷◌}
+use Rattle.std.proofs.Common.{◌≡◌, ◌≢◌, ◌⊎◌, inl, inr, ℕ, zero, suc, ◌+◌, ◌<◌, ◌≤◌, true, false, List, [], ◌∷◌}
 use Rattle.std.proofs.Common.{◌++◌, Option, Some, None, length, take, get_or, append-nil, refl, sym, ap, subst, ◌∙◌}
 use Rattle.std.proofs.Common.{arith, slice_get}
-use Rattle.std.specs.Prelude.{◌||◌, eqb, nat_eq, slice_index_or}
+use Rattle.std.specs.Prelude.{eqb, slice_index_or}
 use Rattle.std.specs.List.{list_any}
 use Rattle.std.proofs.lemmas.Bool.{eqb-true}
 use Rattle.std.proofs.lemmas.List.{take_more, take_all}
@@ -11,7 +11,7 @@ use Rattle.sect_front.specs.Syntax.{StatementView, Primitive, If, IfElse, While,
 use Rattle.sect_types.specs.Store.{put_at}
 use Rattle.sect_types.specs.Sums.{number_of, names_of_procedures, calls_in, prepend, statement_calls, block_calls}
 use Rattle.sect_types.specs.steps.Called.{IsAmong, Calls, callers_of, AreCallersBefore}
-use Rattle.sect_types.proofs.EnoughLaws.{or_cases, or_left, or_right, same}
+use Rattle.sect_types.proofs.EnoughLaws.{or_cases}
 use Rattle.sect_types.proofs.Replaced.{this_or_other, length-put_at}
 use Rattle.sect_types.proofs.SoundLemmas.{place_within}
 use Rattle.std.proofs.lemmas.Option.{slice_get-get_or}

@@ -1,5 +1,5 @@
 -- The sections of the expansion: an expanded call has none.
-use Rattle.std.specs.Prelude.{Bool, true, false, max}
+use Rattle.std.specs.Prelude.{true, false}
 use Rattle.std.proofs.Common.{◌≡◌, ℕ, zero, suc, ◌+◌, List, [], ◌∷◌, ◌++◌, map, Option, Some, None}
 use Rattle.std.proofs.Common.{refl, sym, ◌∙◌, ap, arith, subst, length, length-append, append_assoc}
 use Rattle.std.proofs.lemmas.List.{length-map}

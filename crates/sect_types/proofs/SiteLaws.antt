@@ -25,7 +25,7 @@ use Rattle.sect_types.specs.Expanded.{procedure_numbered, expand_within, expande
 use Rattle.sect_types.specs.Expanded.{expanded_threads, texts_of}
 use Rattle.sect_types.proofs.CountLaws.{sums_of, looked}
 use Rattle.sect_types.proofs.Walked.{text_clean}
-use Rattle.sect_types.proofs.Resolved.{IsResolved, resolved, moved_made, moved_site}
+use Rattle.sect_types.proofs.Resolved.{resolved, moved_made, moved_site}
 
 -- what the statements of a body with these variables see, where the first of these has that number
 abbrev pub view : Declared → List Declaration → ℕ → View

@@ -1,6 +1,6 @@
 -- Where the types of some variables stand among those of all locals.
-use Rattle.std.proofs.Common.{◌≡◌, ℕ, zero, suc, ◌+◌, List, [], ◌∷◌, ◌++◌, map, Option, Some, None}
-use Rattle.std.proofs.Common.{refl, sym, ◌∙◌, ap, arith, subst, length, slice_get, length-append}
+use Rattle.std.proofs.Common.{◌≡◌, ℕ, zero, suc, ◌+◌, List, [], ◌∷◌, ◌++◌, map, Some}
+use Rattle.std.proofs.Common.{refl, ◌∙◌, ap, arith, subst, length, slice_get}
 use Rattle.std.proofs.lemmas.List.{map-append, length-map}
 use Rattle.sect_front.specs.declared.tree.Declaration.{Declaration}
 use Rattle.sect_types.specs.declared.types.ValueType.{ValueType}

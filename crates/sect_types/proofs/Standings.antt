@@ -1,7 +1,7 @@
 -- What a place says of what is counted there.
-use Rattle.std.proofs.Common.{◌≡◌, ℕ, zero, suc, [], ◌∷◌, ◌+◌, ◌<◌, ◌≤◌, Bool, true, false, ◌&&◌, ◌||◌, not, refl}
-use Rattle.std.proofs.Common.{sym, ap, subst, ◌∙◌, arith, Option, Some, None, List, map, length, slice_get}
-use Rattle.std.specs.Prelude.{nat_lt, nat_le, min, slice_index_or}
+use Rattle.std.proofs.Common.{◌≡◌, ℕ, zero, suc, [], ◌∷◌, ◌+◌, ◌≤◌, Bool, true, false, ◌&&◌, ◌||◌, refl}
+use Rattle.std.proofs.Common.{ap, subst, ◌∙◌, arith, Some, List, map, length}
+use Rattle.std.specs.Prelude.{nat_lt, min, slice_index_or}
 use Rattle.std.proofs.lemmas.List.{length-map}
 use Rattle.std.proofs.lemmas.Bool.Decides.{nat_tests}
 use Rattle.sect_front.specs.declared.tree.Procedure.{Procedure}
@@ -10,9 +10,9 @@ use Rattle.sect_types.specs.declared.place.Place.TheVariants.{InThread, InProced
 use Rattle.sect_types.specs.declared.sums.Sums.{Sums}
 use Rattle.sect_types.specs.Items.{deeper, in_section}
 use Rattle.sect_types.specs.Sums.{nothing, sums, sums_within, procedure_sums, sums_at}
-use Rattle.sect_types.specs.Rules.{by_place, depth_at, Counts, passes_by, plus_sums, after_item}
+use Rattle.sect_types.specs.Rules.{by_place, depth_at, Counts, passes_by, plus_sums}
 use Rattle.sect_types.specs.steps.Capped.{capped, IsSmall}
-use Rattle.sect_types.specs.steps.Standing.{IsReady, AreReturning}
+use Rattle.sect_types.specs.steps.Standing.{IsReady}
 
 -- in a thread a test counts, in a procedure it doesn't
 pub counted : (at : Place) (b : Bool) → (by_place at true false && b) ≡ by_place at b false

@@ -1,8 +1,7 @@
 -- Copies of templates are the expansion.
-use Rattle.std.specs.Prelude.{Bool, true, false, ◌&&◌, is_some}
-use Rattle.std.specs.List.{list_any}
-use Rattle.std.proofs.Common.{◌≡◌, ◌⊎◌, inl, inr, ℕ, zero, suc, ◌+◌, ◌≤◌, List, [], ◌∷◌, map, Option, Some, None}
-use Rattle.std.proofs.Common.{refl, sym, ◌∙◌, ap, arith, length, slice_get}
+use Rattle.std.specs.Prelude.{Bool, true, false, ◌&&◌}
+use Rattle.std.proofs.Common.{◌≡◌, ℕ, zero, suc, ◌+◌, List, [], ◌∷◌, map, Option, Some, None}
+use Rattle.std.proofs.Common.{refl, sym, ◌∙◌, ap, arith, length}
 use Rattle.sect_front.specs.declared.tree.Operand.{Operand}
 use Rattle.sect_front.specs.declared.tree.Operator.{Operator}
 use Rattle.sect_front.specs.declared.tree.Primitive as leaf
@@ -29,21 +28,16 @@ use Rattle.sect_types.specs.Rules.{sight}
 use Rattle.sect_types.specs.Statements.{TextView, Stop, Do, Choose, Loop, Section, joined}
 use Rattle.sect_front.specs.Syntax.{StatementView, Primitive, If, IfElse, While, Atomic, Call, BlockView, End, Then}
 use Rattle.sect_front.specs.declared.tree.Procedure.{Procedure}
-use Rattle.sect_front.specs.declared.tree.Thread.{Thread}
-use Rattle.sect_front.specs.TreeView.{TreeView}
 use Rattle.sect_types.specs.Items.{variables}
 use Rattle.sect_types.specs.declared.sums.Sums.{Sums}
-use Rattle.sect_types.specs.Sums.{sums, sums_within, sums_at, statement_sums, block_sums, number_of, block_calls}
-use Rattle.sect_types.specs.Sums.{calls_in}
+use Rattle.sect_types.specs.Sums.{sums, statement_sums, block_sums, number_of}
 use Rattle.sect_types.specs.Expanded.{View, At, Expander, moved_value, moved_action, moved_condition, past_statement}
-use Rattle.sect_types.specs.Expanded.{past_block, statement_sections, block_sections, action_at, expanded_statement}
+use Rattle.sect_types.specs.Expanded.{past_block, statement_sections, block_sections, expanded_statement}
 use Rattle.sect_types.specs.Expanded.{expanded_block, argument_in, set_parameters, clear_locals, after_call, call_of}
-use Rattle.sect_types.specs.Expanded.{procedure_numbered, expand_within, past_thread, expanded_thread}
-use Rattle.sect_types.specs.Expanded.{expanded_threads, texts_of}
-use Rattle.sect_types.specs.Templates.{Invocation, TemplateView, value_in, values_in, template_statement}
-use Rattle.sect_types.specs.Templates.{template_block, sited_action, copied_action, shifted, Copier, copied}
-use Rattle.sect_types.specs.Templates.{set_values, nothing_before, template_of, copy_of, copy_within, copied_thread}
-use Rattle.sect_types.specs.Templates.{copied_threads}
+use Rattle.sect_types.specs.Expanded.{procedure_numbered}
+use Rattle.sect_types.specs.Templates.{TemplateView, value_in, values_in, template_statement}
+use Rattle.sect_types.specs.Templates.{template_block, sited_action, shifted, Copier, copied}
+use Rattle.sect_types.specs.Templates.{set_values, nothing_before, copy_of, copy_within}
 
 -- a statement that has its site from n on
 typed_sited : (n : ℕ) (b : Bool) (a x : Action) → x ≡ sited_action n a

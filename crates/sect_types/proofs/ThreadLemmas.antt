@@ -2,7 +2,6 @@
 use Rattle.std.proofs.Common.{◌≡◌, ℕ, zero, suc, ◌+◌, ◌<◌, ◌≤◌, false, List, [], ◌∷◌, ◌++◌, drop, get_or, map, length}
 use Rattle.std.proofs.Common.{Result, Ok, Err, sym, ap, subst, ◌∙◌, append_assoc, length-append, arith, true, ◌&&◌}
 use Rattle.std.proofs.Common.{nat_le}
-use Rattle.std.specs.Prelude.{max}
 use Rattle.std.specs.Result.{IsErrAnd}
 use Rattle.sect_types.proofs.Lists.{drop_next}
 use Rattle.sect_front.specs.Syntax.{BlockView}

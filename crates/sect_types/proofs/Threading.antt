@@ -1,13 +1,11 @@
 -- The expanded texts of all threads.
-use Rattle.std.proofs.Common.{◌≡◌, ℕ, zero, suc, ◌+◌, ◌<◌, ◌≤◌, List, [], ◌∷◌, ◌++◌, drop, get_or, Option, Some, None}
-use Rattle.std.proofs.Common.{refl, sym, ◌∙◌, ap, arith, subst, length, length-append, append_assoc, slice_get}
+use Rattle.std.proofs.Common.{◌≡◌, ℕ, ◌+◌, ◌<◌, ◌≤◌, List, [], ◌∷◌, ◌++◌, drop, get_or}
+use Rattle.std.proofs.Common.{refl, sym, ◌∙◌, ap, arith, subst, length, append_assoc}
 use Rattle.std.proofs.lemmas.List.{append-nil}
 use Rattle.std.proofs.lemmas.List.{drop_all}
 use Rattle.sect_front.specs.declared.tree.Thread.{Thread}
 use Rattle.sect_front.specs.TreeView.{TreeView}
-use Rattle.sect_types.specs.declared.sums.Sums.{Sums}
 use Rattle.sect_types.specs.Rules.{declared_in, sight}
-use Rattle.sect_types.specs.Sight.{Sight}
 use Rattle.sect_types.specs.Sums.{sums, block_sums}
 use Rattle.sect_types.specs.Statements.{TextView}
 use Rattle.sect_types.specs.First.{IsTyped}

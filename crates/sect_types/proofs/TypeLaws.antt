@@ -1,20 +1,18 @@
 -- The expanded text of a typed text is sound where its fresh locals have the types of their declarations.
 use Rattle.std.specs.Prelude.{Bool, true, false, not, ◌&&◌, ◌||◌, is_some, nat_eq}
 use Rattle.std.proofs.Common.{◌≡◌, ℕ, zero, suc, ◌+◌, List, [], ◌∷◌, ◌++◌, map, Option, Some, None, IfSome}
-use Rattle.std.proofs.Common.{refl, sym, ◌∙◌, ap, arith, subst, length, slice_get, length-append}
+use Rattle.std.proofs.Common.{refl, sym, ◌∙◌, arith, subst, length, length-append}
 use Rattle.std.proofs.lemmas.Bool.{eqb-true}
 use Rattle.sect_front.specs.declared.tree.Operand.{Operand}
 use Rattle.sect_front.specs.declared.tree.Kind.{Kind}
 use Rattle.sect_front.specs.declared.tree.Kind.TheVariants as kind
-use Rattle.sect_front.specs.declared.tree.Primitive as leaf
-use Rattle.sect_front.specs.declared.tree.Primitive.TheVariants as primitive
 use Rattle.sect_front.specs.declared.tree.Declaration.{Declaration}
 use Rattle.sect_types.specs.declared.types.ValueType.{ValueType}
 use Rattle.sect_types.specs.declared.action.Action.{Action}
 use Rattle.sect_types.specs.declared.resolve.Given.{Given}
-use Rattle.sect_types.specs.Sight.{Sight, names_of_records, operand_of}
-use Rattle.sect_types.specs.Resolve.{accepts, value_by}
-use Rattle.sect_types.specs.Environments.{Environment, environment, type_of, types_of, field_types, global_records}
+use Rattle.sect_types.specs.Sight.{names_of_records, operand_of}
+use Rattle.sect_types.specs.Resolve.{value_by}
+use Rattle.sect_types.specs.Environments.{Environment, environment, type_of, field_types, global_records}
 use Rattle.sect_types.specs.Sound.{HasType, IsSound, AreSound, StandsRight, is_shared}
 use Rattle.sect_types.specs.Statements.{TextView, joined}
 use Rattle.sect_types.proofs.SoundLemmas.{IsGiven, accepts_has, operand_there, joined_sound, both}
@@ -31,7 +29,7 @@ use Rattle.sect_types.specs.Rules.{Declared, seen, kind_accepts, all_accept, sha
 use Rattle.sect_types.specs.Rules.{procedure_at, procedure_of, call_agrees, declared_in}
 use Rattle.sect_types.specs.First.{IsTyped}
 use Rattle.sect_types.specs.Clean.{IsClean, IsCleanStatement, IsCleanBlock, AreCleanThreads}
-use Rattle.sect_types.specs.Expanded.{View, At, Expander, Freshens, of_call, past_statement, past_block, moved_value}
+use Rattle.sect_types.specs.Expanded.{At, Expander, Freshens, of_call, past_statement, past_block}
 use Rattle.sect_types.specs.Expanded.{expanded_statement, expanded_block, cleared, argument_in, set_parameters}
 use Rattle.sect_types.specs.Expanded.{clear_locals, after_call, call_of, procedure_numbered, expand_within, fresh_of}
 use Rattle.sect_types.specs.Expanded.{fresh_within, fresh_in, statement_fresh, block_fresh, local_types_of}

@@ -1,7 +1,7 @@
 -- A text that breaks no rule stays within the limits.
 use Rattle.std.specs.Prelude.{Bool, true, false, ◌&&◌, ◌||◌, nat_le, nat_lt, is_some, ⊤}
 use Rattle.std.proofs.Common.{◌≡◌, ℕ, zero, suc, ◌+◌, ◌<◌, ◌≤◌, List, [], ◌∷◌, ◌++◌, map, Option, Some, None}
-use Rattle.std.proofs.Common.{refl, sym, ◌∙◌, ap, arith, subst, length, length-append}
+use Rattle.std.proofs.Common.{sym, arith, subst, length, length-append}
 use Rattle.std.proofs.lemmas.List.{length-map}
 use Rattle.std.proofs.lemmas.Bool.Decides.{nat_tests}
 use Rattle.sect_front.specs.declared.tree.Primitive as leaf
@@ -21,7 +21,7 @@ use Rattle.sect_front.specs.TreeView.{TreeView}
 use Rattle.sect_types.specs.declared.place.Place.TheVariants.{InThread}
 use Rattle.sect_types.specs.Items.{Item, AGlobal, AThread, ALocal, AStatement, PrimitiveHead, TestHead, AtomicHead}
 use Rattle.sect_types.specs.Items.{CallHead, statement_items, block_items, global_items, local_items, procedure_items}
-use Rattle.sect_types.specs.Items.{thread_items, is_inside}
+use Rattle.sect_types.specs.Items.{thread_items}
 use Rattle.sect_types.specs.declared.sums.Sums.{Sums}
 use Rattle.sect_types.specs.Sums.{sums, sums_at, sums_within, number_of, primitive_sums, statement_sums, block_sums}
 use Rattle.sect_types.specs.Rules.{Declared, Counts, seen, after, too_many, passes_by, sums_of_call, as_many}

@@ -1,8 +1,8 @@
 -- Writing an expansion, statement by statement.
-use Rattle.std.specs.Prelude.{◌-◌, map}
+use Rattle.std.specs.Prelude.{map}
 use Rattle.std.proofs.Common.{◌≡◌, ℕ, zero, suc, ◌+◌, ◌*◌, ◌<◌, ◌≤◌, List, [], ◌∷◌, drop, get_or, Option, Some, None}
 use Rattle.std.proofs.Common.{refl, sym, ◌∙◌, ap, arith, subst, length, length-append, slice_get}
-use Rattle.std.proofs.lemmas.List.{length-map, drop_all}
+use Rattle.std.proofs.lemmas.List.{drop_all}
 use Rattle.std.proofs.lemmas.Option.{slice_get-map}
 use Rattle.std.specs.Option.{option_map}
 use Rattle.sect_front.specs.declared.tree.Declaration.{Declaration}
@@ -13,7 +13,7 @@ use Rattle.sect_front.specs.declared.tree.GlobalObject.{GlobalObject}
 use Rattle.sect_front.specs.declared.tree.Statement.{Statement}
 use Rattle.sect_front.specs.Syntax.{StatementView, Primitive, If, IfElse, While, Atomic, Call, BlockView, End, Then}
 use Rattle.sect_front.specs.TreeView.{TreeView}
-use Rattle.sect_front.specs.Trees.{statement_of, block_of, statement_size, block_size}
+use Rattle.sect_front.specs.Trees.{statement_of, block_of, block_size}
 use Rattle.sect_types.specs.declared.action.Value.{Value}
 use Rattle.sect_types.specs.declared.action.Value.TheVariants as value
 use Rattle.sect_types.specs.declared.action.Action.TheVariants as action
@@ -30,12 +30,12 @@ use Rattle.sect_types.specs.declared.sums.Sums.{Sums}
 use Rattle.sect_types.specs.Sight.{Sight, operand_of}
 use Rattle.sect_types.specs.Rules.{sight}
 use Rattle.sect_types.specs.Items.{variables}
-use Rattle.sect_types.specs.Sums.{sums_at, sums_within, statement_sums, block_sums, number_of, both}
+use Rattle.sect_types.specs.Sums.{sums_at, sums_within, statement_sums, block_sums, number_of}
 use Rattle.sect_types.specs.Statements.{TextView, Stop, Do, Choose, Loop, Section, joined}
 use Rattle.sect_types.specs.Texts.{step_then}
 use Rattle.sect_types.specs.Expanded.{View, At, Expander, statement_sections, block_sections, past_statement}
 use Rattle.sect_types.specs.Expanded.{past_block}
-use Rattle.sect_types.specs.Expanded.{expanded_statement, expanded_block, argument_in, cleared, set_parameters}
+use Rattle.sect_types.specs.Expanded.{expanded_block, argument_in, cleared, set_parameters}
 use Rattle.sect_types.specs.Expanded.{moved_action}
 use Rattle.sect_types.specs.Expanded.{moved_condition}
 use Rattle.sect_types.specs.Expanded.{clear_locals, after_call, call_of, procedure_numbered, expand_within}

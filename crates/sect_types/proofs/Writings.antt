@@ -1,5 +1,5 @@
 -- The expanded texts of all threads, with their fresh locals.
-use Rattle.std.proofs.Common.{◌≡◌, ℕ, zero, suc, ◌+◌, ◌<◌, ◌≤◌, List, [], ◌∷◌, ◌++◌, map, drop, get_or}
+use Rattle.std.proofs.Common.{◌≡◌, ℕ, ◌+◌, ◌<◌, ◌≤◌, List, [], ◌∷◌, ◌++◌, map, drop, get_or}
 use Rattle.std.proofs.Common.{refl, sym, ◌∙◌, ap, arith, subst, length, append_assoc}
 use Rattle.std.proofs.lemmas.List.{drop_all, append-nil}
 use Rattle.sect_front.specs.declared.tree.Thread.{Thread}
@@ -10,7 +10,7 @@ use Rattle.sect_types.specs.Rules.{sight, declared_in}
 use Rattle.sect_types.specs.Sums.{sums, block_sums}
 use Rattle.sect_types.specs.Statements.{TextView}
 use Rattle.sect_types.specs.First.{IsTyped}
-use Rattle.sect_types.specs.Expanded.{At, past_thread, expanded_thread, expanded_threads, texts_of, fresh_in}
+use Rattle.sect_types.specs.Expanded.{At, past_thread, expanded_threads, texts_of, fresh_in}
 use Rattle.sect_types.specs.steps.Expanding.{WorldView, FrontView, Fits, block_there, thread_start, thread_end}
 use Rattle.sect_types.specs.steps.Expanding.{thread_text}
 use Rattle.sect_types.specs.steps.Expanding.{AllFit, tree_of, AreWritten, AreFlat}
@@ -23,7 +23,7 @@ use Rattle.sect_types.proofs.Walked.{before_threads}
 use Rattle.sect_types.proofs.SectionLaws.{sections_in, block_flat}
 use Rattle.sect_types.proofs.Counting.{thread_sums, before_add, threads_add}
 use Rattle.sect_types.proofs.WithinLimits.{HaveFewLocals, typed_few, block_takes, calls_take}
-use Rattle.sect_types.proofs.Threading.{SamePlace, same_texts}
+use Rattle.sect_types.proofs.Threading.{same_texts}
 
 -- the text of a thread
 pub thread_written : (w : WorldView) (sites sections most : ℕ) (h : Thread) (s : Sight) (f : FrontView)

@@ -1,5 +1,5 @@
 -- Items that break no rule which looks at no counts.
-use Rattle.std.specs.Prelude.{◌≡◌, ⊤, ◌+◌, false, Bool, ℕ, List, [], ◌∷◌, slice_get, Some}
+use Rattle.std.specs.Prelude.{◌≡◌, ⊤, ◌+◌, false, ℕ, List, [], ◌∷◌}
 use Rattle.sect_front.specs.declared.tree.Declaration.{Declaration}
 use Rattle.sect_front.specs.Syntax.{StatementView, Primitive, If, IfElse, While, Atomic, Call, BlockView, End, Then}
 use Rattle.sect_front.specs.declared.tree.Procedure.{Procedure}

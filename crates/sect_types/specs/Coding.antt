@@ -1,6 +1,6 @@
 -- Texts as trees of numbers, by which a proof tells them apart: the checker wants it of a type that contracts see as
 -- such data.
-use Rattle.std.specs.Prelude.{◌≡◌, ℕ, refl}
+use Rattle.std.specs.Prelude.{◌≡◌, refl}
 use Rattle.std.proofs.Common.{ap, arith}
 use Rattle.std.specs.Coded.{Coded}
 use base.Stored.{Gv, gnil, gnum, gcons}

@@ -9,8 +9,21 @@ ghost use Rattle.sect_types.specs.Sums.{procedure_sums as procedure_sums_by, sum
 ghost use Rattle.sect_types.specs.steps.Capped.{capped, IsSmall, AreSmall, HaveFewVariables};
 
 use crate::called::Called;
-use sect_front::{Block, Primitive, Procedure, Statement};
+use crate::limits::{MOST_CALLS, MOST_LOCALS, MOST_SITES, MOST_STATEMENTS};
+use sect_front::{Block, MOST_DEPTH, Primitive, Procedure, Statement};
 use std::alloc::{AllocError, Global};
+
+/// Where counting statements stops, and fresh locals, each of which takes a statement.
+const PAST_STATEMENTS: u16 = MOST_STATEMENTS as u16 + 1;
+
+/// Where counting sites stops.
+const PAST_SITES: u16 = MOST_SITES + 1;
+
+/// Where counting calls stops.
+const PAST_CALLS: u16 = MOST_CALLS + 1;
+
+/// Where counting blocks in one another stops.
+const PAST_DEPTH: u16 = MOST_DEPTH as u16 + 1;
 
 /// How many statements, sites, calls and fresh locals there are, and how many blocks stand in one another.
 #[derive(Clone, Copy)]
@@ -44,10 +57,10 @@ fn joined(first: Sums, second: Sums) -> Sums
     ensures small { IsSmall result }
 {
     Sums {
-        statements: (first.statements + second.statements).min(4097),
-        sites: (first.sites + second.sites).min(1025),
-        calls: (first.calls + second.calls).min(4097),
-        fresh: (first.fresh + second.fresh).min(4097),
+        statements: (first.statements + second.statements).min(PAST_STATEMENTS),
+        sites: (first.sites + second.sites).min(PAST_SITES),
+        calls: (first.calls + second.calls).min(PAST_CALLS),
+        fresh: (first.fresh + second.fresh).min(PAST_STATEMENTS),
         deep: first.deep.max(second.deep),
     }
 }
@@ -59,11 +72,11 @@ fn around(inner: Sums) -> Sums
     ensures small { IsSmall result }
 {
     Sums {
-        statements: (inner.statements + 1).min(4097),
+        statements: (inner.statements + 1).min(PAST_STATEMENTS),
         sites: inner.sites,
         calls: inner.calls,
         fresh: inner.fresh,
-        deep: (inner.deep + 1).min(33),
+        deep: (inner.deep + 1).min(PAST_DEPTH),
     }
 }
 
@@ -72,21 +85,14 @@ fn primitive_sums(primitive: &Primitive) -> Sums
     ensures sums { result ≡ primitive_sums_by primitive.now }
     ensures small { IsSmall result }
 {
-    match primitive {
-        Primitive::New(_, _) => Sums {
-            statements: 1,
-            sites: 1,
-            calls: 0,
-            fresh: 0,
-            deep: 0,
-        },
-        _ => Sums {
-            statements: 1,
-            sites: 0,
-            calls: 0,
-            fresh: 0,
-            deep: 0,
-        },
+    let sites = match primitive {
+        Primitive::New(_, _) => 1,
+        _ => 0,
+    };
+    Sums {
+        statements: 1,
+        sites,
+        ..nothing()
     }
 }
 
@@ -136,7 +142,7 @@ fn block_sums(called: &Called<'_>, table: &[Sums], block: &Block) -> Sums
 /// What a call of the procedure comes to: an assignment for each parameter and local, and the body.
 fn procedure_sums(called: &Called<'_>, table: &[Sums], procedure: &Procedure) -> Sums
     requires small { AreSmall table.now }
-    requires few { length procedure.now.parameters + length procedure.now.locals ≤ 64 }
+    requires few { length procedure.now.parameters + length procedure.now.locals ≤ MOST_LOCALS }
     ensures sums { result ≡ capped (procedure_sums_by called.now table.now procedure.now) }
     ensures small { IsSmall result }
 {
@@ -144,10 +150,10 @@ fn procedure_sums(called: &Called<'_>, table: &[Sums], procedure: &Procedure) ->
     let variables = variables as u16;
     let body = block_sums(called, table, &procedure.body);
     Sums {
-        statements: (variables + body.statements).min(4097),
+        statements: (variables + body.statements).min(PAST_STATEMENTS),
         sites: body.sites,
-        calls: (body.calls + 1).min(4097),
-        fresh: (variables + body.fresh).min(4097),
+        calls: (body.calls + 1).min(PAST_CALLS),
+        fresh: (variables + body.fresh).min(PAST_STATEMENTS),
         deep: body.deep,
     }
 }

@@ -1,5 +1,5 @@
 -- Which procedures call which, and which reach one.
-use Rattle.std.specs.Prelude.{◌≡◌, ◌<◌, ◌+◌, ◌⊎◌, ℕ, Bool, true, false, List, [], ◌∷◌, ◌++◌, length, Option, Some, None}
+use Rattle.std.specs.Prelude.{◌≡◌, ◌<◌, ◌+◌, ◌⊎◌, ℕ, Bool, true, false, List, [], ◌∷◌, ◌++◌, length, Some}
 use Rattle.std.specs.Prelude.{slice_get, slice_index_or, eqb}
 use Rattle.std.specs.List.{list_any}
 use Rattle.sect_front.specs.declared.tree.Procedure.{Procedure}

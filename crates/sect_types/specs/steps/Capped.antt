@@ -2,28 +2,30 @@
 use Rattle.std.specs.Prelude.{◌≤◌, ◌+◌, min, List, length}
 use Rattle.std.specs.List.{AllByRecursion}
 use Rattle.sect_front.specs.declared.tree.Procedure.{Procedure}
+use Rattle.sect_types.specs.declared.limits.TheConstants.{MOST_LOCALS}
 use Rattle.sect_types.specs.declared.sums.Sums.{Sums}
+use Rattle.sect_types.specs.declared.sums.TheConstants.{PAST_STATEMENTS, PAST_SITES, PAST_CALLS, PAST_DEPTH}
 
 abbrev pub capped : Sums → Sums
 capped s = record {
-  statements = min s.statements 4097;
-  sites = min s.sites 1025;
-  calls = min s.calls 4097;
-  fresh = min s.fresh 4097;
-  deep = min s.deep 33;
+  statements = min s.statements PAST_STATEMENTS;
+  sites = min s.sites PAST_SITES;
+  calls = min s.calls PAST_CALLS;
+  fresh = min s.fresh PAST_STATEMENTS;
+  deep = min s.deep PAST_DEPTH;
 }
 
 -- none is more than one past its limit
 pub record IsSmall (s : Sums) : Type 0 where
-  pub statements : s.statements ≤ 4097
-  pub sites : s.sites ≤ 1025
-  pub calls : s.calls ≤ 4097
-  pub fresh : s.fresh ≤ 4097
-  pub deep : s.deep ≤ 33
+  pub statements : s.statements ≤ PAST_STATEMENTS
+  pub sites : s.sites ≤ PAST_SITES
+  pub calls : s.calls ≤ PAST_CALLS
+  pub fresh : s.fresh ≤ PAST_STATEMENTS
+  pub deep : s.deep ≤ PAST_DEPTH
 
 abbrev pub AreSmall : List Sums → Type 0
 AreSmall table = AllByRecursion IsSmall table
 
 -- each has 64 parameters and locals at most
 abbrev pub HaveFewVariables : List Procedure → Type 0
-HaveFewVariables ps = AllByRecursion (λ (p : Procedure). length p.parameters + length p.locals ≤ 64) ps
+HaveFewVariables ps = AllByRecursion (λ (p : Procedure). length p.parameters + length p.locals ≤ MOST_LOCALS) ps

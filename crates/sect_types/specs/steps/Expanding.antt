@@ -18,8 +18,8 @@ use Rattle.sect_types.specs.Expanded.{block_sections, expanded_threads, texts_of
 use Rattle.sect_types.specs.Expanded.{argument_in}
 use Rattle.sect_types.specs.Sight.{operand_of, names_of_records, names_of_globals, all_fields}
 use Rattle.sect_types.specs.Statements.{TextView, joined}
-use Rattle.sect_types.specs.Sums.{sums_within, statement_sums, block_sums, sums_at}
-use Rattle.sect_types.specs.Expanded.{View, At, past, past_statement, past_block, expanded_statement, expanded_block}
+use Rattle.sect_types.specs.Sums.{sums_within, statement_sums, block_sums}
+use Rattle.sect_types.specs.Expanded.{View, At, past_statement, past_block, expanded_statement, expanded_block}
 use Rattle.sect_types.specs.Expanded.{expand_within, statement_fresh, block_fresh, fresh_within}
 use Rattle.sect_types.specs.steps.Threads.{VariablesView, variables_shown}
 

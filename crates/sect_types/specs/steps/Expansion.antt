@@ -18,7 +18,7 @@ use Rattle.sect_types.specs.Environments.{type_of}
 use Rattle.sect_types.specs.Sight.{Sight, operand_of}
 use Rattle.sect_types.specs.Rules.{sight, knows_kind}
 use Rattle.sect_types.specs.Items.{variables}
-use Rattle.sect_types.specs.Sums.{sums, sums_within, statement_sums, block_sums, sums_at}
+use Rattle.sect_types.specs.Sums.{sums, sums_within, block_sums}
 use Rattle.sect_types.specs.Statements.{TextView, joined}
 use Rattle.sect_types.specs.declared.expand.Fresh.{Fresh}
 use Rattle.sect_types.specs.Expanded.{View, At, Expander, argument_in, block_sections, expanded_statement}

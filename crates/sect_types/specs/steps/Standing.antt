@@ -1,5 +1,5 @@
 -- Where statements stand, and the procedures that they may call.
-use Rattle.std.specs.Prelude.{◌≡◌, ◌≤◌, ◌<◌, ℕ, Bool, List, length, map, slice_get, Some}
+use Rattle.std.specs.Prelude.{◌≡◌, ◌<◌, ℕ, Bool, List, length, map, slice_get, Some}
 use Rattle.sect_front.specs.declared.tree.Procedure.{Procedure}
 use Rattle.sect_types.specs.declared.place.Place.{Place}
 use Rattle.sect_types.specs.declared.place.Place.TheVariants.{InThread, InProcedure}

@@ -1,8 +1,7 @@
-use Rattle.std.proofs.Common.{◌≡◌, ◌∙◌, sym, ap, length, subst}
+use Rattle.std.proofs.Common.{◌*◌, ◌∙◌, sym, ap, length, subst}
 use Rattle.sect_points.specs.Flow.{IsLeastFlow}
 use Rattle.sect_points.specs.Sets.{InSets}
 use Rattle.sect_points.specs.steps.Solving.{AllFit}
-use Rattle.sect_points.specs.Statements.{statements_of}
 use Rattle.sect_points.proofs.StatementLaws.{all_fit, same_places, few_rows, all_markable}
 use Rattle.sect_points.proofs.points.points_to.Goals as goal
 
@@ -26,7 +25,7 @@ pub close-requires-clause-suits : goal.close-requires-clause-suits
 close-requires-clause-suits c =
     all_markable c.args.program.now c.in_ok-sets.sets c.in_ok-marks.marks c.in_ok-sets.ensures.room
     c.typing.ensures.limits c.bounds.ensures.few c.bounds.ensures.rows
-    (c.in_ok-marks.ensures.threads ∙ ap length c.locals.ensures) c.in_ok-marks.ensures.fields
+    (c.in_ok-marks.ensures.locals ∙ ap (λ xs. length xs * 5) c.locals.ensures) c.in_ok-marks.ensures.fields
 
 pub returns-clause-least : goal.returns-clause-least
 returns-clause-least c =

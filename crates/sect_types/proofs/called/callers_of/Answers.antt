@@ -1,6 +1,5 @@
-use Rattle.std.proofs.Common.{◌≡◌, ◌∙◌, ◌++◌, ◌∷◌, [], ap, arith, length, length-append, ℕ, sym}
-use Rattle.sect_types.specs.steps.Called.{callers_of}
-use Rattle.sect_types.proofs.Reversing.{no_callers, empty_row}
+use Rattle.std.proofs.Common.{arith}
+use Rattle.sect_types.proofs.Reversing.{no_callers}
 use Rattle.sect_types.proofs.called.callers_of.Goals as goal
 
 pub loop-number-init : goal.loop-number-init

@@ -1,4 +1,4 @@
-use Rattle.std.proofs.Common.{◌≡◌, ◌∙◌, ℕ, List, arith, nat_eq, ap, sym, is_some, not, get_or, Bool, true, false}
+use Rattle.std.proofs.Common.{◌≡◌, ◌∙◌, arith, nat_eq, ap, sym, is_some, not, get_or}
 use Rattle.std.specs.Cmp.Lexicographic.{pointwise}
 use Rattle.indexmap.specs.IndexMap.{get}
 use Rattle.sect_types.proofs.Numbering.{numbered, numbered_before, copied}

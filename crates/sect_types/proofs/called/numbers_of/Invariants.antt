@@ -1,4 +1,4 @@
-use Rattle.std.proofs.Common.{◌≡◌, ◌≤◌, List, ℕ, nat_eq, take, length}
+use Rattle.std.proofs.Common.{◌≡◌, List, ℕ, nat_eq, take}
 use Rattle.std.specs.Cmp.Lexicographic.{pointwise}
 use Rattle.indexmap.specs.IndexMap.{get}
 use Rattle.sect_types.specs.Sums.{number_of}

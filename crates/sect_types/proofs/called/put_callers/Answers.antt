@@ -1,6 +1,5 @@
-use Rattle.std.proofs.Common.{◌≡◌, ◌∙◌, ◌++◌, ◌∷◌, [], ap, sym, refl, arith, get_or, length, subst, take, ◌+◌}
+use Rattle.std.proofs.Common.{◌∙◌, ◌++◌, ◌∷◌, [], ap, sym, refl, arith, subst, take, ◌+◌}
 use Rattle.std.specs.Prelude.{slice_index_or}
-use Rattle.sect_types.specs.steps.Called.{callers_of}
 use Rattle.sect_types.proofs.Changed.{set_put}
 use Rattle.sect_types.proofs.Reversing.{AreReversed, one_reversed, all_reversed, called_there, gathered, read_call}
 use Rattle.sect_types.proofs.Reversing.{read_row}

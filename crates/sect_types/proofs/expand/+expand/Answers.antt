@@ -1,11 +1,11 @@
-use Rattle.std.proofs.Common.{◌≡◌, suc, arith, ap, sym, ◌∙◌, subst, length, length-append, ◌+◌}
+use Rattle.std.proofs.Common.{◌≡◌, suc, arith, ap, sym, ◌∙◌, length, length-append}
 use Rattle.std.specs.Prelude.{◌-◌, []}
 use Rattle.sect_front.specs.Trees.{statement_of, statement_size, block_size}
 use Rattle.sect_front.proofs.Bodies.{size_at}
 use Rattle.sect_types.specs.steps.Threads.{VariablesView}
-use Rattle.sect_types.specs.steps.Expanding.{WorldView, FrontView, block_there, most_size, tree_of}
+use Rattle.sect_types.specs.steps.Expanding.{FrontView, most_size, tree_of}
 use Rattle.sect_types.specs.steps.Expansion.{view_of}
-use Rattle.sect_types.specs.Expanded.{At, moved_action}
+use Rattle.sect_types.specs.Expanded.{moved_action}
 use Rattle.sect_types.specs.Sight.{Sight}
 use Rattle.sect_types.specs.Rules.{sight}
 use Rattle.sect_types.specs.Numbered.{action_in}

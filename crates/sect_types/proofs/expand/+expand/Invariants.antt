@@ -1,4 +1,4 @@
-use Rattle.std.proofs.Common.{◌≡◌, ◌+◌, ◌*◌, drop}
+use Rattle.std.proofs.Common.{◌+◌, ◌*◌, drop}
 use Rattle.sect_front.specs.Trees.{statement_of, block_of, statement_size, block_size}
 use Rattle.sect_types.specs.steps.Expanding.{most_size, IsFront}
 use Rattle.sect_types.specs.steps.Expansion.{view_of}

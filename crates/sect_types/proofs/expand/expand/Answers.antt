@@ -1,6 +1,6 @@
 use Rattle.std.proofs.Common.{subst, sym, ap, length, [], drop, ◌+◌, ◌++◌, ◌∷◌}
 use Rattle.sect_types.specs.steps.Expanding.{WorldView, AreWritten}
-use Rattle.sect_types.proofs.Writings.{starts, thread_few, thread_fits, one_thread, ends_texts, ends_fresh}
+use Rattle.sect_types.proofs.Writings.{starts, thread_few, thread_fits, one_thread}
 use Rattle.sect_types.proofs.expand.expand.Goals as goal
 
 pub expand_thread-requires-clause-few : goal.expand_thread-requires-clause-few

@@ -1,5 +1,5 @@
 use Rattle.std.proofs.Common.{◌≡◌, [], ◌++◌, ◌∙◌, sym, append-nil}
-use Rattle.sect_types.specs.Lockings.{threads_lockings, lockings_of}
+use Rattle.sect_types.specs.Lockings.{lockings_of}
 use Rattle.sect_types.proofs.locking.lockings.Goals as goal
 
 pub returns : goal.returns

@@ -1,4 +1,4 @@
-use Rattle.std.proofs.Common.{◌≡◌, ◌∙◌, [], ℕ, Err, ap, subst, sym}
+use Rattle.std.proofs.Common.{◌∙◌, [], subst, sym}
 use Rattle.sect_types.specs.Sight.{names_of_records}
 use Rattle.sect_types.specs.Items.{record_items, global_items, procedure_items, thread_items}
 use Rattle.sect_types.specs.Rules.{declared_in}

@@ -1,8 +1,6 @@
-use Rattle.std.proofs.Common.{◌≡◌, List, ap, sym, ◌∙◌, subst, length, map, true}
-use Rattle.sect_front.specs.TreeView.{TreeView}
-use Rattle.sect_front.specs.declared.tree.Thread.{Thread}
+use Rattle.std.proofs.Common.{◌≡◌, ap, sym, ◌∙◌, subst, length, map, true}
 use Rattle.sect_types.specs.Environments.{field_types, global_records}
-use Rattle.sect_types.specs.Expanded.{texts_of, fresh_in, all_local_types}
+use Rattle.sect_types.specs.Expanded.{texts_of, fresh_in}
 use Rattle.sect_types.specs.steps.Threads.{variables_fine}
 use Rattle.sect_types.specs.steps.FreshTypes.{local_types, all_fresh_known}
 use Rattle.sect_types.specs.steps.Expanding.{WorldView, AllFit, AreFlat, tree_of}

@@ -1,8 +1,7 @@
-use Rattle.std.proofs.Common.{◌∙◌, Ok, Err, [], ◌∷◌, ◌++◌, ℕ, length, ap, subst, sym, List, ◌≡◌}
+use Rattle.std.proofs.Common.{◌∙◌, Ok, Err, [], ◌∷◌, ℕ, length, subst, List, ◌≡◌}
 use Rattle.sect_types.specs.Rules.{declared_in, sight, judge}
 use Rattle.sect_types.specs.Items.{Item, AProcedure, variables, local_items, block_items}
 use Rattle.sect_types.specs.declared.place.Place.TheVariants.{InProcedure}
-use Rattle.sect_types.specs.steps.Standing.{StandingView}
 use Rattle.sect_types.proofs.ThreadLemmas.{walks_body, handed_on}
 use Rattle.sect_types.proofs.program.pass_whole_procedure.Goals as goal
 

@@ -1,4 +1,4 @@
-use Rattle.std.proofs.Common.{[], ◌∷◌, ◌++◌, ◌+◌, drop, arith, false, ap, sym, length}
+use Rattle.std.proofs.Common.{[], ◌∷◌, ◌++◌, ◌+◌, drop, arith, ap, length}
 use Rattle.sect_front.specs.declared.tree.Procedure.{Procedure}
 use Rattle.sect_front.specs.Depth.{block_depth, procedures_depth}
 use Rattle.sect_types.specs.Rules.{declared_in}

@@ -1,4 +1,4 @@
-use Rattle.std.proofs.Common.{[], ◌∷◌, ◌++◌, ◌+◌, drop, arith, false, ap, sym, length}
+use Rattle.std.proofs.Common.{[], ◌∷◌, ◌++◌, ◌+◌, drop, arith, false, ap}
 use Rattle.sect_front.specs.declared.tree.Thread.{Thread}
 use Rattle.sect_front.specs.Depth.{block_depth, threads_depth}
 use Rattle.sect_types.specs.Rules.{declared_in}

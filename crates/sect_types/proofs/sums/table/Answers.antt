@@ -1,7 +1,7 @@
-use Rattle.std.proofs.Common.{◌≡◌, ◌∙◌, ◌+◌, ap, sym, arith, map, length, subst}
+use Rattle.std.proofs.Common.{◌≡◌, ◌∙◌, ap, arith, map, length}
 use Rattle.sect_types.specs.Sums.{sums_within, procedure_sums}
 use Rattle.sect_front.specs.declared.tree.Procedure.{Procedure}
-use Rattle.sect_types.specs.steps.Capped.{capped, AreSmall}
+use Rattle.sect_types.specs.steps.Capped.{capped}
 use Rattle.sect_types.proofs.Capping.{one_round}
 use Rattle.sect_types.proofs.sums.table.Goals as goal
 

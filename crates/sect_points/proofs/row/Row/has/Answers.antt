@@ -1,4 +1,4 @@
-use Rattle.std.proofs.Common.{◌≡◌, ◌∙◌, List, subst, sym, arith}
+use Rattle.std.proofs.Common.{◌∙◌, subst, sym, arith}
 use Rattle.sect_types.specs.Lists.{Has}
 use Rattle.sect_types.proofs.Membership.{Has-get_or}
 use Rattle.sect_points.proofs.row.Row.has.Goals as goal

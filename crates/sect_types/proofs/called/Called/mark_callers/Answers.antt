@@ -1,6 +1,5 @@
-use Rattle.std.proofs.Common.{◌≡◌, ◌<◌, List, ℕ, arith, ◌∙◌, subst, sym, ap, refl, length}
-use Rattle.sect_front.specs.declared.tree.Procedure.{Procedure}
-use Rattle.sect_types.specs.steps.Called.{AreCallers, callers_of}
+use Rattle.std.proofs.Common.{arith, ◌∙◌, subst, refl}
+use Rattle.sect_types.specs.steps.Called.{AreCallers}
 use Rattle.sect_types.proofs.Marking.{one_more, calls_it, caller_there, own_row, all_callers}
 use Rattle.sect_types.proofs.called.Called.mark_callers.Goals as goal
 

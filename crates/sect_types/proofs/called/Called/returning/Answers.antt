@@ -1,4 +1,4 @@
-use Rattle.std.proofs.Common.{◌≡◌, ◌<◌, List, ℕ, arith, ◌∙◌, subst, sym, ap, refl, length, slice_get, Some}
+use Rattle.std.proofs.Common.{arith, ◌∙◌, subst, ap, refl, length}
 use Rattle.std.specs.Prelude.{replicate, false, []}
 use Rattle.sect_types.specs.steps.Called.{Marks}
 use Rattle.sect_types.proofs.Marking.{begun, searched, passed_by, all_searched, found_there, read_found}

@@ -1,6 +1,6 @@
 use Rattle.std.proofs.lemmas.Bool.{ltb-true}
 use Rattle.std.proofs.lemmas.Option.{slice_get_read}
-use Rattle.std.proofs.Common.{refl, length, ◌≡◌, Some, ap, sym, ◌∙◌, slice_get, subst, List}
+use Rattle.std.proofs.Common.{refl, length, ap, sym, ◌∙◌}
 use Rattle.std.specs.Prelude.{map}
 use Rattle.sect_types.specs.steps.Threads.{variables_shown}
 use Rattle.sect_types.specs.steps.Expanding.{WorldView}

@@ -1,9 +1,6 @@
-use Rattle.std.proofs.Common.{◌≡◌, ap, ◌∙◌, sym, subst, arith, Some, false, length}
-use Rattle.sect_types.specs.Sums.{sums, sums_at}
-use Rattle.sect_types.specs.Rules.{by_place, depth_at, passes_by}
+use Rattle.std.proofs.Common.{sym, subst}
 use Rattle.sect_types.specs.steps.Capped.{IsSmall}
-use Rattle.sect_types.specs.steps.Standing.{StandingView}
-use Rattle.sect_types.proofs.Standings.{said, small, passes_capped}
+use Rattle.sect_types.proofs.Standings.{said, small}
 use Rattle.sect_types.proofs.place.Standing.passes.Goals as goal
 
 pub passes-requires-clause-small : goal.passes-requires-clause-small

@@ -1,4 +1,4 @@
-use Rattle.std.proofs.Common.{◌≡◌, ◌≤◌, ◌<◌, ◌-◌, sym, ap, ◌∙◌, length, [], get_or, arith}
+use Rattle.std.proofs.Common.{◌≤◌, ◌<◌, ◌-◌, sym, ap, ◌∙◌, length, [], get_or, arith}
 use Rattle.std.specs.Prelude.{slice_get, slice_index_or}
 use Rattle.std.proofs.lemmas.Bool.{ltb-false, ltb-true}
 use Rattle.sect_front.specs.declared.tree.Thread.{Thread}

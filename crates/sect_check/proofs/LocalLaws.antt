@@ -13,7 +13,7 @@ use Rattle.sect_types.specs.declared.types.ValueType.{ValueType}
 use Rattle.sect_types.proofs.SoundLemmas.{same_names}
 use Rattle.sect_types.specs.declared.local_name.LocalName.{LocalName}
 use Rattle.sect_types.specs.LocalNames.{all_local_names, place_of_local, is_same_local, is_same_call}
-use Rattle.sect_check.proofs.Rows.{first_position, no_position}
+use Rattle.sect_types.proofs.Positions.{first_position, no_position}
 use Rattle.sect_types.proofs.LocalFacts.{locals_differ, no_global, as_many_names}
 
 -- what stands past the end

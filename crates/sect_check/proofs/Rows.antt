@@ -1,9 +1,6 @@
--- Rows of a table, and where something stands first.
-use Rattle.std.proofs.Common.{◌≡◌, ℕ, zero, suc, ◌<◌, Bool, true, false, List, [], ◌∷◌, map, Some, None, refl, ap}
-use Rattle.std.proofs.Common.{◌∙◌, length, get_or, arith}
-use Rattle.std.specs.Prelude.{cond, nat_lt, position, slice_get, slice_index_or}
-use Rattle.std.proofs.lemmas.Bool.{ltb-false, ltb-true}
-use Rattle.std.proofs.lemmas.List.Sums.{position_or_len_is}
+-- Rows of a table.
+use Rattle.std.proofs.Common.{◌≡◌, ℕ, zero, suc, List, [], ◌∷◌, map, Some, refl, ap}
+use Rattle.std.specs.Prelude.{slice_get, slice_index_or}
 
 -- the row of a table and what stands there in it
 pub row_there : {X : Type 0} (rows : List (List X)) (i n : ℕ) (v : X)
@@ -19,33 +16,3 @@ pub row_of : {X Y : Type 0} (f : X → List Y) (xs : List X) (i : ℕ) (x : X) �
 row_of f [] i x e = absurd cc
 row_of f (y ∷ xs) zero x e = let same : y ≡ x = cc in ap f same
 row_of f (y ∷ xs) (suc i) x e = row_of f xs i x e
-
--- a number below the count is given
-chosen : (i n : ℕ) → i < n → cond (nat_lt i n) (Some i) None ≡ Some i
-chosen i n lt = go (nat_lt i n) refl
-  where
-    go : (b : Bool) → nat_lt i n ≡ b → cond b (Some i) None ≡ Some i
-    go true e = refl
-    go false e = absurd (let past = ltb-false i n e in omega (arith, lt, past))
-
--- the count itself isn't
-passed : (n : ℕ) → cond (nat_lt n n) (Some n) None ≡ None
-passed n = go (nat_lt n n) refl
-  where
-    go : (b : Bool) → nat_lt n n ≡ b → cond b (Some n) None ≡ None
-    go true e = absurd (let lt = ltb-true n n e in omega (arith, lt))
-    go false e = refl
-
--- the first place of a kind is the one before which there is none
-pub first_position : {X : Type 0} (p : X → Bool) (xs : List X) (d : X) (i : ℕ) → i < length xs
-    → ((k : ℕ) → k < i → p (get_or xs k d) ≡ false) → p (get_or xs i d) ≡ true → position p xs ≡ Some i
-first_position p xs d i within before here =
-    let at = position_or_len_is p xs i d (omega (arith, within)) before (λ lt. here) in
-    ap (λ k. cond (nat_lt k (length xs)) (Some k) None) at ∙ chosen i (length xs) within
-
--- where nothing is of the kind there is no place
-pub no_position : {X : Type 0} (p : X → Bool) (xs : List X) (d : X)
-    → ((k : ℕ) → k < length xs → p (get_or xs k d) ≡ false) → position p xs ≡ None
-no_position p xs d none =
-    let at = position_or_len_is p xs (length xs) d (omega arith) none (λ lt. absurd (omega (arith, lt))) in
-    ap (λ k. cond (nat_lt k (length xs)) (Some k) None) at ∙ passed (length xs)

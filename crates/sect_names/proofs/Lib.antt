@@ -36,3 +36,4 @@ pub mod Alike
 pub mod Ending
 pub mod Climbing
 pub mod Seeking
+pub mod Crossing

@@ -5,9 +5,10 @@ use Rattle.sect_front.specs.Front.{Gives}
 use Rattle.sect_front.specs.declared.parsing.FrontFault.{FrontFault}
 use Rattle.sect_front.specs.declared.parsing.FrontFault.TheVariants as front
 use Rattle.sect_types.specs.Sight.{names_of_records}
-use Rattle.sect_types.specs.Environments.{field_types, global_records, local_types}
+use Rattle.sect_types.specs.Environments.{field_types, global_records}
+use Rattle.sect_types.specs.Expanded.{all_local_types, texts_of}
 use Rattle.sect_types.specs.Lockings.{lockings_of}
-use Rattle.sect_types.specs.Programs.{ProgramView, IsOfTree, numbered_by, texts_of}
+use Rattle.sect_types.specs.Programs.{ProgramView, IsOfTree, numbered_by}
 use Rattle.sect_names.specs.declared.fault.SchemeFault.{SchemeFault}
 use Rattle.sect_names.specs.declared.fault.SchemeFault.TheVariants.{Memory, BadK, NoSuchGlobal, GuardIsGuarded}
 use Rattle.sect_names.specs.declared.fault.SchemeFault.TheVariants.{HintTwice}
@@ -39,15 +40,14 @@ gives_memory p (Err x) e memory is = is ∙ memory
 -- a program has the numbers of its tree
 abbrev numbered : TreeView → ProgramView
 numbered t = numbered_by t (field_types (names_of_records t.records) t.records)
-    (global_records (names_of_records t.records) t.globals) (local_types (names_of_records t.records) t.threads)
-    (texts_of t) (lockings_of t)
+    (global_records (names_of_records t.records) t.globals) (all_local_types t) (texts_of t) (lockings_of t)
 
 is_numbered : (p : ProgramView) → IsOfTree p → p ≡ numbered p.source
 is_numbered p is =
     let names = names_of_records p.source.records in
     let records = field_types names p.source.records in
     let globals = global_records names p.source.globals in
-    let locals = local_types names p.source.threads in
+    let locals = all_local_types p.source in
     ap (λ r. numbered_by p.source r p.globals p.locals p.texts p.lockings) is.records_are
     ∙ ap (λ g. numbered_by p.source records g p.locals p.texts p.lockings) is.globals_are
     ∙ ap (λ l. numbered_by p.source records globals l p.texts p.lockings) is.locals_are

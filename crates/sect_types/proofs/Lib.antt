@@ -39,6 +39,8 @@ pub mod Reversing
 pub mod Capping
 pub mod SameData
 pub mod Places
+pub mod Positions
+pub mod Crossing
 pub mod Naming
 pub mod Repeating
 pub mod MovedLaws

@@ -1,12 +1,10 @@
 -- Places of names, and how many names there are.
 use Rattle.std.proofs.Common.{◌≡◌, ℕ, ◌<◌, ◌≤◌, List, [], Some, None, Bool, true, false, length, get_or, refl, sym, ap}
 use Rattle.std.proofs.Common.{◌∙◌, arith}
-use Rattle.std.specs.Prelude.{cond, nat_lt, nat_eq, slice_get}
+use Rattle.std.specs.Prelude.{nat_eq, slice_get}
 use Rattle.std.specs.Cmp.Lexicographic.{pointwise}
-use Rattle.std.proofs.lemmas.Bool.{ltb-false, ltb-true}
 use Rattle.std.proofs.lemmas.List.{get_or-map, length-map}
 use Rattle.std.proofs.lemmas.List.Elements.{All-get_or}
-use Rattle.std.proofs.lemmas.List.Sums.{position_or_len_is}
 use Rattle.std.proofs.lemmas.Option.{slice_get_within, get_or_from_slice_get}
 use Rattle.sect_front.specs.declared.tree.Thread.{Thread}
 use Rattle.sect_front.specs.declared.tree.Record.{Record}
@@ -18,41 +16,22 @@ use Rattle.sect_types.specs.declared.limits.TheConstants.{MOST_ALL_LOCALS}
 use Rattle.sect_types.specs.declared.expand.Fresh.{Fresh}
 use Rattle.sect_types.specs.Expanded.{local_types_of, fresh_in}
 use Rattle.sect_types.specs.Programs.{ProgramView, IsOfTree, IsWithinLimits}
+use Rattle.sect_types.proofs.Positions.{first_position, no_position}
 
 -- no name before this one is x
 abbrev pub NoneBefore : List ℕ → List (List ℕ) → ℕ → Type 0
 NoneBefore x names i = (k : ℕ) → k < i → pointwise nat_eq x (get_or names k []) ≡ false
 
--- a number below the count is given
-chosen : (i n : ℕ) → i < n → cond (nat_lt i n) (Some i) None ≡ Some i
-chosen i n lt = go (nat_lt i n) refl
-  where
-    go : (b : Bool) → nat_lt i n ≡ b → cond b (Some i) None ≡ Some i
-    go true e = refl
-    go false e = absurd (let past = ltb-false i n e in omega (arith, lt, past))
-
--- the count itself isn't
-passed : (n : ℕ) → cond (nat_lt n n) (Some n) None ≡ None
-passed n = go (nat_lt n n) refl
-  where
-    go : (b : Bool) → nat_lt n n ≡ b → cond b (Some n) None ≡ None
-    go true e = absurd (let lt = ltb-true n n e in omega (arith, lt))
-    go false e = refl
-
 -- the place of a name is the first at which it stands
 pub place_found : (x : List ℕ) (names : List (List ℕ)) (i : ℕ) → i < length names → NoneBefore x names i
     → pointwise nat_eq x (get_or names i []) ≡ true → Some i ≡ place x names
-place_found x names i within before here =
-    let at = position_or_len_is (pointwise nat_eq x) names i [] (omega (arith, within)) before (λ lt. here) in
-    sym (ap (λ k. cond (nat_lt k (length names)) (Some k) None) at ∙ chosen i (length names) within)
+place_found x names i within before here = sym (first_position (pointwise nat_eq x) names [] i within before here)
 
 -- a name that stands nowhere has none
 pub place_missing : (x : List ℕ) (names : List (List ℕ)) (i : ℕ) → length names ≡ i → NoneBefore x names i
     → None ≡ place x names
 place_missing x names i all before =
-    let at = position_or_len_is (pointwise nat_eq x) names (length names) [] (omega arith)
-    (λ k lt. before k (omega (arith, lt, all))) (λ lt. absurd (omega (arith, lt))) in
-    sym (ap (λ k. cond (nat_lt k (length names)) (Some k) None) at ∙ passed (length names))
+    sym (no_position (pointwise nat_eq x) names [] (λ k lt. before k (omega (arith, lt, all))))
 
 -- a thread has few locals
 pub few_locals : (p : ProgramView) → IsOfTree p → IsWithinLimits p → (t : ℕ) (th : Thread) → t < length p.locals

@@ -162,6 +162,41 @@ def long_sections(count):
             "atomic { d = new D; c = new C; b = new B; %s } } %s" % (records, filled, " ".join(threads)))
 
 
+def procedure(number, parameters, body):
+    return "proc p%02d(%s) { %s}\n" % (number, parameters, body)
+
+
+def procedures(size):
+    """As many procedures as there may be, of sums and of calls of the next one, in so many bytes. The thread calls the
+    last, which does nothing."""
+    step = "t = n; n = t + 1; call p%02d(n); "
+    rounds = (size // 64 - 40) // len(step % 0)
+    long_ones = "".join(procedure(i, "int n", "int t; " + step % (i + 1) * rounds) for i in range(63))
+    return "%s%sthread t { atomic { call p63(1); } }" % (long_ones, procedure(63, "int n", ""))
+
+
+def doubled(count, called):
+    """So many procedures, each of which calls the one before it twice, and a thread that calls one of them."""
+    above = "".join(procedure(i, "", "call p%02d(); " % (i - 1) * 2) for i in range(1, count))
+    return "%s%sthread t { atomic { call p%02d(); } }" % (procedure(0, "", "int x; "), above, called)
+
+
+def tower(count):
+    """As many procedures as there may be, each of which calls the one before it twice; the thread calls the one that
+    comes to so many calls of the first, a power of two."""
+    return doubled(64, count.bit_length() - 1)
+
+
+def high_tower(count):
+    """So many procedures, each of which calls the one before it twice; the thread calls the last."""
+    return doubled(count, count - 1)
+
+
+def chain(size):
+    """Procedures each of which calls the next, far more than there may be, in so many bytes."""
+    return "".join("proc p%05d(){call p%05d();}\n" % (i, i + 1) for i in range(size // 30))
+
+
 def contention(count):
     """So many threads that add to the object of one global, each in four sections."""
     section = "atomic { t = a.bal; t = t + 1; a.bal = t; } " * 4

@@ -113,3 +113,19 @@ fn a_section_is_one_node_of_its_thread(rt: HostRuntime) -> Result<(), Fail> {
         &[("aa", "0: 1\n1: 2\n"), ("", ""), ("t", "0: 0 1\n")],
     )
 }
+
+#[test]
+fn a_call_is_what_it_expands_to(rt: HostRuntime) -> Result<(), Fail> {
+    let text = "proc f(int n) { int i; while (i < n) { i = i + 1; } } \
+        thread t { atomic { call f(3); if (1 == 2) { call f(4); } } }";
+    let section = (
+        "aatataata",
+        "0: 1\n1: 2\n2: 3 4\n3: 2\n4: 5 9\n5: 6\n6: 7\n7: 8 9\n8: 7\n",
+    );
+    are_flows(
+        &rt,
+        &graph(rt.alloc(), text)?,
+        &[("0", "0: 1\n")],
+        &[section],
+    )
+}

@@ -144,6 +144,57 @@ const LIMITS: &[(&str, &str, u16, &str, &str)] = &[
         "}",
         "15 TooMany item 4100",
     ),
+    // Of procedures, and of the text that calls expand to.
+    ("", "proc p#() { }", 64, "", "15 TooMany item 64"),
+    (
+        "proc f(",
+        "int x#, ",
+        63,
+        "int y) { }",
+        "15 TooMany item 65",
+    ),
+    (
+        "proc f(int n) { ",
+        "int x#; ",
+        63,
+        "}",
+        "15 TooMany item 65",
+    ),
+    (
+        "proc f() { } thread t { atomic { ",
+        "call f(); ",
+        4096,
+        "}}",
+        "15 TooMany item 4099",
+    ),
+    (
+        "proc f() { } proc g() { call f(); } thread t { atomic { ",
+        "call g(); ",
+        2048,
+        "}}",
+        "15 TooMany item 2053",
+    ),
+    (
+        "proc f(int n) { } thread t { atomic { ",
+        "call f(1); ",
+        4095,
+        "}}",
+        "15 TooMany item 4099",
+    ),
+    (
+        "proc f() { int x; ",
+        "x = 1; ",
+        4094,
+        "} thread t { atomic { call f(); } }",
+        "15 TooMany item 4099",
+    ),
+    (
+        "record r { } global r a; proc f() { r x; x = new r; } thread t { atomic { ",
+        "call f(); ",
+        1023,
+        "}}",
+        "15 TooMany item 1030",
+    ),
 ];
 
 #[test]
@@ -186,12 +237,91 @@ const PAST_LIMITS: &[(&str, &str, usize, &str, &str)] = &[
         "x = null; }",
         "12 WrongType item 4098",
     ),
+    ("", "proc p#() { }", 64, "proc p0() { }", "11 Twice item 64"),
+    // A call that has no expansion passes no limit.
+    (
+        "proc f() { } thread t { atomic { ",
+        "call f(); ",
+        4096,
+        "call f(1); }}",
+        "17 Arguments item 4099",
+    ),
 ];
 
 #[test]
 fn the_least_rule_at_a_limit(rt: HostRuntime) -> Result<(), Fail> {
     for (before, text, count, after, wanted) in PAST_LIMITS {
         answers(&rt, (before, text, *count, after), wanted)?;
+    }
+    Ok(())
+}
+
+/// What is repeated in procedures, for which no limit holds where they are declared.
+const IN_PROCEDURES: &[(&str, &str, usize, &str, &str)] = &[
+    ("proc f() { int x; ", "x = 1; ", 70_000, "}", ""),
+    (
+        "proc f() { int x; ",
+        "x = 1; ",
+        70_000,
+        "y = 1; }",
+        "10 Unknown item 70002",
+    ),
+    (
+        "record r { } proc f() { r x; ",
+        "x = new r; ",
+        1025,
+        "}",
+        "",
+    ),
+    (
+        "proc f() { } proc g() { ",
+        "call f(); ",
+        4097,
+        "} thread t { }",
+        "",
+    ),
+    // A way back through the 65th procedure is named at the call, which stands before it.
+    (
+        "",
+        "proc p#() { } ",
+        63,
+        "proc q() { call r(); } proc r() { call q(); }",
+        "16 Recursion item 64",
+    ),
+];
+
+#[test]
+fn procedures_alone_pass_no_limit(rt: HostRuntime) -> Result<(), Fail> {
+    for (before, text, count, after, wanted) in IN_PROCEDURES {
+        answers(&rt, (before, text, *count, after), wanted)?;
+    }
+    Ok(())
+}
+
+/// How many blocks stand in one another in a procedure, how many round its call in a section, and the answer.
+const BLOCKS: &[(usize, usize, &str)] = &[
+    (20, 10, ""),
+    (21, 10, "15 TooMany item 34"),
+    (30, 0, ""),
+    (31, 0, "15 TooMany item 34"),
+    (0, 30, ""),
+    (1, 30, "15 TooMany item 34"),
+];
+
+#[test]
+fn blocks_of_the_expanded_text(rt: HostRuntime) -> Result<(), Fail> {
+    for (deep, around, wanted) in BLOCKS {
+        let mut source = String::new(rt.alloc());
+        source.push_str("proc f() { ")?;
+        copies(&mut source, "if (1 == 1) { ", *deep)?;
+        copies(&mut source, "} ", *deep)?;
+        source.push_str("} thread t { atomic { ")?;
+        copies(&mut source, "if (1 == 1) { ", *around)?;
+        source.push_str("call f(); ")?;
+        copies(&mut source, "} ", *around)?;
+        source.push_str("} }")?;
+        let found = answer(rt.alloc(), &source)?;
+        assert!(rt; found.as_str() == *wanted, "{deep} and {around}: {found}");
     }
     Ok(())
 }

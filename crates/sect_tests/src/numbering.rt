@@ -2,6 +2,7 @@
 
 use crate::programs::program_of;
 use sect_types::{Action, Base, Program, Step, Text, Value, ValueType};
+use std::fmt::Write;
 use std::process::Abort;
 use std::test::Fail;
 
@@ -43,7 +44,11 @@ fn are_declared(rt: &impl Abort, program: &Program) {
 }
 
 /// How many threads, sections, sites and statements these texts have.
-const COUNTS: &[(&[u8], [u32; 4])] = &[(LIST, [2, 4, 4, 14]), (b"", [0, 0, 0, 0])];
+const COUNTS: &[(&[u8], [u32; 4])] = &[
+    (LIST, [2, 4, 4, 14]),
+    (b"", [0, 0, 0, 0]),
+    (CALLS, [2, 3, 4, 20]),
+];
 
 #[test]
 fn counts_of_a_program(rt: HostRuntime) -> Result<(), Fail> {
@@ -136,5 +141,51 @@ fn fields_by_number(rt: HostRuntime) -> Result<(), Fail> {
             _ => {}
         }
     }
+    Ok(())
+}
+
+/// A procedure that is called by another one and by both threads.
+const CALLS: &[u8] = b"record R { } proc make(int a) { R b; b = new R; }
+proc twice(R x, int a) { call make(a); x = null; call make(1); }
+thread t { int b; atomic { call twice(null, 2); } b = 1; atomic { call make(b); } }
+thread u { R r; atomic { r = null; call make(4); } }";
+
+#[test]
+fn locals_of_calls_by_number(rt: HostRuntime) -> Result<(), Fail> {
+    let program = program_of(rt.alloc(), CALLS)?;
+    are_called(&rt, &program, 0, "b x#0 a#0 a#1 b#1 a#2 b#2 a#3 b#3 ")?;
+    are_called(&rt, &program, 1, "r a#0 b#0 ")
+}
+
+/// The locals of a thread have these names, in the order of their numbers, with a blank behind each.
+fn are_called(
+    rt: &(impl Abort + AllocGlobal),
+    program: &Program,
+    thread: u16,
+    wanted: &str,
+) -> Result<(), Fail> {
+    assert!(rt; (thread as usize) < program.locals().len());
+    let count = program.locals()[thread as usize].as_slice().len();
+    assert!(rt; count <= 64);
+    let mut names = String::new(rt.alloc());
+    for number in 0..count as u16 {
+        write!(names, "{} ", program.local_name(thread, number))?;
+    }
+    assert_eq!(rt; names.as_str(), wanted);
+    Ok(())
+}
+
+#[test]
+fn types_and_sites_of_calls(rt: HostRuntime) -> Result<(), Fail> {
+    let program = program_of(rt.alloc(), CALLS)?;
+    assert!(rt; program.locals().len() == 2);
+    assert_eq!(rt;
+        program.locals()[1].as_slice(),
+        [ValueType::Refers(0), ValueType::Int, ValueType::Refers(0)].as_slice()
+    );
+    assert!(rt; program.section_count() == 3);
+    assert_eq!(rt; last_new(program.section(0).body), Some((6, 0, 1)));
+    assert_eq!(rt; last_new(program.section(1).body), Some((8, 0, 2)));
+    assert_eq!(rt; last_new(program.section(2).body), Some((2, 0, 3)));
     Ok(())
 }

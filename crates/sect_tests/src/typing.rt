@@ -42,6 +42,16 @@ const ACCEPTED: &[&str] = &[
     "record A { } thread t { A x; A y; x = y; }",
     "record A { } global A a; global A b; thread t { A x; x = a; if (a == b) { x = b; } }",
     "thread t { int i; i = 0; } thread u { int i; i = 1; }",
+    // One name for a record, a global, a procedure and a thread.
+    "record f { } global f f; proc f() { } thread f { atomic { call f(); } }",
+    // A call of a procedure that is declared later, and names that two procedures and a thread have.
+    "record A { } proc f(int x) { int y; y = x; call g(y, null); } proc g(int x, A y) { y = null; } \
+        thread t { int x; int y; atomic { call f(x); call g(1, null); } }",
+    // A procedure's statements are those of a section; a parameter is assigned to as a local is.
+    "record A { int v; } global A a; proc f(A x) { int i; i = x.v; x.v = 1; x = new A; print i; i = a.v; } \
+        thread t { atomic { call f(a); } }",
+    // Two ways to one procedure are no way back.
+    "proc f() { call g(); call h(); } proc g() { call h(); } proc h() { }",
 ];
 
 /// Texts with a fault, and the fault.
@@ -269,6 +279,78 @@ const REFUSED: &[(&str, &str)] = &[
     (
         "thread t { atomic { print 1; atomic { print null; } } }",
         "14 Nested item 3",
+    ),
+    // Procedures and calls: an unknown name.
+    (
+        "proc f() { x = 1; } thread t { int x; }",
+        "10 Unknown item 1",
+    ),
+    ("proc f(A x) { }", "10 Unknown item 1"),
+    ("proc f(int x) { } proc g() { x = 1; }", "10 Unknown item 3"),
+    ("thread t { atomic { call t(); } }", "10 Unknown item 2"),
+    // A name twice. A call means the first procedure of its name.
+    ("proc f() { } proc f() { }", "11 Twice item 1"),
+    ("proc f(int x) { int x; }", "11 Twice item 2"),
+    (
+        "record A { } global A a; proc f(int a) { }",
+        "11 Twice item 3",
+    ),
+    (
+        "proc g() { call f(1); } proc f(int n) { } proc f() { }",
+        "11 Twice item 4",
+    ),
+    // The types of arguments, compared as they are written: `null` is right for a record that nothing has.
+    (
+        "record A { } proc f(int n, A x) { } thread t { atomic { call f(1, 2); } }",
+        "12 WrongType item 6",
+    ),
+    (
+        "record A { } record B { } global B b; proc f(A x) { } proc g() { call f(b); }",
+        "12 WrongType item 6",
+    ),
+    (
+        "proc p() { call q(1); } proc q(Foo x) { }",
+        "12 WrongType item 1",
+    ),
+    (
+        "proc p() { call q(null); } proc q(Foo x) { }",
+        "10 Unknown item 3",
+    ),
+    // A section in a procedure.
+    (
+        "proc f() { if (1 == 1) { atomic { } } }",
+        "14 Nested item 2",
+    ),
+    // A call that leads back, also from a block, and by a call with a wrong number of arguments.
+    (
+        "proc f() { call g(); } proc g() { call h(); } proc h() { call g(); }",
+        "16 Recursion item 3",
+    ),
+    (
+        "proc f() { if (1 == 1) { } else { while (1 == 1) { call f(); } } }",
+        "16 Recursion item 3",
+    ),
+    (
+        "proc f() { call g(1); } proc g() { call f(); }",
+        "16 Recursion item 1",
+    ),
+    // Another number of arguments, for which types aren't looked at.
+    (
+        "proc f(int n) { } thread t { atomic { call f(null, 1); } }",
+        "17 Arguments item 4",
+    ),
+    // Of several rules at a call the least.
+    (
+        "proc f() { } thread t { atomic { call f(x); } }",
+        "10 Unknown item 3",
+    ),
+    (
+        "proc f(int n) { } thread t { call f(null); }",
+        "12 WrongType item 3",
+    ),
+    (
+        "proc f() { } thread t { call f(1); }",
+        "13 SharedOutside item 2",
     ),
     // The first item at fault is named, whatever comes after it.
     ("record A { B f; B g; } record A { }", "10 Unknown item 1"),

@@ -1,6 +1,7 @@
 //! Turns of threads that are there.
 
-ghost use Rattle.std.specs.Prelude.{◌<◌, OnOk};
+ghost use Rattle.std.specs.Prelude.{◌≡◌, ◌<◌, IfOk, OnOk, OnErr};
+ghost use Rattle.sect_world.specs.Worlds.{IsTurned};
 ghost use Rattle.sect_run.specs.steps.Shares.{AreBelow, IsSameRun, threads_in};
 
 use crate::fault::RunFault;
@@ -9,6 +10,8 @@ use sect_world::{Turned, World, WorldFault};
 /// The turn of a thread. Those whom it lets in are threads of the program too.
 pub fn turn_of(world: &mut World<'_>, thread: u16) -> Result<Turned, RunFault>
     requires { thread < threads_in world.old.compiled }
+    ensures turned { IfOk result (λ turned. IsTurned thread turned world.old world.new) }
+    ensures err { OnErr result (world.new ≡ world.old) }
     ensures same { IsSameRun world.old world.new }
     ensures granted { OnOk result (AreBelow (threads_in world.old.compiled) world.new.granted) }
 {
@@ -27,8 +30,10 @@ pub fn waking_turn_of(
     woken: &mut Vec<u16>,
 ) -> Result<Turned, RunFault>
     requires { thread < threads_in world.old.compiled }
+    ensures turned { IfOk result (λ turned. IsTurned thread turned world.old world.new) }
     ensures same { IsSameRun world.old world.new }
-    ensures woken { OnOk result (AreBelow (threads_in world.old.compiled) woken.new.items) }
+    ensures woken { OnOk result (woken.new.items ≡ world.new.granted) }
+    ensures below { OnOk result (AreBelow (threads_in world.old.compiled) woken.new.items) }
 {
     let turned = turn_of(world, thread)?;
     woken.clear();

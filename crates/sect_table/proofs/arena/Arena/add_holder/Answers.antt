@@ -1,7 +1,6 @@
-use Rattle.std.proofs.Common.{arith, ◌≡◌, ◌+◌, length, set, sym, ◌∙◌}
+use Rattle.std.proofs.Common.{◌≡◌, ◌+◌, length, set, sym, ◌∙◌}
 use Rattle.sect_table.specs.Contents.{put, entry_of, with_holder, claim_of, give}
 use Rattle.sect_table.specs.steps.Links.{list_at}
-use Rattle.sect_table.proofs.Shown.{seen, key_lists}
 use Rattle.sect_table.proofs.Moving.{Shows, goes, holder_added}
 use Rattle.sect_table.proofs.arena.Arena.add_holder.Goals as goal
 
@@ -20,27 +19,6 @@ outcome c =
     (sym c.first.ensures.first ∙ c.unwrap-node.ensures)
     (goes _ _ _ _ e1.size e1.count e1.labels e1.lists e1.placed e1.places)
     (goes _ _ _ _ e2.size e2.count e2.labels e2.lists e2.placed e2.places)
-
-pub overflow_add-at : goal.overflow_add-at
-overflow_add-at c =
-    let lists = key_lists _ _ _ _ _ _ c.args.at c.self.invariant c.self.view_is c.requires.known in
-    omega (arith, lists.few)
-
-pub overflow_add-at-2 : goal.overflow_add-at-2
-overflow_add-at-2 c =
-    let lists = key_lists _ _ _ _ _ _ c.args.at c.self.invariant c.self.view_is c.requires.known in
-    omega (arith, lists.few)
-
-pub move_to-requires-clause-list : goal.move_to-requires-clause-list
-move_to-requires-clause-list c =
-    let lists = key_lists _ _ _ _ _ _ c.args.at c.self.invariant c.self.view_is c.requires.known in
-    omega (arith, lists.holders, lists.waiters)
-
-pub move_to-requires-2-clause-list : goal.move_to-requires-2-clause-list
-move_to-requires-2-clause-list c =
-    let s = seen _ _ _ _ _ _ c.self.invariant c.self.view_is in
-    let n = s.chains in let lt = c.requires.thread in
-    omega arith
 
 pub invariant_of-self : goal.invariant_of-self
 invariant_of-self c = (outcome c).0.arena

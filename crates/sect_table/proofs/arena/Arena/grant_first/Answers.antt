@@ -1,10 +1,10 @@
-use Rattle.std.proofs.Common.{arith, ◌≡◌, ◌<◌, ◌+◌, length, sym, ◌∙◌, subst}
+use Rattle.std.proofs.Common.{◌≡◌, ◌<◌, ◌+◌, length, sym, ◌∙◌, subst}
 use Rattle.std.specs.Prelude.{IsSome}
 use Rattle.std.proofs.lemmas.List.{get_or_read}
 use Rattle.sect_table.specs.Contents.{Entry, put, entry_of, with_grant, claim_of, give}
 use Rattle.sect_table.specs.steps.Links.{list_at}
 use Rattle.sect_table.specs.steps.Arena.{no_node, claims}
-use Rattle.sect_table.proofs.Shown.{queues-seen, claimed_first, key_lists}
+use Rattle.sect_table.proofs.Shown.{queues-seen, claimed_first}
 use Rattle.sect_table.proofs.Moving.{Shows, goes, first_granted, Waiter, first_waiting}
 use Rattle.sect_table.proofs.arena.Arena.grant_first.Goals.{After-index-request}
 use Rattle.sect_table.proofs.arena.Arena.grant_first.Goals as goal
@@ -34,21 +34,6 @@ outcome c =
     c.index-request.ensures no_node)
     (goes _ _ _ _ e1.size e1.count e1.labels e1.lists e1.placed e1.places)
     (goes _ _ _ _ e2.size e2.count e2.labels e2.lists e2.placed e2.places)
-
-pub overflow_add-at : goal.overflow_add-at
-overflow_add-at c =
-    let lists = key_lists _ _ _ _ _ _ c.args.at c.self.invariant c.self.view_is c.requires.known in
-    omega (arith, lists.few)
-
-pub overflow_add-at-2 : goal.overflow_add-at-2
-overflow_add-at-2 c =
-    let lists = key_lists _ _ _ _ _ _ c.args.at c.self.invariant c.self.view_is c.requires.known in
-    omega (arith, lists.few)
-
-pub first-requires : goal.first-requires
-first-requires c =
-    let lists = key_lists _ _ _ _ _ _ c.args.at c.self.invariant c.self.view_is c.requires.known in
-    omega (arith, lists.holders, lists.waiters)
 
 pub unwrap-node-requires : goal.unwrap-node-requires
 unwrap-node-requires c =

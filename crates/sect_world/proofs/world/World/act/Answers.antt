@@ -21,10 +21,12 @@ IsAtStep t i n z = (th : ThreadState) × IsThread z.state t th
     × (th.position ≡ Running i (rest_at (body_at z.compiled i) n))
     × (begins_step (rest_at (body_at z.compiled i) n) ≡ true)
 
+-- so it is in the world of the moment
 at_step : (c : After-index_mut)
     → IsAtStep c.args.thread c.args.section c.args.node (world_at c.self.inside.compiled.now c.self.inside.moment)
 at_step c = subst (IsAtStep c.args.thread c.args.section c.args.node) (sym c.self.view_is) c.requires
 
+-- its runner is the one that is read
 runner_at : (c : After-index_mut)
     → slice_get c.self.inside.moment.runners.items c.args.thread ≡ Some c.index_mut.result.now
 runner_at c = let h = at_step c in
@@ -75,6 +77,7 @@ step_inside-requires-clause-waiters c =
     let h = at_step p in
     (free_key _ _ _ _ _ _ _ _ c.self.invariant.0 c.args.thread h.0 h.1 _ (runner_at p)).1
 
+-- the move is a turn
 turned : (c : goal.After-push_reserved)
     → TurnsInto (world_at c.self.inside.compiled.now c.self.inside.moment) c.args.thread (Moved kind.Act)
     c.self.inside.compiled.now c.self.inside.moment.fuel c.push_reserved.new.self.items

@@ -19,6 +19,7 @@ use Rattle.sect_world.proofs.world.World.again.Goals as goal
 abbrev MayGoAgain : ℕ → WorldView → Type 0
 MayGoAgain t z = (after : State) × Happens z.compiled z.state (record { thread = t; deed = Again }) after
 
+-- what it gives back
 gives : (c : After-index_mut)
     → GivesBack c.self.inside.compiled.now c.self.inside.moment.fuel c.self.inside.moment.trace.items
     c.self.inside.moment.order.items (world_at c.self.inside.compiled.now c.self.inside.moment).state
@@ -49,6 +50,7 @@ give_back-requires-clause-idle c = (gives (goal.at.give_back-requires-clause-idl
 pub give_back-requires-clause-advance : goal.give_back-requires-clause-advance
 give_back-requires-clause-advance c = (gives (goal.at.give_back-requires-clause-advance c).After-index_mut).advance
 
+-- the move is a turn
 turned : (c : goal.After-give_back)
     → TurnsInto (world_at c.self.inside.compiled.now c.self.inside.moment) c.args.thread (Moved kind.Again)
     c.self.inside.compiled.now c.self.inside.moment.fuel c.give_back.new.trace.items

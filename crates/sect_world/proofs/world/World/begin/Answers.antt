@@ -19,10 +19,12 @@ abbrev IsMet : ℕ → ℕ → WorldView → Type 0
 IsMet t i z = (th : ThreadState) × IsThread z.state t th × ((body : TextView) × (rest : TextView)
     × IsReady th i body rest × (meets th.held (plan_at z.compiled i z.state.store th.frame.work.locals) ≡ true))
 
+-- so it is in the world of the moment
 met : (c : After-index_mut)
     → IsMet c.args.thread c.args.section (world_at c.self.inside.compiled.now c.self.inside.moment)
 met c = subst (IsMet c.args.thread c.args.section) (sym c.self.view_is) c.requires
 
+-- its runner is the one that is read
 runner_at : (c : After-index_mut)
     → slice_get c.self.inside.moment.runners.items c.args.thread ≡ Some c.index_mut.result.now
 runner_at c = let h = met c in
@@ -49,6 +51,7 @@ begin-requires-clause-node c =
     before _ _ _ _ _ _ _ _ c.self.invariant.0 c.args.thread h.0 h.1 _ (runner_at p)
     (section_on h.0.frame.text c.args.section h.2.0 h.2.1 h.2.2.text)
 
+-- the move is a turn
 turned : (c : goal.After-push_reserved)
     → TurnsInto (world_at c.self.inside.compiled.now c.self.inside.moment) c.args.thread (Moved kind.Begin)
     c.self.inside.compiled.now c.self.inside.moment.fuel c.push_reserved.new.self.items

@@ -18,10 +18,12 @@ abbrev IsBefore : ℕ → ℕ → WorldView → Type 0
 IsBefore t i z = (th : ThreadState) × IsThread z.state t th × IsFree th
     × ((body : TextView) × (rest : TextView) × (th.frame.text ≡ Section i body rest))
 
+-- so it is in the world of the moment
 before_section : (c : After-index_mut)
     → IsBefore c.args.thread c.args.section (world_at c.self.inside.compiled.now c.self.inside.moment)
 before_section c = subst (IsBefore c.args.thread c.args.section) (sym c.self.view_is) c.requires
 
+-- its runner is the one that is read
 runner_at : (c : After-index_mut)
     → slice_get c.self.inside.moment.runners.items c.args.thread ≡ Some c.index_mut.result.now
 runner_at c = let h = before_section c in
@@ -43,6 +45,7 @@ enter-requires c =
     section_there _ _ _ _ _ _ _ _ c.self.invariant.0 c.args.thread h.0 h.1 _ (runner_at p) c.args.section h.3.0 h.3.1
     h.3.2
 
+-- the move is a turn
 turned : (c : goal.After-push_reserved)
     → TurnsInto (world_at c.self.inside.compiled.now c.self.inside.moment) c.args.thread (Moved kind.Enter)
     c.self.inside.compiled.now c.self.inside.moment.fuel c.push_reserved.new.self.items

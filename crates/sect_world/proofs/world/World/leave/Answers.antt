@@ -18,6 +18,7 @@ use Rattle.sect_world.proofs.world.World.leave.Goals as goal
 abbrev IsLeaving : ℕ → Option Fault → WorldView → Type 0
 IsLeaving t how z = (th : ThreadState) × IsThread z.state t th × IsOver th.position how
 
+-- what it gives back
 gives : (c : In_ok-come_out)
     → GivesBack c.self.inside.compiled.now c.self.inside.moment.fuel c.self.inside.moment.trace.items
     c.self.inside.moment.order.items (world_at c.self.inside.compiled.now c.self.inside.moment).state
@@ -55,6 +56,7 @@ give_back-requires-clause-idle c = (gives (goal.at.give_back-requires-clause-idl
 pub give_back-requires-clause-advance : goal.give_back-requires-clause-advance
 give_back-requires-clause-advance c = (gives (goal.at.give_back-requires-clause-advance c).In_ok-come_out).advance
 
+-- the move is a turn
 turned : (c : goal.After-give_back)
     → TurnsInto (world_at c.self.inside.compiled.now c.self.inside.moment) c.args.thread (Moved kind.Leave)
     c.self.inside.compiled.now c.self.inside.moment.fuel c.give_back.new.trace.items c.push_reserved.new.self.items

@@ -17,10 +17,12 @@ use Rattle.sect_world.proofs.world.World.local.Goals as goal
 abbrev IsBefore : ℕ → WorldView → Type 0
 IsBefore t z = (th : ThreadState) × IsThread z.state t th × IsFree th × (begins_step th.frame.text ≡ true)
 
+-- so it is in the world of the moment
 before_step : (c : After-index_mut)
     → IsBefore c.args.thread (world_at c.self.inside.compiled.now c.self.inside.moment)
 before_step c = subst (IsBefore c.args.thread) (sym c.self.view_is) c.requires
 
+-- its runner is the one that is read
 runner_at : (c : After-index_mut)
     → slice_get c.self.inside.moment.runners.items c.args.thread ≡ Some c.index_mut.result.now
 runner_at c = let h = before_step c in
@@ -66,6 +68,7 @@ step_outside-requires-clause-sound c =
     let h = before_step p in
     sound _ _ _ _ _ _ _ _ c.self.invariant.0 c.args.thread h.0 h.1 _ (runner_at p)
 
+-- the move is a turn
 turned : (c : goal.After-push_reserved)
     → TurnsInto (world_at c.self.inside.compiled.now c.self.inside.moment) c.args.thread (Moved kind.Local)
     c.self.inside.compiled.now c.self.inside.moment.fuel c.push_reserved.new.self.items

@@ -1,11 +1,10 @@
 -- What a move of one node makes of the table that an arena shows.
 use Rattle.std.proofs.Common.{◌≡◌, ◌≢◌, ◌⊎◌, inl, inr, ℕ, ◌+◌, ◌<◌, List, [], ◌∷◌, ◌++◌, length, map, drop, get_or, set}
-use Rattle.std.proofs.Common.{Bool, true, false, not, Some, refl, sym, ◌∙◌, ap, subst, arith, get_or-set_same}
+use Rattle.std.proofs.Common.{Bool, true, false, not, None, Some, refl, sym, ◌∙◌, ap, subst, arith, get_or-set_same}
 use Rattle.std.proofs.Common.{get_or-set_other, length-append}
 use Rattle.std.specs.Prelude.{◌==◌, ◌||◌, if◌then◌else◌}
 use Rattle.std.proofs.lemmas.Bool.{cases_eq, cases_lt, eq-eqb}
 use Rattle.std.proofs.lemmas.List.{length-set, get_or_past, map_push}
-use Rattle.sect_modes.specs.declared.mode.Mode.{Mode}
 use Rattle.sect_modes.specs.declared.key.Key.{Key}
 use Rattle.sect_table.specs.declared.claims.Hold.{Hold}
 use Rattle.sect_table.specs.declared.claims.Claim.{Claim}
@@ -13,14 +12,14 @@ use Rattle.sect_table.specs.declared.claims.Grant.{Grant}
 use Rattle.sect_table.specs.Contents.{Entry, Contents, number_of, entry_of, first_of, put, is_among, AreApart, stay}
 use Rattle.sect_table.specs.Contents.{give, hold_of, claim_of, with_holder, with_waiter, with_grant, without_holder}
 use Rattle.sect_table.specs.steps.Keys.{place_in}
-use Rattle.sect_table.specs.steps.Links.{Shape, list_at, label_at, Among, AreDistinct, IsAbsent, ArePlaced, without}
-use Rattle.sect_table.specs.steps.Links.{moved}
+use Rattle.sect_table.specs.steps.Links.{Shape, head_or, list_at, label_at, Among, AreDistinct, IsAbsent, ArePlaced}
+use Rattle.sect_table.specs.steps.Links.{without, moved}
 use Rattle.sect_table.specs.steps.Arena.{node_at, no_node, claims, holds_at, queue_at, chain_at, entry_at, entries_from}
 use Rattle.sect_table.specs.steps.Arena.{held_from, shown, HasRole, IsArena}
 use Rattle.sect_table.proofs.Runs.{each_map, without-same, without-other, without_absent}
 use Rattle.sect_table.proofs.Whole.{length-without}
 use Rattle.sect_table.proofs.Shown.{seen, entries-put, entries-kept, held-set, held-kept, queues-seen, chain-seen}
-use Rattle.sect_table.proofs.Shown.{one_place}
+use Rattle.sect_table.proofs.Shown.{one_place, uncons}
 use Rattle.sect_table.proofs.Roles.{arena_moved, labelled_first, WaitsFor, waiter_role, HoldsBy, holding_role}
 use Rattle.sect_table.proofs.Roles.{free_role}
 
@@ -162,154 +161,193 @@ filled nodes keys threads q c now x r a is lt label =
           ⊎ ((label_at q i ≡ k + k + 2) × (label_at c i ≡ t + t + 2))) e used.place;
     })
 
--- a free node comes to hold a key
-pub holder_added : (nodes : List Grant) (keys : List Key) (threads : ℕ) (q c q' c' : Shape) (now : Contents) (t : ℕ)
-    (m : Mode) (key : Key) (at x : ℕ) (rest : List ℕ)
-    → IsArena nodes keys threads q c → shown nodes keys threads q c ≡ now → t < length now.held
-    → at ≡ number_of key now.entries → at < length now.entries
-    → list_at q.lists 0 ≡ x ∷ rest → node_at nodes x ≡ record { thread = t; key = key; mode = m }
-    → Goes q q' x (at + at + 1) → Goes c c' x (t + t + 1)
-    → Shows nodes keys threads q' c' (give t key m now.held)
-    (put (with_holder (claim_of t m) (entry_of key now.entries)) now.entries)
-    × (length (list_at q'.lists 0) + 1 ≡ now.spare)
-holder_added nodes keys threads q c q' c' now t m key at x rest a is lt number known first node gq gc =
+-- what a list shows at whose end a node came
+claims_came : (nodes : List Grant) (q q' : List (List ℕ)) (x from to : ℕ) (r : Claim) → Moved q q' x from to
+    → claim_of (node_at nodes x).thread (node_at nodes x).mode ≡ r
+    → queue_at nodes q' to ≡ queue_at nodes q to ++ r ∷ []
+claims_came nodes q q' x from to r mq is = ap (claims nodes) mq.came
+    ∙ (map_push (λ i. claim_of (node_at nodes i).thread (node_at nodes i).mode) (list_at q to) x
+    ∙ ap (λ z. queue_at nodes q to ++ z ∷ []) is)
+
+holds_came : (nodes : List Grant) (c c' : List (List ℕ)) (x from to : ℕ) (r : Hold) → Moved c c' x from to
+    → hold_of (node_at nodes x).key (node_at nodes x).mode ≡ r
+    → chain_at nodes c' to ≡ chain_at nodes c to ++ r ∷ []
+holds_came nodes c c' x from to r mc is = ap (holds_at nodes) mc.came
+    ∙ (map_push (λ i. hold_of (node_at nodes i).key (node_at nodes i).mode) (list_at c to) x
+    ∙ ap (λ z. chain_at nodes c to ++ z ∷ []) is)
+
+-- only the lists of place `at` and the free nodes change
+abbrev ChangesAt : ℕ → List (List ℕ) → List (List ℕ) → Type 0
+ChangesAt at q q' = (l : ℕ) → l ≢ 0 → l ≢ at + at + 1 → l ≢ at + at + 2 → list_at q' l ≡ list_at q l
+
+-- one key's entry changes
+entries_changed : (nodes : List Grant) (keys : List Key) (threads : ℕ) (q c q' : Shape) (now : Contents) (key : Key)
+    (at : ℕ) (change : Entry → Entry)
+    → IsArena nodes keys threads q c → shown nodes keys threads q c ≡ now → at ≡ number_of key now.entries
+    → at < length now.entries → ChangesAt at q.lists q'.lists
+    → (let new = change (entry_at (queue_at nodes q.lists) key at) in
+    (new.key ≡ key) × (queue_at nodes q'.lists (at + at + 1) ≡ new.holders)
+    × (queue_at nodes q'.lists (at + at + 2) ≡ new.waiters))
+    → entries_from (queue_at nodes q'.lists) 0 keys ≡ put (change (entry_of key now.entries)) now.entries
+entries_changed nodes keys threads q c q' now key at change a is number known others parts =
     let s = seen nodes keys threads q c now a is in
-    let here = labelled_first q 0 x rest a.in_queues (let n = s.queues in omega arith) first in
-    let label_c : label_at c x ≡ 0 = free_role nodes keys threads q c x a here.0 here.1 in
-    let in_q : x < q.size = here.0 in
-    let both : c.size ≡ q.size = a.chained in
+    let nk = s.keys_are in
+    let place : place_in key keys ≡ number_of key now.entries = s.numbers key in
+    let was : Entry = change (entry_at (queue_at nodes q.lists) key at) in
+    let waiting : List Claim = queue_at nodes q'.lists (at + at + 2) in
+    let new : entry_at (queue_at nodes q'.lists) key at ≡ change (entry_of key now.entries)
+    = ap (λ z. entry_at (queue_at nodes q'.lists) z at) (sym parts.0)
+    ∙ (ap (λ z. record { key = was.key; holders = z; waiters = waiting }) parts.1
+    ∙ (ap (λ z. record { key = was.key; holders = was.holders; waiters = z }) parts.2
+    ∙ sym (ap change (queues-seen nodes keys threads q c now key at a is number known)))) in
+    entries-put (queue_at nodes q.lists) (queue_at nodes q'.lists) 0 key keys at (omega arith) (omega arith)
+    (λ j ne. (
+      ap (claims nodes) (others (j + j + 1) (λ e. absurd (omega arith)) (λ e. absurd (omega arith))
+          (λ e. absurd (omega arith))),
+      ap (claims nodes) (others (j + j + 2) (λ e. absurd (omega arith)) (λ e. absurd (omega arith))
+          (λ e. absurd (omega arith))),
+    ))
+    ∙ (ap (λ z. put z (entries_from (queue_at nodes q.lists) 0 keys)) new
+    ∙ ap (λ (z : Contents). put (change (entry_of key now.entries)) z.entries) is)
+
+-- one thread's list of holds changes
+held_changed : (nodes : List Grant) (keys : List Key) (threads : ℕ) (q c c' : Shape) (now : Contents) (t : ℕ)
+    (list : List Hold)
+    → IsArena nodes keys threads q c → shown nodes keys threads q c ≡ now → t < length now.held
+    → ChangesAt t c.lists c'.lists → chain_at nodes c'.lists (t + t + 1) ≡ list
+    → held_from (chain_at nodes c'.lists) 0 threads ≡ set now.held t list
+held_changed nodes keys threads q c c' now t list a is lt others new =
+    let s = seen nodes keys threads q c now a is in
+    let nt = s.threads_are in
+    held-set (chain_at nodes c.lists) (chain_at nodes c'.lists) 0 threads t t (omega arith) (omega arith)
+    (λ j ne. ap (holds_at nodes) (others (j + j + 1) (λ e. absurd (omega arith)) (λ e. absurd (omega arith))
+    (λ e. absurd (omega arith))))
+    ∙ (ap (set (held_from (chain_at nodes c.lists) 0 threads) t) new ∙ ap (λ (z : Contents). set z.held t list) is)
+
+-- the first free node has a request written into it, and goes to a list of its key and to one of its thread: to the
+-- first of the two if d is 1, to the second if d is 2
+record Added (nodes : List Grant) (keys : List Key) (threads : ℕ) (q c q' c' : Shape) (now : Contents) (r : Grant)
+    (at x d : ℕ) : Type 0 where
+  pub was : IsArena nodes keys threads q c
+  pub showed : shown nodes keys threads q c ≡ now
+  pub arena : IsArena nodes keys threads q' c'
+  pub node : node_at nodes x ≡ r
+  pub queues : Moved q.lists q'.lists x 0 (at + at + d)
+  pub chains : Moved c.lists c'.lists x 0 (r.thread + r.thread + d)
+  pub came : queue_at nodes q'.lists (at + at + d)
+      ≡ queue_at nodes q.lists (at + at + d) ++ claim_of r.thread r.mode ∷ []
+  pub spare : length (list_at q'.lists 0) + 1 ≡ now.spare
+
+added : (nodes : List Grant) (keys : List Key) (threads : ℕ) (q c q' c' : Shape) (now : Contents) (r : Grant)
+    (at x d : ℕ)
+    → (d ≡ 1) ⊎ (d ≡ 2) → IsArena nodes keys threads q c → shown nodes keys threads q c ≡ now
+    → r.thread < length now.held → at ≡ number_of r.key now.entries → at < length now.entries
+    → head_or (list_at q.lists 0) None ≡ Some x → Goes q q' x (at + at + d) → Goes c c' x (r.thread + r.thread + d)
+    → Added (set nodes x r) keys threads q c q' c' now r at x d
+added nodes keys threads q c q' c' now r at x d which a is lt number known first gq gc =
+    let s = seen nodes keys threads q c now a is in
     let nq = s.queues in
     let nc = s.chains in
     let nk = s.keys_are in
     let nt = s.threads_are in
-    let place : place_in key keys ≡ number_of key now.entries = s.numbers key in
-    let node_key : (node_at nodes x).key ≡ key = ap (λ (z : Grant). z.key) node in
-    let node_thread : (node_at nodes x).thread ≡ t = ap (λ (z : Grant). z.thread) node in
-    let own_place : place_in (node_at nodes x).key keys ≡ at = ap (λ z. place_in z keys) node_key
-    ∙ (place ∙ sym number) in
-    let mq : Moved q.lists q'.lists x 0 (at + at + 1) =
-    moved_lists q q' x 0 (at + at + 1) a.in_queues gq in_q here.1 (omega arith) (λ e. absurd (omega arith)) in
-    let mc : Moved c.lists c'.lists x 0 (t + t + 1) =
-    moved_lists c c' x 0 (t + t + 1) a.in_chains gc (omega arith) label_c (omega arith)
+    let found = uncons (list_at q.lists 0) x first in
+    let here = labelled_first q 0 x found.0 a.in_queues (omega arith) found.1 in
+    let in_q : x < q.size = here.0 in
+    let both : c.size ≡ q.size = a.chained in
+    let sizes : length nodes ≡ q.size = a.sizes in
+    let label_c : label_at c x ≡ 0 = free_role nodes keys threads q c x a here.0 here.1 in
+    let f = filled nodes keys threads q c now x r a is here.0 here.1 in
+    let node : node_at (set nodes x r) x ≡ r = get_or-set_same nodes x r no_node (omega arith) in
+    let node_thread : (node_at (set nodes x r) x).thread ≡ r.thread = ap (λ (z : Grant). z.thread) node in
+    let own_place : place_in (node_at (set nodes x r) x).key keys ≡ at = ap (λ (z : Grant). place_in z.key keys) node
+    ∙ (s.numbers r.key ∙ sym number) in
+    let few : (0 < d) × (d < 3) =
+    elim which [ inl one ↦ (omega arith, omega arith) | inr two ↦ (omega arith, omega arith) ] in
+    let mq : Moved q.lists q'.lists x 0 (at + at + d) =
+    moved_lists q q' x 0 (at + at + d) a.in_queues gq in_q here.1 (omega arith) (λ e. absurd (omega arith)) in
+    let mc : Moved c.lists c'.lists x 0 (r.thread + r.thread + d) =
+    moved_lists c c' x 0 (r.thread + r.thread + d) a.in_chains gc (omega arith) label_c (omega arith)
     (λ e. absurd (omega arith)) in
-    let entry : entry_of key now.entries ≡ entry_at (queue_at nodes q.lists) key at =
-    queues-seen nodes keys threads q c now key at a is number known in
-    let chain : get_or now.held t [] ≡ chain_at nodes c.lists (t + t + 1) =
-    chain-seen nodes keys threads q c now t a is lt in
-    let claim : claim_of (node_at nodes x).thread (node_at nodes x).mode ≡ claim_of t m =
-    ap (λ (z : Grant). claim_of z.thread z.mode) node in
-    let hold : hold_of (node_at nodes x).key (node_at nodes x).mode ≡ hold_of key m =
-    ap (λ (z : Grant). hold_of z.key z.mode) node in
-    let holders : queue_at nodes q'.lists (at + at + 1) ≡ queue_at nodes q.lists (at + at + 1) ++ claim_of t m ∷ []
-    = ap (claims nodes) mq.came ∙ (map_push (λ i. claim_of (node_at nodes i).thread (node_at nodes i).mode)
-    (list_at q.lists (at + at + 1)) x ∙ ap (λ z. queue_at nodes q.lists (at + at + 1) ++ z ∷ []) claim) in
-    let waiters : queue_at nodes q'.lists (at + at + 2) ≡ queue_at nodes q.lists (at + at + 2) =
-    ap (claims nodes) (mq.others (at + at + 2) (λ e. absurd (omega arith)) (λ e. absurd (omega arith))) in
-    let list : chain_at nodes c'.lists (t + t + 1) ≡ get_or now.held t [] ++ hold_of key m ∷ []
-    = ap (holds_at nodes) mc.came ∙ (map_push (λ i. hold_of (node_at nodes i).key (node_at nodes i).mode)
-    (list_at c.lists (t + t + 1)) x
-    ∙ (ap (λ z. chain_at nodes c.lists (t + t + 1) ++ z ∷ []) hold
-    ∙ ap (λ z. z ++ hold_of key m ∷ []) (sym chain))) in
-    let new : entry_at (queue_at nodes q'.lists) key at ≡ with_holder (claim_of t m) (entry_of key now.entries)
-    = ap (λ z. record { key = key; holders = z; waiters = queue_at nodes q'.lists (at + at + 2) }) holders
-    ∙ (ap (λ z. record { key = key; holders = queue_at nodes q.lists (at + at + 1) ++ claim_of t m ∷ []; waiters = z })
-    waiters
-    ∙ sym (ap (with_holder (claim_of t m)) entry)) in (
-      record {
-        arena = arena_moved nodes keys threads q c q' c' x (at + at + 1) (t + t + 1) a in_q gq.size gc.size gq.count
-            gc.count gq.placed gc.placed gq.labels gc.labels
-            (inr (record {
-              known = omega arith;
-              thread = omega arith;
-              place =
-                  inl (ap (λ z. z + z + 1) (sym own_place), ap (λ z. z + z + 1) (sym node_thread));
-            }));
-        held_is = held-set (chain_at nodes c.lists) (chain_at nodes c'.lists) 0 threads t t (omega arith) (omega arith)
-            (λ j ne. ap (holds_at nodes) (mc.others (j + j + 1) (λ e. absurd (omega arith))
-            (λ e. absurd (omega arith))))
-            ∙ (ap (set (held_from (chain_at nodes c.lists) 0 threads) t) list
-            ∙ ap (λ (z : Contents). set z.held t (get_or now.held t [] ++ hold_of key m ∷ [])) is);
-        entries_are = entries-put (queue_at nodes q.lists) (queue_at nodes q'.lists) 0 key keys at (omega arith)
-            (omega arith)
-            (λ j ne. (
-              ap (claims nodes) (mq.others (j + j + 1) (λ e. absurd (omega arith)) (λ e. absurd (omega arith))),
-              ap (claims nodes) (mq.others (j + j + 2) (λ e. absurd (omega arith)) (λ e. absurd (omega arith))),
-            ))
-            ∙ (ap (λ z. put z (entries_from (queue_at nodes q.lists) 0 keys)) new
-            ∙ ap (λ (z : Contents). put (with_holder (claim_of t m) (entry_of key now.entries)) z.entries) is);
-      },
-      (let fewer : length (without x (list_at q.lists 0)) + 1 ≡ length (list_at q.lists 0) =
+    record {
+      was = f.0;
+      showed = f.1;
+      arena = arena_moved (set nodes x r) keys threads q c q' c' x (at + at + d) (r.thread + r.thread + d) f.0 in_q
+          gq.size gc.size gq.count gc.count gq.placed gc.placed gq.labels gc.labels
+          (inr (record {
+            known = omega arith;
+            thread = omega arith;
+            place = elim which [ inl one ↦ inl (omega arith, omega arith) | inr two ↦ inr (omega arith, omega arith) ];
+          }));
+      node = node;
+      queues = mq;
+      chains = mc;
+      came = claims_came (set nodes x r) q.lists q'.lists x 0 (at + at + d) (claim_of r.thread r.mode) mq
+          (ap (λ (z : Grant). claim_of z.thread z.mode) node);
+      spare =
+          let fewer : length (without x (list_at q.lists 0)) + 1 ≡ length (list_at q.lists 0) =
           length-without x (list_at q.lists 0) (a.in_queues.distinct 0 (omega arith)) mq.there in
-          ap (λ z. length z + 1) mq.left ∙ (fewer ∙ ap (λ (z : Contents). z.spare) is)),
+          ap (λ z. length z + 1) mq.left ∙ (fewer ∙ ap (λ (z : Contents). z.spare) is);
+    }
+
+-- a free node comes to hold a key
+pub holder_added : (nodes : List Grant) (keys : List Key) (threads : ℕ) (q c q' c' : Shape) (now : Contents) (r : Grant)
+    (at x : ℕ)
+    → IsArena nodes keys threads q c → shown nodes keys threads q c ≡ now → r.thread < length now.held
+    → at ≡ number_of r.key now.entries → at < length now.entries
+    → head_or (list_at q.lists 0) None ≡ Some x → Goes q q' x (at + at + 1) → Goes c c' x (r.thread + r.thread + 1)
+    → Shows (set nodes x r) keys threads q' c' (give r.thread r.key r.mode now.held)
+    (put (with_holder (claim_of r.thread r.mode) (entry_of r.key now.entries)) now.entries)
+    × (length (list_at q'.lists 0) + 1 ≡ now.spare)
+holder_added nodes keys threads q c q' c' now r at x a is lt number known first gq gc =
+    let n : List Grant = set nodes x r in
+    let b = added nodes keys threads q c q' c' now r at x 1 (inl refl) a is lt number known first gq gc in
+    let list : chain_at n c'.lists (r.thread + r.thread + 1) ≡ get_or now.held r.thread [] ++ hold_of r.key r.mode ∷ []
+    = holds_came n c.lists c'.lists x 0 (r.thread + r.thread + 1) (hold_of r.key r.mode) b.chains
+    (ap (λ (z : Grant). hold_of z.key z.mode) b.node)
+    ∙ ap (λ z. z ++ hold_of r.key r.mode ∷ []) (sym (chain-seen n keys threads q c now r.thread b.was b.showed lt)) in (
+      record {
+        arena = b.arena;
+        held_is = held_changed n keys threads q c c' now r.thread
+            (get_or now.held r.thread [] ++ hold_of r.key r.mode ∷ []) b.was b.showed lt
+            (λ l free first second. b.chains.others l free first) list;
+        entries_are = entries_changed n keys threads q c q' now r.key at (with_holder (claim_of r.thread r.mode)) b.was
+            b.showed number known (λ l free first second. b.queues.others l free first) (
+              refl,
+              b.came,
+              ap (claims n) (b.queues.others (at + at + 2) (λ e. absurd (omega arith))
+                  (λ e. absurd (omega arith))),
+            );
+      },
+      b.spare,
     )
 
 -- a free node comes to wait for a key
-pub waiter_added : (nodes : List Grant) (keys : List Key) (threads : ℕ) (q c q' c' : Shape) (now : Contents) (t : ℕ)
-    (m : Mode) (key : Key) (at x : ℕ) (rest : List ℕ)
-    → IsArena nodes keys threads q c → shown nodes keys threads q c ≡ now → t < length now.held
-    → at ≡ number_of key now.entries → at < length now.entries
-    → list_at q.lists 0 ≡ x ∷ rest → node_at nodes x ≡ record { thread = t; key = key; mode = m }
-    → Goes q q' x (at + at + 2) → Goes c c' x (t + t + 2)
-    → Shows nodes keys threads q' c' now.held (put (with_waiter (claim_of t m) (entry_of key now.entries)) now.entries)
+pub waiter_added : (nodes : List Grant) (keys : List Key) (threads : ℕ) (q c q' c' : Shape) (now : Contents) (r : Grant)
+    (at x : ℕ)
+    → IsArena nodes keys threads q c → shown nodes keys threads q c ≡ now → r.thread < length now.held
+    → at ≡ number_of r.key now.entries → at < length now.entries
+    → head_or (list_at q.lists 0) None ≡ Some x → Goes q q' x (at + at + 2) → Goes c c' x (r.thread + r.thread + 2)
+    → Shows (set nodes x r) keys threads q' c' now.held
+    (put (with_waiter (claim_of r.thread r.mode) (entry_of r.key now.entries)) now.entries)
     × (length (list_at q'.lists 0) + 1 ≡ now.spare)
-waiter_added nodes keys threads q c q' c' now t m key at x rest a is lt number known first node gq gc =
-    let s = seen nodes keys threads q c now a is in
-    let here = labelled_first q 0 x rest a.in_queues (let n = s.queues in omega arith) first in
-    let label_c : label_at c x ≡ 0 = free_role nodes keys threads q c x a here.0 here.1 in
-    let in_q : x < q.size = here.0 in
-    let both : c.size ≡ q.size = a.chained in
-    let nq = s.queues in
-    let nc = s.chains in
-    let nk = s.keys_are in
-    let nt = s.threads_are in
-    let place : place_in key keys ≡ number_of key now.entries = s.numbers key in
-    let node_key : (node_at nodes x).key ≡ key = ap (λ (z : Grant). z.key) node in
-    let node_thread : (node_at nodes x).thread ≡ t = ap (λ (z : Grant). z.thread) node in
-    let own_place : place_in (node_at nodes x).key keys ≡ at = ap (λ z. place_in z keys) node_key
-    ∙ (place ∙ sym number) in
-    let mq : Moved q.lists q'.lists x 0 (at + at + 2) =
-    moved_lists q q' x 0 (at + at + 2) a.in_queues gq in_q here.1 (omega arith) (λ e. absurd (omega arith)) in
-    let mc : Moved c.lists c'.lists x 0 (t + t + 2) =
-    moved_lists c c' x 0 (t + t + 2) a.in_chains gc (omega arith) label_c (omega arith)
-    (λ e. absurd (omega arith)) in
-    let entry : entry_of key now.entries ≡ entry_at (queue_at nodes q.lists) key at =
-    queues-seen nodes keys threads q c now key at a is number known in
-    let claim : claim_of (node_at nodes x).thread (node_at nodes x).mode ≡ claim_of t m =
-    ap (λ (z : Grant). claim_of z.thread z.mode) node in
-    let waiters : queue_at nodes q'.lists (at + at + 2) ≡ queue_at nodes q.lists (at + at + 2) ++ claim_of t m ∷ []
-    = ap (claims nodes) mq.came ∙ (map_push (λ i. claim_of (node_at nodes i).thread (node_at nodes i).mode)
-    (list_at q.lists (at + at + 2)) x ∙ ap (λ z. queue_at nodes q.lists (at + at + 2) ++ z ∷ []) claim) in
-    let holders : queue_at nodes q'.lists (at + at + 1) ≡ queue_at nodes q.lists (at + at + 1) =
-    ap (claims nodes) (mq.others (at + at + 1) (λ e. absurd (omega arith)) (λ e. absurd (omega arith))) in
-    let new : entry_at (queue_at nodes q'.lists) key at ≡ with_waiter (claim_of t m) (entry_of key now.entries)
-    = ap (λ z. record { key = key; holders = z; waiters = queue_at nodes q'.lists (at + at + 2) }) holders
-    ∙ (ap (λ z. record { key = key; holders = queue_at nodes q.lists (at + at + 1); waiters = z }) waiters
-    ∙ sym (ap (with_waiter (claim_of t m)) entry)) in (
+waiter_added nodes keys threads q c q' c' now r at x a is lt number known first gq gc =
+    let n : List Grant = set nodes x r in
+    let b = added nodes keys threads q c q' c' now r at x 2 (inr refl) a is lt number known first gq gc in (
       record {
-        arena = arena_moved nodes keys threads q c q' c' x (at + at + 2) (t + t + 2) a in_q gq.size gc.size gq.count
-            gc.count gq.placed gc.placed gq.labels gc.labels
-            (inr (record {
-              known = omega arith;
-              thread = omega arith;
-              place =
-                  inr (ap (λ z. z + z + 2) (sym own_place), ap (λ z. z + z + 2) (sym node_thread));
-            }));
-        held_is = held-kept (chain_at nodes c.lists) (chain_at nodes c'.lists) 0 threads
-            (λ j le. ap (holds_at nodes) (mc.others (j + j + 1) (λ e. absurd (omega arith))
+        arena = b.arena;
+        held_is = held-kept (chain_at n c.lists) (chain_at n c'.lists) 0 threads
+            (λ j le. ap (holds_at n) (b.chains.others (j + j + 1) (λ e. absurd (omega arith))
             (λ e. absurd (omega arith))))
-            ∙ ap (λ (z : Contents). z.held) is;
-        entries_are = entries-put (queue_at nodes q.lists) (queue_at nodes q'.lists) 0 key keys at (omega arith)
-            (omega arith)
-            (λ j ne. (
-              ap (claims nodes) (mq.others (j + j + 1) (λ e. absurd (omega arith)) (λ e. absurd (omega arith))),
-              ap (claims nodes) (mq.others (j + j + 2) (λ e. absurd (omega arith)) (λ e. absurd (omega arith))),
-            ))
-            ∙ (ap (λ z. put z (entries_from (queue_at nodes q.lists) 0 keys)) new
-            ∙ ap (λ (z : Contents). put (with_waiter (claim_of t m) (entry_of key now.entries)) z.entries) is);
+            ∙ ap (λ (z : Contents). z.held) b.showed;
+        entries_are = entries_changed n keys threads q c q' now r.key at (with_waiter (claim_of r.thread r.mode)) b.was
+            b.showed number known (λ l free first second. b.queues.others l free second) (
+              refl,
+              ap (claims n) (b.queues.others (at + at + 1) (λ e. absurd (omega arith))
+                  (λ e. absurd (omega arith))),
+              b.came,
+            );
       },
-      (let fewer : length (without x (list_at q.lists 0)) + 1 ≡ length (list_at q.lists 0) =
-          length-without x (list_at q.lists 0) (a.in_queues.distinct 0 (omega arith)) mq.there in
-          ap (λ z. length z + 1) mq.left ∙ (fewer ∙ ap (λ (z : Contents). z.spare) is)),
+      b.spare,
     )
 
 -- who waits first for a key
@@ -319,115 +357,118 @@ pub record Waiter (nodes : List Grant) (c : Shape) (now : Contents) (k : Key) (r
   pub list : r.thread + r.thread + 1 < length c.lists
   pub first : first_of (entry_of k now.entries).waiters ≡ Some (claim_of r.thread r.mode)
 
-pub first_waiting : (nodes : List Grant) (keys : List Key) (threads : ℕ) (q c : Shape) (now : Contents) (key : Key)
-    (at x : ℕ) (rest : List ℕ) (r : Grant)
-    → IsArena nodes keys threads q c → shown nodes keys threads q c ≡ now → at ≡ number_of key now.entries
-    → at < length now.entries
-    → list_at q.lists (at + at + 2) ≡ x ∷ rest → r ≡ node_at nodes x → Waiter nodes c now key r
-first_waiting nodes keys threads q c now key at x rest r a is number known first is_r =
+-- the node of who waits first for the key with this number
+record FirstNode (nodes : List Grant) (keys : List Key) (threads : ℕ) (q c : Shape) (r : Grant) (at x : ℕ) : Type 0
+  where
+    pub rest : List ℕ
+    pub first : list_at q.lists (at + at + 2) ≡ x ∷ rest
+    pub below : x < q.size
+    pub label : label_at q x ≡ at + at + 2
+    pub node : node_at nodes x ≡ r
+    pub role : WaitsFor nodes keys threads c at x
+
+first_node : (nodes : List Grant) (keys : List Key) (threads : ℕ) (q c : Shape) (now : Contents) (at x : ℕ) (r : Grant)
+    → IsArena nodes keys threads q c → shown nodes keys threads q c ≡ now → at < length now.entries
+    → head_or (list_at q.lists (at + at + 2)) None ≡ Some x → (x < length nodes → r ≡ node_at nodes x)
+    → FirstNode nodes keys threads q c r at x
+first_node nodes keys threads q c now at x r a is known first read =
     let s = seen nodes keys threads q c now a is in
     let nq = s.queues in
+    let sizes : length nodes ≡ q.size = a.sizes in
+    let found = uncons (list_at q.lists (at + at + 2)) x first in
+    let here = labelled_first q (at + at + 2) x found.0 a.in_queues (omega arith) found.1 in
+    let below : x < q.size = here.0 in
+    record {
+      rest = found.0;
+      first = found.1;
+      below = below;
+      label = here.1;
+      node = sym (read (omega arith));
+      role = waiter_role nodes keys threads q c at x a below here.1;
+    }
+
+pub first_waiting : (nodes : List Grant) (keys : List Key) (threads : ℕ) (q c : Shape) (now : Contents) (key : Key)
+    (at x : ℕ) (r : Grant)
+    → IsArena nodes keys threads q c → shown nodes keys threads q c ≡ now → at ≡ number_of key now.entries
+    → at < length now.entries
+    → head_or (list_at q.lists (at + at + 2)) None ≡ Some x → (x < length nodes → r ≡ node_at nodes x)
+    → Waiter nodes c now key r
+first_waiting nodes keys threads q c now key at x r a is number known first read =
+    let s = seen nodes keys threads q c now a is in
     let nc = s.chains in
     let nk = s.keys_are in
     let nt = s.threads_are in
-    let here = labelled_first q (at + at + 2) x rest a.in_queues (omega arith) first in
-    let role : WaitsFor nodes keys threads c at x = waiter_role nodes keys threads q c at x a here.0 here.1 in
+    let f = first_node nodes keys threads q c now at x r a is known first read in
+    let role = f.role in
     let place : place_in key keys ≡ number_of key now.entries = s.numbers key in
     let own_place : place_in (node_at nodes x).key keys ≡ at = role.key in
     let node_key : (node_at nodes x).key ≡ key = one_place (node_at nodes x).key key keys (omega arith) (omega arith) in
-    let below : r.thread < threads = subst (λ (z : Grant). z.thread < threads) (sym is_r) role.thread in
+    let below : r.thread < threads = subst (λ (z : Grant). z.thread < threads) f.node role.thread in
     record {
-      key = ap (λ (z : Grant). z.key) is_r ∙ node_key;
+      key = ap (λ (z : Grant). z.key) (sym f.node) ∙ node_key;
       thread = omega arith;
       list = omega arith;
       first = ap (λ (e : Entry). first_of e.waiters) (queues-seen nodes keys threads q c now key at a is number known)
-          ∙ (ap (λ z. first_of (claims nodes z)) first
-          ∙ ap (λ (z : Grant). Some (claim_of z.thread z.mode)) (sym is_r));
+          ∙ (ap (λ z. first_of (claims nodes z)) f.first
+          ∙ ap (λ (z : Grant). Some (claim_of z.thread z.mode)) f.node);
     }
 
 -- the first waiter comes to hold its key
 pub first_granted : (nodes : List Grant) (keys : List Key) (threads : ℕ) (q c q' c' : Shape) (now : Contents)
-    (key : Key) (at x : ℕ) (rest : List ℕ) (r : Grant)
+    (key : Key) (at x : ℕ) (r : Grant)
     → IsArena nodes keys threads q c → shown nodes keys threads q c ≡ now → at ≡ number_of key now.entries
     → at < length now.entries
-    → list_at q.lists (at + at + 2) ≡ x ∷ rest → r ≡ node_at nodes x → Goes q q' x (at + at + 1)
-    → Goes c c' x (r.thread + r.thread + 1)
+    → head_or (list_at q.lists (at + at + 2)) None ≡ Some x → (x < length nodes → r ≡ node_at nodes x)
+    → Goes q q' x (at + at + 1) → Goes c c' x (r.thread + r.thread + 1)
     → Shows nodes keys threads q' c' (give r.thread key r.mode now.held)
     (put (with_grant (claim_of r.thread r.mode) (entry_of key now.entries)) now.entries)
     × (length (list_at q'.lists 0) ≡ now.spare)
-first_granted nodes keys threads q c q' c' now key at x rest r a is number known first is_r gq gc =
+first_granted nodes keys threads q c q' c' now key at x r a is number known first read gq gc =
     let s = seen nodes keys threads q c now a is in
     let nq = s.queues in
     let nc = s.chains in
     let nk = s.keys_are in
     let nt = s.threads_are in
-    let here = labelled_first q (at + at + 2) x rest a.in_queues (omega arith) first in
-    let in_q : x < q.size = here.0 in
+    let f = first_node nodes keys threads q c now at x r a is known first read in
+    let w = first_waiting nodes keys threads q c now key at x r a is number known first read in
+    let role = f.role in
+    let in_q : x < q.size = f.below in
     let both : c.size ≡ q.size = a.chained in
-    let role : WaitsFor nodes keys threads c at x = waiter_role nodes keys threads q c at x a in_q here.1 in
-    let place : place_in key keys ≡ number_of key now.entries = s.numbers key in
     let t : ℕ = r.thread in
-    let node_thread : (node_at nodes x).thread ≡ t = ap (λ (z : Grant). z.thread) (sym is_r) in
-    let in_threads : (node_at nodes x).thread < threads = role.thread in
+    let lt : t < length now.held = w.thread in
+    let node_thread : (node_at nodes x).thread ≡ t = ap (λ (z : Grant). z.thread) f.node in
     let own_place : place_in (node_at nodes x).key keys ≡ at = role.key in
-    let node_key : (node_at nodes x).key ≡ key = one_place (node_at nodes x).key key keys (omega arith) (omega arith) in
     let label_c : label_at c x ≡ t + t + 2 = role.label ∙ ap (λ z. z + z + 2) node_thread in
     let mq : Moved q.lists q'.lists x (at + at + 2) (at + at + 1) =
-    moved_lists q q' x (at + at + 2) (at + at + 1) a.in_queues gq in_q here.1 (omega arith)
+    moved_lists q q' x (at + at + 2) (at + at + 1) a.in_queues gq in_q f.label (omega arith)
     (λ e. absurd (omega arith)) in
     let mc : Moved c.lists c'.lists x (t + t + 2) (t + t + 1) =
     moved_lists c c' x (t + t + 2) (t + t + 1) a.in_chains gc (omega arith) label_c (omega arith)
     (λ e. absurd (omega arith)) in
-    let entry : entry_of key now.entries ≡ entry_at (queue_at nodes q.lists) key at =
-    queues-seen nodes keys threads q c now key at a is number known in
-    let chain : get_or now.held t [] ≡ chain_at nodes c.lists (t + t + 1) =
-    chain-seen nodes keys threads q c now t a is (omega arith) in
-    let claim : claim_of (node_at nodes x).thread (node_at nodes x).mode ≡ claim_of t r.mode =
-    ap (λ (z : Grant). claim_of z.thread z.mode) (sym is_r) in
-    let hold : hold_of (node_at nodes x).key (node_at nodes x).mode ≡ hold_of key r.mode =
-    ap (λ z. hold_of z (node_at nodes x).mode) node_key ∙ ap (λ (z : Grant). hold_of key z.mode) (sym is_r) in
-    let holders : queue_at nodes q'.lists (at + at + 1) ≡ queue_at nodes q.lists (at + at + 1) ++ claim_of t r.mode ∷ []
-    = ap (claims nodes) mq.came ∙ (map_push (λ i. claim_of (node_at nodes i).thread (node_at nodes i).mode)
-    (list_at q.lists (at + at + 1)) x ∙ ap (λ z. queue_at nodes q.lists (at + at + 1) ++ z ∷ []) claim) in
     let waiters : queue_at nodes q'.lists (at + at + 2) ≡ drop 1 (queue_at nodes q.lists (at + at + 2))
-    = ap (claims nodes) (mq.left ∙ without_first x (list_at q.lists (at + at + 2)) rest first
-    (a.in_queues.distinct (at + at + 2) (omega arith))) ∙ sym (ap (λ z. drop 1 (claims nodes z)) first) in
+    = ap (claims nodes) (mq.left ∙ without_first x (list_at q.lists (at + at + 2)) f.rest f.first
+    (a.in_queues.distinct (at + at + 2) (omega arith))) ∙ sym (ap (λ z. drop 1 (claims nodes z)) f.first) in
     let list : chain_at nodes c'.lists (t + t + 1) ≡ get_or now.held t [] ++ hold_of key r.mode ∷ []
-    = ap (holds_at nodes) mc.came ∙ (map_push (λ i. hold_of (node_at nodes i).key (node_at nodes i).mode)
-    (list_at c.lists (t + t + 1)) x
-    ∙ (ap (λ z. chain_at nodes c.lists (t + t + 1) ++ z ∷ []) hold
-    ∙ ap (λ z. z ++ hold_of key r.mode ∷ []) (sym chain))) in
-    let new : entry_at (queue_at nodes q'.lists) key at ≡ with_grant (claim_of t r.mode) (entry_of key now.entries)
-    = ap (λ z. record { key = key; holders = z; waiters = queue_at nodes q'.lists (at + at + 2) }) holders
-    ∙ (ap (λ z. record {
-      key = key;
-      holders = queue_at nodes q.lists (at + at + 1) ++ claim_of t r.mode ∷ [];
-      waiters =
-          z;
-    }) waiters
-    ∙ sym (ap (with_grant (claim_of t r.mode)) entry)) in (
+    = holds_came nodes c.lists c'.lists x (t + t + 2) (t + t + 1) (hold_of key r.mode) mc
+    (ap (λ (z : Grant). hold_of z.key z.mode) f.node ∙ ap (λ z. hold_of z r.mode) w.key)
+    ∙ ap (λ z. z ++ hold_of key r.mode ∷ []) (sym (chain-seen nodes keys threads q c now t a is lt)) in (
       record {
         arena = arena_moved nodes keys threads q c q' c' x (at + at + 1) (t + t + 1) a in_q gq.size gc.size gq.count
             gc.count gq.placed gc.placed gq.labels gc.labels
             (inr (record {
               known = omega arith;
-              thread = omega arith;
-              place =
-                  inl (ap (λ z. z + z + 1) (sym own_place), ap (λ z. z + z + 1) (sym node_thread));
+              thread = role.thread;
+              place = inl (omega arith, omega arith);
             }));
-        held_is = held-set (chain_at nodes c.lists) (chain_at nodes c'.lists) 0 threads t t (omega arith) (omega arith)
-            (λ j ne. ap (holds_at nodes) (mc.others (j + j + 1) (λ e. absurd (omega arith))
-            (λ e. absurd (omega arith))))
-            ∙ (ap (set (held_from (chain_at nodes c.lists) 0 threads) t) list
-            ∙ ap (λ (z : Contents). set z.held t (get_or now.held t [] ++ hold_of key r.mode ∷ [])) is);
-        entries_are = entries-put (queue_at nodes q.lists) (queue_at nodes q'.lists) 0 key keys at (omega arith)
-            (omega arith)
-            (λ j ne. (
-              ap (claims nodes) (mq.others (j + j + 1) (λ e. absurd (omega arith)) (λ e. absurd (omega arith))),
-              ap (claims nodes) (mq.others (j + j + 2) (λ e. absurd (omega arith)) (λ e. absurd (omega arith))),
-            ))
-            ∙ (ap (λ z. put z (entries_from (queue_at nodes q.lists) 0 keys)) new
-            ∙ ap (λ (z : Contents). put (with_grant (claim_of t r.mode) (entry_of key now.entries)) z.entries) is);
+        held_is = held_changed nodes keys threads q c c' now t (get_or now.held t [] ++ hold_of key r.mode ∷ []) a is
+            lt (λ l free holds waits. mc.others l waits holds) list;
+        entries_are = entries_changed nodes keys threads q c q' now key at (with_grant (claim_of t r.mode)) a is number
+            known (λ l free holds waits. mq.others l waits holds) (
+              refl,
+              claims_came nodes q.lists q'.lists x (at + at + 2) (at + at + 1) (claim_of t r.mode) mq
+                  (ap (λ (z : Grant). claim_of z.thread z.mode) f.node),
+              waiters,
+            );
       },
       (ap length (mq.others 0 (λ e. absurd (omega arith)) (λ e. absurd (omega arith)))
           ∙ ap (λ (z : Contents). z.spare) is),
@@ -521,9 +562,8 @@ first_released nodes keys threads q c q' c' now t key at x rest a is lt number k
     let both : c.size ≡ q.size = a.chained in
     let in_q : x < q.size = omega arith in
     let role : HoldsBy nodes keys q t x = holding_role nodes keys threads q c t x a in_q here.1 in
-    let place : place_in key keys ≡ number_of key now.entries = s.numbers key in
     let own_place : place_in (node_at nodes x).key keys ≡ at = ap (λ z. place_in z keys) node_key
-    ∙ (place ∙ sym number) in
+    ∙ (s.numbers key ∙ sym number) in
     let label_q : label_at q x ≡ at + at + 1 = role.label ∙ ap (λ z. z + z + 1) own_place in
     let mq : Moved q.lists q'.lists x (at + at + 1) 0 =
     moved_lists q q' x (at + at + 1) 0 a.in_queues gq in_q label_q (omega arith) (λ e. absurd (omega arith)) in
@@ -531,39 +571,28 @@ first_released nodes keys threads q c q' c' now t key at x rest a is lt number k
     moved_lists c c' x (t + t + 1) 0 a.in_chains gc in_c here.1 (omega arith) (λ e. absurd (omega arith)) in
     let entry : entry_of key now.entries ≡ entry_at (queue_at nodes q.lists) key at =
     queues-seen nodes keys threads q c now key at a is number known in
-    let chain : get_or now.held t [] ≡ chain_at nodes c.lists (t + t + 1) =
-    chain-seen nodes keys threads q c now t a is lt in
     let apart' : AreApart (queue_at nodes q.lists (at + at + 1)) =
     subst (λ (e : Entry). AreApart e.holders) entry apart in
     let holders : queue_at nodes q'.lists (at + at + 1) ≡ stay t (queue_at nodes q.lists (at + at + 1))
     = ap (claims nodes) mq.left ∙ (claims-without nodes x (list_at q.lists (at + at + 1)) mq.there apart'
     ∙ ap (λ z. stay z (queue_at nodes q.lists (at + at + 1))) role.thread) in
-    let waiters : queue_at nodes q'.lists (at + at + 2) ≡ queue_at nodes q.lists (at + at + 2) =
-    ap (claims nodes) (mq.others (at + at + 2) (λ e. absurd (omega arith)) (λ e. absurd (omega arith))) in
     let list : chain_at nodes c'.lists (t + t + 1) ≡ drop 1 (get_or now.held t [])
     = ap (holds_at nodes) (mc.left
     ∙ without_first x (list_at c.lists (t + t + 1)) rest first (a.in_chains.distinct (t + t + 1) (omega arith)))
-    ∙ sym (ap (drop 1) chain ∙ ap (λ z. drop 1 (holds_at nodes z)) first) in
-    let new : entry_at (queue_at nodes q'.lists) key at ≡ without_holder t (entry_of key now.entries)
-    = ap (λ z. record { key = key; holders = z; waiters = queue_at nodes q'.lists (at + at + 2) }) holders
-    ∙ (ap (λ z. record { key = key; holders = stay t (queue_at nodes q.lists (at + at + 1)); waiters = z }) waiters
-    ∙ sym (ap (without_holder t) entry)) in (
+    ∙ sym (ap (drop 1) (chain-seen nodes keys threads q c now t a is lt)
+    ∙ ap (λ z. drop 1 (holds_at nodes z)) first) in (
       record {
         arena = arena_moved nodes keys threads q c q' c' x 0 0 a in_q gq.size gc.size gq.count gc.count gq.placed
             gc.placed gq.labels gc.labels (inl (refl, refl));
-        held_is = held-set (chain_at nodes c.lists) (chain_at nodes c'.lists) 0 threads t t (omega arith) (omega arith)
-            (λ j ne. ap (holds_at nodes) (mc.others (j + j + 1) (λ e. absurd (omega arith))
-            (λ e. absurd (omega arith))))
-            ∙ (ap (set (held_from (chain_at nodes c.lists) 0 threads) t) list
-            ∙ ap (λ (z : Contents). set z.held t (drop 1 (get_or now.held t []))) is);
-        entries_are = entries-put (queue_at nodes q.lists) (queue_at nodes q'.lists) 0 key keys at (omega arith)
-            (omega arith)
-            (λ j ne. (
-              ap (claims nodes) (mq.others (j + j + 1) (λ e. absurd (omega arith)) (λ e. absurd (omega arith))),
-              ap (claims nodes) (mq.others (j + j + 2) (λ e. absurd (omega arith)) (λ e. absurd (omega arith))),
-            ))
-            ∙ (ap (λ z. put z (entries_from (queue_at nodes q.lists) 0 keys)) new
-            ∙ ap (λ (z : Contents). put (without_holder t (entry_of key now.entries)) z.entries) is);
+        held_is = held_changed nodes keys threads q c c' now t (drop 1 (get_or now.held t [])) a is lt
+            (λ l free holds waits. mc.others l holds free) list;
+        entries_are = entries_changed nodes keys threads q c q' now key at (without_holder t) a is number known
+            (λ l free holds waits. mq.others l holds free) (
+              refl,
+              holders,
+              ap (claims nodes) (mq.others (at + at + 2) (λ e. absurd (omega arith))
+                  (λ e. absurd (omega arith))),
+            );
       },
       (ap length mq.came ∙ (length-append (list_at q.lists 0) (x ∷ []) ∙ ap (λ (z : Contents). z.spare + 1) is)),
     )

@@ -172,6 +172,7 @@ impl Arena {
     }
 
     /// The first that waits for a key.
+    #[tactic(auto, using(crate::proofs::Shown::key_lists))]
     pub fn first_waiter(&self, key: Key, at: usize) -> Option<Claim>
         requires number { at ≡ number_of key self.now.entries }
         requires known { at < length self.now.entries }
@@ -200,6 +201,7 @@ impl Arena {
     }
 
     /// Whether each other holder of a key lets a thread join in a mode.
+    #[tactic(auto, using(crate::proofs::Shown::key_lists))]
     pub fn lets_in(&self, thread: u16, mode: Mode, key: Key, at: usize) -> bool
         requires number { at ≡ number_of key self.now.entries }
         requires known { at < length self.now.entries }
@@ -209,6 +211,7 @@ impl Arena {
     }
 
     /// The mode in which a thread is among the holders of a key.
+    #[tactic(auto, using(crate::proofs::Shown::key_lists))]
     pub fn mode_of(&self, thread: u16, key: Key, at: usize) -> Option<Mode>
         requires number { at ≡ number_of key self.now.entries }
         requires known { at < length self.now.entries }
@@ -218,6 +221,7 @@ impl Arena {
     }
 
     /// A free node goes to the end of a key's holders and of a thread's list.
+    #[tactic(auto, using(crate::proofs::Shown::key_lists, crate::proofs::Shown::seen))]
     pub fn add_holder(&mut self, thread: u16, mode: Mode, key: Key, at: usize)
         requires thread { thread < length self.old.held }
         requires number { at ≡ number_of key self.old.entries }
@@ -236,6 +240,7 @@ impl Arena {
     }
 
     /// A free node goes to the end of a key's waiters.
+    #[tactic(auto, using(crate::proofs::Shown::key_lists, crate::proofs::Shown::seen))]
     pub fn add_waiter(&mut self, thread: u16, mode: Mode, key: Key, at: usize)
         requires thread { thread < length self.old.held }
         requires number { at ≡ number_of key self.old.entries }
@@ -254,6 +259,7 @@ impl Arena {
     }
 
     /// The first waiter of a key goes to the end of its holders and of its thread's list.
+    #[tactic(auto, using(crate::proofs::Shown::key_lists))]
     pub fn grant_first(&mut self, key: Key, at: usize) -> Grant
         requires number { at ≡ number_of key self.old.entries }
         requires known { at < length self.old.entries }
@@ -274,6 +280,7 @@ impl Arena {
     }
 
     /// The node of the first key in a thread's list leaves the list and the key's holders, and is free.
+    #[tactic(auto, using(crate::proofs::Shown::seen))]
     pub fn release_first(&mut self, thread: u16, key: Key, at: usize)
         requires thread { thread < length self.old.held }
         requires number { at ≡ number_of key self.old.entries }

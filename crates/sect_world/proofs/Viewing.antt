@@ -1,6 +1,6 @@
 -- How the view of a world changes with its parts.
-use Rattle.std.proofs.Common.{get_or, ◌≡◌, ℕ, zero, suc, ◌+◌, ◌<◌, List, [], ◌∷◌, ◌++◌, length, drop, Some, refl, sym}
-use Rattle.std.proofs.Common.{◌∙◌, ap, subst, arith}
+use Rattle.std.proofs.Common.{get_or, ◌≡◌, ℕ, zero, suc, ◌+◌, ◌<◌, List, [], ◌∷◌, ◌++◌, length, drop, Some, refl}
+use Rattle.std.proofs.Common.{sym, ◌∙◌, ap, subst, arith}
 use Rattle.std.specs.Prelude.{ℤ, slice_get, slice_set}
 use Rattle.std.proofs.lemmas.List.{map-append}
 use Rattle.std.proofs.lemmas.Option.{get_or_from_slice_get, slice_get_within}
@@ -23,7 +23,7 @@ use Rattle.sect_world.specs.Worlds.{WorldView, IsTurned}
 use Rattle.sect_world.specs.steps.Fits.{grips, Fits, takes_first, granted, all_granted, given_to}
 use Rattle.sect_world.specs.steps.Taking.{advanced, advanced_at, all_advanced}
 use Rattle.std.proofs.lemmas.Option.{slice_get_read}
-use Rattle.sect_world.specs.steps.Viewing.{position_of, thread_of, threads_of, state_of, shown, IsWorld}
+use Rattle.sect_world.specs.steps.Viewing.{position_of, thread_of, threads_of, state_of, shown, IsWorld, HasRoom}
 
 -- numbers don't compute under a sum
 plus_one : (n : ℕ) → suc n + 1 ≡ suc (n + 1)
@@ -249,3 +249,9 @@ pub record TurnsInto (old : WorldView) (t : ℕ) (what : Turned) (c : CompiledVi
     Type 0 where
   pub world : IsWorld c fuel trace order store output rs table
   pub turned : IsTurned t what old (shown c fuel trace order store output rs table.held granted)
+
+-- room for as many threads as before
+pub still_room : (n n' threads grants grants' granted granted' ends : ℕ) → n ≡ threads → n' ≡ threads
+    → grants' ≡ grants → granted' ≡ granted → HasRoom n grants granted ends → HasRoom n' grants' granted' ends
+still_room n n' threads grants grants' granted granted' ends old new same_grants same_granted room =
+    (omega (arith, room.0), omega (arith, room.1), omega (arith, room.2))

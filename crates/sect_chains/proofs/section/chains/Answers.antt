@@ -1,75 +1,49 @@
 use Rattle.std.proofs.Common.{◌≡◌, Some, sym, ◌∙◌, subst}
 use Rattle.std.specs.Prelude.{slice_get}
-use Rattle.sect_types.specs.Programs.{ProgramView}
-use Rattle.sect_types.specs.Sections.{SectionView, sections_of}
-use Rattle.sect_graph.specs.Graphs.{GraphView}
+use Rattle.sect_types.specs.Sections.{sections_of}
+use Rattle.sect_types.specs.steps.Found.{section_shown}
 use Rattle.sect_names.specs.Needed.{end_of}
-use Rattle.sect_names.proofs.Ending.{end_is}
+use Rattle.sect_names.proofs.Ending.{section_read, end_is}
 use Rattle.sect_chains.specs.steps.Trails.{AreLawful, AreTops}
+use Rattle.sect_chains.proofs.section.chains.Goals.{After-entry}
 use Rattle.sect_chains.proofs.section.chains.Goals as goal
+
+-- the section and its graph are those of this number
+section_at : (c : After-entry) → (slice_get (sections_of c.args.scheme.now.program.texts) c.args.section
+    ≡ Some (section_shown c.section-thread.result))
+    × (slice_get c.args.scheme.now.graphs.sections c.args.section ≡ Some c.section-flow.result.now)
+section_at c = section_read c.args.scheme.now c.args.section _ _ _ _ c.program-2.ensures
+    c.section-thread.ensures.section c.graph.ensures c.section-flow.ensures
+
+-- the last locks are what the section's end generates
+last_is : (c : After-entry) → end_of c.args.scheme.now c.args.section ≡ c.as_slice.result.now
+last_is c = end_is c.args.scheme.now c.args.section _ c.locking.result c.program-3.ensures c.locking.ensures
+    ∙ sym (c.as_slice.ensures.value ∙ c.in_ok-last.ensures)
 
 pub found-requires-clause-within : goal.found-requires-clause-within
 found-requires-clause-within c =
-    let here : SectionView = record {
-      thread = c.section-thread.result.thread;
-      body =
-          c.section-thread.result.body.now;
-    } in
-    let section_at = subst (λ (p : ProgramView). slice_get (sections_of p.texts) c.args.section ≡ Some here)
-    c.program-2.ensures c.section-thread.ensures.section in
-    let graph_at = subst (λ (q : GraphView). slice_get q.sections c.args.section ≡ Some c.section-flow.result.now)
-    c.graph.ensures c.section-flow.ensures in
-    c.only_the_programs.ensures.within here c.section-flow.result.now section_at graph_at
+    let at = section_at (goal.at.found-requires-clause-within c).After-entry in
+    c.only_the_programs.ensures.within _ _ at.0 at.1
 
 pub found-requires-clause-respects : goal.found-requires-clause-respects
 found-requires-clause-respects c =
-    let here : SectionView = record {
-      thread = c.section-thread.result.thread;
-      body =
-          c.section-thread.result.body.now;
-    } in
-    let section_at = subst (λ (p : ProgramView). slice_get (sections_of p.texts) c.args.section ≡ Some here)
-    c.program-2.ensures c.section-thread.ensures.section in
-    let graph_at = subst (λ (q : GraphView). slice_get q.sections c.args.section ≡ Some c.section-flow.result.now)
-    c.graph.ensures c.section-flow.ensures in
-    c.only_the_programs.ensures.respects here c.section-flow.result.now section_at graph_at
+    let at = section_at (goal.at.found-requires-clause-respects c).After-entry in
+    c.only_the_programs.ensures.respects _ _ at.0 at.1
 
 pub found-requires-clause-lawful : goal.found-requires-clause-lawful
 found-requires-clause-lawful c =
-    let s = c.args.scheme.now in
-    let here : SectionView = record {
-      thread = c.section-thread.result.thread;
-      body =
-          c.section-thread.result.body.now;
-    } in
-    let section_at = subst (λ (p : ProgramView). slice_get (sections_of p.texts) c.args.section ≡ Some here)
-    c.program-2.ensures c.section-thread.ensures.section in
-    let graph_at = subst (λ (q : GraphView). slice_get q.sections c.args.section ≡ Some c.section-flow.result.now)
-    c.graph.ensures c.section-flow.ensures in
-    let takes = subst (λ (p : ProgramView). slice_get p.lockings c.args.section ≡ Some c.locking.result)
-    c.program-3.ensures c.locking.ensures in
-    let last : end_of s c.args.section ≡ c.as_slice.result.now = end_is s c.args.section c.locking.result takes
-    ∙ sym (c.as_slice.ensures.value ∙ c.in_ok-last.ensures) in
-    subst (λ ls. AreLawful s here.thread ls c.section-flow.result.now) last
-    (c.only_the_programs.ensures.lawful here c.section-flow.result.now section_at graph_at)
+    let entry = (goal.at.found-requires-clause-lawful c).After-entry in
+    let at = section_at entry in
+    subst (λ ls. AreLawful c.args.scheme.now c.section-thread.result.thread ls c.section-flow.result.now)
+    (last_is entry) (c.only_the_programs.ensures.lawful _ _ at.0 at.1)
 
 pub found-requires-clause-tops : goal.found-requires-clause-tops
 found-requires-clause-tops c =
+    let entry = (goal.at.found-requires-clause-tops c).After-entry in
+    let at = section_at entry in
     let s = c.args.scheme.now in
+    let t = c.section-thread.result.thread in
     let g = c.section-flow.result.now in
-    let here : SectionView = record {
-      thread = c.section-thread.result.thread;
-      body =
-          c.section-thread.result.body.now;
-    } in
-    let section_at = subst (λ (p : ProgramView). slice_get (sections_of p.texts) c.args.section ≡ Some here)
-    c.program-2.ensures c.section-thread.ensures.section in
-    let graph_at = subst (λ (q : GraphView). slice_get q.sections c.args.section ≡ Some g) c.graph.ensures
-    c.section-flow.ensures in
-    let takes = subst (λ (p : ProgramView). slice_get p.lockings c.args.section ≡ Some c.locking.result)
-    c.program-3.ensures c.locking.ensures in
-    let last : end_of s c.args.section ≡ c.as_slice.result.now = end_is s c.args.section c.locking.result takes
-    ∙ sym (c.as_slice.ensures.value ∙ c.in_ok-last.ensures) in
-    subst (AreTops s here.thread c.as_slice.result.now g) (sym c.entry.ensures)
-    (subst (λ ls. AreTops s here.thread ls g c.args.locks.now.entry) last
-    (c.needed_locks_have_trails.ensures here g section_at graph_at))
+    subst (AreTops s t c.as_slice.result.now g) (sym c.entry.ensures)
+    (subst (λ ls. AreTops s t ls g c.args.locks.now.entry) (last_is entry)
+    (c.needed_locks_have_trails.ensures _ _ at.0 at.1))

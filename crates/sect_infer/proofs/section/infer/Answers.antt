@@ -1,18 +1,22 @@
-use Rattle.std.proofs.Common.{◌≡◌, ◌+◌, [], ◌∷◌, ℕ, List, length, sym, subst}
-use Rattle.std.specs.Prelude.{slice_get, Some}
+use Rattle.std.proofs.Common.{◌≡◌, ◌+◌, [], ◌∷◌, ℕ, List, Result, length, sym}
+use Rattle.std.specs.Prelude.{slice_get, Some, IfOk}
 use Rattle.std.proofs.lemmas.Result.{IfOk-weaker}
+use Rattle.sect_front.specs.declared.tree.Locking.{Locking}
 use Rattle.sect_types.specs.Lists.{Has}
-use Rattle.sect_types.specs.Programs.{ProgramView}
 use Rattle.sect_types.specs.Sections.{SectionView, sections_of}
-use Rattle.sect_graph.specs.Graphs.{GraphView}
+use Rattle.sect_types.specs.steps.Found.{section_shown}
+use Rattle.sect_graph.specs.declared.flow.Node.{Node}
+use Rattle.sect_graph.specs.Graphs.{IsGraphOf}
 use Rattle.sect_names.specs.declared.lock.Lock.{Lock}
 use Rattle.sect_names.specs.declared.lock.Lock.TheVariants as lock
 use Rattle.sect_names.specs.Schemes.{SchemeView}
 use Rattle.sect_names.specs.Locks.{IsLockOf}
+use Rattle.sect_names.specs.Needed.{end_locks, end_of}
 use Rattle.sect_infer.specs.Sets.{LocksView, AreLocksOf}
 use Rattle.sect_infer.specs.steps.Found.{IsFound, IsOnAll}
-use Rattle.sect_names.proofs.Ending.{end_is}
+use Rattle.sect_names.proofs.Ending.{section_read, end_is}
 use Rattle.sect_infer.proofs.Finding.{inferred_of, on_all_of, found_lawful, all_lawful}
+use Rattle.sect_infer.proofs.section.infer.Goals.{After-locking}
 use Rattle.sect_infer.proofs.section.infer.Goals as goal
 
 -- all the locks of a section may be taken by the thread
@@ -20,81 +24,69 @@ abbrev AreLawfulAt : SchemeView → ℕ → LocksView → Type 0
 AreLawfulAt s t sets = (j : ℕ) (locks : List Lock) → slice_get sets.at j ≡ Some locks → (l : Lock) → Has locks l
     → IsLockOf s t l
 
+-- the section and its graph are those of this number
+section_at : (c : After-locking) → (slice_get (sections_of c.args.scheme.now.program.texts) c.args.section
+    ≡ Some (section_shown c.section-thread.result))
+    × (slice_get c.args.scheme.now.graphs.sections c.args.section ≡ Some c.section-flow.result.now)
+section_at c = section_read c.args.scheme.now c.args.section _ _ _ _ c.program-2.ensures
+    c.section-thread.ensures.section c.graph.ensures c.section-flow.ensures
+
+graph_is : (c : After-locking) → IsGraphOf c.section-thread.result.body.now c.section-flow.result.now
+graph_is c = let at = section_at c in
+    c.rules.ensures.graphed.sections c.args.section (section_shown c.section-thread.result) c.section-flow.result.now
+    at.0 at.1
+
+-- the locks of the section that was read are those of the section of this number
+of_number : {E : Type 0} (c : After-locking) (r : Result LocksView E) (l : Locking) (of : SectionView) (g : List Node)
+    → slice_get (sections_of c.args.scheme.now.program.texts) c.args.section ≡ Some of
+    → slice_get c.args.scheme.now.graphs.sections c.args.section ≡ Some g → c.locking.result ≡ l
+    → IfOk r (AreLocksOf c.args.scheme.now (end_locks l) (section_shown c.section-thread.result)
+    c.section-flow.result.now)
+    → IfOk r (AreLocksOf c.args.scheme.now (end_of c.args.scheme.now c.args.section) of g)
+of_number c r l of g section_is flow_is takes locks =
+    let at = section_at c in
+    let same_section : section_shown c.section-thread.result ≡ of = cc in
+    let same_graph : c.section-flow.result.now ≡ g = cc in
+    rw (
+      sym same_section,
+      sym same_graph,
+      end_is c.args.scheme.now c.args.section _ c.locking.result c.program-3.ensures c.locking.ensures,
+      takes,
+    ) locks
+
 pub found-requires : goal.found-requires
-found-requires c =
-    let of : SectionView = record {
-      thread = c.section-thread.result.thread;
-      body =
-          c.section-thread.result.body.now;
-    } in
-    let section_at = subst (λ (p : ProgramView). slice_get (sections_of p.texts) c.args.section ≡ Some of)
-    c.program-2.ensures c.section-thread.ensures.section in
-    let graph_at = subst (λ (q : GraphView). slice_get q.sections c.args.section ≡ Some c.section-flow.result.now)
-    c.graph.ensures c.section-flow.ensures in
-    c.only_the_programs.ensures of c.section-flow.result.now section_at graph_at
+found-requires c = let at = section_at (goal.at.found-requires c).After-locking in
+    c.only_the_programs.ensures (section_shown c.section-thread.result) c.section-flow.result.now at.0 at.1
 
 pub returns-in-Inferred-clause-locks : goal.returns-in-Inferred-clause-locks
-returns-in-Inferred-clause-locks c = λ of g section_at graph_at.
+returns-in-Inferred-clause-locks c = λ of g section_is flow_is.
     let s = c.args.scheme.now in
-    let i = c.args.section in
-    let here : SectionView = record {
-      thread = c.section-thread.result.thread;
-      body =
-          c.section-thread.result.body.now;
-    } in
+    let here = section_shown c.section-thread.result in
     let flow = c.section-flow.result.now in
-    let is_here = subst (λ (p : ProgramView). slice_get (sections_of p.texts) i ≡ Some here) c.program-2.ensures
-    c.section-thread.ensures.section in
-    let is_flow = subst (λ (q : GraphView). slice_get q.sections i ≡ Some flow) c.graph.ensures
-    c.section-flow.ensures in
-    let takes = subst (λ (p : ProgramView). slice_get p.lockings i ≡ Some c.locking.result) c.program-3.ensures
-    c.locking.ensures in
-    let same_section : here ≡ of = cc in
-    let same_graph : flow ≡ g = cc in
-    let graph = c.rules.ensures.graphed.sections i here flow is_here is_flow in
-    rw (sym same_section, sym same_graph, end_is s i c.locking.result takes, c.in-Inferred.is)
+    let read = (goal.at.returns-in-Inferred-clause-locks c).After-locking in
+    of_number read c.found.result _ of g section_is flow_is c.in-Inferred.is
     (IfOk-weaker c.found.result (IsFound s here.thread flow) (AreLocksOf s [] here flow)
-    (inferred_of s here.thread flow here.body graph) c.found.ensures)
+    (inferred_of s here.thread flow here.body (graph_is read)) c.found.ensures)
 
 pub returns-in-All-clause-locks : goal.returns-in-All-clause-locks
-returns-in-All-clause-locks c = λ of g section_at graph_at.
+returns-in-All-clause-locks c = λ of g section_is flow_is.
     let s = c.args.scheme.now in
-    let i = c.args.section in
-    let here : SectionView = record {
-      thread = c.section-thread.result.thread;
-      body =
-          c.section-thread.result.body.now;
-    } in
+    let here = section_shown c.section-thread.result in
     let flow = c.section-flow.result.now in
-    let is_here = subst (λ (p : ProgramView). slice_get (sections_of p.texts) i ≡ Some here) c.program-2.ensures
-    c.section-thread.ensures.section in
-    let is_flow = subst (λ (q : GraphView). slice_get q.sections i ≡ Some flow) c.graph.ensures
-    c.section-flow.ensures in
-    let takes = subst (λ (p : ProgramView). slice_get p.lockings i ≡ Some c.locking.result) c.program-3.ensures
-    c.locking.ensures in
-    let same_section : here ≡ of = cc in
-    let same_graph : flow ≡ g = cc in
-    let graph = c.rules.ensures.graphed.sections i here flow is_here is_flow in
-    rw (sym same_section, sym same_graph, end_is s i c.locking.result takes, c.in-All.is)
+    let read = (goal.at.returns-in-All-clause-locks c).After-locking in
+    of_number read c.on_all_of.result _ of g section_is flow_is c.in-All.is
     (IfOk-weaker c.on_all_of.result (IsOnAll s (length flow + 1)) (AreLocksOf s (lock.All ∷ []) here flow)
-    (on_all_of s here.thread flow here.body graph) c.on_all_of.ensures)
+    (on_all_of s here.thread flow here.body (graph_is read)) c.on_all_of.ensures)
 
 pub returns-in-Inferred-clause-lawful : goal.returns-in-Inferred-clause-lawful
 returns-in-Inferred-clause-lawful c = λ of section_is.
     let s = c.args.scheme.now in
     let flow = c.section-flow.result.now in
-    let here : SectionView = record {
-      thread = c.section-thread.result.thread;
-      body =
-          c.section-thread.result.body.now;
-    } in
-    let section_at = subst (λ (p : ProgramView). slice_get (sections_of p.texts) c.args.section ≡ Some here)
-    c.program-2.ensures c.section-thread.ensures.section in
-    let graph_at = subst (λ (q : GraphView). slice_get q.sections c.args.section ≡ Some flow) c.graph.ensures
-    c.section-flow.ensures in
+    let here = section_shown c.section-thread.result in
+    let at = section_at (goal.at.returns-in-Inferred-clause-lawful c).After-locking in
     let same : here ≡ of = cc in
     rw (sym same) (IfOk-weaker c.found.result (IsFound s here.thread flow) (AreLawfulAt s here.thread)
-    (λ sets f. found_lawful s here.thread flow (c.only_the_programs.ensures here flow section_at graph_at) sets.at
+    (λ sets f. found_lawful s here.thread flow (c.only_the_programs.ensures here flow at.0 at.1) sets.at
     f.found) c.found.ensures)
 
 pub returns-in-All-clause-lawful : goal.returns-in-All-clause-lawful

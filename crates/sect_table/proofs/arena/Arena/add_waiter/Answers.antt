@@ -1,11 +1,7 @@
-use Rattle.std.proofs.Common.{rules, arith, ◌≡◌, ◌<◌, ◌+◌, length, set, sym, ◌∙◌, vec_len, None, Some, get_or-set_same}
-use Rattle.sect_table.specs.declared.claims.Grant.{Grant}
+use Rattle.std.proofs.Common.{◌≡◌, ◌+◌, length, set, sym, ◌∙◌}
 use Rattle.sect_table.specs.Contents.{put, entry_of, with_waiter, claim_of}
-use Rattle.sect_table.specs.steps.Links.{head_or, list_at}
-use Rattle.sect_table.specs.steps.Arena.{no_node}
-use Rattle.sect_table.proofs.Shown.{seen, uncons, key_lists}
-use Rattle.sect_table.proofs.Roles.{labelled_first}
-use Rattle.sect_table.proofs.Moving.{Shows, goes, filled, waiter_added}
+use Rattle.sect_table.specs.steps.Links.{list_at}
+use Rattle.sect_table.proofs.Moving.{Shows, goes, waiter_added}
 use Rattle.sect_table.proofs.arena.Arena.add_waiter.Goals as goal
 
 outcome : (c : goal.After-move_to-2)
@@ -16,48 +12,13 @@ outcome : (c : goal.After-move_to-2)
     (put (with_waiter (claim_of c.args.thread c.args.mode) (entry_of c.args.key c.args.self.now.entries))
     c.args.self.now.entries) × (length (list_at c.move_to.new.self.lists 0) + 1 ≡ c.args.self.now.spare)
 outcome c =
-    let a = c.self.invariant in
-    let x = c.unwrap-node.result in
-    let r : Grant = record { thread = c.args.thread; key = c.args.key; mode = c.args.mode } in
-    let n : length c.self.inside.nodes.items ≡ vec_len c.self.inside.nodes = search rules in
-    let s = seen _ _ _ _ _ _ a c.self.view_is in
-    let count = s.queues in
-    let sizes = a.sizes in
-    let first : head_or (list_at c.self.inside.queues.lists 0) None ≡ Some x = sym c.first.ensures.first
-    ∙ c.unwrap-node.ensures in
-    let found = uncons (list_at c.self.inside.queues.lists 0) x first in
-    let here = labelled_first c.self.inside.queues 0 x found.0 a.in_queues (omega arith) found.1 in
-    let below : x < c.self.inside.queues.size = here.0 in
-    let f = filled c.self.inside.nodes.items c.self.inside.keys c.self.inside.threads c.self.inside.queues
-    c.self.inside.chains c.args.self.now x r a c.self.view_is here.0 here.1 in
     let e1 = c.move_to.ensures in
     let e2 = c.move_to-2.ensures in
-    waiter_added _ _ _ _ _ _ _ _ c.args.thread c.args.mode c.args.key c.args.at x found.0 f.0 f.1 c.requires.thread
-    c.requires.number c.requires.known found.1
-    (get_or-set_same c.self.inside.nodes.items x r no_node (omega arith))
+    waiter_added _ _ _ _ _ _ _ _ (record { thread = c.args.thread; key = c.args.key; mode = c.args.mode }) c.args.at
+    c.unwrap-node.result c.self.invariant c.self.view_is c.requires.thread c.requires.number c.requires.known
+    (sym c.first.ensures.first ∙ c.unwrap-node.ensures)
     (goes _ _ _ _ e1.size e1.count e1.labels e1.lists e1.placed e1.places)
     (goes _ _ _ _ e2.size e2.count e2.labels e2.lists e2.placed e2.places)
-
-pub overflow_add-at : goal.overflow_add-at
-overflow_add-at c =
-    let lists = key_lists _ _ _ _ _ _ c.args.at c.self.invariant c.self.view_is c.requires.known in
-    omega (arith, lists.few)
-
-pub overflow_add-at-2 : goal.overflow_add-at-2
-overflow_add-at-2 c =
-    let lists = key_lists _ _ _ _ _ _ c.args.at c.self.invariant c.self.view_is c.requires.known in
-    omega (arith, lists.few)
-
-pub move_to-requires-clause-list : goal.move_to-requires-clause-list
-move_to-requires-clause-list c =
-    let lists = key_lists _ _ _ _ _ _ c.args.at c.self.invariant c.self.view_is c.requires.known in
-    omega (arith, lists.holders, lists.waiters)
-
-pub move_to-requires-2-clause-list : goal.move_to-requires-2-clause-list
-move_to-requires-2-clause-list c =
-    let s = seen _ _ _ _ _ _ c.self.invariant c.self.view_is in
-    let n = s.chains in let lt = c.requires.thread in
-    omega arith
 
 pub invariant_of-self : goal.invariant_of-self
 invariant_of-self c = (outcome c).0.arena

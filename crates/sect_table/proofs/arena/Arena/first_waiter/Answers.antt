@@ -3,23 +3,8 @@ use Rattle.std.proofs.lemmas.List.{get_or_read}
 use Rattle.sect_table.specs.steps.Links.{list_at}
 use Rattle.sect_table.specs.Contents.{Entry, first_of}
 use Rattle.sect_table.specs.steps.Arena.{no_node}
-use Rattle.sect_table.proofs.Shown.{seen, queues-seen, first_claim, no_claim, key_lists}
+use Rattle.sect_table.proofs.Shown.{queues-seen, first_claim, no_claim}
 use Rattle.sect_table.proofs.arena.Arena.first_waiter.Goals as goal
-
-pub overflow_add-at : goal.overflow_add-at
-overflow_add-at c =
-    let lists = key_lists _ _ _ _ _ _ c.args.at c.self.invariant c.self.view_is c.requires.known in
-    omega (arith, lists.few)
-
-pub overflow_add-at-2 : goal.overflow_add-at-2
-overflow_add-at-2 c =
-    let lists = key_lists _ _ _ _ _ _ c.args.at c.self.invariant c.self.view_is c.requires.known in
-    omega (arith, lists.few)
-
-pub first-requires : goal.first-requires
-first-requires c =
-    let lists = key_lists _ _ _ _ _ _ c.args.at c.self.invariant c.self.view_is c.requires.known in
-    omega (arith, lists.holders, lists.waiters)
 
 pub returns-in_err-node : goal.returns-in_err-node
 returns-in_err-node c =

@@ -1,13 +1,22 @@
-use Rattle.std.proofs.Common.{rules, arith, ◌≡◌, ◌<◌, ◌+◌, length, sym, ◌∙◌, subst, vec_len, None, Some}
+use Rattle.std.proofs.Common.{◌≡◌, ◌<◌, ◌+◌, length, sym, ◌∙◌, subst}
 use Rattle.std.specs.Prelude.{IsSome}
 use Rattle.std.proofs.lemmas.List.{get_or_read}
 use Rattle.sect_table.specs.Contents.{Entry, put, entry_of, with_grant, claim_of, give}
-use Rattle.sect_table.specs.steps.Links.{head_or, list_at}
+use Rattle.sect_table.specs.steps.Links.{list_at}
 use Rattle.sect_table.specs.steps.Arena.{no_node, claims}
-use Rattle.sect_table.proofs.Shown.{seen, uncons, queues-seen, claimed_first, key_lists}
-use Rattle.sect_table.proofs.Roles.{labelled_first}
+use Rattle.sect_table.proofs.Shown.{queues-seen, claimed_first}
 use Rattle.sect_table.proofs.Moving.{Shows, goes, first_granted, Waiter, first_waiting}
+use Rattle.sect_table.proofs.arena.Arena.grant_first.Goals.{After-index-request}
 use Rattle.sect_table.proofs.arena.Arena.grant_first.Goals as goal
+
+-- the waiter that the function has read, before it moves its node
+waiter : (c : After-index-request)
+    → Waiter c.self.inside.nodes.items c.self.inside.chains c.args.self.now c.args.key c.index-request.result.now
+waiter c = first_waiting _ _ _ _ _ _ c.args.key c.args.at c.unwrap-node.result c.index-request.result.now
+    c.self.invariant c.self.view_is c.requires.number c.requires.known
+    (sym c.first.ensures.first ∙ c.unwrap-node.ensures)
+    (λ lt. get_or_read c.self.inside.nodes.items c.unwrap-node.result c.index-request.result.now lt
+    c.index-request.ensures no_node)
 
 outcome : (c : goal.After-move_to-2)
     → Shows c.self.inside.nodes.items c.self.inside.keys c.self.inside.threads c.move_to.new.self c.move_to-2.new.self
@@ -16,41 +25,15 @@ outcome : (c : goal.After-move_to-2)
     (entry_of c.args.key c.args.self.now.entries)) c.args.self.now.entries)
     × (length (list_at c.move_to.new.self.lists 0) ≡ c.args.self.now.spare)
 outcome c =
-    let a = c.self.invariant in
-    let x = c.unwrap-node.result in
-    let n : length c.self.inside.nodes.items ≡ vec_len c.self.inside.nodes = search rules in
-    let s = seen _ _ _ _ _ _ a c.self.view_is in
-    let count = s.queues in
-    let sizes = a.sizes in
-    let known = c.requires.known in
-    let list = c.args.at + c.args.at + 2 in
-    let first : head_or (list_at c.self.inside.queues.lists list) None ≡ Some x = sym c.first.ensures.first
-    ∙ c.unwrap-node.ensures in
-    let found = uncons (list_at c.self.inside.queues.lists list) x first in
-    let here = labelled_first c.self.inside.queues list x found.0 a.in_queues (omega arith) found.1 in
-    let below : x < c.self.inside.queues.size = here.0 in
     let e1 = c.move_to.ensures in
     let e2 = c.move_to-2.ensures in
-    first_granted _ _ _ _ _ _ _ _ c.args.key c.args.at x found.0 c.index-request.result.now a c.self.view_is
-    c.requires.number c.requires.known found.1
-    (get_or_read c.self.inside.nodes.items x c.index-request.result.now (omega arith) c.index-request.ensures no_node)
+    first_granted _ _ _ _ _ _ _ _ c.args.key c.args.at c.unwrap-node.result c.index-request.result.now
+    c.self.invariant c.self.view_is c.requires.number c.requires.known
+    (sym c.first.ensures.first ∙ c.unwrap-node.ensures)
+    (λ lt. get_or_read c.self.inside.nodes.items c.unwrap-node.result c.index-request.result.now lt
+    c.index-request.ensures no_node)
     (goes _ _ _ _ e1.size e1.count e1.labels e1.lists e1.placed e1.places)
     (goes _ _ _ _ e2.size e2.count e2.labels e2.lists e2.placed e2.places)
-
-pub overflow_add-at : goal.overflow_add-at
-overflow_add-at c =
-    let lists = key_lists _ _ _ _ _ _ c.args.at c.self.invariant c.self.view_is c.requires.known in
-    omega (arith, lists.few)
-
-pub overflow_add-at-2 : goal.overflow_add-at-2
-overflow_add-at-2 c =
-    let lists = key_lists _ _ _ _ _ _ c.args.at c.self.invariant c.self.view_is c.requires.known in
-    omega (arith, lists.few)
-
-pub first-requires : goal.first-requires
-first-requires c =
-    let lists = key_lists _ _ _ _ _ _ c.args.at c.self.invariant c.self.view_is c.requires.known in
-    omega (arith, lists.holders, lists.waiters)
 
 pub unwrap-node-requires : goal.unwrap-node-requires
 unwrap-node-requires c =
@@ -63,26 +46,7 @@ unwrap-node-requires c =
     (claimed_first c.self.inside.nodes.items (list_at c.self.inside.queues.lists (c.args.at + c.args.at + 2)) some)
 
 pub move_to-requires-2-clause-list : goal.move_to-requires-2-clause-list
-move_to-requires-2-clause-list c =
-    (let w : Waiter c.self.inside.nodes.items c.self.inside.chains c.args.self.now c.args.key
-    c.index-request.result.now =
-    let a = c.self.invariant in
-    let x = c.unwrap-node.result in
-    let n : length c.self.inside.nodes.items ≡ vec_len c.self.inside.nodes = search rules in
-    let s = seen _ _ _ _ _ _ a c.self.view_is in
-    let count = s.queues in
-    let sizes = a.sizes in
-    let known = c.requires.known in
-    let list = c.args.at + c.args.at + 2 in
-    let first : head_or (list_at c.self.inside.queues.lists list) None ≡ Some x = sym c.first.ensures.first
-    ∙ c.unwrap-node.ensures in
-    let found = uncons (list_at c.self.inside.queues.lists list) x first in
-    let here = labelled_first c.self.inside.queues list x found.0 a.in_queues (omega arith) found.1 in
-    let below : x < c.self.inside.queues.size = here.0 in
-    first_waiting _ _ _ _ _ _ c.args.key c.args.at x found.0 c.index-request.result.now a c.self.view_is
-    c.requires.number c.requires.known found.1
-    (get_or_read c.self.inside.nodes.items x c.index-request.result.now (omega arith) c.index-request.ensures no_node)
-    in w.list)
+move_to-requires-2-clause-list c = (waiter (goal.at.move_to-requires-2-clause-list c).After-index-request).list
 
 pub invariant_of-self : goal.invariant_of-self
 invariant_of-self c = (outcome c).0.arena
@@ -96,31 +60,11 @@ returns-clause-entries c = (outcome c).0.entries_are
 pub returns-clause-spare : goal.returns-clause-spare
 returns-clause-spare c = (outcome c).1
 
-waiter : (c : goal.After-move_to-2)
-    → Waiter c.self.inside.nodes.items c.self.inside.chains c.args.self.now c.args.key c.index-request.result.now
-waiter c =
-    let a = c.self.invariant in
-    let x = c.unwrap-node.result in
-    let n : length c.self.inside.nodes.items ≡ vec_len c.self.inside.nodes = search rules in
-    let s = seen _ _ _ _ _ _ a c.self.view_is in
-    let count = s.queues in
-    let sizes = a.sizes in
-    let known = c.requires.known in
-    let list = c.args.at + c.args.at + 2 in
-    let first : head_or (list_at c.self.inside.queues.lists list) None ≡ Some x = sym c.first.ensures.first
-    ∙ c.unwrap-node.ensures in
-    let found = uncons (list_at c.self.inside.queues.lists list) x first in
-    let here = labelled_first c.self.inside.queues list x found.0 a.in_queues (omega arith) found.1 in
-    let below : x < c.self.inside.queues.size = here.0 in
-    first_waiting _ _ _ _ _ _ c.args.key c.args.at x found.0 c.index-request.result.now a c.self.view_is
-    c.requires.number c.requires.known found.1
-    (get_or_read c.self.inside.nodes.items x c.index-request.result.now (omega arith) c.index-request.ensures no_node)
-
 pub returns-clause-key : goal.returns-clause-key
-returns-clause-key c = (waiter c).key
+returns-clause-key c = (waiter (goal.at.returns-clause-key c).After-index-request).key
 
 pub returns-clause-thread : goal.returns-clause-thread
-returns-clause-thread c = (waiter c).thread
+returns-clause-thread c = (waiter (goal.at.returns-clause-thread c).After-index-request).thread
 
 pub returns-clause-first : goal.returns-clause-first
-returns-clause-first c = (waiter c).first
+returns-clause-first c = (waiter (goal.at.returns-clause-first c).After-index-request).first

@@ -1,11 +1,11 @@
-use Rattle.std.proofs.Common.{arith, ◌≡◌, ◌+◌, length, set, drop, get_or, sym, ◌∙◌, ap, subst, None, Some, [], ◌∷◌}
+use Rattle.std.proofs.Common.{◌≡◌, ◌+◌, length, set, drop, get_or, sym, ◌∙◌, ap, subst, None, Some, [], ◌∷◌}
 use Rattle.std.specs.Prelude.{IsSome}
 use Rattle.std.specs.Option.{option_map}
 use Rattle.sect_table.specs.declared.claims.Hold.{Hold}
 use Rattle.sect_table.specs.Contents.{put, entry_of, without_holder, first_hold}
 use Rattle.sect_table.specs.steps.Links.{head_or, list_at}
 use Rattle.sect_table.specs.steps.Arena.{node_at}
-use Rattle.sect_table.proofs.Shown.{seen, chain-seen, held_key, found_first}
+use Rattle.sect_table.proofs.Shown.{chain-seen, held_key, found_first}
 use Rattle.sect_table.proofs.Moving.{Shows, goes, first_released}
 use Rattle.sect_table.proofs.arena.Arena.release_first.Goals as goal
 
@@ -33,12 +33,6 @@ outcome c =
     (subst (λ z. (node_at c.self.inside.nodes.items z).key ≡ c.args.key) is found.3) c.requires.apart
     (goes _ _ _ _ e1.size e1.count e1.labels e1.lists e1.placed e1.places)
     (goes _ _ _ _ e2.size e2.count e2.labels e2.lists e2.placed e2.places)
-
-pub first-requires : goal.first-requires
-first-requires c =
-    let s = seen _ _ _ _ _ _ c.self.invariant c.self.view_is in
-    let n = s.chains in let lt = c.requires.thread in
-    omega arith
 
 pub unwrap-node-requires : goal.unwrap-node-requires
 unwrap-node-requires c =

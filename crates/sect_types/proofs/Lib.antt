@@ -37,6 +37,7 @@ pub mod Expanding
 pub mod Below
 pub mod Reversing
 pub mod Capping
+pub mod Summing
 pub mod SameData
 pub mod Places
 pub mod Positions

@@ -1,6 +1,7 @@
 -- What the contracts of private functions speak of.
 pub mod Walks
 pub mod Capped
+pub mod Summaries
 pub mod Spots
 pub mod Called
 pub mod Below

@@ -1,12 +1,15 @@
 //! What the expansion of a call comes to, found without expanding. Counting stops one past each limit.
 
-ghost use Rattle.std.specs.Prelude.{◌≡◌, ◌+◌, ◌≤◌, IfOk, length, map};
+ghost use Rattle.std.specs.Prelude.{◌≡◌, ◌+◌, ◌≤◌, IfOk, OnOk, Some, length, map, min};
+ghost use Rattle.std.specs.List.{AllByRecursion};
 ghost use Rattle.sect_front.specs.Trees.{statement_of};
-ghost use Rattle.sect_types.specs.Sums.{nothing as nothing_by, both, around as around_by};
-ghost use Rattle.sect_types.specs.Sums.{primitive_sums as primitive_sums_by};
+ghost use Rattle.sect_types.specs.Sums.{nothing as nothing_by, both, around};
+ghost use Rattle.sect_types.specs.Sums.{primitive_sums as primitive_sums_by, sums_at as sums_at_by};
 ghost use Rattle.sect_types.specs.Sums.{statement_sums as statement_sums_by, block_sums as block_sums_by, call_sums};
-ghost use Rattle.sect_types.specs.Sums.{procedure_sums as procedure_sums_by, sums};
+ghost use Rattle.sect_types.specs.Sums.{sums};
 ghost use Rattle.sect_types.specs.steps.Capped.{capped, IsSmall, AreSmall, HaveFewVariables};
+ghost use Rattle.sect_types.specs.steps.Summaries.{deeper as deeper_by, summary_sums as summary_sums_by};
+ghost use Rattle.sect_types.specs.steps.Summaries.{HasMore, IsSummary, AreSummaries};
 
 use crate::called::Called;
 use crate::limits::{MOST_CALLS, MOST_LOCALS, MOST_SITES, MOST_STATEMENTS};
@@ -65,18 +68,34 @@ fn joined(first: Sums, second: Sums) -> Sums
     }
 }
 
-/// A statement whose blocks come to this.
-fn around(inner: Sums) -> Sums
+/// The same in so many blocks.
+fn deeper(depth: u16, inner: Sums) -> Sums
     requires { IsSmall inner }
-    ensures sums { result ≡ capped (around_by inner) }
+    ensures sums { result ≡ capped (deeper_by depth inner) }
     ensures small { IsSmall result }
 {
     Sums {
-        statements: (inner.statements + 1).min(PAST_STATEMENTS),
-        sites: inner.sites,
-        calls: inner.calls,
-        fresh: inner.fresh,
-        deep: (inner.deep + 1).min(PAST_DEPTH),
+        deep: (depth.min(PAST_DEPTH) + inner.deep).min(PAST_DEPTH),
+        ..inner
+    }
+}
+
+/// In how many blocks a statement stands whose block stands in so many.
+fn inside(depth: u16) -> u16
+    ensures { result ≡ min (depth + 1) PAST_DEPTH }
+{
+    depth.min(MOST_DEPTH as u16) + 1
+}
+
+/// A statement with blocks, but for what stands in them.
+fn head() -> Sums
+    ensures sums { result ≡ around nothing_by }
+    ensures small { IsSmall result }
+{
+    Sums {
+        statements: 1,
+        deep: 1,
+        ..nothing()
     }
 }
 
@@ -96,79 +115,182 @@ fn primitive_sums(primitive: &Primitive) -> Sums
     }
 }
 
-/// What a statement comes to, where the table has what each call comes to.
+/// A call in the body of a procedure: the number of the procedure that it calls, and in how many blocks it stands.
+#[derive(Clone, Copy)]
+struct Met {
+    callee: usize,
+    depth: u16,
+}
+
+/// What a call of a procedure comes to: all but the calls in its body, and these calls.
+#[derive(Drop)]
+struct Summary {
+    own: Sums,
+    calls: Vec<Met>,
+}
+
+impl Summary {
+    /// Adds what stands in so many blocks.
+    fn add(&mut self, depth: u16, sums: Sums)
+        requires own { IsSmall self.old.own }
+        requires sums { IsSmall sums }
+        ensures { HasMore self.old self.new (λ table. deeper_by depth sums) }
+    {
+        self.own = joined(self.own, deeper(depth, sums));
+    }
+
+    /// Adds a call of the procedure of this number, in so many blocks.
+    fn add_call(&mut self, depth: u16, callee: usize) -> Result<(), AllocError>
+        requires { IsSmall self.old.own }
+        ensures { OnOk result (HasMore self.old self.new (λ table. deeper_by depth (sums_at_by table (Some callee)))) }
+    {
+        self.calls.push(Met { callee, depth })?;
+        Ok(())
+    }
+}
+
+/// Adds a statement that stands in so many blocks.
 #[cycle(sum)]
-fn statement_sums(called: &Called<'_>, table: &[Sums], statement: &Statement) -> Sums
-    requires { AreSmall table.now }
-    ensures sums { result ≡ capped (statement_sums_by called.now table.now (statement_of statement.now)) }
-    ensures small { IsSmall result }
+fn add_statement(
+    summary: &mut Summary,
+    called: &Called<'_>,
+    depth: u16,
+    statement: &Statement,
+) -> Result<(), AllocError>
+    requires { IsSmall summary.old.own }
+    ensures { OnOk result (HasMore summary.old summary.new
+        (λ table. deeper_by depth (statement_sums_by called.now table (statement_of statement.now)))) }
 {
     match statement {
-        Statement::Primitive(primitive) => primitive_sums(primitive),
-        Statement::If(_, then) => around(block_sums(called, table, then)),
-        Statement::IfElse(_, then, other) => around(joined(
-            block_sums(called, table, then),
-            block_sums(called, table, other),
-        )),
-        Statement::While(_, body) => around(block_sums(called, table, body)),
-        Statement::Atomic(_, body) => around(block_sums(called, table, body)),
+        Statement::Primitive(primitive) => summary.add(depth, primitive_sums(primitive)),
+        Statement::If(_, then) => {
+            summary.add(depth, head());
+            add_block(summary, called, inside(depth), then)?;
+        }
+        Statement::IfElse(_, then, other) => {
+            summary.add(depth, head());
+            add_block(summary, called, inside(depth), then)?;
+            add_block(summary, called, inside(depth), other)?;
+        }
+        Statement::While(_, body) => {
+            summary.add(depth, head());
+            add_block(summary, called, inside(depth), body)?;
+        }
+        Statement::Atomic(_, body) => {
+            summary.add(depth, head());
+            add_block(summary, called, inside(depth), body)?;
+        }
         Statement::Call(name, _) => match called.number_of(name) {
-            None => nothing(),
-            Some(number) => {
-                if number < table.len() {
-                    table[number]
-                } else {
-                    nothing()
-                }
-            }
+            None => summary.add(depth, nothing()),
+            Some(callee) => summary.add_call(depth, callee)?,
         },
     }
+    Ok(())
 }
 
-/// What a block comes to.
+/// Adds a block whose statements stand in so many blocks.
 #[cycle(sum)]
-fn block_sums(called: &Called<'_>, table: &[Sums], block: &Block) -> Sums
-    requires { AreSmall table.now }
-    ensures sums { result ≡ capped (block_sums_by called.now table.now block.now) }
-    ensures small { IsSmall result }
+fn add_block(
+    summary: &mut Summary,
+    called: &Called<'_>,
+    depth: u16,
+    block: &Block,
+) -> Result<(), AllocError>
+    requires { IsSmall summary.old.own }
+    ensures { OnOk result (HasMore summary.old summary.new
+        (λ table. deeper_by depth (block_sums_by called.now table block.now))) }
 {
-    let mut sums = nothing();
     for statement in block.as_slice() {
-        sums = joined(sums, statement_sums(called, table, statement));
+        add_statement(summary, called, depth, statement)?;
     }
-    sums
+    summary.add(depth, nothing());
+    Ok(())
 }
 
-/// What a call of the procedure comes to: an assignment for each parameter and local, and the body.
-fn procedure_sums(called: &Called<'_>, table: &[Sums], procedure: &Procedure) -> Sums
-    requires small { AreSmall table.now }
-    requires few { length procedure.now.parameters + length procedure.now.locals ≤ MOST_LOCALS }
-    ensures sums { result ≡ capped (procedure_sums_by called.now table.now procedure.now) }
+/// What a call of the procedure comes to but for its body: an assignment for each parameter and local.
+fn outer_sums(procedure: &Procedure) -> Sums
+    requires { length procedure.now.parameters + length procedure.now.locals ≤ MOST_LOCALS }
+    ensures sums { result
+        ≡ call_sums (length procedure.now.parameters + length procedure.now.locals) nothing_by }
     ensures small { IsSmall result }
 {
     let variables = procedure.parameters.as_slice().len() + procedure.locals.as_slice().len();
     let variables = variables as u16;
-    let body = block_sums(called, table, &procedure.body);
     Sums {
-        statements: (variables + body.statements).min(PAST_STATEMENTS),
-        sites: body.sites,
-        calls: (body.calls + 1).min(PAST_CALLS),
-        fresh: (variables + body.fresh).min(PAST_STATEMENTS),
-        deep: body.deep,
+        statements: variables,
+        calls: 1,
+        fresh: variables,
+        ..nothing()
     }
 }
 
+/// What a call of the procedure comes to. The body is gone over once.
+fn summary_of(
+    alloc: Global,
+    called: &Called<'_>,
+    procedure: &Procedure,
+) -> Result<Summary, AllocError>
+    requires { length procedure.now.parameters + length procedure.now.locals ≤ MOST_LOCALS }
+    ensures { IfOk result (IsSummary called.now procedure.now) }
+{
+    let mut summary = Summary {
+        own: outer_sums(procedure),
+        calls: Vec::new(alloc),
+    };
+    add_block(&mut summary, called, 0, &procedure.body)?;
+    Ok(summary)
+}
+
+/// What a call of each procedure comes to.
+fn summaries(alloc: Global, called: &Called<'_>) -> Result<Vec<Summary>, AllocError>
+    requires { HaveFewVariables called.now }
+    ensures { IfOk result (λ summaries. AreSummaries called.now summaries.items) }
+{
+    let mut summaries = Vec::new(alloc);
+    for procedure in called.procedures() {
+        summaries.push(summary_of(alloc, called, procedure)?)?;
+    }
+    Ok(summaries)
+}
+
+/// What a call of the procedure of this number comes to.
+fn sums_at(table: &[Sums], number: usize) -> Sums
+    requires { AreSmall table.now }
+    ensures sums { result ≡ sums_at_by table.now (Some number) }
+    ensures small { IsSmall result }
+{
+    if number < table.len() {
+        table[number]
+    } else {
+        nothing()
+    }
+}
+
+/// What a call comes to, where a call in the body comes to what the table has.
+fn summary_sums(summary: &Summary, table: &[Sums]) -> Sums
+    requires own { IsSmall summary.now.own }
+    requires table { AreSmall table.now }
+    ensures sums { result ≡ capped (summary_sums_by table.now summary.now) }
+    ensures small { IsSmall result }
+{
+    let mut sums = summary.own;
+    for met in summary.calls.as_slice() {
+        sums = joined(sums, deeper(met.depth, sums_at(table, met.callee)));
+    }
+    sums
+}
+
 /// What a call of each procedure comes to, where a call in its body comes to what the table has.
-fn round(alloc: Global, called: &Called<'_>, table: &[Sums]) -> Result<Vec<Sums>, AllocError>
-    requires small { AreSmall table.now }
-    requires few { HaveFewVariables called.now }
+fn round(alloc: Global, summaries: &[Summary], table: &[Sums]) -> Result<Vec<Sums>, AllocError>
+    requires own { AllByRecursion (λ s. IsSmall s.own) summaries.now }
+    requires table { AreSmall table.now }
     ensures sums { IfOk result (λ next. next.items
-        ≡ map (λ p. capped (procedure_sums_by called.now table.now p)) called.now) }
+        ≡ map (λ s. capped (summary_sums_by table.now s)) summaries.now) }
     ensures small { IfOk result (λ next. AreSmall next.items) }
 {
     let mut next = Vec::new(alloc);
-    for procedure in called.procedures() {
-        next.push(procedure_sums(called, table, procedure))?;
+    for summary in summaries {
+        next.push(summary_sums(summary, table))?;
     }
     Ok(next)
 }
@@ -178,9 +300,10 @@ pub fn table(alloc: Global, called: &Called<'_>) -> Result<Vec<Sums>, AllocError
     requires { HaveFewVariables called.now }
     ensures { IfOk result (λ table. table.items ≡ map capped (sums called.now)) }
 {
+    let summaries = summaries(alloc, called)?;
     let mut table = Vec::new(alloc);
-    for _ in 0..called.procedures().len() {
-        table = round(alloc, called, table.as_slice())?;
+    for _ in 0..summaries.len() {
+        table = round(alloc, summaries.as_slice(), table.as_slice())?;
     }
     Ok(table)
 }

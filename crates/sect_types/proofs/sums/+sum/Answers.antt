@@ -3,8 +3,8 @@ use Rattle.sect_front.specs.Trees.{statement_of, statement_size, block_size}
 use Rattle.sect_front.proofs.Bodies.{size_at}
 use Rattle.sect_types.proofs.sums.+sum.Goals as goal
 
-pub block_sums-statement_sums-requires : goal.block_sums-statement_sums-requires
-block_sums-statement_sums-requires t c = (
+pub add_block-add_statement-requires : goal.add_block-add_statement-requires
+add_block-add_statement-requires t c = (
   omega (
     arith,
     size_at c.as_slice-statement-items.result.now c.loop-statement.statement-index c.statement-item.result
@@ -13,5 +13,5 @@ block_sums-statement_sums-requires t c = (
     ap block_size c.loop-statement.invariant.0,
     c.decreases,
   ),
-  c.requires,
+  c.loop-statement.invariant.1.small,
 )

@@ -1,14 +1,15 @@
 use Rattle.std.proofs.Common.{◌≡◌, ◌+◌, ◌*◌}
 use Rattle.sect_front.specs.Trees.{statement_of, block_of, statement_size, block_size}
-use Rattle.sect_types.proofs.Capping.{AreSummed}
+use Rattle.sect_types.proofs.Summing.{AreAdded}
 use Rattle.sect_types.proofs.sums.+sum.Given as goal
 
-abbrev pub decreases-statement_sums : goal.decreases-statement_sums
-decreases-statement_sums l = 2 * statement_size (statement_of l.statement.now)
+abbrev pub decreases-add_statement : goal.decreases-add_statement
+decreases-add_statement l = 2 * statement_size (statement_of l.statement.now)
 
-abbrev pub decreases-block_sums : goal.decreases-block_sums
-decreases-block_sums l = 2 * block_size l.block.now + 1
+abbrev pub decreases-add_block : goal.decreases-add_block
+decreases-add_block l = 2 * block_size l.block.now + 1
 
-abbrev pub invariant-block_sums-loop-statement : goal.invariant-block_sums-loop-statement
-invariant-block_sums-loop-statement l =
-    (block_of l.statement-items ≡ l.block) × AreSummed l.called l.table l.statement-items l.statement-index l.sums
+abbrev pub invariant-add_block-loop-statement : goal.invariant-add_block-loop-statement
+invariant-add_block-loop-statement l =
+    (block_of l.statement-items ≡ l.block)
+    × AreAdded l.called l.statement-items l.depth l.fn.summary l.statement-index l.summary

@@ -1,12 +1,11 @@
 use Rattle.std.proofs.Common.{◌≡◌, ◌++◌, drop, map}
-use Rattle.sect_front.specs.declared.tree.Procedure.{Procedure}
-use Rattle.sect_types.specs.Sums.{procedure_sums}
+use Rattle.sect_types.specs.declared.sums.Summary.{Summary}
 use Rattle.sect_types.specs.steps.Capped.{capped, AreSmall}
+use Rattle.sect_types.specs.steps.Summaries.{summary_sums}
 use Rattle.sect_types.proofs.sums.round.Given as goal
 
-abbrev pub invariant-loop-procedure : goal.invariant-loop-procedure
-invariant-loop-procedure l =
-    (l.procedure-items ≡ l.called) × AreSmall l.next.items
-    × (l.next.items ++ map (λ (p : Procedure). capped (procedure_sums l.called l.table p))
-    (drop l.procedure-index l.procedure-items)
-    ≡ map (λ (p : Procedure). capped (procedure_sums l.called l.table p)) l.procedure-items)
+abbrev pub invariant-loop-summary : goal.invariant-loop-summary
+invariant-loop-summary l =
+    AreSmall l.next.items
+    × (l.next.items ++ map (λ (s : Summary). capped (summary_sums l.table s)) (drop l.summary-index l.summaries)
+    ≡ map (λ (s : Summary). capped (summary_sums l.table s)) l.summaries)

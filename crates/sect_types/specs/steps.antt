@@ -8,6 +8,7 @@ pub mod Expanding
 pub mod FreshTypes
 pub mod Standing
 pub mod Threads
+pub mod Shown
 pub mod Found
 pub mod Listing
 pub mod Counted

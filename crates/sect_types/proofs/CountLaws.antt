@@ -23,13 +23,15 @@ use Rattle.sect_types.specs.Expanded.{expanded_statement, expanded_block, expand
 use Rattle.sect_types.specs.Expanded.{after_call, set_parameters, clear_locals, expanded_thread, statement_fresh}
 use Rattle.sect_types.specs.Expanded.{block_fresh, fresh_of, fresh_within, fresh_in}
 
-one : (p : leaf.Primitive) → (primitive_sums p).statements ≡ 1
-one (primitive.Assign x v) = refl
-one (primitive.Compute x v o w) = refl
-one (primitive.New x r) = refl
-one (primitive.Load x y f) = refl
-one (primitive.Store y f v) = refl
-one (primitive.Print v) = refl
+-- a primitive statement is one statement, with a site at most, and nothing else
+pub primitive_comes : (p : leaf.Primitive)
+    → primitive_sums p ≡ record nothing { statements = 1; sites = (primitive_sums p).sites }
+primitive_comes (primitive.Assign x v) = refl
+primitive_comes (primitive.Compute x v o w) = refl
+primitive_comes (primitive.New x r) = refl
+primitive_comes (primitive.Load x y f) = refl
+primitive_comes (primitive.Store y f v) = refl
+primitive_comes (primitive.Print v) = refl
 
 joined_count : (a k : TextView) → statement_count (joined a k) ≡ statement_count a + statement_count k
 joined_count Stop k = omega arith
@@ -48,7 +50,8 @@ mutual
       → (v : View) (a : At) (s : StatementView) (k : TextView) →
       statement_count (expanded_statement ps table call v a s k) ≡ (statement_sums ps table s).statements +
       statement_count k
-  statement_comes ps table call h v a (Primitive p) k = omega (arith, one p)
+  statement_comes ps table call h v a (Primitive p) k =
+      omega (arith, ap (λ (s : Sums). s.statements) (primitive_comes p))
   statement_comes ps table call h v a (If t b) k = omega (arith, block_count ps table call h v a b)
   statement_comes ps table call h v a (IfElse t b c) k =
       omega (arith, block_count ps table call h v a b, block_count ps table call h v (past_block ps table a b) c)
@@ -137,19 +140,11 @@ thread_counts t a h =
 abbrev pub CountsFresh : List Sums → Freshens → Type 0
 CountsFresh table call = (q : Option ℕ) (c : ℕ) → length (call q c) ≡ (sums_at table q).fresh
 
-no_fresh : (p : leaf.Primitive) → (primitive_sums p).fresh ≡ 0
-no_fresh (primitive.Assign x v) = refl
-no_fresh (primitive.Compute x v o w) = refl
-no_fresh (primitive.New x r) = refl
-no_fresh (primitive.Load x y f) = refl
-no_fresh (primitive.Store y f v) = refl
-no_fresh (primitive.Print v) = refl
-
 mutual
   pub statement_freshens : (ps : List Procedure) (table : List Sums) (call : Freshens) → CountsFresh table call
       → (c : ℕ) (s : StatementView) →
       length (statement_fresh ps table call c s) ≡ (statement_sums ps table s).fresh
-  statement_freshens ps table call h c (Primitive p) = sym (no_fresh p)
+  statement_freshens ps table call h c (Primitive p) = sym (ap (λ (x : Sums). x.fresh) (primitive_comes p))
   statement_freshens ps table call h c (If t a) = block_freshens ps table call h c a
   statement_freshens ps table call h c (IfElse t a b) =
       omega (

@@ -220,8 +220,12 @@ abbrev pub AddsNothing : Counts → Counts → Type 0
 AddsNothing c e = Adds c e nothing 0
 
 nothing_adds : (c : Counts) → AddsNothing c c
-nothing_adds c =
-    record { statements_add = omega arith; sites_add = omega arith; calls_add = omega arith; sections_add = omega arith }
+nothing_adds c = record {
+  statements_add = omega arith;
+  sites_add = omega arith;
+  calls_add = omega arith;
+  sections_add = omega arith;
+}
 
 item_then : (c : Counts) {e : Counts} {s : Sums} {n : ℕ} → Adds (after_item c) e s n → Adds c e s n
 item_then c x = record {

@@ -33,7 +33,8 @@ clash h e = true≢false (sym h ∙ e)
 
 -- the rules, from number 10 on
 abbrev rule_at : ℕ → Rule
-rule_at n = get_or (Unknown ∷ Twice ∷ WrongType ∷ SharedOutside ∷ Nested ∷ TooMany ∷ Recursion ∷ Arguments ∷ []) (n - 10)
+rule_at n =
+    get_or (Unknown ∷ Twice ∷ WrongType ∷ SharedOutside ∷ Nested ∷ TooMany ∷ Recursion ∷ Arguments ∷ []) (n - 10)
     Unknown
 
 record IsNumbered (q : Rule) : Type 0 where

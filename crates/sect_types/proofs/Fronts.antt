@@ -52,7 +52,8 @@ pub primitive_front : (w : WorldView) (n : ℕ) (f new : FrontView) (s : Stateme
     → new ≡ front_past_statement w n f s
 primitive_front w n f new s p e h =
     h ∙ front_same (record f { at = record f.at { sites = f.at.sites + (primitive_sums p).sites } })
-    (front_past_statement w n f (Primitive p)) refl (omega arith) (omega (arith, ap (λ (x : Sums). x.fresh) (primitive_comes p)))
+    (front_past_statement w n f (Primitive p)) refl (omega arith)
+    (omega (arith, ap (λ (x : Sums). x.fresh) (primitive_comes p)))
     (omega (arith, ap (λ (x : Sums). x.calls) (primitive_comes p)))
     (sym (append-nil f.fresh))
     ∙ ap (front_past_statement w n f) (sym e)

@@ -13,3 +13,4 @@ pub mod Found
 pub mod Listing
 pub mod Counted
 pub mod Expansion
+pub mod Inside

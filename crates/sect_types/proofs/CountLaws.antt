@@ -1,6 +1,6 @@
 -- What the sums say of the expansion.
 use Rattle.std.proofs.Common.{◌≡◌, ℕ, zero, suc, ◌+◌, List, [], ◌∷◌, Option, Some, None, refl, sym, ◌∙◌, ap, arith}
-use Rattle.std.proofs.Common.{map, length, max, slice_get}
+use Rattle.std.proofs.Common.{map, length, slice_get}
 use Rattle.std.proofs.lemmas.List.{length-append}
 use Rattle.sect_front.specs.declared.tree.Operand.{Operand}
 use Rattle.sect_front.specs.declared.tree.Primitive as leaf
@@ -23,13 +23,15 @@ use Rattle.sect_types.specs.Expanded.{expanded_statement, expanded_block, expand
 use Rattle.sect_types.specs.Expanded.{after_call, set_parameters, clear_locals, expanded_thread, statement_fresh}
 use Rattle.sect_types.specs.Expanded.{block_fresh, fresh_of, fresh_within, fresh_in}
 
-one : (p : leaf.Primitive) → (primitive_sums p).statements ≡ 1
-one (primitive.Assign x v) = refl
-one (primitive.Compute x v o w) = refl
-one (primitive.New x r) = refl
-one (primitive.Load x y f) = refl
-one (primitive.Store y f v) = refl
-one (primitive.Print v) = refl
+-- a primitive statement is one statement, with a site at most, and nothing else
+pub primitive_comes : (p : leaf.Primitive)
+    → primitive_sums p ≡ record nothing { statements = 1; sites = (primitive_sums p).sites }
+primitive_comes (primitive.Assign x v) = refl
+primitive_comes (primitive.Compute x v o w) = refl
+primitive_comes (primitive.New x r) = refl
+primitive_comes (primitive.Load x y f) = refl
+primitive_comes (primitive.Store y f v) = refl
+primitive_comes (primitive.Print v) = refl
 
 joined_count : (a k : TextView) → statement_count (joined a k) ≡ statement_count a + statement_count k
 joined_count Stop k = omega arith
@@ -48,7 +50,8 @@ mutual
       → (v : View) (a : At) (s : StatementView) (k : TextView) →
       statement_count (expanded_statement ps table call v a s k) ≡ (statement_sums ps table s).statements +
       statement_count k
-  statement_comes ps table call h v a (Primitive p) k = omega (arith, one p)
+  statement_comes ps table call h v a (Primitive p) k =
+      omega (arith, ap (λ (s : Sums). s.statements) (primitive_comes p))
   statement_comes ps table call h v a (If t b) k = omega (arith, block_count ps table call h v a b)
   statement_comes ps table call h v a (IfElse t b c) k =
       omega (arith, block_count ps table call h v a b, block_count ps table call h v (past_block ps table a b) c)
@@ -137,19 +140,11 @@ thread_counts t a h =
 abbrev pub CountsFresh : List Sums → Freshens → Type 0
 CountsFresh table call = (q : Option ℕ) (c : ℕ) → length (call q c) ≡ (sums_at table q).fresh
 
-no_fresh : (p : leaf.Primitive) → (primitive_sums p).fresh ≡ 0
-no_fresh (primitive.Assign x v) = refl
-no_fresh (primitive.Compute x v o w) = refl
-no_fresh (primitive.New x r) = refl
-no_fresh (primitive.Load x y f) = refl
-no_fresh (primitive.Store y f v) = refl
-no_fresh (primitive.Print v) = refl
-
 mutual
   pub statement_freshens : (ps : List Procedure) (table : List Sums) (call : Freshens) → CountsFresh table call
       → (c : ℕ) (s : StatementView) →
       length (statement_fresh ps table call c s) ≡ (statement_sums ps table s).fresh
-  statement_freshens ps table call h c (Primitive p) = sym (no_fresh p)
+  statement_freshens ps table call h c (Primitive p) = sym (ap (λ (x : Sums). x.fresh) (primitive_comes p))
   statement_freshens ps table call h c (If t a) = block_freshens ps table call h c a
   statement_freshens ps table call h c (IfElse t a b) =
       omega (
@@ -205,90 +200,3 @@ pub thread_freshens : (t : TreeView) (h : Thread)
 thread_freshens t h =
     block_freshens t.procedures (sums t.procedures) (fresh_within (length t.procedures) t.procedures)
     (call_freshens (length t.procedures) t.procedures) 0 h.body
-
--- how many blocks stand in one another
-abbrev pub deepest : TextView → ℕ
-deepest Stop = 0
-deepest (Do a r) = deepest r
-deepest (Choose t p q r) = max (1 + max (deepest p) (deepest q)) (deepest r)
-deepest (Loop t p r) = max (1 + deepest p) (deepest r)
-deepest (Section i p r) = max (1 + deepest p) (deepest r)
-
-joined_deep : (a k : TextView) → deepest (joined a k) ≡ max (deepest a) (deepest k)
-joined_deep Stop k = omega arith
-joined_deep (Do a r) k = joined_deep r k
-joined_deep (Choose t p q r) k = omega (arith, joined_deep r k)
-joined_deep (Loop t p r) k = omega (arith, joined_deep r k)
-joined_deep (Section i p r) k = omega (arith, joined_deep r k)
-
-abbrev DeepensCalls : List Sums → Expander → Type 0
-DeepensCalls table call = (q : Option ℕ) (v : View) (a : At) (vs : List Operand) (k : TextView) →
-    deepest (call q v a vs k) ≡ max (sums_at table q).deep (deepest k)
-
-not_deep : (p : leaf.Primitive) → (primitive_sums p).deep ≡ 0
-not_deep (primitive.Assign x v) = refl
-not_deep (primitive.Compute x v o w) = refl
-not_deep (primitive.New x r) = refl
-not_deep (primitive.Load x y f) = refl
-not_deep (primitive.Store y f v) = refl
-not_deep (primitive.Print v) = refl
-
-mutual
-  statement_deepens : (ps : List Procedure) (table : List Sums) (call : Expander) → DeepensCalls table call
-      → (v : View) (a : At) (s : StatementView) (k : TextView) →
-      deepest (expanded_statement ps table call v a s k) ≡ max (statement_sums ps table s).deep (deepest k)
-  statement_deepens ps table call h v a (Primitive p) k = omega (arith, not_deep p)
-  statement_deepens ps table call h v a (If t b) k = omega (arith, block_deepens ps table call h v a b)
-  statement_deepens ps table call h v a (IfElse t b c) k =
-      omega (arith, block_deepens ps table call h v a b, block_deepens ps table call h v (past_block ps table a b) c)
-  statement_deepens ps table call h v a (While t b) k = omega (arith, block_deepens ps table call h v a b)
-  statement_deepens ps table call h v a (Atomic lock b) k =
-      omega (arith, block_deepens ps table call h v (record a { sections = a.sections + 1 }) b)
-  statement_deepens ps table call h v a (Call f vs) k = h (number_of ps f) v a vs k
-
-  pub block_deepens : (ps : List Procedure) (table : List Sums) (call : Expander) → DeepensCalls table call
-      → (v : View) (a : At) (b : BlockView) →
-      deepest (expanded_block ps table call v a b) ≡ (block_sums ps table b).deep
-  block_deepens ps table call h v a End = refl
-  block_deepens ps table call h v a (Then s b) =
-      omega (
-        arith,
-        statement_deepens ps table call h v a s (expanded_block ps table call v (past_statement ps table a s) b),
-        block_deepens ps table call h v (past_statement ps table a s) b,
-      )
-
-cleared_deep : (x : ℕ) (ds : List Declaration) (k : TextView) → deepest (clear_locals x ds k) ≡ deepest k
-cleared_deep x [] k = refl
-cleared_deep x (d ∷ ds) k = cleared_deep (x + 1) ds k
-
-set_deep : (v : View) (x : ℕ) (ds : List Declaration) (vs : List Operand) (k : TextView)
-    → deepest (set_parameters v x ds vs k) ≡ deepest k
-set_deep v x [] vs k = refl
-set_deep v x (d ∷ ds) [] k = set_deep v (x + 1) ds [] k
-set_deep v x (d ∷ ds) (u ∷ us) k = set_deep v (x + 1) ds us k
-
-call_deep : (rs : List Record) (gs : List GlobalObject) (ps : List Procedure) (table : List Sums) (call : Expander)
-    → DeepensCalls table call →
-    (o : Option Procedure) (q : Option ℕ) (v : View) (a : At) (vs : List Operand) (k : TextView) →
-    deepest (call_of rs gs ps table call o q v a vs k) ≡ max (sums_of ps table o).deep (deepest k)
-call_deep rs gs ps table call h None q v a vs k = omega arith
-call_deep rs gs ps table call h (Some p) q v a vs k =
-    let inner : View = record { sight = sight rs gs (variables p); first = a.fresh } in
-    let text = expanded_block ps table call inner (after_call a p) p.body in
-    omega (
-      arith,
-      set_deep v a.fresh p.parameters vs (clear_locals (a.fresh + length p.parameters) p.locals (joined text k)),
-      cleared_deep (a.fresh + length p.parameters) p.locals (joined text k),
-      joined_deep text k,
-      block_deepens ps table call h inner (after_call a p) p.body,
-    )
-
--- the expansion of a call is as deep as the sums say
-pub call_deepens : (n : ℕ) (rs : List Record) (gs : List GlobalObject) (ps : List Procedure)
-    → DeepensCalls (sums_within n ps) (expand_within n rs gs ps)
-call_deepens zero rs gs ps None v a vs k = omega arith
-call_deepens zero rs gs ps (Some q) v a vs k = omega arith
-call_deepens (suc n) rs gs ps q v a vs k =
-    call_deep rs gs ps (sums_within n ps) (expand_within n rs gs ps) (call_deepens n rs gs ps)
-    (procedure_numbered ps q) q v a vs k
-    ∙ ap (λ (s : Sums). max s.deep (deepest k)) (sym (looked ps (sums_within n ps) q))

@@ -16,23 +16,23 @@ use Rattle.sect_front.specs.declared.tree.Thread.{Thread}
 use Rattle.sect_front.specs.TreeView.{TreeView}
 use Rattle.sect_types.specs.declared.place.Place.{Place}
 use Rattle.sect_types.specs.declared.place.Place.TheVariants.{InThread, InProcedure}
-use Rattle.sect_types.specs.Items.{deeper, in_section, Item, ARecord, AField, AGlobal, AProcedure, AThread, ALocal}
+use Rattle.sect_types.specs.Items.{deeper, in_section, Item, AGlobal}
 use Rattle.sect_types.specs.Items.{AStatement, PrimitiveHead, TestHead, AtomicHead, statement_items}
 use Rattle.sect_types.specs.Items.{block_items, field_items, record_items, global_items, local_items, procedure_items}
 use Rattle.sect_types.specs.Items.{thread_items, variables, items}
 use Rattle.sect_types.specs.declared.sums.Sums.{Sums}
-use Rattle.sect_types.specs.Sums.{nothing, both, statement_sums, block_sums, primitive_sums}
+use Rattle.sect_types.specs.Sums.{nothing, both, around, statement_sums, block_sums, primitive_sums}
 use Rattle.sect_types.specs.declared.rule.Rule.{Rule}
 use Rattle.sect_types.specs.declared.rule.Rule.TheVariants.{Unknown, Twice, WrongType, SharedOutside, Nested, TooMany}
 use Rattle.sect_types.specs.declared.rule.Rule.TheVariants.{Recursion, Arguments}
 use Rattle.sect_types.specs.Rules.{Declared, Counts, breaks, after, rule_of, Verdict, Fine, fault_or, judge}
-use Rattle.sect_types.specs.Rules.{least, declared_in}
+use Rattle.sect_types.specs.Rules.{least, declared_in, after_item}
 use Rattle.sect_types.specs.First.{none_yet, IsTyped}
 use Rattle.sect_types.specs.Clean.{AreCleanThreads}
 use Rattle.sect_types.specs.Expanded.{At, statement_sections, block_sections, past_thread, expanded_thread}
 use Rattle.sect_types.specs.Expanded.{expanded_threads, texts_of}
 use Rattle.sect_types.proofs.CountLaws.{thread_counts}
-use Rattle.sect_types.proofs.Walked.{NoneBroken, statement_after, block_after, locals_after, fields_after}
+use Rattle.sect_types.proofs.Walked.{NoneBroken, statement_after, block_after, declared_after}
 use Rattle.sect_types.proofs.Walked.{records_after, globals_after, procedure_after, procedures_after, thread_after}
 use Rattle.sect_types.proofs.Walked.{threads_after, before_procedures, before_threads, text_clean}
 use Rattle.sect_types.proofs.SiteLaws.{AreClean, typed_clean, thread_makes}
@@ -112,23 +112,21 @@ mutual
       statement_behind d ls at c s (block_items ls at b w) ∙ block_behind d ls at (statement_after d ls at c s) b w
 
 locals_behind : (d : Declared) (c : Counts) (before : List (List ℕ)) (ls : List Declaration) (w : List Item)
-    → after_all d c (local_items before ls w) ≡ after_all d (locals_after d c before ls) w
+    → after_all d c (local_items before ls w) ≡ after_all d (declared_after c ls) w
 locals_behind d c before [] w = refl
-locals_behind d c before (l ∷ ls) w =
-    locals_behind d (after d c (ALocal l.kind l.name before)) (before ++ l.name ∷ []) ls w
+locals_behind d c before (l ∷ ls) w = locals_behind d (after_item c) (before ++ l.name ∷ []) ls w
 
 fields_behind : (d : Declared) (c : Counts) (before : List (List ℕ)) (ls : List Declaration) (w : List Item)
-    → after_all d c (field_items before ls w) ≡ after_all d (fields_after d c before ls) w
+    → after_all d c (field_items before ls w) ≡ after_all d (declared_after c ls) w
 fields_behind d c before [] w = refl
-fields_behind d c before (l ∷ ls) w =
-    fields_behind d (after d c (AField l.kind l.name before)) (before ++ l.name ∷ []) ls w
+fields_behind d c before (l ∷ ls) w = fields_behind d (after_item c) (before ++ l.name ∷ []) ls w
 
 records_behind : (d : Declared) (c : Counts) (before : List (List ℕ)) (rs : List Record) (w : List Item)
     → after_all d c (record_items before rs w) ≡ after_all d (records_after d c before rs) w
 records_behind d c before [] w = refl
 records_behind d c before (x ∷ rs) w =
-    fields_behind d (after d c (ARecord x.name before)) [] x.fields (record_items (before ++ x.name ∷ []) rs w)
-    ∙ records_behind d (fields_after d (after d c (ARecord x.name before)) [] x.fields) (before ++ x.name ∷ []) rs w
+    fields_behind d (after_item c) [] x.fields (record_items (before ++ x.name ∷ []) rs w)
+    ∙ records_behind d (declared_after (after_item c) x.fields) (before ++ x.name ∷ []) rs w
 
 globals_behind : (d : Declared) (c : Counts) (before : List (List ℕ)) (gs : List GlobalObject) (w : List Item)
     → after_all d c (global_items before gs w) ≡ after_all d (globals_after d c before gs) w
@@ -198,6 +196,53 @@ primitive_adds d ls inside depth c (primitive.Store y f v) =
 primitive_adds d ls inside depth c (primitive.Print v) =
     record { statements_add = refl; sites_add = omega arith; calls_add = omega arith; sections_add = omega arith }
 
+-- one after another
+then_adds : {c e f : Counts} {s r : Sums} {n m : ℕ} → Adds c e s n → Adds e f r m → Adds c f (both s r) (n + m)
+then_adds x y = record {
+  statements_add = omega (arith, x.statements_add, y.statements_add);
+  sites_add = omega (arith, x.sites_add, y.sites_add);
+  calls_add = omega (arith, x.calls_add, y.calls_add);
+  sections_add = omega (arith, x.sections_add, y.sections_add);
+}
+
+-- a test, and the blocks that follow it
+test_adds : (c e : Counts) (s : Sums) (n : ℕ)
+    → Adds (record c { items = c.items + 1; statements = c.statements + 1 }) e s n → Adds c e (around s) n
+test_adds c e s n x = record {
+  statements_add = omega (arith, x.statements_add);
+  sites_add = x.sites_add;
+  calls_add = x.calls_add;
+  sections_add = x.sections_add;
+}
+
+-- declarations of variables, and what stands in procedures, add nothing
+abbrev pub AddsNothing : Counts → Counts → Type 0
+AddsNothing c e = Adds c e nothing 0
+
+nothing_adds : (c : Counts) → AddsNothing c c
+nothing_adds c = record {
+  statements_add = omega arith;
+  sites_add = omega arith;
+  calls_add = omega arith;
+  sections_add = omega arith;
+}
+
+item_then : (c : Counts) {e : Counts} {s : Sums} {n : ℕ} → Adds (after_item c) e s n → Adds c e s n
+item_then c x = record {
+  statements_add = x.statements_add;
+  sites_add = x.sites_add;
+  calls_add = x.calls_add;
+  sections_add = x.sections_add;
+}
+
+nothing_then : {c e f : Counts} {s : Sums} {n : ℕ} → AddsNothing c e → Adds e f s n → Adds c f s n
+nothing_then x y = record {
+  statements_add = omega (arith, x.statements_add, y.statements_add);
+  sites_add = omega (arith, x.sites_add, y.sites_add);
+  calls_add = omega (arith, x.calls_add, y.calls_add);
+  sections_add = omega (arith, x.sections_add, y.sections_add);
+}
+
 -- a body of a thread adds what its sums say
 mutual
   pub statement_adds : (d : Declared) (ls : List Declaration) (inside : Bool) (depth : ℕ) (c : Counts)
@@ -206,32 +251,16 @@ mutual
       (statement_sections s)
   statement_adds d ls inside depth c (Primitive p) = primitive_adds d ls inside depth c p
   statement_adds d ls inside depth c (If t a) =
-      let x = block_adds d ls inside (depth + 1) (after d c (AStatement (TestHead t) ls (InThread inside depth))) a in
-      record {
-        statements_add = omega (arith, x.statements_add);
-        sites_add = x.sites_add;
-        calls_add = x.calls_add;
-        sections_add = x.sections_add;
-      }
+      let e = after d c (AStatement (TestHead t) ls (InThread inside depth)) in
+      test_adds c _ _ _ (block_adds d ls inside (depth + 1) e a)
   statement_adds d ls inside depth c (IfElse t a b) =
-      let x = block_adds d ls inside (depth + 1) (after d c (AStatement (TestHead t) ls (InThread inside depth))) a in
-      let e = block_after d ls (InThread inside (depth + 1))
-      (after d c (AStatement (TestHead t) ls (InThread inside depth))) a in
-      let y = block_adds d ls inside (depth + 1) e b in
-      record {
-        statements_add = omega (arith, x.statements_add, y.statements_add);
-        sites_add = omega (arith, x.sites_add, y.sites_add);
-        calls_add = omega (arith, x.calls_add, y.calls_add);
-        sections_add = omega (arith, x.sections_add, y.sections_add);
-      }
+      let e = after d c (AStatement (TestHead t) ls (InThread inside depth)) in
+      let f = block_after d ls (InThread inside (depth + 1)) e a in
+      test_adds c _ _ _
+      (then_adds (block_adds d ls inside (depth + 1) e a) (block_adds d ls inside (depth + 1) f b))
   statement_adds d ls inside depth c (While t a) =
-      let x = block_adds d ls inside (depth + 1) (after d c (AStatement (TestHead t) ls (InThread inside depth))) a in
-      record {
-        statements_add = omega (arith, x.statements_add);
-        sites_add = x.sites_add;
-        calls_add = x.calls_add;
-        sections_add = x.sections_add;
-      }
+      let e = after d c (AStatement (TestHead t) ls (InThread inside depth)) in
+      test_adds c _ _ _ (block_adds d ls inside (depth + 1) e a)
   statement_adds d ls inside depth c (Atomic lock a) =
       let x = block_adds d ls true (depth + 1) (after d c (AStatement AtomicHead ls (InThread inside depth))) a in
       record {
@@ -245,120 +274,59 @@ mutual
 
   pub block_adds : (d : Declared) (ls : List Declaration) (inside : Bool) (depth : ℕ) (c : Counts) (b : BlockView)
       → Adds c (block_after d ls (InThread inside depth) c b) (block_sums d.procedures d.table b) (block_sections b)
-  block_adds d ls inside depth c End =
-      record {
-        statements_add = omega arith;
-        sites_add = omega arith;
-        calls_add = omega arith;
-        sections_add =
-            omega arith;
-      }
+  block_adds d ls inside depth c End = nothing_adds c
   block_adds d ls inside depth c (Then s b) =
-      let x = statement_adds d ls inside depth c s in
-      let y = block_adds d ls inside depth (statement_after d ls (InThread inside depth) c s) b in
-      record {
-        statements_add = omega (arith, x.statements_add, y.statements_add);
-        sites_add = omega (arith, x.sites_add, y.sites_add);
-        calls_add = omega (arith, x.calls_add, y.calls_add);
-        sections_add = omega (arith, x.sections_add, y.sections_add);
-      }
+      then_adds (statement_adds d ls inside depth c s)
+      (block_adds d ls inside depth (statement_after d ls (InThread inside depth) c s) b)
 
--- declarations of variables, and what stands in procedures, add nothing
-abbrev pub AddsNothing : Counts → Counts → Type 0
-AddsNothing c e = Adds c e nothing 0
-
-abbrev one_after_other : (c e f : Counts) → AddsNothing c e → AddsNothing e f → AddsNothing c f
-one_after_other c e f x y = record {
-  statements_add = omega (arith, x.statements_add, y.statements_add);
-  sites_add = omega (arith, x.sites_add, y.sites_add);
-  calls_add = omega (arith, x.calls_add, y.calls_add);
-  sections_add = omega (arith, x.sections_add, y.sections_add);
-}
-
-one_item : (c : Counts) (n : ℕ) → AddsNothing c (record c { items = n })
-one_item c n =
-    record {
-      statements_add = omega arith;
-      sites_add = omega arith;
-      calls_add = omega arith;
-      sections_add =
-          omega arith;
-    }
-
-locals_add : (d : Declared) (c : Counts) (before : List (List ℕ)) (ls : List Declaration)
-    → AddsNothing c (locals_after d c before ls)
-locals_add d c before [] = one_item c c.items
-locals_add d c before (l ∷ ls) =
-    let e = after d c (ALocal l.kind l.name before) in
-    one_after_other c e _ (one_item c (c.items + 1)) (locals_add d e (before ++ l.name ∷ []) ls)
-
-fields_add : (d : Declared) (c : Counts) (before : List (List ℕ)) (ls : List Declaration)
-    → AddsNothing c (fields_after d c before ls)
-fields_add d c before [] = one_item c c.items
-fields_add d c before (l ∷ ls) =
-    let e = after d c (AField l.kind l.name before) in
-    one_after_other c e _ (one_item c (c.items + 1)) (fields_add d e (before ++ l.name ∷ []) ls)
+declared_adds : (c : Counts) (ls : List Declaration) → AddsNothing c (declared_after c ls)
+declared_adds c [] = nothing_adds c
+declared_adds c (l ∷ ls) = item_then c (declared_adds (after_item c) ls)
 
 records_add : (d : Declared) (c : Counts) (before : List (List ℕ)) (rs : List Record)
     → AddsNothing c (records_after d c before rs)
-records_add d c before [] = one_item c c.items
+records_add d c before [] = nothing_adds c
 records_add d c before (x ∷ rs) =
-    let e = after d c (ARecord x.name before) in
-    let f = fields_after d e [] x.fields in
-    one_after_other c e _ (one_item c (c.items + 1))
-    (one_after_other e f _ (fields_add d e [] x.fields) (records_add d f (before ++ x.name ∷ []) rs))
+    let e = after_item c in
+    item_then c
+    (nothing_then (declared_adds e x.fields) (records_add d (declared_after e x.fields) (before ++ x.name ∷ []) rs))
 
 -- in a procedure
 mutual
   statement_adds_none : (d : Declared) (ls : List Declaration) (i : ℕ) (c : Counts) (s : StatementView)
       → AddsNothing c (statement_after d ls (InProcedure i) c s)
-  statement_adds_none d ls i c (Primitive p) = one_item c (c.items + 1)
-  statement_adds_none d ls i c (If t a) =
-      let e = after d c (AStatement (TestHead t) ls (InProcedure i)) in
-      one_after_other c e _ (one_item c (c.items + 1)) (block_adds_none d ls i e a)
+  statement_adds_none d ls i c (Primitive p) = item_then c (nothing_adds (after_item c))
+  statement_adds_none d ls i c (If t a) = item_then c (block_adds_none d ls i (after_item c) a)
   statement_adds_none d ls i c (IfElse t a b) =
-      let e = after d c (AStatement (TestHead t) ls (InProcedure i)) in
-      let f = block_after d ls (InProcedure i) e a in
-      one_after_other c e _ (one_item c (c.items + 1))
-      (one_after_other e f _ (block_adds_none d ls i e a) (block_adds_none d ls i f b))
-  statement_adds_none d ls i c (While t a) =
-      let e = after d c (AStatement (TestHead t) ls (InProcedure i)) in
-      one_after_other c e _ (one_item c (c.items + 1)) (block_adds_none d ls i e a)
-  statement_adds_none d ls i c (Atomic lock a) =
-      let e = after d c (AStatement AtomicHead ls (InProcedure i)) in
-      one_after_other c e _ (one_item c (c.items + 1)) (block_adds_none d ls i e a)
-  statement_adds_none d ls i c (Call f vs) = one_item c (c.items + 1)
+      let e = after_item c in
+      item_then c
+      (nothing_then (block_adds_none d ls i e a) (block_adds_none d ls i (block_after d ls (InProcedure i) e a) b))
+  statement_adds_none d ls i c (While t a) = item_then c (block_adds_none d ls i (after_item c) a)
+  statement_adds_none d ls i c (Atomic lock a) = item_then c (block_adds_none d ls i (after_item c) a)
+  statement_adds_none d ls i c (Call f vs) = item_then c (nothing_adds (after_item c))
 
   block_adds_none : (d : Declared) (ls : List Declaration) (i : ℕ) (c : Counts) (b : BlockView)
       → AddsNothing c (block_after d ls (InProcedure i) c b)
-  block_adds_none d ls i c End = one_item c c.items
+  block_adds_none d ls i c End = nothing_adds c
   block_adds_none d ls i c (Then s b) =
-      let e = statement_after d ls (InProcedure i) c s in
-      one_after_other c e _ (statement_adds_none d ls i c s) (block_adds_none d ls i e b)
+      nothing_then (statement_adds_none d ls i c s)
+      (block_adds_none d ls i (statement_after d ls (InProcedure i) c s) b)
 
 procedures_add : (d : Declared) (c : Counts) (i : ℕ) (before : List (List ℕ)) (ps : List Procedure)
     → AddsNothing c (procedures_after d c i before ps)
-procedures_add d c i before [] = one_item c c.items
+procedures_add d c i before [] = nothing_adds c
 procedures_add d c i before (p ∷ ps) =
-    let e = after d c (AProcedure p.name before) in
-    let f = locals_after d e [] (variables p) in
-    let g = procedure_after d c i before p in
-    one_after_other c e _ (one_item c (c.items + 1))
-    (one_after_other e f _ (locals_add d e [] (variables p))
-    (one_after_other f g _ (block_adds_none d (variables p) i f p.body)
-    (procedures_add d g (i + 1) (before ++ p.name ∷ []) ps)))
+    let e = after_item c in
+    let f = declared_after e (variables p) in
+    item_then c
+    (nothing_then (declared_adds e (variables p))
+    (nothing_then (block_adds_none d (variables p) i f p.body)
+    (procedures_add d (procedure_after d c i before p) (i + 1) (before ++ p.name ∷ []) ps)))
 
 -- each global is a site
 globals_add : (d : Declared) (c : Counts) (before : List (List ℕ)) (gs : List GlobalObject)
     → Adds c (globals_after d c before gs) (record nothing { sites = length gs }) 0
-globals_add d c before [] =
-    record {
-      statements_add = omega arith;
-      sites_add = omega arith;
-      calls_add = omega arith;
-      sections_add =
-          omega arith;
-    }
+globals_add d c before [] = nothing_adds c
 globals_add d c before (g ∷ gs) =
     let x = globals_add d (after d c (AGlobal g.of g.name before)) (before ++ g.name ∷ []) gs in
     record {
@@ -375,26 +343,13 @@ thread_sums d (h ∷ hs) = both (block_sums d.procedures d.table h.body) (thread
 
 pub threads_add : (d : Declared) (c : Counts) (before : List (List ℕ)) (hs : List Thread)
     → Adds c (threads_after d c before hs) (thread_sums d hs) (sections_in hs)
-threads_add d c before [] =
-    record {
-      statements_add = omega arith;
-      sites_add = omega arith;
-      calls_add = omega arith;
-      sections_add =
-          omega arith;
-    }
+threads_add d c before [] = nothing_adds c
 threads_add d c before (h ∷ hs) =
-    let e = after d c (AThread h.name before) in
-    let f = locals_after d e [] h.locals in
-    let x = locals_add d e [] h.locals in
-    let y = block_adds d h.locals false 1 f h.body in
-    let z = threads_add d (thread_after d c before h) (before ++ h.name ∷ []) hs in
-    record {
-      statements_add = omega (arith, x.statements_add, y.statements_add, z.statements_add);
-      sites_add = omega (arith, x.sites_add, y.sites_add, z.sites_add);
-      calls_add = omega (arith, x.calls_add, y.calls_add, z.calls_add);
-      sections_add = omega (arith, x.sections_add, y.sections_add, z.sections_add);
-    }
+    let e = after_item c in
+    item_then c
+    (nothing_then (declared_adds e h.locals)
+    (then_adds (block_adds d h.locals false 1 (declared_after e h.locals) h.body)
+    (threads_add d (thread_after d c before h) (before ++ h.name ∷ []) hs)))
 
 -- what stands before the threads: the globals alone are counted
 pub before_add : (t : TreeView) → Adds none_yet (before_threads t) (record nothing { sites = length t.globals }) 0

@@ -1,6 +1,8 @@
 -- The verdict on a list names its first fault.
 use Rattle.std.proofs.Common.{◌≡◌, ℕ, zero, suc, ◌+◌, ◌≤◌, Bool, true, false, List, [], ◌∷◌, Option, Some, None, Result}
-use Rattle.std.proofs.Common.{Ok, Err, if◌then◌else◌, refl, sym, ◌∙◌, true≢false, arith, subst}
+use Rattle.std.proofs.Common.{Ok, Err, if◌then◌else◌, refl, sym, ◌∙◌, true≢false, arith, subst, ap, ◌⊎◌, inl, inr, ◌<◌}
+use Rattle.std.proofs.Common.{◌-◌, get_or}
+use Rattle.std.proofs.Math.Nat.{eq-or-lt_of_le}
 use Rattle.sect_front.specs.declared.tree.Primitive.TheVariants as primitive
 use Rattle.sect_types.specs.declared.rule.Rule.{Rule}
 use Rattle.sect_types.specs.declared.rule.Rule.TheVariants.{Unknown, Twice, WrongType, SharedOutside, Nested, TooMany}
@@ -29,163 +31,56 @@ Least b (Some r) = (b r ≡ true) × ((q : Rule) → b q ≡ true → number_of_
 clash : {x : Bool} → x ≡ true → x ≡ false → ⊥
 clash h e = true≢false (sym h ∙ e)
 
-above_10 : (q : Rule) → 10 ≤ number_of_rule q
-above_10 Unknown = omega arith
-above_10 Twice = omega arith
-above_10 WrongType = omega arith
-above_10 SharedOutside = omega arith
-above_10 Nested = omega arith
-above_10 TooMany = omega arith
-above_10 Recursion = omega arith
-above_10 Arguments = omega arith
+-- the rules, from number 10 on
+abbrev rule_at : ℕ → Rule
+rule_at n =
+    get_or (Unknown ∷ Twice ∷ WrongType ∷ SharedOutside ∷ Nested ∷ TooMany ∷ Recursion ∷ Arguments ∷ []) (n - 10)
+    Unknown
+
+record IsNumbered (q : Rule) : Type 0 where
+  pub above : 10 ≤ number_of_rule q
+  pub below : number_of_rule q < 18
+  pub back : rule_at (number_of_rule q) ≡ q
+
+numbered : (q : Rule) → IsNumbered q
+numbered Unknown = record { above = omega arith; below = omega arith; back = refl }
+numbered Twice = record { above = omega arith; below = omega arith; back = refl }
+numbered WrongType = record { above = omega arith; below = omega arith; back = refl }
+numbered SharedOutside = record { above = omega arith; below = omega arith; back = refl }
+numbered Nested = record { above = omega arith; below = omega arith; back = refl }
+numbered TooMany = record { above = omega arith; below = omega arith; back = refl }
+numbered Recursion = record { above = omega arith; below = omega arith; back = refl }
+numbered Arguments = record { above = omega arith; below = omega arith; back = refl }
 
 -- the rules of lesser numbers aren't broken
 abbrev Below : (Rule → Bool) → ℕ → Type 0
 Below b n = (q : Rule) → b q ≡ true → n ≤ number_of_rule q
 
-next_11 : (b : Rule → Bool) → b Unknown ≡ false → Below b 11
-next_11 b e Unknown h = absurd (clash h e)
-next_11 b e Twice h = omega arith
-next_11 b e WrongType h = omega arith
-next_11 b e SharedOutside h = omega arith
-next_11 b e Nested h = omega arith
-next_11 b e TooMany h = omega arith
-next_11 b e Recursion h = omega arith
-next_11 b e Arguments h = omega arith
+-- nor is the next one
+next : (b : Rule → Bool) (n : ℕ) → Below b n → b (rule_at n) ≡ false → Below b (suc n)
+next b n below e q h = by (eq-or-lt_of_le (below q h))
+  where
+    by : (n ≡ number_of_rule q) ⊎ (n < number_of_rule q) → suc n ≤ number_of_rule q
+    by (inl same) = absurd (clash h (sym (ap b (ap rule_at same ∙ (numbered q).back)) ∙ e))
+    by (inr above) = omega arith
 
-next_12 : (b : Rule → Bool) → Below b 11 → b Twice ≡ false → Below b 12
-next_12 b below e Unknown h = absurd (omega (arith, below Unknown h))
-next_12 b below e Twice h = absurd (clash h e)
-next_12 b below e WrongType h = omega arith
-next_12 b below e SharedOutside h = omega arith
-next_12 b below e Nested h = omega arith
-next_12 b below e TooMany h = omega arith
-next_12 b below e Recursion h = omega arith
-next_12 b below e Arguments h = omega arith
+-- where it is broken it is the least, and otherwise what the rest says
+tried : (b : Rule → Bool) (n : ℕ) (rest : Option Rule) → n ≡ number_of_rule (rule_at n) → Below b n
+    → (Below b (suc n) → Least b rest) → Least b (if b (rule_at n) then Some (rule_at n) else rest)
+tried b n rest same below more = by (b (rule_at n)) refl
+  where
+    by : (x : Bool) → b (rule_at n) ≡ x → Least b (if x then Some (rule_at n) else rest)
+    by true e = (e, λ q h. omega (arith, below q h, same))
+    by false e = more (next b n below e)
 
-next_13 : (b : Rule → Bool) → Below b 12 → b WrongType ≡ false → Below b 13
-next_13 b below e Unknown h = absurd (omega (arith, below Unknown h))
-next_13 b below e Twice h = absurd (omega (arith, below Twice h))
-next_13 b below e WrongType h = absurd (clash h e)
-next_13 b below e SharedOutside h = omega arith
-next_13 b below e Nested h = omega arith
-next_13 b below e TooMany h = omega arith
-next_13 b below e Recursion h = omega arith
-next_13 b below e Arguments h = omega arith
-
-next_14 : (b : Rule → Bool) → Below b 13 → b SharedOutside ≡ false → Below b 14
-next_14 b below e Unknown h = absurd (omega (arith, below Unknown h))
-next_14 b below e Twice h = absurd (omega (arith, below Twice h))
-next_14 b below e WrongType h = absurd (omega (arith, below WrongType h))
-next_14 b below e SharedOutside h = absurd (clash h e)
-next_14 b below e Nested h = omega arith
-next_14 b below e TooMany h = omega arith
-next_14 b below e Recursion h = omega arith
-next_14 b below e Arguments h = omega arith
-
-next_15 : (b : Rule → Bool) → Below b 14 → b Nested ≡ false → Below b 15
-next_15 b below e Unknown h = absurd (omega (arith, below Unknown h))
-next_15 b below e Twice h = absurd (omega (arith, below Twice h))
-next_15 b below e WrongType h = absurd (omega (arith, below WrongType h))
-next_15 b below e SharedOutside h = absurd (omega (arith, below SharedOutside h))
-next_15 b below e Nested h = absurd (clash h e)
-next_15 b below e TooMany h = omega arith
-next_15 b below e Recursion h = omega arith
-next_15 b below e Arguments h = omega arith
-
-next_16 : (b : Rule → Bool) → Below b 15 → b TooMany ≡ false → Below b 16
-next_16 b below e Unknown h = absurd (omega (arith, below Unknown h))
-next_16 b below e Twice h = absurd (omega (arith, below Twice h))
-next_16 b below e WrongType h = absurd (omega (arith, below WrongType h))
-next_16 b below e SharedOutside h = absurd (omega (arith, below SharedOutside h))
-next_16 b below e Nested h = absurd (omega (arith, below Nested h))
-next_16 b below e TooMany h = absurd (clash h e)
-next_16 b below e Recursion h = omega arith
-next_16 b below e Arguments h = omega arith
-
-next_17 : (b : Rule → Bool) → Below b 16 → b Recursion ≡ false → Below b 17
-next_17 b below e Unknown h = absurd (omega (arith, below Unknown h))
-next_17 b below e Twice h = absurd (omega (arith, below Twice h))
-next_17 b below e WrongType h = absurd (omega (arith, below WrongType h))
-next_17 b below e SharedOutside h = absurd (omega (arith, below SharedOutside h))
-next_17 b below e Nested h = absurd (omega (arith, below Nested h))
-next_17 b below e TooMany h = absurd (omega (arith, below TooMany h))
-next_17 b below e Recursion h = absurd (clash h e)
-next_17 b below e Arguments h = omega arith
-
-none_left : (b : Rule → Bool) → Below b 17 → b Arguments ≡ false → (q : Rule) → b q ≡ true → ⊥
-none_left b below e Unknown h = omega (arith, below Unknown h)
-none_left b below e Twice h = omega (arith, below Twice h)
-none_left b below e WrongType h = omega (arith, below WrongType h)
-none_left b below e SharedOutside h = omega (arith, below SharedOutside h)
-none_left b below e Nested h = omega (arith, below Nested h)
-none_left b below e TooMany h = omega (arith, below TooMany h)
-none_left b below e Recursion h = omega (arith, below Recursion h)
-none_left b below e Arguments h = clash h e
-
-at_17 : (b : Rule → Bool) (x : Bool) → b Arguments ≡ x → Below b 17
-    → Least b (if x then Some Arguments else None)
-at_17 b true e below = (e, below)
-at_17 b false e below = none_left b below e
-
-at_16 : (b : Rule → Bool) (x : Bool) → b Recursion ≡ x → Below b 16
-    → Least b (if x then Some Recursion else (if b Arguments then Some Arguments else None))
-at_16 b true e below = (e, below)
-at_16 b false e below = at_17 b (b Arguments) refl (next_17 b below e)
-
-at_15 : (b : Rule → Bool) (x : Bool) → b TooMany ≡ x → Below b 15
-    → Least b (if x then Some TooMany else
-    (if b Recursion then Some Recursion else (if b Arguments then Some Arguments else None)))
-at_15 b true e below = (e, below)
-at_15 b false e below = at_16 b (b Recursion) refl (next_16 b below e)
-
-at_14 : (b : Rule → Bool) (x : Bool) → b Nested ≡ x → Below b 14
-    → Least b (if x then Some Nested else
-    (if b TooMany then Some TooMany else
-    (if b Recursion then Some Recursion else (if b Arguments then Some Arguments else None))))
-at_14 b true e below = (e, below)
-at_14 b false e below = at_15 b (b TooMany) refl (next_15 b below e)
-
-at_13 : (b : Rule → Bool) (x : Bool) → b SharedOutside ≡ x → Below b 13
-    → Least b (if x then Some SharedOutside else
-    (if b Nested then Some Nested else
-    (if b TooMany then Some TooMany else
-    (if b Recursion then Some Recursion else (if b Arguments then Some Arguments else None)))))
-at_13 b true e below = (e, below)
-at_13 b false e below = at_14 b (b Nested) refl (next_14 b below e)
-
-at_12 : (b : Rule → Bool) (x : Bool) → b WrongType ≡ x → Below b 12
-    → Least b (if x then Some WrongType else
-    (if b SharedOutside then Some SharedOutside else
-    (if b Nested then Some Nested else
-    (if b TooMany then Some TooMany else
-    (if b Recursion then Some Recursion else (if b Arguments then Some Arguments else None))))))
-at_12 b true e below = (e, below)
-at_12 b false e below = at_13 b (b SharedOutside) refl (next_13 b below e)
-
-at_11 : (b : Rule → Bool) (x : Bool) → b Twice ≡ x → Below b 11
-    → Least b (if x then Some Twice else
-    (if b WrongType then Some WrongType else
-    (if b SharedOutside then Some SharedOutside else
-    (if b Nested then Some Nested else
-    (if b TooMany then Some TooMany else
-    (if b Recursion then Some Recursion else (if b Arguments then Some Arguments else None)))))))
-at_11 b true e below = (e, below)
-at_11 b false e below = at_12 b (b WrongType) refl (next_12 b below e)
-
-at_10 : (b : Rule → Bool) (x : Bool) → b Unknown ≡ x
-    → Least b (if x then Some Unknown else
-    (if b Twice then Some Twice else
-    (if b WrongType then Some WrongType else
-    (if b SharedOutside then Some SharedOutside else
-    (if b Nested then Some Nested else
-    (if b TooMany then Some TooMany else
-    (if b Recursion then Some Recursion else (if b Arguments then Some Arguments else None))))))))
-at_10 b true e = (e, λ q h. above_10 q)
-at_10 b false e = at_11 b (b Twice) refl (next_11 b e)
+none_left : (b : Rule → Bool) → Below b 18 → Least b None
+none_left b below = λ q h. omega (arith, below q h, (numbered q).below)
 
 least_is : (b : Rule → Bool) → Least b (least b)
-least_is b = at_10 b (b Unknown) refl
+least_is b =
+    tried b 10 _ refl (λ q h. (numbered q).above) (λ below. tried b 11 _ refl below (λ below.
+    tried b 12 _ refl below (λ below. tried b 13 _ refl below (λ below. tried b 14 _ refl below (λ below.
+    tried b 15 _ refl below (λ below. tried b 16 _ refl below (λ below. tried b 17 None refl below (none_left b))))))))
 
 -- each item counts once
 counts_one : (text : Declared) (c : Counts) (item : Item) → (after text c item).items ≡ c.items + 1

@@ -7,7 +7,6 @@ use Rattle.sect_front.specs.declared.tree.Declaration.{Declaration}
 use Rattle.sect_front.specs.declared.tree.Operand.{Operand}
 use Rattle.sect_front.specs.declared.tree.Procedure.{Procedure}
 use Rattle.sect_front.specs.declared.tree.Primitive as leaf
-use Rattle.sect_front.specs.declared.tree.Primitive.TheVariants as primitive
 use Rattle.sect_front.specs.declared.tree.Locking.{Locking}
 use Rattle.sect_front.specs.declared.tree.Test.{Test}
 use Rattle.sect_front.specs.declared.tree.Statement.{Statement}
@@ -34,6 +33,7 @@ use Rattle.std.specs.Option.{option_map}
 use Rattle.std.proofs.lemmas.Option.{slice_get-map}
 use Rattle.sect_types.specs.steps.Threads.{VariablesView, variables_shown}
 use Rattle.sect_types.proofs.Lists.{drop_next}
+use Rattle.sect_types.proofs.CountLaws.{primitive_comes}
 use Rattle.sect_types.proofs.Writing.{called, statement_follows, call_by_parts, alone, either_written}
 
 -- two fronts of the same parts
@@ -45,22 +45,6 @@ front_same a b e f g h i = λ j. record {
   fresh = i j;
 }
 
-no_calls : (p : leaf.Primitive) → (primitive_sums p).calls ≡ 0
-no_calls (primitive.Assign x v) = refl
-no_calls (primitive.Compute x v o w) = refl
-no_calls (primitive.New x r) = refl
-no_calls (primitive.Load x y f) = refl
-no_calls (primitive.Store y f v) = refl
-no_calls (primitive.Print v) = refl
-
-no_fresh : (p : leaf.Primitive) → (primitive_sums p).fresh ≡ 0
-no_fresh (primitive.Assign x v) = refl
-no_fresh (primitive.Compute x v o w) = refl
-no_fresh (primitive.New x r) = refl
-no_fresh (primitive.Load x y f) = refl
-no_fresh (primitive.Store y f v) = refl
-no_fresh (primitive.Print v) = refl
-
 -- past a statement without a block
 pub primitive_front : (w : WorldView) (n : ℕ) (f new : FrontView) (s : StatementView) (p : leaf.Primitive)
     → s ≡ Primitive p
@@ -68,8 +52,9 @@ pub primitive_front : (w : WorldView) (n : ℕ) (f new : FrontView) (s : Stateme
     → new ≡ front_past_statement w n f s
 primitive_front w n f new s p e h =
     h ∙ front_same (record f { at = record f.at { sites = f.at.sites + (primitive_sums p).sites } })
-    (front_past_statement w n f (Primitive p)) refl (omega arith) (omega (arith, no_fresh p))
-    (omega (arith, no_calls p))
+    (front_past_statement w n f (Primitive p)) refl (omega arith)
+    (omega (arith, ap (λ (x : Sums). x.fresh) (primitive_comes p)))
+    (omega (arith, ap (λ (x : Sums). x.calls) (primitive_comes p)))
     (sym (append-nil f.fresh))
     ∙ ap (front_past_statement w n f) (sym e)
 

@@ -8,8 +8,8 @@ use Rattle.sect_front.specs.Syntax.{StatementView, Primitive, If, IfElse, While,
 use Rattle.sect_front.specs.declared.tree.Procedure.{Procedure}
 use Rattle.sect_front.specs.declared.tree.Thread.{Thread}
 use Rattle.sect_front.specs.TreeView.{TreeView}
-use Rattle.sect_types.specs.Items.{PrimitiveHead, TestHead, AtomicHead, CallHead, deeper, in_section, Item, ARecord}
-use Rattle.sect_types.specs.Items.{AField, AGlobal, AProcedure, AThread, ALocal, AStatement, statement_items}
+use Rattle.sect_types.specs.Items.{PrimitiveHead, TestHead, AtomicHead, CallHead, deeper, in_section, Item}
+use Rattle.sect_types.specs.Items.{AGlobal, AStatement, statement_items}
 use Rattle.sect_types.specs.Items.{block_items, field_items, record_items, global_items, local_items, procedure_items}
 use Rattle.sect_types.specs.Items.{thread_items, variables}
 use Rattle.sect_types.specs.declared.place.Place.{Place}
@@ -17,7 +17,7 @@ use Rattle.sect_types.specs.declared.place.Place.TheVariants.{InThread, InProced
 use Rattle.sect_types.specs.declared.rule.Rule.TheVariants.{Unknown, Twice, WrongType, SharedOutside, Nested, TooMany}
 use Rattle.sect_types.specs.declared.rule.Rule.TheVariants.{Recursion, Arguments}
 use Rattle.sect_types.specs.declared.rule.Rule.{Rule}
-use Rattle.sect_types.specs.Rules.{Declared, Counts, breaks, after, declared_in}
+use Rattle.sect_types.specs.Rules.{Declared, Counts, breaks, after, after_item, declared_in}
 use Rattle.sect_types.specs.First.{BreaksFrom, none_yet, IsTyped}
 use Rattle.sect_types.specs.Clean.{IsClean, IsCleanStatement, IsCleanBlock, AreCleanProcedures, AreCleanThreads}
 
@@ -97,39 +97,33 @@ mutual
       let y = block_walked d ls at (statement_after d ls at c s) b w x.1 in
       ((x.0, y.0), y.1)
 
--- what stands before the item after these declarations
-abbrev pub locals_after : Declared → Counts → List (List ℕ) → List Declaration → Counts
-locals_after d c before [] = c
-locals_after d c before (l ∷ ls) =
-    locals_after d (after d c (ALocal l.kind l.name before)) (before ++ l.name ∷ []) ls
+-- what stands before the item after these declarations, fields or variables
+abbrev pub declared_after : Counts → List Declaration → Counts
+declared_after c [] = c
+declared_after c (l ∷ ls) = declared_after (after_item c) ls
 
 pub locals_walked : (d : Declared) (c : Counts) (before : List (List ℕ)) (ls : List Declaration) (w : List Item)
-    → NoneBroken d c (local_items before ls w) → NoneBroken d (locals_after d c before ls) w
+    → NoneBroken d c (local_items before ls w) → NoneBroken d (declared_after c ls) w
 locals_walked d c before [] w h = h
 locals_walked d c before (l ∷ ls) w h =
-    locals_walked d (after d c (ALocal l.kind l.name before)) (before ++ l.name ∷ []) ls w (λ i r. h (suc i) r)
-
-abbrev pub fields_after : Declared → Counts → List (List ℕ) → List Declaration → Counts
-fields_after d c before [] = c
-fields_after d c before (l ∷ ls) =
-    fields_after d (after d c (AField l.kind l.name before)) (before ++ l.name ∷ []) ls
+    locals_walked d (after_item c) (before ++ l.name ∷ []) ls w (λ i r. h (suc i) r)
 
 pub fields_walked : (d : Declared) (c : Counts) (before : List (List ℕ)) (ls : List Declaration) (w : List Item)
-    → NoneBroken d c (field_items before ls w) → NoneBroken d (fields_after d c before ls) w
+    → NoneBroken d c (field_items before ls w) → NoneBroken d (declared_after c ls) w
 fields_walked d c before [] w h = h
 fields_walked d c before (l ∷ ls) w h =
-    fields_walked d (after d c (AField l.kind l.name before)) (before ++ l.name ∷ []) ls w (λ i r. h (suc i) r)
+    fields_walked d (after_item c) (before ++ l.name ∷ []) ls w (λ i r. h (suc i) r)
 
 abbrev pub records_after : Declared → Counts → List (List ℕ) → List Record → Counts
 records_after d c before [] = c
 records_after d c before (x ∷ rs) =
-    records_after d (fields_after d (after d c (ARecord x.name before)) [] x.fields) (before ++ x.name ∷ []) rs
+    records_after d (declared_after (after_item c) x.fields) (before ++ x.name ∷ []) rs
 
 pub records_walked : (d : Declared) (c : Counts) (before : List (List ℕ)) (rs : List Record) (w : List Item)
     → NoneBroken d c (record_items before rs w) → NoneBroken d (records_after d c before rs) w
 records_walked d c before [] w h = h
 records_walked d c before (x ∷ rs) w h =
-    records_walked d (fields_after d (after d c (ARecord x.name before)) [] x.fields) (before ++ x.name ∷ []) rs w
+    records_walked d (declared_after (after_item c) x.fields) (before ++ x.name ∷ []) rs w
     (fields_walked d _ [] x.fields (record_items (before ++ x.name ∷ []) rs w) (λ i r. h (suc i) r))
 
 abbrev pub globals_after : Declared → Counts → List (List ℕ) → List GlobalObject → Counts
@@ -147,7 +141,7 @@ globals_walked d c before (g ∷ gs) w h =
 abbrev pub procedure_after : Declared → Counts → ℕ → List (List ℕ) → Procedure → Counts
 procedure_after d c i before p =
     block_after d (variables p) (InProcedure i)
-    (locals_after d (after d c (AProcedure p.name before)) [] (variables p)) p.body
+    (declared_after (after_item c) (variables p)) p.body
 
 abbrev pub procedures_after : Declared → Counts → ℕ → List (List ℕ) → List Procedure → Counts
 procedures_after d c i before [] = c
@@ -169,7 +163,7 @@ procedures_walked d c i before (p ∷ ps) w h =
 
 abbrev pub thread_after : Declared → Counts → List (List ℕ) → Thread → Counts
 thread_after d c before t =
-    block_after d t.locals (InThread false 1) (locals_after d (after d c (AThread t.name before)) [] t.locals) t.body
+    block_after d t.locals (InThread false 1) (declared_after (after_item c) t.locals) t.body
 
 abbrev pub threads_after : Declared → Counts → List (List ℕ) → List Thread → Counts
 threads_after d c before [] = c

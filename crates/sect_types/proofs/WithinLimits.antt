@@ -25,7 +25,7 @@ use Rattle.sect_types.specs.Items.{thread_items}
 use Rattle.sect_types.specs.declared.sums.Sums.{Sums}
 use Rattle.sect_types.specs.Sums.{sums, sums_at, sums_within, number_of, primitive_sums, statement_sums, block_sums}
 use Rattle.sect_types.specs.Rules.{Declared, Counts, seen, after, too_many, passes_by, sums_of_call, as_many}
-use Rattle.sect_types.specs.Rules.{procedure_of, knows_operands, declared_in}
+use Rattle.sect_types.specs.Rules.{after_item, procedure_of, knows_operands, declared_in}
 use Rattle.sect_types.specs.Clean.{IsClean}
 use Rattle.sect_types.specs.First.{none_yet, IsTyped}
 use Rattle.sect_types.specs.declared.expand.Fresh.{Fresh}
@@ -33,7 +33,7 @@ use Rattle.sect_types.specs.Expanded.{procedure_numbered, fresh_in, local_types_
 use Rattle.sect_types.proofs.FuelLaws.{or_false}
 use Rattle.sect_types.proofs.Resolved.{not_false}
 use Rattle.sect_types.proofs.Walked.{NoneBroken, first_clean, first_few, next_none, statement_after, block_after}
-use Rattle.sect_types.proofs.Walked.{statement_walked, block_walked, locals_after, locals_walked, thread_after}
+use Rattle.sect_types.proofs.Walked.{statement_walked, block_walked, declared_after, locals_walked, thread_after}
 use Rattle.sect_types.proofs.Walked.{threads_after, records_after, records_walked, globals_walked, procedures_walked}
 use Rattle.sect_types.proofs.Walked.{before_procedures, before_threads}
 use Rattle.sect_types.proofs.CountLaws.{sums_of, looked, thread_freshens}
@@ -191,19 +191,18 @@ locals_few d c before (l ∷ ls) w h f =
     (omega (arith, one, here)) in
     omega (arith, one, more)
 
+item_keeps : (c : Counts) → IsFew c → IsFew (after_item c)
+item_keeps c f = record {
+  few_statements = f.few_statements;
+  few_sites = f.few_sites;
+  few_sections = f.few_sections;
+  few_calls = f.few_calls;
+}
+
 -- where variables are declared nothing is counted
-locals_keep : (d : Declared) (c : Counts) (before : List (List ℕ)) (ls : List Declaration) → IsFew c
-    → IsFew (locals_after d c before ls)
-locals_keep d c before [] f = f
-locals_keep d c before (l ∷ ls) f =
-    locals_keep d (after d c (ALocal l.kind l.name before)) (before ++ l.name ∷ []) ls
-    (record {
-      few_statements = f.few_statements;
-      few_sites = f.few_sites;
-      few_sections = f.few_sections;
-      few_calls =
-          f.few_calls;
-    })
+declared_keep : (c : Counts) (ls : List Declaration) → IsFew c → IsFew (declared_after c ls)
+declared_keep c [] f = f
+declared_keep c (l ∷ ls) f = declared_keep (after_item c) ls (item_keeps c f)
 
 -- each thread has at most 64 locals of its own
 abbrev pub HaveFewLocals : List Thread → Type 0
@@ -220,18 +219,10 @@ threads_few d c before (t ∷ ts) w h f =
     let body = block_items t.locals (InThread false 1) t.body rest in
     let item = AThread t.name before in
     let e = after d c item in
-    let g = locals_after d e [] t.locals in
+    let g = declared_after e t.locals in
     let at_locals = next_none d c item (local_items [] t.locals body) h in
     let at_block = locals_walked d e [] t.locals body at_locals in
-    let keeps = locals_keep d e [] t.locals
-    (record {
-      few_statements = f.few_statements;
-      few_sites = f.few_sites;
-      few_sections = f.few_sections;
-      few_calls =
-          f.few_calls;
-    }) in
-    let x = block_few d t.locals false 1 g t.body rest at_block keeps in
+    let x = block_few d t.locals false 1 g t.body rest at_block (declared_keep e t.locals (item_keeps c f)) in
     let y = threads_few d (thread_after d c before t) (before ++ t.name ∷ []) ts w
     (block_walked d t.locals (InThread false 1) g t.body rest at_block).1 x in
     (y.0, (omega (arith, locals_few d e [] t.locals body at_locals (omega arith)), y.1))

@@ -9,7 +9,9 @@ pub mod Expanding
 pub mod FreshTypes
 pub mod Standing
 pub mod Threads
+pub mod Shown
 pub mod Found
 pub mod Listing
 pub mod Counted
 pub mod Expansion
+pub mod Inside

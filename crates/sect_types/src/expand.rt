@@ -12,13 +12,15 @@ ghost use Rattle.sect_types.specs.Expanded.{set_parameters, clear_locals, of_cal
 ghost use Rattle.sect_types.specs.declared.limits.TheConstants.{MOST_ALL_LOCALS, MOST_SITES};
 ghost use Rattle.sect_front.specs.Syntax.{Call};
 ghost use Rattle.sect_types.specs.steps.Threads.{variables_shown, local_names as names_of_locals};
-ghost use Rattle.sect_types.specs.steps.Expanding.{Fits, front_past_statement, front_past_block, expanded_there};
+ghost use Rattle.sect_types.specs.steps.Expanding.{Fits};
+ghost use Rattle.sect_types.specs.steps.Inside.{past_in, past_block_in, text_in, block_text_in};
 ghost use Rattle.sect_types.specs.steps.Expansion.{argument_at as argument_at_by, view_of};
 ghost use Rattle.sect_types.specs.Expanded.{cleared as cleared_by};
-ghost use Rattle.sect_types.specs.steps.Expanding.{AreFlat, block_there, AllFit, thread_end, thread_text, tree_of};
+ghost use Rattle.sect_types.specs.steps.Expanding.{AreFlat, AllFit, thread_end, thread_text, tree_of};
 
 use crate::action::{Action, Value};
 use crate::called::Called;
+use crate::inside::Inside;
 use crate::names::Names;
 use crate::scope::Scope;
 use crate::text::{Step, Text};
@@ -291,140 +293,121 @@ fn put_cleared(fresh: u16, list: &[Declaration], out: &mut Text) -> Result<(), A
     Ok(())
 }
 
-/// Adds the expansion of a call, where calls stand in one another at most `most` deep.
+/// Adds the expansion of a call.
 #[cycle(expand)]
 fn expand_call(
     alloc: Global,
-    world: &World<'_>,
-    most: usize,
-    scope: &Scope<'_>,
-    first: u16,
+    inside: &Inside<'_>,
     front: &mut Front,
     name: &Name,
     operands: &[Operand],
     out: &mut Text,
 ) -> Result<(), AllocError>
-    requires own { first + length scope.now.locals ≤ MOST_ALL_LOCALS }
-    requires fits { Fits (front_past_statement world.now most front.old (Call name.now operands.now)) }
+    requires fits { Fits (past_in inside.now front.old (Call name.now operands.now)) }
     ensures text { OnOk result ((k : TextView) → joined out.new k
-        ≡ joined out.old (expanded_there world.now most (record { sight = scope.now; first = first })
-        front.old (Call name.now operands.now) k)) }
-    ensures front { OnOk result (front.new
-        ≡ front_past_statement world.now most front.old (Call name.now operands.now)) }
+        ≡ joined out.old (text_in inside.now front.old (Call name.now operands.now) k)) }
+    ensures front { OnOk result (front.new ≡ past_in inside.now front.old (Call name.now operands.now)) }
 {
+    let world = inside.world;
     let Some(number) = world.number_of(name) else {
         return Ok(());
     };
-    if most == 0 {
+    if inside.most == 0 {
         return Ok(());
     }
     let procedure = world.procedure(number);
     let variables = world.variables(number);
     let fresh = front.next();
     let parameters = procedure.parameters.as_slice();
-    put_parameters(scope, first, fresh, parameters, operands, out)?;
+    put_parameters(inside.scope, inside.first, fresh, parameters, operands, out)?;
     let cleared = fresh + parameters.len() as u16;
     put_cleared(cleared, procedure.locals.as_slice(), out)?;
     front.pass_call(variables.as_slice())?;
-    let inner = world.scope(variables.as_slice(), variables.names());
-    expand_block(
-        alloc,
+    let scope = world.scope(variables.as_slice(), variables.names());
+    let inner = Inside {
         world,
-        most - 1,
-        &inner,
-        fresh,
-        front,
-        &procedure.body,
-        out,
-    )?;
+        most: inside.most - 1,
+        scope: &scope,
+        first: fresh,
+    };
+    expand_block(alloc, &inner, front, &procedure.body, out)?;
     Ok(())
 }
 
-/// Adds a statement, where calls stand in one another at most `most` deep.
+/// Adds a statement.
 #[cycle(expand)]
 fn expand_statement(
     alloc: Global,
-    world: &World<'_>,
-    most: usize,
-    scope: &Scope<'_>,
-    first: u16,
+    inside: &Inside<'_>,
     front: &mut Front,
     statement: &Statement,
     out: &mut Text,
 ) -> Result<(), AllocError>
-    requires own { first + length scope.now.locals ≤ MOST_ALL_LOCALS }
-    requires fits { Fits (front_past_statement world.now most front.old (statement_of statement.now)) }
+    requires fits { Fits (past_in inside.now front.old (statement_of statement.now)) }
     ensures text { OnOk result ((k : TextView) → joined out.new k
-        ≡ joined out.old (expanded_there world.now most (record { sight = scope.now; first = first })
-        front.old (statement_of statement.now) k)) }
-    ensures front { OnOk result (front.new
-        ≡ front_past_statement world.now most front.old (statement_of statement.now)) }
+        ≡ joined out.old (text_in inside.now front.old (statement_of statement.now) k)) }
+    ensures front { OnOk result (front.new ≡ past_in inside.now front.old (statement_of statement.now)) }
 {
     match statement {
         Statement::Primitive(primitive) => {
-            let action = scope.action(first, front.sites, primitive);
+            let action = inside.scope.action(inside.first, front.sites, primitive);
             front.pass_primitive(primitive);
             out.push(Step::Do(action))?;
             Ok(())
         }
         Statement::If(test, then) => {
-            let condition = scope.condition(first, test);
+            let condition = inside.scope.condition(inside.first, test);
             let mut yes = Text::new(alloc);
-            expand_block(alloc, world, most, scope, first, front, then, &mut yes)?;
+            expand_block(alloc, inside, front, then, &mut yes)?;
             out.push(Step::If(condition, yes, Text::new(alloc)))?;
             Ok(())
         }
         Statement::IfElse(test, then, other) => {
-            let condition = scope.condition(first, test);
+            let condition = inside.scope.condition(inside.first, test);
             let mut yes = Text::new(alloc);
-            expand_block(alloc, world, most, scope, first, front, then, &mut yes)?;
+            expand_block(alloc, inside, front, then, &mut yes)?;
             let mut no = Text::new(alloc);
-            expand_block(alloc, world, most, scope, first, front, other, &mut no)?;
+            expand_block(alloc, inside, front, other, &mut no)?;
             out.push(Step::If(condition, yes, no))?;
             Ok(())
         }
         Statement::While(test, body) => {
-            let condition = scope.condition(first, test);
+            let condition = inside.scope.condition(inside.first, test);
             let mut inner = Text::new(alloc);
-            expand_block(alloc, world, most, scope, first, front, body, &mut inner)?;
+            expand_block(alloc, inside, front, body, &mut inner)?;
             out.push(Step::While(condition, inner))?;
             Ok(())
         }
         Statement::Atomic(_, body) => {
             let number = front.pass_section();
             let mut inner = Text::new(alloc);
-            expand_block(alloc, world, most, scope, first, front, body, &mut inner)?;
+            expand_block(alloc, inside, front, body, &mut inner)?;
             out.push(Step::Section(number, inner))?;
             Ok(())
         }
         Statement::Call(name, operands) => {
             let operands = operands.as_slice();
-            expand_call(alloc, world, most, scope, first, front, name, operands, out)
+            expand_call(alloc, inside, front, name, operands, out)
         }
     }
 }
 
-/// Adds the statements of a block, where calls stand in one another at most `most` deep.
+/// Adds the statements of a block.
 #[cycle(expand)]
 fn expand_block(
     alloc: Global,
-    world: &World<'_>,
-    most: usize,
-    scope: &Scope<'_>,
-    first: u16,
+    inside: &Inside<'_>,
     front: &mut Front,
     block: &Block,
     out: &mut Text,
 ) -> Result<(), AllocError>
-    requires own { first + length scope.now.locals ≤ MOST_ALL_LOCALS }
-    requires fits { Fits (front_past_block world.now most front.old block.now) }
+    requires fits { Fits (past_block_in inside.now front.old block.now) }
     ensures text { OnOk result ((k : TextView) → joined out.new k
-        ≡ joined out.old (joined (block_there world.now most (record { sight = scope.now; first = first })
-        front.old block.now) k)) }
-    ensures front { OnOk result (front.new ≡ front_past_block world.now most front.old block.now) }
+        ≡ joined out.old (joined (block_text_in inside.now front.old block.now) k)) }
+    ensures front { OnOk result (front.new ≡ past_block_in inside.now front.old block.now) }
 {
     for statement in block.as_slice() {
-        expand_statement(alloc, world, most, scope, first, front, statement, out)?;
+        expand_statement(alloc, inside, front, statement, out)?;
     }
     Ok(())
 }
@@ -480,18 +463,14 @@ fn expand_thread(
         fresh: Vec::new(alloc),
     };
     let scope = world.scope(list, names);
-    let most = world.len();
-    let mut text = Text::new(alloc);
-    expand_block(
-        alloc,
+    let inside = Inside {
         world,
-        most,
-        &scope,
-        0,
-        &mut front,
-        &thread.body,
-        &mut text,
-    )?;
+        most: world.len(),
+        scope: &scope,
+        first: 0,
+    };
+    let mut text = Text::new(alloc);
+    expand_block(alloc, &inside, &mut front, &thread.body, &mut text)?;
     *sites = front.sites;
     *sections = front.sections;
     Ok((text, FreshLocals { list: front.fresh }))

@@ -5,6 +5,7 @@ mod action;
 mod called;
 mod declare;
 mod expand;
+mod inside;
 mod limits;
 mod local_name;
 mod locking;

@@ -10,7 +10,8 @@ ghost use Rattle.sect_types.specs.Items.{local_items, block_items, procedure_ite
 ghost use Rattle.sect_types.specs.declared.place.Place.TheVariants.{InThread, InProcedure};
 ghost use Rattle.sect_types.specs.Rules.{declared_in};
 ghost use Rattle.sect_types.specs.steps.Walks.{Walks};
-ghost use Rattle.sect_types.specs.steps.Listing.{Knows, all_known, fields_fine, globals_known, locals_fine};
+ghost use Rattle.sect_types.specs.steps.Listing.{all_known, fields_fine, globals_known, locals_fine};
+ghost use Rattle.sect_types.specs.steps.Shown.{Shows};
 ghost use Rattle.sect_types.specs.Sound.{IsSound, AreSound};
 ghost use Rattle.sect_types.specs.declared.rule.TypeFault.TheVariants.{Memory};
 ghost use Rattle.sect_types.specs.Sections.{sections_of, AllNumbered, AllSited};
@@ -63,10 +64,7 @@ fn pass_whole_procedure(
     spot: &mut Spot,
     procedure: &Procedure,
 ) -> Result<Variables, Fault>
-    requires known { Knows shown.now.known.now tree.now.records }
-    requires records { shown.now.record_names.now ≡ names_of_records tree.now.records }
-    requires fields { shown.now.field_names.now ≡ all_fields tree.now.records }
-    requires globals { shown.now.global_names.now ≡ names_of_globals tree.now.globals }
+    requires shown { Shows shown.now tree.now }
     requires procedures { called.now ≡ tree.now.procedures }
     requires there { length names.old < length tree.now.procedures }
     requires shallow { block_depth procedure.now.body ≤ MOST_DEPTH }
@@ -114,10 +112,7 @@ fn procedures(
     called: &Called<'_>,
     spot: &mut Spot,
 ) -> Result<Vec<Variables>, Fault>
-    requires known { Knows shown.now.known.now tree.now.records }
-    requires records { shown.now.record_names.now ≡ names_of_records tree.now.records }
-    requires fields { shown.now.field_names.now ≡ all_fields tree.now.records }
-    requires globals { shown.now.global_names.now ≡ names_of_globals tree.now.globals }
+    requires shown { Shows shown.now tree.now }
     requires procedures { called.now ≡ tree.now.procedures }
     requires shallow { procedures_depth tree.now.procedures ≤ MOST_DEPTH }
     ensures walks { Walks (declared_in tree.now) (procedure_items 0 [] tree.now.procedures)
@@ -148,10 +143,7 @@ fn whole_thread(
     spot: &mut Spot,
     thread: &Thread,
 ) -> Result<Names, Fault>
-    requires known { Knows shown.now.known.now tree.now.records }
-    requires records { shown.now.record_names.now ≡ names_of_records tree.now.records }
-    requires fields { shown.now.field_names.now ≡ all_fields tree.now.records }
-    requires globals { shown.now.global_names.now ≡ names_of_globals tree.now.globals }
+    requires shown { Shows shown.now tree.now }
     requires standing { standing.now ≡ record { procedures = tree.now.procedures; at = InThread false 1 } }
     requires shallow { block_depth thread.now.body + 1 ≤ MOST_DEPTH }
     ensures walks { Walks (declared_in tree.now) (λ w. AThread thread.now.name names.old
@@ -188,10 +180,7 @@ fn threads(
     standing: &Standing<'_>,
     spot: &mut Spot,
 ) -> Result<Vec<Names>, Fault>
-    requires known { Knows shown.now.known.now tree.now.records }
-    requires records { shown.now.record_names.now ≡ names_of_records tree.now.records }
-    requires fields { shown.now.field_names.now ≡ all_fields tree.now.records }
-    requires globals { shown.now.global_names.now ≡ names_of_globals tree.now.globals }
+    requires shown { Shows shown.now tree.now }
     requires standing { standing.now ≡ record { procedures = tree.now.procedures; at = InThread false 1 } }
     requires shallow { threads_depth tree.now.threads ≤ MOST_DEPTH }
     ensures walks { Walks (declared_in tree.now) (thread_items [] tree.now.threads)

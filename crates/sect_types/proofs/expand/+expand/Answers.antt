@@ -1,5 +1,5 @@
 use Rattle.std.proofs.Common.{◌≡◌, suc, arith, ap, sym, ◌∙◌, length, length-append}
-use Rattle.std.specs.Prelude.{◌-◌, []}
+use Rattle.std.specs.Prelude.{ℕ, ◌-◌, []}
 use Rattle.sect_front.specs.Trees.{statement_of, statement_size, block_size}
 use Rattle.sect_front.proofs.Bodies.{size_at}
 use Rattle.sect_types.specs.steps.Threads.{VariablesView}
@@ -12,36 +12,37 @@ use Rattle.sect_types.specs.Numbered.{action_in}
 use Rattle.sect_types.specs.Resolve.{primitive_of}
 use Rattle.sect_types.proofs.Writing.{primitive_written, if_written, while_written, section_written}
 use Rattle.sect_types.proofs.Fronts.{starts, next_fits, one_more, ends_text, ends_front, call_front, call_fits}
-use Rattle.sect_types.proofs.Fronts.{call_text, size_most, falls, anew, either_text, shown_names}
+use Rattle.sect_types.proofs.Fronts.{CallFits, call_text, size_most, falls, anew, either_text, shown_names}
+use Rattle.sect_types.proofs.expand.+expand.Goals.{expand_call-After-scope-scope}
 use Rattle.sect_types.proofs.expand.+expand.Goals as goal
 
 pub expand_block-expand_statement-requires : goal.expand_block-expand_statement-requires
-expand_block-expand_statement-requires t c = (
-  omega (
-    arith,
-    size_at c.as_slice-statement-items.result.now c.loop-statement.statement-index
-        c.statement-item.result (omega arith),
-    ap (λ s. statement_size (statement_of s)) c.statement-item.is,
-    ap block_size c.loop-statement.invariant.whole,
-    c.decreases,
-  ),
-  (
-    c.requires.own,
-    next_fits c.args.world.now c.args.most (view_of c.args.scope.now c.args.first) c.args.block.now
-        c.as_slice-statement-items.result.now c.loop-statement.statement-index c.statement-item.result c.args.front.now
-        c.loop-statement.front c.args.out.now c.loop-statement.out c.loop-statement-test.true c.statement-item.is
-        c.loop-statement.invariant c.requires.fits,
-  ),
-)
+expand_block-expand_statement-requires t c =
+    let i = c.args.inside.now in (
+      omega (
+        arith,
+        size_at c.as_slice-statement-items.result.now c.loop-statement.statement-index c.statement-item.result
+            (omega arith),
+        ap (λ s. statement_size (statement_of s)) c.statement-item.is,
+        ap block_size c.loop-statement.invariant.whole,
+        c.decreases,
+      ),
+      next_fits i.world.now i.most (view_of i.scope.now i.first) c.args.block.now
+          c.as_slice-statement-items.result.now c.loop-statement.statement-index c.statement-item.result
+          c.args.front.now c.loop-statement.front c.args.out.now c.loop-statement.out c.loop-statement-test.true
+          c.statement-item.is c.loop-statement.invariant c.requires.fits,
+    )
 
 pub expand_block-loop-statement-init : goal.expand_block-loop-statement-init
 expand_block-loop-statement-init t c =
-    starts c.args.world.now c.args.most (view_of c.args.scope.now c.args.first) c.args.block.now _ c.args.front.now
+    let i = c.args.inside.now in
+    starts i.world.now i.most (view_of i.scope.now i.first) c.args.block.now _ c.args.front.now
     c.args.out.now c.as_slice-statement-items.ensures
 
 pub expand_block-loop-statement-preserved : goal.expand_block-loop-statement-preserved
 expand_block-loop-statement-preserved t c =
-    one_more c.args.world.now c.args.most (view_of c.args.scope.now c.args.first) c.args.block.now
+    let i = c.args.inside.now in
+    one_more i.world.now i.most (view_of i.scope.now i.first) c.args.block.now
     c.as_slice-statement-items.result.now c.loop-statement.statement-index c.statement-item.result c.args.front.now
     c.loop-statement.front c.expand_statement.new.front c.args.out.now c.loop-statement.out c.expand_statement.new.out
     c.loop-statement-test.true c.statement-item.is c.loop-statement.invariant c.in_ok-expand_statement.ensures.front
@@ -49,94 +50,109 @@ expand_block-loop-statement-preserved t c =
 
 pub expand_block-returns-clause-text : goal.expand_block-returns-clause-text
 expand_block-returns-clause-text t c =
-    ends_text c.args.world.now c.args.most (view_of c.args.scope.now c.args.first) c.args.block.now _
+    let i = c.args.inside.now in
+    ends_text i.world.now i.most (view_of i.scope.now i.first) c.args.block.now _
     c.as_slice-statement-items.result.now c.loop-statement.statement-index c.args.front.now c.loop-statement.front
     c.args.out.now c.loop-statement.out (omega arith) c.loop-statement.invariant
 
 pub expand_block-returns-clause-front : goal.expand_block-returns-clause-front
 expand_block-returns-clause-front t c =
-    ends_front c.args.world.now c.args.most (view_of c.args.scope.now c.args.first) c.args.block.now _
+    let i = c.args.inside.now in
+    ends_front i.world.now i.most (view_of i.scope.now i.first) c.args.block.now _
     c.as_slice-statement-items.result.now c.loop-statement.statement-index c.args.front.now c.loop-statement.front
     c.args.out.now c.loop-statement.out (omega arith) c.loop-statement.invariant
 
-pub expand_call-scope-inner-requires : goal.expand_call-scope-inner-requires
-expand_call-scope-inner-requires t c =
+pub expand_call-scope-scope-requires : goal.expand_call-scope-scope-requires
+expand_call-scope-scope-requires t c =
     shown_names c.procedure-procedure.result.now c.variables-variables.result.now c.as_slice-3.result.now
     c.names.result.now
     (c.variables-variables.ensures c.procedure-procedure.result.now c.procedure-procedure.ensures.there)
     c.as_slice-3.ensures c.names.ensures
 
-pub expand_call-expand_block-requires : goal.expand_call-expand_block-requires
-expand_call-expand_block-requires t c =
+-- the body of the procedure is within the limits
+body_fits : (t : ℕ) (c : expand_call-After-scope-scope t) → CallFits c.args.inside.now.world.now
+    (c.args.inside.now.most - 1) c.args.front.now c.pass_call.new.self c.procedure-procedure.result.now
+body_fits t c =
+    let i = c.args.inside.now in
     let p = c.procedure-procedure.result.now in
     let there = c.procedure-procedure.ensures.there in
     let shown = c.variables-variables.ensures p there in
-    let more : c.args.most ≡ suc (c.args.most - 1) = omega (arith, c.if-most-eq0.false) in
-    let own = c.as_slice-3.ensures ∙ ap (λ (v : VariablesView). v.list) shown in
-    let fits = call_fits c.args.world.now (c.args.most - 1) c.args.most c.args.front.now c.pass_call.new.self
-    c.args.name.now
-    c.args.operands.now c.in-Some.number p c.as_slice-2.result.now c.procedure-procedure.ensures.flat more
-    (sym c.number_of.ensures ∙ c.in-Some.is) there (c.as_slice-2.ensures ∙ ap (λ (v : VariablesView). v.list) shown)
-    c.in_ok-pass_call.ensures c.requires.fits in (
+    call_fits i.world.now (i.most - 1) i.most c.args.front.now c.pass_call.new.self c.args.name.now
+    c.args.operands.now c.in-Some.number p c.as_slice-2.result.now c.procedure-procedure.ensures.flat
+    (omega (arith, c.if-inside-eq0.false)) (sym c.number_of.ensures ∙ c.in-Some.is) there
+    (c.as_slice-2.ensures ∙ ap (λ (v : VariablesView). v.list) shown)
+    c.in_ok-pass_call.ensures c.requires.fits
+
+pub expand_call-invariant_of-inner : goal.expand_call-invariant_of-inner
+expand_call-invariant_of-inner t c =
+    let p = c.procedure-procedure.result.now in
+    let shown = c.variables-variables.ensures p c.procedure-procedure.ensures.there in
+    omega (
+      arith,
+      (body_fits t (goal.at.expand_call-invariant_of-inner t c).After-scope-scope).few_own,
+      c.next-fresh.ensures,
+      ap (λ (x : Sight). length x.locals) c.scope-scope.ensures,
+      ap length (c.as_slice-3.ensures ∙ ap (λ (v : VariablesView). v.list) shown),
+      length-append p.parameters p.locals,
+    )
+
+pub expand_call-expand_block-requires : goal.expand_call-expand_block-requires
+expand_call-expand_block-requires t c =
+    let i = c.args.inside.now in
+    let p = c.procedure-procedure.result.now in
+    let procedures = i.world.now.procedures in
+    let more : i.most ≡ suc (i.most - 1) = omega (arith, c.if-inside-eq0.false) in (
       omega (
         arith,
-        falls (c.args.most - 1) c.args.most (block_size p.body) (most_size c.args.world.now.procedures) more
-            (size_most c.args.world.now.procedures c.in-Some.number p there),
+        falls (i.most - 1) i.most (block_size p.body) (most_size procedures) more
+            (size_most procedures c.in-Some.number p c.procedure-procedure.ensures.there),
         c.decreases,
       ),
-      (
-        omega (
-          arith,
-          fits.few_own,
-          c.next-fresh.ensures,
-          ap (λ (x : Sight). length x.locals) c.scope-inner.ensures,
-          ap length own,
-          length-append p.parameters p.locals,
-        ),
-        fits.body_fits,
-      ),
+      (body_fits t (goal.at.expand_call-expand_block-requires t c).After-scope-scope).body_fits,
     )
 
 pub expand_call-returns-clause-front : goal.expand_call-returns-clause-front
 expand_call-returns-clause-front t c =
+    let i = c.args.inside.now in
     let p = c.procedure-procedure.result.now in
     let shown = c.variables-variables.ensures p c.procedure-procedure.ensures.there in
-    call_front c.args.world.now (c.args.most - 1) c.args.most c.args.front.now c.pass_call.new.self
-    c.expand_block.new.front
+    call_front i.world.now (i.most - 1) i.most c.args.front.now c.pass_call.new.self c.expand_block.new.front
     c.args.name.now c.args.operands.now c.in-Some.number p c.as_slice-2.result.now c.procedure-procedure.ensures.flat
-    (omega (arith, c.if-most-eq0.false)) (sym c.number_of.ensures ∙ c.in-Some.is) c.procedure-procedure.ensures.there
+    (omega (arith, c.if-inside-eq0.false)) (sym c.number_of.ensures ∙ c.in-Some.is) c.procedure-procedure.ensures.there
     (c.as_slice-2.ensures ∙ ap (λ (v : VariablesView). v.list) shown) c.in_ok-pass_call.ensures
     c.in_ok-expand_block.ensures.front
 
 pub expand_call-returns-clause-text : goal.expand_call-returns-clause-text
 expand_call-returns-clause-text t c =
+    let i = c.args.inside.now in
     let p = c.procedure-procedure.result.now in
     let there = c.procedure-procedure.ensures.there in
     let shown = c.variables-variables.ensures p there in
     let own = c.as_slice-2.ensures ∙ ap (λ (v : VariablesView). v.list) shown in
     let same = c.as_slice-3.ensures ∙ sym c.as_slice-2.ensures in
-    call_text c.args.world.now (c.args.most - 1) c.args.most c.args.front.now c.pass_call.new.self c.args.name.now
-    c.args.operands.now c.in-Some.number p c.args.scope.now c.scope-inner.result c.args.first c.next-fresh.result
+    call_text i.world.now (i.most - 1) i.most c.args.front.now c.pass_call.new.self c.args.name.now
+    c.args.operands.now c.in-Some.number p i.scope.now c.scope-scope.result i.first c.next-fresh.result
     c.as_slice-parameters.result.now c.as_slice.result.now c.as_slice-2.result.now c.args.out.now
-    c.put_parameters.new.out
-    c.put_cleared.new.out c.expand_block.new.out (omega (arith, c.if-most-eq0.false))
+    c.put_parameters.new.out c.put_cleared.new.out c.expand_block.new.out (omega (arith, c.if-inside-eq0.false))
     (sym c.number_of.ensures ∙ c.in-Some.is) there own c.in_ok-pass_call.ensures
-    (c.scope-inner.ensures ∙ ap (sight c.args.world.now.records c.args.world.now.globals) same) c.next-fresh.ensures
+    (c.scope-scope.ensures ∙ ap (sight i.world.now.records i.world.now.globals) same) c.next-fresh.ensures
     c.as_slice-parameters.ensures c.as_slice.ensures c.in_ok-put_parameters.ensures c.in_ok-put_cleared.ensures
     c.in_ok-expand_block.ensures.text
 
 pub expand_statement-returns-in_ok-push-in-Primitive-clause-text :
     goal.expand_statement-returns-in_ok-push-in-Primitive-clause-text
 expand_statement-returns-in_ok-push-in-Primitive-clause-text t c =
-    primitive_written (tree_of c.args.world.now []) c.args.most c.args.scope.now c.args.first c.args.front.now.at _ _
+    let i = c.args.inside.now in
+    primitive_written (tree_of i.world.now []) i.most i.scope.now i.first c.args.front.now.at _ _
     c.action-action.result c.args.out.now c.push.new.self (ap statement_of c.in-Primitive.is)
-    (c.action-action.ensures ∙ ap (λ (f : FrontView). moved_action c.args.first
-    (action_in (primitive_of c.args.scope.now f.at.sites c.in-Primitive.primitive))) c.front.view_is)
+    (c.action-action.ensures ∙ ap (λ (f : FrontView). moved_action i.first
+    (action_in (primitive_of i.scope.now f.at.sites c.in-Primitive.primitive))) c.front.view_is)
     c.in_ok-push-in-Primitive.ensures.ok
 
 pub expand_statement-returns-in_ok-push-in-If-clause-text : goal.expand_statement-returns-in_ok-push-in-If-clause-text
 expand_statement-returns-in_ok-push-in-If-clause-text t c =
-    if_written (tree_of c.args.world.now []) c.args.most c.args.scope.now c.args.first c.args.front.now.at _ _ _
+    let i = c.args.inside.now in
+    if_written (tree_of i.world.now []) i.most i.scope.now i.first c.args.front.now.at _ _ _
     c.condition-condition.result c.expand_block.new.out c.new.result c.args.out.now c.push-in-If.new.self
     (ap statement_of c.in-If.is) c.condition-condition.ensures
     (anew c.new-yes.result c.expand_block.new.out _ c.new-yes.ensures c.in_ok-expand_block-in-If.ensures.text)
@@ -146,7 +162,8 @@ expand_statement-returns-in_ok-push-in-If-clause-text t c =
 pub expand_statement-returns-in_ok-push-in-IfElse-clause-text :
     goal.expand_statement-returns-in_ok-push-in-IfElse-clause-text
 expand_statement-returns-in_ok-push-in-IfElse-clause-text t c =
-    either_text c.args.world.now c.args.most c.args.scope.now c.args.first c.args.front.now
+    let i = c.args.inside.now in
+    either_text i.world.now i.most i.scope.now i.first c.args.front.now
     c.expand_block-in-IfElse.new.front _ _ _ _ c.condition-condition-in-IfElse.result c.expand_block-in-IfElse.new.out
     c.expand_block-in-IfElse-2.new.out c.args.out.now c.push-in-IfElse.new.self (ap statement_of c.in-IfElse.is)
     c.condition-condition-in-IfElse.ensures
@@ -159,7 +176,8 @@ expand_statement-returns-in_ok-push-in-IfElse-clause-text t c =
 pub expand_statement-returns-in_ok-push-in-While-clause-text :
     goal.expand_statement-returns-in_ok-push-in-While-clause-text
 expand_statement-returns-in_ok-push-in-While-clause-text t c =
-    while_written (tree_of c.args.world.now []) c.args.most c.args.scope.now c.args.first c.args.front.now.at _ _ _
+    let i = c.args.inside.now in
+    while_written (tree_of i.world.now []) i.most i.scope.now i.first c.args.front.now.at _ _ _
     c.condition-condition-in-While.result c.expand_block-in-While.new.out c.args.out.now c.push-in-While.new.self
     (ap statement_of c.in-While.is) c.condition-condition-in-While.ensures
     (anew c.new-inner.result c.expand_block-in-While.new.out _ c.new-inner.ensures
@@ -169,7 +187,8 @@ expand_statement-returns-in_ok-push-in-While-clause-text t c =
 pub expand_statement-returns-in_ok-push-in-Atomic-clause-text :
     goal.expand_statement-returns-in_ok-push-in-Atomic-clause-text
 expand_statement-returns-in_ok-push-in-Atomic-clause-text t c =
-    section_written (tree_of c.args.world.now []) c.args.most c.args.scope.now c.args.first c.args.front.now.at
+    let i = c.args.inside.now in
+    section_written (tree_of i.world.now []) i.most i.scope.now i.first c.args.front.now.at
     c.pass_section-number.new.self.at _ _ _ c.pass_section-number.result c.expand_block-in-Atomic.new.out c.args.out.now
     c.push-in-Atomic.new.self (ap statement_of c.in-Atomic.is) c.pass_section-number.ensures.number
     (ap (λ (f : FrontView). f.at) c.pass_section-number.ensures.front)

@@ -5,17 +5,18 @@ use Rattle.sect_types.specs.steps.Expansion.{view_of}
 use Rattle.sect_types.proofs.expand.+expand.Given as goal
 
 abbrev pub decreases-expand_call : goal.decreases-expand_call
-decreases-expand_call l = l.most * most_size l.world.now.procedures
+decreases-expand_call l = l.inside.now.most * most_size l.inside.now.world.now.procedures
 
 abbrev pub decreases-expand_statement : goal.decreases-expand_statement
 decreases-expand_statement l =
-    l.most * most_size l.world.now.procedures + 1 + 2 * statement_size (statement_of l.statement.now)
+    l.inside.now.most * most_size l.inside.now.world.now.procedures + 1
+    + 2 * statement_size (statement_of l.statement.now)
 
 abbrev pub decreases-expand_block : goal.decreases-expand_block
 decreases-expand_block l =
-    l.most * most_size l.world.now.procedures + 2 + 2 * block_size l.block.now
+    l.inside.now.most * most_size l.inside.now.world.now.procedures + 2 + 2 * block_size l.block.now
 
 abbrev pub invariant-expand_block-loop-statement : goal.invariant-expand_block-loop-statement
 invariant-expand_block-loop-statement l =
-    IsFront l.world l.most (view_of l.scope l.first) l.block (block_of l.statement-items)
-    (block_of (drop l.statement-index l.statement-items)) l.fn.front l.front l.fn.out l.out
+    IsFront l.inside.world.now l.inside.most (view_of l.inside.scope.now l.inside.first) l.block
+    (block_of l.statement-items) (block_of (drop l.statement-index l.statement-items)) l.fn.front l.front l.fn.out l.out

@@ -1,0 +1,13 @@
+-- The names that all threads see.
+use Rattle.std.specs.Prelude.{◌≡◌}
+use Rattle.sect_front.specs.TreeView.{TreeView}
+use Rattle.sect_types.specs.declared.program.Shown.{Shown}
+use Rattle.sect_types.specs.Sight.{names_of_records, names_of_globals, all_fields}
+use Rattle.sect_types.specs.steps.Listing.{Knows}
+
+-- they are those of this tree
+pub record Shows (s : Shown) (t : TreeView) : Type 0 where
+  pub known : Knows s.known.now t.records
+  pub records : s.record_names.now ≡ names_of_records t.records
+  pub fields : s.field_names.now ≡ all_fields t.records
+  pub globals : s.global_names.now ≡ names_of_globals t.globals

@@ -23,7 +23,7 @@ use Rattle.sect_types.proofs.Places.{Has-index}
 use Rattle.sect_check.proofs.Standing.{path_stands}
 
 -- where one element is related to nothing, so is the list
-pub zip_none : {A B : Type 0} (R : A → B → Type 0) (xs : List A) (i : ℕ) (x : A) → i < length xs → x ≡ get_or xs i x
+zip_none : {A B : Type 0} (R : A → B → Type 0) (xs : List A) (i : ℕ) (x : A) → i < length xs → x ≡ get_or xs i x
     → ((y : B) → R x y → ⊥) → (ys : List B) → AllZip R xs ys → ⊥
 zip_none R [] i x within is bad ys h = omega (arith, within)
 zip_none R (z ∷ xs) i x within is bad [] h = h
@@ -40,6 +40,14 @@ passes {A} {B} (Err x) e R S is given turns = subst (λ z. Resolves {A = A} (Err
     go : (e : Unresolved) → Resolves {A = B} (Err e) R → Resolves {A = A} (Err e) S
     go Wrong g = turns g
     go Memory g = tt
+
+-- so is a refusal at an element of a list
+pub refuses : {X Y : Type 0} (R : X → Y → Type 0) (xs : List X) (i : ℕ) (x z : X) (r : Result (List Y) Unresolved)
+    (e : Unresolved)
+    → i < length xs → z ≡ get_or xs i z → x ≡ z → IsErrAnd r (λ u. u ≡ e) → Resolves {A = Y} (Err e) (R x)
+    → Resolves r (AllZip R xs)
+refuses {Y = Y} R xs i x z r e within at is err given = passes r e (R x) (AllZip R xs) err given
+    (λ bad. zip_none R xs i z within at (subst (λ w. (y : Y) → R w y → ⊥) is bad))
 
 -- a path has a class where one is found
 pub classed : (s : SchemeView) (p : PathView) (o : Option ℕ) → ((n : ℕ) → (o ≡ Some n) ↔ HasClass s.classes p n)

@@ -1,7 +1,8 @@
 -- The steps of a claimed chain.
-use Rattle.std.proofs.Common.{◌≡◌, ◌↔◌, ℕ, zero, suc, ◌+◌, ◌-◌, ◌<◌, List, [], ◌∷◌, Some, Bool, true, length, refl, ap}
-use Rattle.std.proofs.Common.{◌∙◌, subst, arith}
+use Rattle.std.proofs.Common.{◌≡◌, ◌↔◌, ℕ, zero, suc, ◌+◌, ◌-◌, ◌<◌, ◌≤◌, List, [], ◌∷◌, Some, Bool, true, length, refl, ap}
+use Rattle.std.proofs.Common.{get_or, ◌∙◌, subst, arith}
 use Rattle.std.specs.Prelude.{slice_get}
+use Rattle.std.proofs.lemmas.Option.{slice_get_read}
 use Rattle.sect_graph.specs.declared.flow.Node.{Node}
 use Rattle.sect_names.specs.declared.lock.Lock.{Lock}
 use Rattle.sect_names.specs.declared.link.Link.{Link}
@@ -21,37 +22,48 @@ begins_when links a l b at node same = (
   λ h. (let e : a ≡ link 0 l = cc in same.1 (ap (λ z. z.lock) e)),
 )
 
-module _ (s : SchemeView) (t : ℕ) (last : List Lock) (g : List Node) (links : List Link) (n : ℕ) where
-  module _ (a b : Link) (before : slice_get links (n - 1) ≡ Some a) (here : slice_get links n ≡ Some b) (past : 0 < n)
-    where
-      -- a step to which the one before it links comes right
-      pub comes_from : LinksTo s t g a b → ComesRight s t g links n
-      comes_from to = λ h x y e at_x at_y.
-          let k : h ≡ n - 1 = omega (arith, e) in
-          let at : slice_get links (n - 1) ≡ Some x = subst (λ m. slice_get links m ≡ Some x) k at_x in
-          let first : a ≡ x = cc in
-          let second : b ≡ y = cc in
-          subst (λ z. LinksTo s t g z y) first (subst (LinksTo s t g a) second to)
+module _ (s : SchemeView) (t : ℕ) (g : List Node) (links : List Link) (n : ℕ) where
+  -- step n is read, and the one before it
+  module _ (a b : Link) (within : n < length links) (past : 0 < n) (a_is : a ≡ get_or links (n - 1) a)
+      (b_is : b ≡ get_or links n b) where
+    before : slice_get links (n - 1) ≡ Some a
+    before = slice_get_read links (length links) (n - 1) a refl (omega (arith, within)) a_is
 
-      -- and only such a one does
-      pub comes_to : ComesRight s t g links n → LinksTo s t g a b
-      comes_to right = right (n - 1) a b (omega (arith, past)) before here
+    here : slice_get links n ≡ Some b
+    here = slice_get_read links (length links) n b refl within b_is
+
+    -- a step to which the one before it links comes right
+    pub comes_from : LinksTo s t g a b → ComesRight s t g links n
+    comes_from to = λ h x y e at_x at_y.
+        let k : h ≡ n - 1 = omega (arith, e) in
+        let at : slice_get links (n - 1) ≡ Some x = subst (λ m. slice_get links m ≡ Some x) k at_x in
+        let first : a ≡ x = cc before in
+        let second : b ≡ y = cc here in
+        subst (λ z. LinksTo s t g z y) first (subst (LinksTo s t g a) second to)
+
+    -- and only such a one does
+    pub comes_to : ComesRight s t g links n → LinksTo s t g a b
+    comes_to right = right (n - 1) a b (omega (arith, past)) before here
 
   -- the first step comes right
   pub comes_first : n ≡ 0 → ComesRight s t g links n
   comes_first e = λ h x y f at_x at_y. absurd (omega (arith, e, f))
 
-  -- a step that isn't the last ends right
-  pub ends_inner : n + 1 < length links → EndsRight s t last g links n
-  ends_inner lt = λ a e at. absurd (omega (arith, lt, e))
+  module _ (last : List Lock) where
+    -- a step that isn't the last ends right
+    pub ends_inner : n + 1 < length links → EndsRight s t last g links n
+    ends_inner lt = λ a e at. absurd (omega (arith, lt, e))
 
-  -- the last one does exactly where its lock is generated
-  pub ends_last : (a : Link) → slice_get links n ≡ Some a → n + 1 ≡ length links
-      → IsGeneratedAt s t last g a ↔ EndsRight s t last g links n
-  ends_last a at end = (
-    λ made x e at_x. (let same : a ≡ x = cc in subst (IsGeneratedAt s t last g) same made),
-    λ right. right a end at,
-  )
+    -- the last one does exactly where its lock is generated
+    pub ends_last : (a : Link) → n < length links → length links ≤ n + 1 → a ≡ get_or links n a
+        → IsGeneratedAt s t last g a ↔ EndsRight s t last g links n
+    ends_last a within end is = (
+      λ made x e at_x.
+          let at : slice_get links n ≡ Some a = slice_get_read links (length links) n a refl within is in
+          let same : a ≡ x = cc in
+          subst (IsGeneratedAt s t last g) same made,
+      λ right. right a (omega (arith, within, end)) (slice_get_read links (length links) n a refl within is),
+    )
 
 module _ (s : SchemeView) (t : ℕ) (last : List Lock) (g : List Node) where
   -- steps that each come and end right are linked

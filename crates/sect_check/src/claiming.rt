@@ -18,6 +18,7 @@ use sect_names::{Link, Lock, Scheme};
 use std::alloc::Global;
 
 /// The locks of a list.
+#[tactic(auto, using(sect_types::proofs::Places::zip_more))]
 fn locks_of(
     alloc: Global,
     scheme: &Scheme,
@@ -75,6 +76,7 @@ fn link_of(
 }
 
 /// The steps of a chain.
+#[tactic(auto, using(sect_types::proofs::Places::zip_more))]
 fn links_of(
     alloc: Global,
     scheme: &Scheme,
@@ -113,6 +115,7 @@ fn chain_claim(
 }
 
 /// The chains of a section.
+#[tactic(auto, using(sect_types::proofs::Places::zip_more))]
 fn chain_claims(
     alloc: Global,
     scheme: &Scheme,

@@ -129,13 +129,14 @@ module _ (s : SchemeView) (t : ℕ) (g : List Node) where
       nodes = nodes;
     }
 
-  -- the last node that waits is gone over
+  -- the last node that waits is a node of the graph
+  pub last_within : (a : TableView) (lists : List (List ℕ)) (rest : List ℕ) (j : ℕ)
+      → IsWorking s t g a lists (rest ++ j ∷ []) → j < length g
+  last_within a lists rest j w = w.nodes j (Has-right rest (j ∷ []) j (inl refl))
+
+  -- it is gone over
   module _ (a d : TableView) (before after : List (List ℕ)) (rest : List ℕ) (j : ℕ) (any : Bool)
       (w : IsWorking s t g a before (rest ++ j ∷ [])) (v : IsVisit s t g a before d after j any) where
-    -- it is a node of the graph
-    pub last_within : j < length g
-    last_within = w.nodes j (Has-right rest (j ∷ []) j (inl refl))
-
     -- there is no more than was known: it is done
     pub work_quiet : any ≡ false → IsWorking s t g d after rest
     work_quiet off = work_next a d before after (rest ++ j ∷ []) rest j any w v

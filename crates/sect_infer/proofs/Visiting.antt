@@ -1,7 +1,7 @@
 -- A node is gone over.
 use Rattle.std.proofs.Common.{◌≡◌, ◌↔◌, ◌⊎◌, inl, inr, ℕ, zero, suc, ◌<◌, List, [], ◌∷◌, ◌++◌, Option, Some, None, Bool}
-use Rattle.std.proofs.Common.{true, false, not, ◌-◌, length, length-set, length-append, set, take, drop, refl, sym, ap}
-use Rattle.std.proofs.Common.{◌∙◌, subst, arith}
+use Rattle.std.proofs.Common.{true, false, not, ◌-◌, length, length-set, set, take, drop, refl, sym, ap}
+use Rattle.std.proofs.Common.{length-drop, ◌∙◌, subst, arith}
 use Rattle.std.specs.Prelude.{slice_get, slice_index_or}
 use Rattle.std.proofs.lemmas.Bool.{cases_eq}
 use Rattle.std.proofs.lemmas.List.{get_or-set_same, get_or-set_other, take_all}
@@ -128,48 +128,47 @@ module _ (s : SchemeView) (t : ℕ) (g : List Node) (j : ℕ) (a b d : TableView
     apart = with_all_apart [] had tt;
   }
 
-  module _ (start : List ℕ) (starts : start ≡ begun) (carried : Finds s a start b ms (IsCarried s t g a.keys lists j))
+  module _ (start found before : List ℕ) (starts : start ≡ begun) (found_is : found ≡ os) (before_is : before ≡ start)
+      (carried : Finds s a start b ms (IsCarried s t g a.keys lists j))
       (own : Finds s b ms d os (λ l. IsSeed s t g (need j l))) where
     -- what was found in all
-    pub all : Finds s a begun d os (λ l. IsCarried s t g a.keys lists j l ⊎ IsSeed s t g (need j l))
+    all : Finds s a begun d os (λ l. IsCarried s t g a.keys lists j l ⊎ IsSeed s t g (need j l))
     all = finds_then s a b d begun ms os (IsCarried s t g a.keys lists j) (λ l. IsSeed s t g (need j l))
         (subst (λ ns. Finds s a ns b ms (IsCarried s t g a.keys lists j)) starts carried) own
 
     -- those that are new
-    abbrev pub new : List ℕ
-    new = all.behind.0
+    abbrev new : List ℕ
+    new = take (length found - length before) (drop (length before) found)
 
     -- those of them that none is above
-    abbrev pub fresh : List ℕ
+    abbrev fresh : List ℕ
     fresh = fresh_from d.above os new
 
-    -- those behind the first are the new ones
-    of_os : (k : ℕ) → k ≡ length begun → take (length os - k) (drop k os) ≡ new
-    of_os k is =
-        let split : drop k os ≡ new = ap (drop k) all.behind.1 ∙ drop_front begun new k is in
-        let long = length-append begun new in
-        ap (take (length os - k)) split ∙ take_all (length os - k) new (omega (arith, ap length all.behind.1, long, is))
-
-    pub new_is : (found known : List ℕ) → found ≡ os → known ≡ start
-        → take (length found - length known) (drop (length known) found) ≡ new
-    new_is found known is first = ap (λ f. take (length f - length known) (drop (length known) f)) is
-        ∙ of_os (length known) (ap length (first ∙ starts))
+    -- they are behind the first
+    os_is : os ≡ begun ++ new
+    os_is =
+        let behind : drop (length before) found ≡ all.behind.0 = ap (drop (length before)) (found_is ∙ all.behind.1)
+        ∙ drop_front begun all.behind.0 (length before) (ap length (before_is ∙ starts)) in
+        let same : new ≡ all.behind.0 = ap (take (length found - length before)) behind
+        ∙ take_all (length found - length before) all.behind.0
+        (omega (arith, ap length behind, length-drop (length before) found)) in
+        all.behind.1 ∙ ap (λ xs. begun ++ xs) (sym same)
 
     -- the table tells of them
     new_there : (n : ℕ) → Has new n → n < length d.keys
-    new_there n h = all.finding.numbers n (subst (λ xs. Has xs n) (sym all.behind.1) (Has-right begun new n h))
+    new_there n h = all.finding.numbers n (subst (λ xs. Has xs n) (sym os_is) (Has-right begun new n h))
 
     pub new_within : (n : ℕ) → Has new n → n < length d.above
     new_within n h = let w = new_there n h in omega (arith, w, all.finding.table.count)
 
     -- they were found
     fresh_there : (n : ℕ) → Has fresh n → Has os n
-    fresh_there n h = subst (λ xs. Has xs n) (sym all.behind.1)
+    fresh_there n h = subst (λ xs. Has xs n) (sym os_is)
         (Has-right begun new n ((Has-filter (λ m. not (is_under d.above os m)) new n).0 h).0)
 
     -- each that was found is kept, or another outdoes it
     kept : (x : Lock) → HasLock d.keys os x → HasLock d.keys (had ++ fresh) x ⊎ IsOutdone s (HasLock d.keys os) x
-    kept x h = elim (Has-cases begun new h.0 (subst (λ xs. Has xs h.0) all.behind.1 h.1)) [
+    kept x h = elim (Has-cases begun new h.0 (subst (λ xs. Has xs h.0) os_is h.1)) [
       | inl old ↦ elim ((with_all_has [] had h.0).0 old)
           [ inl none ↦ absurd none | inr k ↦ inl (h.0, Has-left had fresh h.0 k, h.2) ]
       | inr more ↦ elim (told_by (is_under d.above os h.0)) [
@@ -210,7 +209,7 @@ module _ (s : SchemeView) (t : ℕ) (g : List Node) (j : ℕ) (a b d : TableView
 
       apart : AreApart (had ++ fresh)
       apart =
-          let both = subst AreApart all.behind.1 all.finding.apart in
+          let both = subst AreApart os_is all.finding.apart in
           apart_join had fresh (known.apart j)
           (apart_filter (λ m. not (is_under d.above os m)) new (apart_back begun new both))
           (λ n h k. apart_across begun new both n ((with_all_has [] had n).1 (inr h))

@@ -1,27 +1,22 @@
-use Rattle.std.proofs.Common.{◌<◌, length, arith, List, subst}
+use Rattle.std.proofs.Common.{List, arith, subst}
 use Rattle.std.specs.List.{AllZip}
 use Rattle.sect_cert.specs.declared.lock.CertLock.{CertLock}
 use Rattle.sect_names.specs.declared.lock.Lock.{Lock}
 use Rattle.sect_check.specs.Names.{Denotes}
 use Rattle.sect_types.proofs.Places.{zip_more}
-use Rattle.sect_check.proofs.Resolving.{zip_none, passes}
+use Rattle.sect_check.proofs.Resolving.{refuses}
 use Rattle.sect_check.proofs.claiming.lists_of.Goals as goal
 
 pub returns-in_err-locks_of : goal.returns-in_err-locks_of
 returns-in_err-locks_of c =
     let R : List CertLock → List Lock → Type 0 = AllZip (Denotes c.args.scheme.now c.args.thread) in
-    let xs = c.args.nodes.now in
-    let within : c.loop-list.list-index < length xs = omega arith in
-    passes c.from_residual.result c.in_err-locks_of.field-0.0 (R c.as_slice.result.now) (AllZip R xs)
-    c.from_residual.ensures.1 c.in_err-locks_of.ensures
-    (λ bad. zip_none R xs c.loop-list.list-index c.list-item.result within c.list-item.is
-    (subst (λ z. (y : List Lock) → R z y → ⊥) c.as_slice.ensures bad))
+    refuses R c.args.nodes.now c.loop-list.list-index c.as_slice.result.now c.list-item.result c.from_residual.result
+    c.in_err-locks_of.field-0.0 (omega arith) c.list-item.is c.as_slice.ensures c.from_residual.ensures.1
+    c.in_err-locks_of.ensures
 
 pub loop-list-preserved : goal.loop-list-preserved
 loop-list-preserved c =
     let R : List CertLock → List Lock → Type 0 = AllZip (Denotes c.args.scheme.now c.args.thread) in
-    let xs = c.args.nodes.now in
-    let within : c.loop-list.list-index < length xs = omega arith in
-    rw c.in_ok-push.ensures.items (zip_more R xs c.loop-list.list-index c.list-item.result c.loop-list.lists.items
-    c.in_ok-locks_of.field-0 within c.list-item.is c.loop-list.invariant
+    rw c.in_ok-push.ensures.items (zip_more R c.args.nodes.now c.loop-list.list-index c.list-item.result
+    c.loop-list.lists.items c.in_ok-locks_of.field-0 (omega arith) c.list-item.is c.loop-list.invariant
     (subst (λ z. R z c.in_ok-locks_of.field-0) c.as_slice.ensures c.in_ok-locks_of.ensures))

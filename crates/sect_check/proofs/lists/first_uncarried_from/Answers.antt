@@ -1,68 +1,33 @@
-use Rattle.std.proofs.Common.{inl, inr, refl, arith, ◌↔◌, sym, ◌∙◌, subst, true≢false}
+use Rattle.std.proofs.Common.{inl, inr, refl, arith, sym, ◌∙◌, subst, true≢false}
 use Rattle.sect_types.specs.Lists.{Has}
-use Rattle.sect_names.specs.declared.lock.Lock.{Lock}
-use Rattle.sect_check.specs.Valid.{AreCarriedInto}
 use Rattle.sect_check.proofs.Edges.{stays, first_is, second_is, all_hold, one_holds}
 use Rattle.sect_check.proofs.lists.first_uncarried_from.Goals as goal
 
 pub returns-then-not-branch-clause-some : goal.returns-then-not-branch-clause-some
 returns-then-not-branch-clause-some c =
-    let s = c.args.scheme.now in
-    let t = c.args.thread in
-    let claims = c.args.claims.now in
-    let keys = c.in_ok-set.set.keys in
-    let label = c.action-label.result in
-    let same = subst (λ ls. (l : Lock) → Has keys l ↔ Has ls l) c.list_at.ensures c.in_ok-set.ensures in
-    let both = c.in_order-first.result in
-    first_is s t c.args.flow.now claims c.args.from label c.succ.result c.action-label.ensures c.succ.ensures keys same
-    both.0 both.1 c.in_order-first.ensures.each c.in_order-first.ensures.order
-    (λ h. true≢false
-    (sym (c.in_ok-carries_into.ensures.1 (subst (AreCarriedInto s t label keys) (sym c.list_at-2.ensures) h))
-    ∙ c.if-not-branch.true))
+    first_is c.args.scheme.now _ c.args.flow.now c.args.claims.now c.args.from _ _ c.action-label.ensures
+    c.succ.ensures _ _ c.list_at.ensures c.in_ok-set.ensures _ _ c.in_order-first.ensures.each c.in_order-first.ensures.order _
+    c.list_at-2.ensures (λ h. true≢false (sym (c.in_ok-carries_into.ensures.1 h) ∙ c.if-not-branch.true))
 
 pub returns-then-not-branch-2-clause-some : goal.returns-then-not-branch-2-clause-some
 returns-then-not-branch-2-clause-some c =
-    let s = c.args.scheme.now in
-    let t = c.args.thread in
-    let claims = c.args.claims.now in
-    let keys = c.in_ok-set.set.keys in
-    let label = c.action-label.result in
-    let same = subst (λ ls. (l : Lock) → Has keys l ↔ Has ls l) c.list_at.ensures c.in_ok-set.ensures in
-    let both = c.in_order-first.result in
-    second_is s t c.args.flow.now claims c.args.from label c.succ.result c.action-label.ensures c.succ.ensures keys same
-    both.0 both.1 c.in_order-first.ensures.each c.in_order-first.ensures.order
-    (subst (AreCarriedInto s t label keys) c.list_at-2.ensures (c.in_ok-carries_into.ensures.0 c.if-not-branch.false))
-    (λ h. true≢false
-    (sym (c.in_ok-carries_into-2.ensures.1 (subst (AreCarriedInto s t label keys) (sym c.list_at-3.ensures) h))
-    ∙ c.if-not-branch-2.true))
+    second_is c.args.scheme.now _ c.args.flow.now c.args.claims.now c.args.from _ _ c.action-label.ensures
+    c.succ.ensures _ _ c.list_at.ensures c.in_ok-set.ensures _ _ c.in_order-first.ensures.each c.in_order-first.ensures.order _
+    c.list_at-2.ensures (c.in_ok-carries_into.ensures.0 c.if-not-branch.false) _ c.list_at-3.ensures
+    (λ h. true≢false (sym (c.in_ok-carries_into-2.ensures.1 h) ∙ c.if-not-branch-2.true))
 
 pub returns-clause-none : goal.returns-clause-none
 returns-clause-none c =
-    let s = c.args.scheme.now in
-    let t = c.args.thread in
-    let claims = c.args.claims.now in
-    let keys = c.in_ok-set.set.keys in
-    let label = c.action-label.result in
-    let same = subst (λ ls. (l : Lock) → Has keys l ↔ Has ls l) c.list_at.ensures c.in_ok-set.ensures in
-    let both = c.in_order-first.result in
-    all_hold s t c.args.flow.now claims c.args.from label c.succ.result c.action-label.ensures c.succ.ensures keys same
-    both.0 both.1 c.in_order-first.ensures.each c.in_order-first.ensures.order
-    (subst (AreCarriedInto s t label keys) c.list_at-2.ensures (c.in_ok-carries_into.ensures.0 c.if-not-branch.false))
-    (subst (AreCarriedInto s t label keys) c.list_at-3.ensures
-    (c.in_ok-carries_into-2.ensures.0 c.if-not-branch-2.false))
+    all_hold c.args.scheme.now _ c.args.flow.now c.args.claims.now c.args.from _ _ c.action-label.ensures
+    c.succ.ensures _ _ c.list_at.ensures c.in_ok-set.ensures _ _ c.in_order-first.ensures.each c.in_order-first.ensures.order _
+    c.list_at-2.ensures (c.in_ok-carries_into.ensures.0 c.if-not-branch.false) _ c.list_at-3.ensures
+    (c.in_ok-carries_into-2.ensures.0 c.if-not-branch-2.false)
 
 pub returns-then-second-first-clause-none : goal.returns-then-second-first-clause-none
 returns-then-second-first-clause-none c =
-    let s = c.args.scheme.now in
-    let t = c.args.thread in
-    let claims = c.args.claims.now in
-    let keys = c.in_ok-set.set.keys in
-    let label = c.action-label.result in
-    let same = subst (λ ls. (l : Lock) → Has keys l ↔ Has ls l) c.list_at.ensures c.in_ok-set.ensures in
-    let both = c.in_order-first.result in
-    one_holds s t c.args.flow.now claims c.args.from label c.succ.result c.action-label.ensures c.succ.ensures keys same
-    both.0 both.1 c.in_order-first.ensures.each c.in_order-first.ensures.order c.if-second-first.true
-    (subst (AreCarriedInto s t label keys) c.list_at-2.ensures (c.in_ok-carries_into.ensures.0 c.if-not-branch.false))
+    one_holds c.args.scheme.now _ c.args.flow.now c.args.claims.now c.args.from _ _ c.action-label.ensures
+    c.succ.ensures _ _ c.list_at.ensures c.in_ok-set.ensures _ _ c.in_order-first.ensures.each c.in_order-first.ensures.order _
+    c.list_at-2.ensures c.if-second-first.true (c.in_ok-carries_into.ensures.0 c.if-not-branch.false)
 
 pub list_at-requires-2 : goal.list_at-requires-2
 list_at-requires-2 c =

@@ -1,32 +1,33 @@
 use Rattle.std.proofs.Common.{◌≡◌, ◌↔◌, Some, sym, subst}
+use Rattle.std.specs.Prelude.{slice_get}
 use Rattle.std.proofs.lemmas.Result.{on_ok_weaker}
 use Rattle.sect_types.proofs.Places.{told_at}
 use Rattle.sect_graph.specs.declared.flow.Node.{Node}
 use Rattle.sect_names.specs.declared.lock.Lock.{Lock}
 use Rattle.sect_names.specs.Carrying.{Generated}
 use Rattle.sect_infer.proofs.Visiting.{own_none, own_some}
+use Rattle.sect_infer.proofs.work.find_own.Goals.{After-generate}
 use Rattle.sect_infer.proofs.work.find_own.Goals as goal
+
+-- the node, and what it generates
+told : (c : After-generate)
+    → (y : Node) × (slice_get c.args.flow.now c.args.node ≡ Some y)
+    × ((l : Lock) → (c.generate.result ≡ Some l) ↔ Generated c.args.scheme.now c.args.thread y.label l)
+told c =
+    let node = told_at (λ (y : Node). y.label) c.args.flow.now c.args.node c.action.result c.action.ensures in (
+      node.0,
+      node.1,
+      subst (λ a. (l : Lock) → (c.generate.result ≡ Some l) ↔ Generated c.args.scheme.now c.args.thread a l)
+          (sym node.2) c.generate.ensures,
+    )
 
 pub returns-in-None : goal.returns-in-None
 returns-in-None c =
-    let s = c.args.scheme.now in
-    let t = c.args.thread in
-    let g = c.args.flow.now in
-    let j = c.args.node in
-    let node = told_at (λ (y : Node). y.label) g j c.action.result c.action.ensures in
-    let tells = subst (λ a. (l : Lock) → (c.generate.result ≡ Some l) ↔ Generated s t a l) (sym node.2)
-    c.generate.ensures in
-    own_none s t g j node.0 node.1 c.generate.result tells c.args.table.now c.args.found.now c.in-None.is
-    c.requires.finding
+    let node = told (goal.at.returns-in-None c).After-generate in
+    own_none _ _ c.args.flow.now c.args.node node.0 node.1 c.generate.result node.2 _ _ c.in-None.is c.requires.finding
 
 pub returns-in-Some : goal.returns-in-Some
 returns-in-Some c =
-    let s = c.args.scheme.now in
-    let t = c.args.thread in
-    let g = c.args.flow.now in
-    let j = c.args.node in
-    let node = told_at (λ (y : Node). y.label) g j c.action.result c.action.ensures in
-    let tells = subst (λ a. (l : Lock) → (c.generate.result ≡ Some l) ↔ Generated s t a l) (sym node.2)
-    c.generate.ensures in
-    on_ok_weaker c.find.result (own_some s t g j node.0 node.1 c.generate.result tells c.args.table.now c.find.new.table
-    c.args.found.now c.find.new.found c.in-Some.lock c.in-Some.is) c.find.ensures
+    let node = told (goal.at.returns-in-Some c).After-generate in
+    on_ok_weaker c.find.result (own_some _ _ c.args.flow.now c.args.node node.0 node.1 c.generate.result node.2 _ _ _ _ c.in-Some.lock
+    c.in-Some.is) c.find.ensures

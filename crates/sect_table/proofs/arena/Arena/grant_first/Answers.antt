@@ -1,9 +1,9 @@
-use Rattle.std.proofs.Common.{◌≡◌, ◌<◌, ◌+◌, length, sym, ◌∙◌, subst}
+use Rattle.std.proofs.Common.{◌≡◌, length, sym, ◌∙◌, subst}
 use Rattle.std.specs.Prelude.{IsSome}
 use Rattle.std.proofs.lemmas.List.{get_or_read}
-use Rattle.sect_table.specs.Contents.{Entry, put, entry_of, with_grant, claim_of, give}
+use Rattle.sect_table.specs.Contents.{put, entry_of, with_grant, claim_of, give}
 use Rattle.sect_table.specs.steps.Links.{list_at}
-use Rattle.sect_table.specs.steps.Arena.{no_node, claims}
+use Rattle.sect_table.specs.steps.Arena.{no_node}
 use Rattle.sect_table.proofs.Shown.{queues-seen, claimed_first}
 use Rattle.sect_table.proofs.Moving.{Shows, goes, first_granted, Waiter, first_waiting}
 use Rattle.sect_table.proofs.arena.Arena.grant_first.Goals.{After-index-request}
@@ -37,13 +37,9 @@ outcome c =
 
 pub unwrap-node-requires : goal.unwrap-node-requires
 unwrap-node-requires c =
-    let some : 0 < length (claims c.self.inside.nodes.items
-    (list_at c.self.inside.queues.lists (c.args.at + c.args.at + 2)))
-    = subst (λ (e : Entry). 0 < length e.waiters)
-    (queues-seen _ _ _ _ _ _ c.args.key c.args.at c.self.invariant c.self.view_is c.requires.number
-    c.requires.known) c.requires.waits in
-    subst IsSome (sym c.first.ensures.first)
-    (claimed_first c.self.inside.nodes.items (list_at c.self.inside.queues.lists (c.args.at + c.args.at + 2)) some)
+    let some = rw (queues-seen _ _ _ _ _ _ c.args.key c.args.at c.self.invariant c.self.view_is c.requires.number
+    c.requires.known) at c.requires.waits in
+    subst IsSome (sym c.first.ensures.first) (claimed_first c.self.inside.nodes.items _ some)
 
 pub move_to-requires-2-clause-list : goal.move_to-requires-2-clause-list
 move_to-requires-2-clause-list c = (waiter (goal.at.move_to-requires-2-clause-list c).After-index-request).list

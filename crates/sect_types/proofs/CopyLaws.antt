@@ -11,7 +11,7 @@ use Rattle.sect_front.specs.declared.tree.Thread.{Thread}
 use Rattle.sect_front.specs.TreeView.{TreeView}
 use Rattle.sect_types.specs.Sums.{sums, sums_at, sums_within, block_calls, calls_in}
 use Rattle.sect_types.specs.First.{IsTyped}
-use Rattle.sect_types.specs.Expanded.{View, At, procedure_numbered, expand_within}
+use Rattle.sect_types.specs.Expanded.{Scene, Ahead, procedure_numbered, expand_within}
 use Rattle.sect_types.specs.Expanded.{past_thread, expanded_thread, expanded_threads, texts_of}
 use Rattle.sect_types.specs.Templates.{copied_thread, copied_threads, copy_within}
 use Rattle.sect_types.proofs.FuelLaws.{Agree, chain, one_more}
@@ -71,7 +71,7 @@ none_any [] = refl
 none_any (x ∷ w) = none_any w
 
 -- without recursion the text of a thread is a copy of its template
-pub thread_copied : (t : TreeView) → IsAcyclic t.procedures → (a : At) (h : Thread)
+pub thread_copied : (t : TreeView) → IsAcyclic t.procedures → (a : Ahead) (h : Thread)
     → copied_thread t a h ≡ expanded_thread t a h
 thread_copied t c a h =
     let ps = t.procedures in
@@ -79,15 +79,15 @@ thread_copied t c a h =
     let rs = t.records in
     let gs = t.globals in
     let s = sight rs gs h.locals in
-    let v : View = record { sight = s; first = 0 } in
-    let b : At = record a { fresh = length h.locals } in
+    let v : Scene = record { sight = s; first = 0 } in
+    let b : Ahead = record a { fresh = length h.locals } in
     template_copied ps (sums ps) (expand_by n rs gs ps) (copy_within n rs gs ps) (calls_copied n rs gs ps) s 0 b h.body
     ∙ sym (block_text (λ r. false) ps (sums ps) (sums ps) (expand_within n rs gs ps) (expand_by n rs gs ps)
     (λ r e. refl)
     (record { some = λ r e. one_table n rs gs ps (Some r) (omega arith) (no_chain ps r c); none = unnamed n rs gs ps })
     v b h.body [] (none_any (block_calls ps h.body [])))
 
-pub threads_copied : (t : TreeView) → IsAcyclic t.procedures → (a : At) (hs : List Thread)
+pub threads_copied : (t : TreeView) → IsAcyclic t.procedures → (a : Ahead) (hs : List Thread)
     → copied_threads t a hs ≡ expanded_threads t a hs
 threads_copied t c a [] = refl
 threads_copied t c a (h ∷ hs) = λ i. thread_copied t c a h i ∷ threads_copied t c (past_thread t a h) hs i

@@ -21,7 +21,8 @@ use Rattle.sect_types.specs.Items.{variables}
 use Rattle.sect_types.specs.Rules.{sight}
 use Rattle.sect_types.specs.Sums.{number_of, sums_within, statement_sums, block_sums}
 use Rattle.sect_types.specs.Statements.{TextView, Stop, Do, joined}
-use Rattle.sect_types.specs.Expanded.{View, At, Expander, argument_in, cleared, set_parameters, clear_locals, call_of}
+use Rattle.sect_types.specs.Expanded.{Scene, Ahead, Expander, argument_in}
+use Rattle.sect_types.specs.Expanded.{cleared, set_parameters, clear_locals, call_of}
 use Rattle.sect_types.specs.Expanded.{after_call, expand_within}
 use Rattle.sect_types.specs.Expanded.{procedure_numbered, expanded_block, statement_sections}
 use Rattle.sect_types.specs.Expanded.{block_sections}
@@ -31,7 +32,7 @@ use Rattle.sect_types.specs.steps.Expanding.{expanded_there, block_there}
 use Rattle.sect_types.proofs.Lists.{drop_next}
 use Rattle.sect_types.proofs.Filling.{joined_twice, joined_step, joined_stop}
 
-set_on : (v : View) (x : ℕ) (ds : List Declaration) (us : List Operand) (b k : TextView)
+set_on : (v : Scene) (x : ℕ) (ds : List Declaration) (us : List Operand) (b k : TextView)
     → set_parameters v x ds us (joined b k) ≡ joined (set_parameters v x ds us b) k
 set_on v x [] us b k = refl
 set_on v x (d ∷ ds) [] b k = ap (Do (action.Assign x value.Null)) (set_on v (x + 1) ds [] b k)
@@ -45,7 +46,7 @@ clear_on x (d ∷ ds) b k = ap (Do (action.Assign x (cleared d.kind))) (clear_on
 
 -- what follows a call stands behind its expansion
 call_on : (rs : List Record) (gs : List GlobalObject) (ps : List Procedure) (table : List Sums) (call : Expander)
-    (o : Option Procedure) (q : Option ℕ) (v : View) (a : At) (vs : List Operand) (b k : TextView)
+    (o : Option Procedure) (q : Option ℕ) (v : Scene) (a : Ahead) (vs : List Operand) (b k : TextView)
     → call_of rs gs ps table call o q v a vs (joined b k) ≡ joined (call_of rs gs ps table call o q v a vs b) k
 call_on rs gs ps table call None q v a vs b k = refl
 call_on rs gs ps table call (Some p) q v a vs b k =
@@ -58,7 +59,8 @@ call_on rs gs ps table call (Some p) q v a vs b k =
     (clear_on (a.fresh + length p.parameters) p.locals (joined body b) k)
     ∙ set_on v a.fresh p.parameters vs (clear_locals (a.fresh + length p.parameters) p.locals (joined body b)) k)
 
-within_on : (n : ℕ) (rs : List Record) (gs : List GlobalObject) (ps : List Procedure) (q : Option ℕ) (v : View) (a : At)
+within_on : (n : ℕ) (rs : List Record) (gs : List GlobalObject) (ps : List Procedure) (q : Option ℕ) (v : Scene)
+    (a : Ahead)
     (vs : List Operand) (b k : TextView)
     → expand_within n rs gs ps q v a vs (joined b k) ≡ joined (expand_within n rs gs ps q v a vs b) k
 within_on zero rs gs ps q v a vs b k = refl
@@ -66,7 +68,7 @@ within_on (suc n) rs gs ps q v a vs b k =
     call_on rs gs ps (sums_within n ps) (expand_within n rs gs ps) (procedure_numbered ps q) q v a vs b k
 
 -- what follows a statement stands behind its expansion
-pub statement_on : (w : WorldView) (n : ℕ) (v : View) (f : FrontView) (s : StatementView) (b k : TextView)
+pub statement_on : (w : WorldView) (n : ℕ) (v : Scene) (f : FrontView) (s : StatementView) (b k : TextView)
     → expanded_there w n v f s (joined b k) ≡ joined (expanded_there w n v f s b) k
 statement_on w n v f (Primitive p) b k = refl
 statement_on w n v f (If t x) b k = refl
@@ -107,7 +109,7 @@ fits_before w n f b h = record {
 }
 
 -- the statements `rest` of `all` are left
-pub record AreExpanded (w : WorldView) (n : ℕ) (v : View) (block all rest : BlockView) (old now : FrontView)
+pub record AreExpanded (w : WorldView) (n : ℕ) (v : Scene) (block all rest : BlockView) (old now : FrontView)
     (start out : TextView) : Type 0 where
   pub whole : all ≡ block
   pub text : (k : TextView)
@@ -118,7 +120,7 @@ next_of : (ss : List Statement) (i : ℕ) (x : Statement) → i < length ss → 
     → block_of (drop i ss) ≡ Then (statement_of x) (block_of (drop (i + 1) ss))
 next_of ss i x h e = ap block_of (drop_next ss i x h e)
 
-pub one_expanded : (w : WorldView) (n : ℕ) (v : View) (block : BlockView) (ss : List Statement) (i : ℕ) (x : Statement)
+pub one_expanded : (w : WorldView) (n : ℕ) (v : Scene) (block : BlockView) (ss : List Statement) (i : ℕ) (x : Statement)
     (old now then : FrontView) (start out new : TextView) → i < length ss → x ≡ get_or ss i x
     → AreExpanded w n v block (block_of ss) (block_of (drop i ss)) old now start out
     → ((k : TextView) → joined new k ≡ joined out (expanded_there w n v now (statement_of x) k))
@@ -141,7 +143,7 @@ one_expanded w n v block ss i x old now then start out new lt at so_far put past
     rest : BlockView
     rest = block_of (drop (i + 1) ss)
 
-pub fits_next : (w : WorldView) (n : ℕ) (v : View) (block : BlockView) (ss : List Statement) (i : ℕ) (x : Statement)
+pub fits_next : (w : WorldView) (n : ℕ) (v : Scene) (block : BlockView) (ss : List Statement) (i : ℕ) (x : Statement)
     (old now : FrontView) (start out : TextView) → i < length ss → x ≡ get_or ss i x
     → AreExpanded w n v block (block_of ss) (block_of (drop i ss)) old now start out
     → Fits (front_past_block w n old block) → Fits (front_past_statement w n now (statement_of x))
@@ -162,14 +164,14 @@ past_end w n f =
       fresh = append-nil f.fresh i;
     }
 
-pub all_expanded : (w : WorldView) (n : ℕ) (v : View) (block : BlockView) (ss : List Statement) (i : ℕ)
+pub all_expanded : (w : WorldView) (n : ℕ) (v : Scene) (block : BlockView) (ss : List Statement) (i : ℕ)
     (old now : FrontView) (start out : TextView) → length ss ≤ i
     → AreExpanded w n v block (block_of ss) (block_of (drop i ss)) old now start out → (k : TextView)
     → joined out k ≡ joined start (joined (block_there w n v old block) k)
 all_expanded w n v block ss i old now start out le so_far k =
     ap (λ l. joined out (joined (block_there w n v now (block_of l)) k)) (sym (drop_all i ss le)) ∙ so_far.text k
 
-pub all_past : (w : WorldView) (n : ℕ) (v : View) (block : BlockView) (ss : List Statement) (i : ℕ)
+pub all_past : (w : WorldView) (n : ℕ) (v : Scene) (block : BlockView) (ss : List Statement) (i : ℕ)
     (old now : FrontView) (start out : TextView) → length ss ≤ i
     → AreExpanded w n v block (block_of ss) (block_of (drop i ss)) old now start out
     → now ≡ front_past_block w n old block
@@ -178,7 +180,7 @@ all_past w n v block ss i old now start out le so_far =
     ∙ (ap (λ l. front_past_block w n now (block_of l)) (sym (drop_all i ss le)) ∙ so_far.front)
 
 -- one step more
-pub put_step : {A E : Type 0} (r : Result A E) (w : WorldView) (n : ℕ) (v : View) (f : FrontView) (s : StatementView)
+pub put_step : {A E : Type 0} (r : Result A E) (w : WorldView) (n : ℕ) (v : Scene) (f : FrontView) (s : StatementView)
     (out new : TextView) (st : Step) → ((k : TextView) → step_then st k ≡ expanded_there w n v f s k)
     → OnOk r (new ≡ joined out (step_then st Stop))
     → OnOk r ((k : TextView) → joined new k ≡ joined out (expanded_there w n v f s k))

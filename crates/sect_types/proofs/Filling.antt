@@ -15,7 +15,7 @@ use Rattle.sect_types.specs.declared.text.Step.TheVariants as step
 use Rattle.sect_types.specs.Statements.{TextView, Stop, Do, Choose, Loop, Section, joined}
 use Rattle.sect_types.specs.Texts.{step_then}
 use Rattle.sect_types.specs.steps.Expanding.{argument_of}
-use Rattle.sect_types.specs.Expanded.{View, set_parameters, clear_locals, cleared}
+use Rattle.sect_types.specs.Expanded.{Scene, set_parameters, clear_locals, cleared}
 
 pub joined_step : (t : TextView) (st : Step) (k : TextView)
     → joined (joined t (step_then st Stop)) k ≡ joined t (step_then st k)
@@ -86,7 +86,7 @@ all_cleared x ds i old now le so_far k =
     ap (λ l. joined now (clear_locals (x + i) l k)) (sym (drop_all i ds le)) ∙ so_far.text k
 
 -- the parameters from the i-th on are to be set
-pub record AreSet (v : View) (x : ℕ) (ds : List Declaration) (us : List Operand) (i : ℕ) (old now : TextView) : Type 0
+pub record AreSet (v : Scene) (x : ℕ) (ds : List Declaration) (us : List Operand) (i : ℕ) (old now : TextView) : Type 0
   where
     pub text : (k : TextView)
         → joined now (set_parameters v (x + i) (drop i ds) (drop i us) k) ≡ joined old (set_parameters v x ds us k)
@@ -96,7 +96,7 @@ past [] i e = omega arith
 past (u ∷ us) zero e = absurd cc
 past (u ∷ us) (suc i) e = omega (arith, past us i e)
 
-set_next : (v : View) (x : ℕ) (ds : List Declaration) (us : List Operand) (i : ℕ) (k : TextView) → i < length ds
+set_next : (v : Scene) (x : ℕ) (ds : List Declaration) (us : List Operand) (i : ℕ) (k : TextView) → i < length ds
     → set_parameters v (x + i) (drop i ds) (drop i us) k
     ≡ Do (action.Assign (x + i) (argument_of v (slice_get us i)))
     (set_parameters v (x + (i + 1)) (drop (i + 1) ds) (drop (i + 1) us) k)
@@ -128,7 +128,7 @@ set_next v x (d ∷ more) us i k lt = go (slice_get us i) refl
         ∙ ap (λ n. Do (action.Assign (x + i) (argument_of v (Some u)))
         (set_parameters v n (drop (i + 1) ds) (drop (i + 1) us) k)) after
 
-pub one_set : (v : View) (x : ℕ) (ds : List Declaration) (us : List Operand) (i : ℕ) (a : Value)
+pub one_set : (v : Scene) (x : ℕ) (ds : List Declaration) (us : List Operand) (i : ℕ) (a : Value)
     (old now new : TextView)
     → i < length ds → a ≡ argument_of v (slice_get us i)
     → new ≡ joined now (step_then (step.Do (action.Assign (x + i) a)) Stop) → AreSet v x ds us i old now
@@ -142,13 +142,13 @@ one_set v x ds us i a old now new lt is pushed so_far = record {
       ∙ (ap (joined now) (sym (set_next v x ds us i k lt)) ∙ so_far.text k)));
 }
 
-pub none_set : (v : View) (x : ℕ) (ds : List Declaration) (us : List Operand) (old : TextView)
+pub none_set : (v : Scene) (x : ℕ) (ds : List Declaration) (us : List Operand) (old : TextView)
     → AreSet v x ds us 0 old old
 none_set v x ds us old = record {
   text = λ k. let here : x + 0 ≡ x = omega arith in ap (λ n. joined old (set_parameters v n ds us k)) here;
 }
 
-pub all_set : (v : View) (x : ℕ) (ds : List Declaration) (us : List Operand) (i : ℕ) (old now : TextView)
+pub all_set : (v : Scene) (x : ℕ) (ds : List Declaration) (us : List Operand) (i : ℕ) (old now : TextView)
     → length ds ≤ i
     → AreSet v x ds us i old now → (k : TextView) → joined now k ≡ joined old (set_parameters v x ds us k)
 all_set v x ds us i old now le so_far k =

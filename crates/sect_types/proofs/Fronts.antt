@@ -21,7 +21,7 @@ use Rattle.sect_types.specs.declared.action.Condition.{Condition}
 use Rattle.sect_types.specs.Resolve.{test_of}
 use Rattle.sect_types.specs.Numbered.{condition_in}
 use Rattle.sect_types.specs.Expanded.{moved_condition}
-use Rattle.sect_types.specs.Expanded.{View, expand_within, set_parameters, clear_locals, of_call}
+use Rattle.sect_types.specs.Expanded.{Scene, expand_within, set_parameters, clear_locals, of_call}
 use Rattle.sect_types.specs.Expanded.{block_fresh, fresh_of, fresh_within}
 use Rattle.sect_types.specs.steps.Expanding.{WorldView, FrontView, Fits, front_past_statement, front_past_block}
 use Rattle.sect_types.specs.steps.Expanding.{expanded_there, block_there, IsFront, most_size, tree_of, AreFlat}
@@ -87,7 +87,7 @@ then_front w n f s b =
     (omega arith) (omega arith) (omega arith) (omega arith) (append_assoc f.fresh _ _)
 
 -- at the start of a block
-pub starts : (w : WorldView) (n : ℕ) (v : View) (block all : BlockView) (f : FrontView) (text : TextView) → all ≡ block
+pub starts : (w : WorldView) (n : ℕ) (v : Scene) (block all : BlockView) (f : FrontView) (text : TextView) → all ≡ block
     → IsFront w n v block all all f f text text
 starts w n v block all f text e = record {
   whole = e;
@@ -109,7 +109,7 @@ part_fits w n f s b h = record {
 }
 
 -- the next statement fits
-pub next_fits : (w : WorldView) (n : ℕ) (v : View) (block : BlockView) (ss : List Statement) (i : ℕ) (x : Statement)
+pub next_fits : (w : WorldView) (n : ℕ) (v : Scene) (block : BlockView) (ss : List Statement) (i : ℕ) (x : Statement)
     (old now : FrontView) (before text : TextView) → i < length ss → x ≡ get_or ss i x
     → IsFront w n v block (block_of ss) (block_of (drop i ss)) old now before text
     → Fits (front_past_block w n old block)
@@ -118,7 +118,7 @@ next_fits w n v block ss i x old now before text lt is h fits =
     part_fits w n now (statement_of x) (block_of (drop (i + 1) ss))
     (subst (λ b. Fits (front_past_block w n now b)) (next_of ss i x lt is) (subst Fits (sym h.past) fits))
 
-goes_on : (w : WorldView) (n : ℕ) (v : View) (block all : BlockView) (s : StatementView) (rest : BlockView)
+goes_on : (w : WorldView) (n : ℕ) (v : Scene) (block all : BlockView) (s : StatementView) (rest : BlockView)
     (old now next : FrontView) (before text new : TextView) → IsFront w n v block all (Then s rest) old now before text
     → next ≡ front_past_statement w n now s → Appends text new (expanded_there w n v now s)
     → IsFront w n v block all rest old next before new
@@ -134,7 +134,7 @@ goes_on w n v block all s rest old now next before text new h e writes = record 
 }
 
 -- the next statement is written
-pub one_more : (w : WorldView) (n : ℕ) (v : View) (block : BlockView) (ss : List Statement) (i : ℕ) (x : Statement)
+pub one_more : (w : WorldView) (n : ℕ) (v : Scene) (block : BlockView) (ss : List Statement) (i : ℕ) (x : Statement)
     (old now next : FrontView) (before text new : TextView) → i < length ss → x ≡ get_or ss i x
     → IsFront w n v block (block_of ss) (block_of (drop i ss)) old now before text
     → next ≡ front_past_statement w n now (statement_of x)
@@ -144,20 +144,20 @@ one_more w n v block ss i x old now next before text new lt is h e writes =
     goes_on w n v block (block_of ss) (statement_of x) (block_of (drop (i + 1) ss)) old now next before text new
     (subst (λ b. IsFront w n v block (block_of ss) b old now before text) (next_of ss i x lt is) h) e writes
 
-ended : (w : WorldView) (n : ℕ) (v : View) (block all : BlockView) (ss : List Statement) (i : ℕ) (old now : FrontView)
+ended : (w : WorldView) (n : ℕ) (v : Scene) (block all : BlockView) (ss : List Statement) (i : ℕ) (old now : FrontView)
     (before text : TextView) → length ss ≤ i → IsFront w n v block all (block_of (drop i ss)) old now before text
     → IsFront w n v block all End old now before text
 ended w n v block all ss i old now before text le h =
     subst (λ l. IsFront w n v block all (block_of l) old now before text) (drop_all i ss le) h
 
-pub ends_text : (w : WorldView) (n : ℕ) (v : View) (block all : BlockView) (ss : List Statement) (i : ℕ)
+pub ends_text : (w : WorldView) (n : ℕ) (v : Scene) (block all : BlockView) (ss : List Statement) (i : ℕ)
     (old now : FrontView) (before text : TextView) → length ss ≤ i
     → IsFront w n v block all (block_of (drop i ss)) old now before text
     → Appends before text (joined (block_there w n v old block))
 ends_text w n v block all ss i old now before text le h k =
     (ended w n v block all ss i old now before text le h).written k
 
-pub ends_front : (w : WorldView) (n : ℕ) (v : View) (block all : BlockView) (ss : List Statement) (i : ℕ)
+pub ends_front : (w : WorldView) (n : ℕ) (v : Scene) (block all : BlockView) (ss : List Statement) (i : ℕ)
     (old now : FrontView) (before text : TextView) → length ss ≤ i
     → IsFront w n v block all (block_of (drop i ss)) old now before text → now ≡ front_past_block w n old block
 ends_front w n v block all ss i old now before text le h =
@@ -193,18 +193,18 @@ no_depth w n f x vs e =
     (sym (append-nil f.fresh))
     ∙ ap (λ m. front_past_statement w m f (Call x vs)) (sym e)
 
-not_called : (w : WorldView) (n : ℕ) (v : View) (f : FrontView) (vs : List Operand) (k : TextView)
+not_called : (w : WorldView) (n : ℕ) (v : Scene) (f : FrontView) (vs : List Operand) (k : TextView)
     → expand_within n w.records w.globals w.procedures None v f.at vs k ≡ k
 not_called w zero v f vs k = refl
 not_called w (suc n) v f vs k = refl
 
-pub no_procedure_text : (w : WorldView) (n : ℕ) (v : View) (f : FrontView) (x : List ℕ) (vs : List Operand)
+pub no_procedure_text : (w : WorldView) (n : ℕ) (v : Scene) (f : FrontView) (x : List ℕ) (vs : List Operand)
     (text : TextView) → number_of w.procedures x ≡ None → Appends text text (expanded_there w n v f (Call x vs))
 no_procedure_text w n v f x vs text e k =
     ap (joined text) (sym (not_called w n v f vs k))
     ∙ ap (λ o. joined text (expand_within n w.records w.globals w.procedures o v f.at vs k)) (sym e)
 
-pub no_depth_text : (w : WorldView) (n : ℕ) (v : View) (f : FrontView) (x : List ℕ) (vs : List Operand)
+pub no_depth_text : (w : WorldView) (n : ℕ) (v : Scene) (f : FrontView) (x : List ℕ) (vs : List Operand)
     (text : TextView)
     → n ≡ 0 → Appends text text (expanded_there w n v f (Call x vs))
 no_depth_text w n v f x vs text e k = ap (λ m. joined text (expanded_there w m v f (Call x vs) k)) (sym e)

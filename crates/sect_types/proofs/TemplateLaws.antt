@@ -31,7 +31,8 @@ use Rattle.sect_front.specs.declared.tree.Procedure.{Procedure}
 use Rattle.sect_types.specs.Items.{variables}
 use Rattle.sect_types.specs.declared.sums.Sums.{Sums}
 use Rattle.sect_types.specs.Sums.{sums, statement_sums, block_sums, number_of}
-use Rattle.sect_types.specs.Expanded.{View, At, Expander, moved_value, moved_action, moved_condition, past_statement}
+use Rattle.sect_types.specs.Expanded.{Scene, Ahead, Expander}
+use Rattle.sect_types.specs.Expanded.{moved_value, moved_action, moved_condition, past_statement}
 use Rattle.sect_types.specs.Expanded.{past_block, statement_sections, block_sections, expanded_statement}
 use Rattle.sect_types.specs.Expanded.{expanded_block, argument_in, set_parameters, clear_locals, after_call, call_of}
 use Rattle.sect_types.specs.Expanded.{procedure_numbered}
@@ -104,7 +105,7 @@ argument_moved : (n : ℕ) (o : Option Given) → moved_value n (value_in o) ≡
 argument_moved n None = refl
 argument_moved n (Some v) = refl
 
-abbrev pub arguments_in : View → List Operand → List Value
+abbrev pub arguments_in : Scene → List Operand → List Value
 arguments_in v vs = map (λ u. argument_in v.first (operand_of v.sight u)) vs
 
 arguments_moved : (s : Sight) (n : ℕ) (vs : List Operand)
@@ -113,7 +114,7 @@ arguments_moved s n [] = refl
 arguments_moved s n (v ∷ vs) = λ i. argument_moved n (operand_of s v) i ∷ arguments_moved s n vs i
 
 -- setting parameters to arguments is setting them to values
-pub set_by_values : (v : View) (x : ℕ) (ds : List Declaration) (vs : List Operand) (k : TextView)
+pub set_by_values : (v : Scene) (x : ℕ) (ds : List Declaration) (vs : List Operand) (k : TextView)
     → set_parameters v x ds vs k ≡ set_values x ds (arguments_in v vs) k
 set_by_values v x [] vs k = refl
 set_by_values v x (d ∷ ds) [] k = ap (Do (action.Assign x value.Null)) (set_by_values v (x + 1) ds [] k)
@@ -121,7 +122,7 @@ set_by_values v x (d ∷ ds) (u ∷ us) k =
     ap (Do (action.Assign x (argument_in v.first (operand_of v.sight u)))) (set_by_values v (x + 1) ds us k)
 
 -- positions behind b
-past_shifted : (ps : List Procedure) (table : List Sums) (b a : At) (s : StatementView)
+past_shifted : (ps : List Procedure) (table : List Sums) (b a : Ahead) (s : StatementView)
     → shifted b (past_statement ps table a s) ≡ past_statement ps table (shifted b a) s
 past_shifted ps table b a s =
     let x = statement_sums ps table s in
@@ -132,7 +133,7 @@ past_shifted ps table b a s =
     let of_fresh : b.fresh + (a.fresh + x.fresh) ≡ b.fresh + a.fresh + x.fresh = omega arith in
     λ i. record { sites = of_sites i; sections = of_sections i; fresh = of_fresh i }
 
-past_block_shifted : (ps : List Procedure) (table : List Sums) (b a : At) (c : BlockView)
+past_block_shifted : (ps : List Procedure) (table : List Sums) (b a : Ahead) (c : BlockView)
     → shifted b (past_block ps table a c) ≡ past_block ps table (shifted b a) c
 past_block_shifted ps table b a c =
     let x = block_sums ps table c in
@@ -142,7 +143,7 @@ past_block_shifted ps table b a c =
     let of_fresh : b.fresh + (a.fresh + x.fresh) ≡ b.fresh + a.fresh + x.fresh = omega arith in
     λ i. record { sites = of_sites i; sections = of_sections i; fresh = of_fresh i }
 
-section_shifted : (b a : At)
+section_shifted : (b a : Ahead)
     → shifted b (record a { sections = a.sections + 1 }) ≡ record (shifted b a) {
       sections =
           b.sections + a.sections + 1;
@@ -153,14 +154,14 @@ section_shifted b a =
 
 -- the copier puts in the place of a call what the expander puts there
 abbrev pub CopiesCalls : Expander → Copier → Type 0
-CopiesCalls expand copy = (q : Option ℕ) (v : View) (a : At) (vs : List Operand) (k : TextView)
+CopiesCalls expand copy = (q : Option ℕ) (v : Scene) (a : Ahead) (vs : List Operand) (k : TextView)
     → copy q a (arguments_in v vs) k ≡ expand q v a vs k
 
 -- a copy of a body's template is its expansion
 mutual
   pub statement_copied : (ps : List Procedure) (table : List Sums) (expand : Expander) (copy : Copier)
       → CopiesCalls expand copy
-      → (s : Sight) (n : ℕ) (b a : At) (f : StatementView) (k : TemplateView) (l : TextView) → copied copy n b k ≡ l
+      → (s : Sight) (n : ℕ) (b a : Ahead) (f : StatementView) (k : TemplateView) (l : TextView) → copied copy n b k ≡ l
       → copied copy n b (template_statement ps table s a f k)
       ≡ expanded_statement ps table expand (record { sight = s; first = n }) (shifted b a) f l
   statement_copied ps table expand copy h s n b a (Primitive p) k l e =
@@ -170,7 +171,7 @@ mutual
       let y = block_copied ps table expand copy h s n b a x in
       λ i. Choose (moved_condition n (condition_in (test_of s t))) (y i) Stop (e i)
   statement_copied ps table expand copy h s n b a (IfElse t x y) k l e =
-      let v : View = record { sight = s; first = n } in
+      let v : Scene = record { sight = s; first = n } in
       let z = block_copied ps table expand copy h s n b a x in
       let w = block_copied ps table expand copy h s n b (past_block ps table a x) y
       ∙ ap (λ c. expanded_block ps table expand v c y) (past_block_shifted ps table b a x) in
@@ -179,24 +180,24 @@ mutual
       let y = block_copied ps table expand copy h s n b a x in
       λ i. Loop (moved_condition n (condition_in (test_of s t))) (y i) (e i)
   statement_copied ps table expand copy h s n b a (Atomic lock x) k l e =
-      let v : View = record { sight = s; first = n } in
-      let c : At = record a { sections = a.sections + 1 } in
+      let v : Scene = record { sight = s; first = n } in
+      let c : Ahead = record a { sections = a.sections + 1 } in
       let y = block_copied ps table expand copy h s n b c x
       ∙ ap (λ d. expanded_block ps table expand v d x) (section_shifted b a) in
       λ i. Section (b.sections + a.sections) (y i) (e i)
   statement_copied ps table expand copy h s n b a (Call f vs) k l e =
-      let v : View = record { sight = s; first = n } in
+      let v : Scene = record { sight = s; first = n } in
       (λ i. copy (number_of ps f) (shifted b a) (arguments_moved s n vs i) (e i))
       ∙ h (number_of ps f) v (shifted b a) vs l
 
   pub block_copied : (ps : List Procedure) (table : List Sums) (expand : Expander) (copy : Copier)
       → CopiesCalls expand copy
-      → (s : Sight) (n : ℕ) (b a : At) (c : BlockView)
+      → (s : Sight) (n : ℕ) (b a : Ahead) (c : BlockView)
       → copied copy n b (template_block ps table s a c)
       ≡ expanded_block ps table expand (record { sight = s; first = n }) (shifted b a) c
   block_copied ps table expand copy h s n b a End = refl
   block_copied ps table expand copy h s n b a (Then f c) =
-      let v : View = record { sight = s; first = n } in
+      let v : Scene = record { sight = s; first = n } in
       let d = past_statement ps table a f in
       statement_copied ps table expand copy h s n b a f (template_block ps table s d c) _
       (block_copied ps table expand copy h s n b d c
@@ -208,7 +209,7 @@ expand_by zero rs gs ps q v a vs k = k
 expand_by (suc n) rs gs ps q v a vs k =
     call_of rs gs ps (sums ps) (expand_by n rs gs ps) (procedure_numbered ps q) q v a vs k
 
-at_start : (a : At) → shifted a nothing_before ≡ a
+at_start : (a : Ahead) → shifted a nothing_before ≡ a
 at_start a =
     let of_sites : a.sites + 0 ≡ a.sites = omega arith in
     let of_sections : a.sections + 0 ≡ a.sections = omega arith in
@@ -217,16 +218,16 @@ at_start a =
 
 -- the copy of a template is the expansion of its body
 pub template_copied : (ps : List Procedure) (table : List Sums) (expand : Expander) (copy : Copier)
-    → CopiesCalls expand copy → (s : Sight) (n : ℕ) (a : At) (c : BlockView)
+    → CopiesCalls expand copy → (s : Sight) (n : ℕ) (a : Ahead) (c : BlockView)
     → copied copy n a (template_block ps table s nothing_before c)
     ≡ expanded_block ps table expand (record { sight = s; first = n }) a c
 template_copied ps table expand copy h s n a c =
-    let v : View = record { sight = s; first = n } in
+    let v : Scene = record { sight = s; first = n } in
     block_copied ps table expand copy h s n a nothing_before c
     ∙ ap (λ x. expanded_block ps table expand v x c) (at_start a)
 
 call_copied : (rs : List Record) (gs : List GlobalObject) (ps : List Procedure) (expand : Expander) (copy : Copier)
-    → CopiesCalls expand copy → (o : Option Procedure) (q : Option ℕ) (v : View) (a : At) (vs : List Operand)
+    → CopiesCalls expand copy → (o : Option Procedure) (q : Option ℕ) (v : Scene) (a : Ahead) (vs : List Operand)
     (k : TextView) → copy_of rs gs ps copy o a (arguments_in v vs) k ≡ call_of rs gs ps (sums ps) expand o q v a vs k
 call_copied rs gs ps expand copy h None q v a vs k = refl
 call_copied rs gs ps expand copy h (Some p) q v a vs k =

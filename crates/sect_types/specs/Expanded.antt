@@ -52,22 +52,22 @@ abbrev pub moved_condition : ℕ → Condition → Condition
 moved_condition n c = record { left = moved_value n c.left; comparison = c.comparison; right = moved_value n c.right }
 
 -- what statements see, and the number of the first of their variables: 0 in a thread's own text
-pub record View : Type 0 where
+pub record Scene : Type 0 where
   pub sight : Sight
   pub first : ℕ
 
 -- the next site, the next section, the next fresh local
-pub record At : Type 0 where
+pub record Ahead : Type 0 where
   pub sites : ℕ
   pub sections : ℕ
   pub fresh : ℕ
 
-abbrev pub past : At → Sums → At
+abbrev pub past : Ahead → Sums → Ahead
 past a s = record a { sites = a.sites + s.sites; fresh = a.fresh + s.fresh }
 
 -- the expansion of a call of that procedure with these arguments, and what follows it
 abbrev pub Expander : Type 0
-Expander = Option ℕ → View → At → List Operand → TextView → TextView
+Expander = Option ℕ → Scene → Ahead → List Operand → TextView → TextView
 
 -- how many sections stand in statements
 abbrev mutual
@@ -83,19 +83,19 @@ abbrev mutual
   block_sections End = 0
   block_sections (Then s b) = statement_sections s + block_sections b
 
-abbrev pub past_statement : List Procedure → List Sums → At → StatementView → At
+abbrev pub past_statement : List Procedure → List Sums → Ahead → StatementView → Ahead
 past_statement ps table a s =
     past (record a { sections = a.sections + statement_sections s }) (statement_sums ps table s)
 
-abbrev pub past_block : List Procedure → List Sums → At → BlockView → At
+abbrev pub past_block : List Procedure → List Sums → Ahead → BlockView → Ahead
 past_block ps table a b = past (record a { sections = a.sections + block_sections b }) (block_sums ps table b)
 
-abbrev pub action_at : View → At → leaf.Primitive → Action
+abbrev pub action_at : Scene → Ahead → leaf.Primitive → Action
 action_at v a p = moved_action v.first (action_in (primitive_of v.sight a.sites p))
 
 abbrev mutual
   -- a statement by numbers, and what follows it
-  pub expanded_statement : List Procedure → List Sums → Expander → View → At → StatementView → TextView
+  pub expanded_statement : List Procedure → List Sums → Expander → Scene → Ahead → StatementView → TextView
       → TextView
   expanded_statement ps table call v a (Primitive p) k = Do (action_at v a p) k
   expanded_statement ps table call v a (If t b) k =
@@ -109,7 +109,7 @@ abbrev mutual
       Section a.sections (expanded_block ps table call v (record a { sections = a.sections + 1 }) b) k
   expanded_statement ps table call v a (Call f vs) k = call (number_of ps f) v a vs k
 
-  pub expanded_block : List Procedure → List Sums → Expander → View → At → BlockView → TextView
+  pub expanded_block : List Procedure → List Sums → Expander → Scene → Ahead → BlockView → TextView
   expanded_block ps table call v a End = Stop
   expanded_block ps table call v a (Then s b) =
       expanded_statement ps table call v a s (expanded_block ps table call v (past_statement ps table a s) b)
@@ -130,13 +130,13 @@ argument_in n None = value.Null
 argument_in n (Some v) = moved_value n (value_by v)
 
 -- the parameters from number x on are set to the arguments; where these are too few this says nothing
-abbrev pub set_parameters : View → ℕ → List Declaration → List Operand → TextView → TextView
+abbrev pub set_parameters : Scene → ℕ → List Declaration → List Operand → TextView → TextView
 set_parameters v x [] vs k = k
 set_parameters v x (d ∷ ds) [] k = Do (action.Assign x value.Null) (set_parameters v (x + 1) ds [] k)
 set_parameters v x (d ∷ ds) (u ∷ us) k =
     Do (action.Assign x (argument_in v.first (operand_of v.sight u))) (set_parameters v (x + 1) ds us k)
 
-abbrev pub after_call : At → Procedure → At
+abbrev pub after_call : Ahead → Procedure → Ahead
 after_call a p = record a { fresh = a.fresh + (length p.parameters + length p.locals) }
 
 -- one assignment a parameter, one a local, then the body, whose variables are the next fresh locals
@@ -160,16 +160,16 @@ expand_within (suc n) rs gs ps q v a vs k =
     call_of rs gs ps (sums_within n ps) (expand_within n rs gs ps) (procedure_numbered ps q) q v a vs k
 
 -- the text of a thread
-abbrev pub expanded_thread : TreeView → At → Thread → TextView
+abbrev pub expanded_thread : TreeView → Ahead → Thread → TextView
 expanded_thread t a h =
     expanded_block t.procedures (sums t.procedures)
     (expand_within (length t.procedures) t.records t.globals t.procedures)
     (record { sight = sight t.records t.globals h.locals; first = 0 }) (record a { fresh = length h.locals }) h.body
 
-abbrev pub past_thread : TreeView → At → Thread → At
+abbrev pub past_thread : TreeView → Ahead → Thread → Ahead
 past_thread t a h = past_block t.procedures (sums t.procedures) a h.body
 
-abbrev pub expanded_threads : TreeView → At → List Thread → List TextView
+abbrev pub expanded_threads : TreeView → Ahead → List Thread → List TextView
 expanded_threads t a [] = []
 expanded_threads t a (h ∷ hs) = expanded_thread t a h ∷ expanded_threads t (past_thread t a h) hs
 

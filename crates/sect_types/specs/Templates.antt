@@ -22,14 +22,14 @@ use Rattle.sect_front.specs.TreeView.{TreeView}
 use Rattle.sect_types.specs.Items.{variables}
 use Rattle.sect_types.specs.declared.sums.Sums.{Sums}
 use Rattle.sect_types.specs.Sums.{sums, number_of}
-use Rattle.sect_types.specs.Expanded.{At, moved_value, moved_action, moved_condition, past_statement, past_block}
+use Rattle.sect_types.specs.Expanded.{Ahead, moved_value, moved_action, moved_condition, past_statement, past_block}
 use Rattle.sect_types.specs.Expanded.{past_thread, clear_locals, after_call, procedure_numbered}
 
 -- a call that is kept: of which procedure, with which values, and what stands before it in its body
 pub record Invocation : Type 0 where
   pub procedure : Option ℕ
   pub values : List Value
-  pub at : At
+  pub at : Ahead
 
 -- statements whose variables, sites and sections have the numbers from 0 on
 pub data TemplateView : Type 0 where
@@ -50,7 +50,7 @@ values_in s vs = map (λ v. value_in (operand_of s v)) vs
 
 abbrev mutual
   -- a statement, and what follows it
-  pub template_statement : List Procedure → List Sums → Sight → At → StatementView → TemplateView → TemplateView
+  pub template_statement : List Procedure → List Sums → Sight → Ahead → StatementView → TemplateView → TemplateView
   template_statement ps table s a (Primitive p) k = Act (action_in (primitive_of s a.sites p)) k
   template_statement ps table s a (If t b) k =
       Branch (condition_in (test_of s t)) (template_block ps table s a b) Finish k
@@ -63,7 +63,7 @@ abbrev mutual
   template_statement ps table s a (Call f vs) k =
       Invoke (record { procedure = number_of ps f; values = values_in s vs; at = a }) k
 
-  pub template_block : List Procedure → List Sums → Sight → At → BlockView → TemplateView
+  pub template_block : List Procedure → List Sums → Sight → Ahead → BlockView → TemplateView
   template_block ps table s a End = Finish
   template_block ps table s a (Then f b) =
       template_statement ps table s a f (template_block ps table s (past_statement ps table a f) b)
@@ -81,15 +81,15 @@ sited_action n (action.Print v) = action.Print v
 abbrev pub copied_action : ℕ → ℕ → Action → Action
 copied_action n m a = moved_action n (sited_action m a)
 
-abbrev pub shifted : At → At → At
+abbrev pub shifted : Ahead → Ahead → Ahead
 shifted b a = record { sites = b.sites + a.sites; sections = b.sections + a.sections; fresh = b.fresh + a.fresh }
 
 -- what is put in the place of a call of that procedure with these values, and what follows it
 abbrev pub Copier : Type 0
-Copier = Option ℕ → At → List Value → TextView → TextView
+Copier = Option ℕ → Ahead → List Value → TextView → TextView
 
 -- a copy whose variables have the numbers from n on, and before which b stands
-abbrev pub copied : Copier → ℕ → At → TemplateView → TextView
+abbrev pub copied : Copier → ℕ → Ahead → TemplateView → TextView
 copied call n b Finish = Stop
 copied call n b (Act a k) = Do (copied_action n b.sites a) (copied call n b k)
 copied call n b (Branch c p q k) =
@@ -104,13 +104,13 @@ set_values x [] vs k = k
 set_values x (d ∷ ds) [] k = Do (action.Assign x value.Null) (set_values (x + 1) ds [] k)
 set_values x (d ∷ ds) (v ∷ vs) k = Do (action.Assign x v) (set_values (x + 1) ds vs k)
 
-abbrev pub nothing_before : At
+abbrev pub nothing_before : Ahead
 nothing_before = record { sites = 0; sections = 0; fresh = 0 }
 
 abbrev pub template_of : List Record → List GlobalObject → List Procedure → Procedure → TemplateView
 template_of rs gs ps p = template_block ps (sums ps) (sight rs gs (variables p)) nothing_before p.body
 
-abbrev pub copy_of : List Record → List GlobalObject → List Procedure → Copier → Option Procedure → At → List Value
+abbrev pub copy_of : List Record → List GlobalObject → List Procedure → Copier → Option Procedure → Ahead → List Value
     → TextView → TextView
 copy_of rs gs ps call None a vs k = k
 copy_of rs gs ps call (Some p) a vs k =
@@ -125,11 +125,11 @@ copy_within (suc n) rs gs ps q a vs k =
     copy_of rs gs ps (copy_within n rs gs ps) (procedure_numbered ps q) a vs k
 
 -- the text of a thread, before which a stands
-abbrev pub copied_thread : TreeView → At → Thread → TextView
+abbrev pub copied_thread : TreeView → Ahead → Thread → TextView
 copied_thread t a h =
     copied (copy_within (length t.procedures) t.records t.globals t.procedures) 0 (record a { fresh = length h.locals })
     (template_block t.procedures (sums t.procedures) (sight t.records t.globals h.locals) nothing_before h.body)
 
-abbrev pub copied_threads : TreeView → At → List Thread → List TextView
+abbrev pub copied_threads : TreeView → Ahead → List Thread → List TextView
 copied_threads t a [] = []
 copied_threads t a (h ∷ hs) = copied_thread t a h ∷ copied_threads t (past_thread t a h) hs

@@ -19,7 +19,7 @@ use Rattle.sect_types.specs.Expanded.{argument_in}
 use Rattle.sect_types.specs.Sight.{operand_of, names_of_records, names_of_globals, all_fields}
 use Rattle.sect_types.specs.Statements.{TextView, joined}
 use Rattle.sect_types.specs.Sums.{sums_within, statement_sums, block_sums}
-use Rattle.sect_types.specs.Expanded.{View, At, past_statement, past_block, expanded_statement, expanded_block}
+use Rattle.sect_types.specs.Expanded.{Scene, Ahead, past_statement, past_block, expanded_statement, expanded_block}
 use Rattle.sect_types.specs.Expanded.{expand_within, statement_fresh, block_fresh, fresh_within}
 use Rattle.sect_types.specs.steps.Threads.{VariablesView, variables_shown}
 
@@ -44,7 +44,7 @@ pub record IsWorld (w : WorldView) (record_names : List (List ℕ)) (field_names
 
 -- the next site, section and fresh local, the number of the next call of the thread, and its fresh locals
 pub record FrontView : Type 0 where
-  pub at : At
+  pub at : Ahead
   pub calls : ℕ
   pub fresh : List Fresh
 
@@ -71,12 +71,12 @@ front_past_block w n f b = record {
 }
 
 -- the statement that is expanded, and what follows it
-abbrev pub expanded_there : WorldView → ℕ → View → FrontView → StatementView → TextView → TextView
+abbrev pub expanded_there : WorldView → ℕ → Scene → FrontView → StatementView → TextView → TextView
 expanded_there w n v f s k =
     expanded_statement w.procedures (sums_within n w.procedures) (expand_within n w.records w.globals w.procedures) v
     f.at s k
 
-abbrev pub block_there : WorldView → ℕ → View → FrontView → BlockView → TextView
+abbrev pub block_there : WorldView → ℕ → Scene → FrontView → BlockView → TextView
 block_there w n v f b =
     expanded_block w.procedures (sums_within n w.procedures) (expand_within n w.records w.globals w.procedures) v f.at b
 
@@ -112,12 +112,12 @@ most_size [] = 3
 most_size (p ∷ ps) = most_size ps + 2 * block_size p.body
 
 -- an argument, where there is one
-abbrev pub argument_of : View → Option Operand → Value
+abbrev pub argument_of : Scene → Option Operand → Value
 argument_of v None = value.Null
 argument_of v (Some u) = argument_in v.first (operand_of v.sight u)
 
 -- the statements `rest` of `all` are left
-pub record IsFront (w : WorldView) (n : ℕ) (v : View) (block all rest : BlockView) (old now : FrontView)
+pub record IsFront (w : WorldView) (n : ℕ) (v : Scene) (block all rest : BlockView) (old now : FrontView)
     (before text : TextView) : Type 0 where
   pub whole : all ≡ block
   pub written : (k : TextView)

@@ -21,7 +21,7 @@ use Rattle.sect_types.specs.Items.{variables}
 use Rattle.sect_types.specs.Sums.{sums, sums_within, block_sums}
 use Rattle.sect_types.specs.Statements.{TextView, joined}
 use Rattle.sect_types.specs.declared.expand.Fresh.{Fresh}
-use Rattle.sect_types.specs.Expanded.{View, At, Expander, argument_in, block_sections, expanded_statement}
+use Rattle.sect_types.specs.Expanded.{Scene, Ahead, Expander, argument_in, block_sections, expanded_statement}
 use Rattle.sect_types.specs.Expanded.{expanded_block, expand_within}
 use Rattle.sect_types.specs.Expanded.{block_fresh, fresh_within, fresh_in, local_types_of, past_thread}
 use Rattle.sect_types.specs.Expanded.{expanded_threads, texts_of}
@@ -31,13 +31,13 @@ abbrev pub Appends : TextView → TextView → (TextView → TextView) → Type 
 Appends old new f = (k : TextView) → joined new k ≡ joined old (f k)
 
 -- between two positions stands what comes to these sums, and so many sections
-pub record IsPast (old new : At) (s : Sums) (sections : ℕ) : Type 0 where
+pub record IsPast (old new : Ahead) (s : Sums) (sections : ℕ) : Type 0 where
   pub of_sites : new.sites ≡ old.sites + s.sites
   pub of_sections : new.sections ≡ old.sections + sections
   pub of_fresh : new.fresh ≡ old.fresh + s.fresh
 
 -- behind it the limits aren't passed
-pub record HasRoom (a : At) (s : Sums) (sections : ℕ) : Type 0 where
+pub record HasRoom (a : Ahead) (s : Sums) (sections : ℕ) : Type 0 where
   pub for_sites : a.sites + s.sites ≤ MOST_SITES
   pub for_sections : a.sections + sections ≤ MOST_SECTIONS
   pub for_fresh : a.fresh + s.fresh ≤ MOST_ALL_LOCALS
@@ -49,13 +49,13 @@ table_by t n = sums_within n t.procedures
 abbrev pub calls_by : TreeView → ℕ → Expander
 calls_by t n = expand_within n t.records t.globals t.procedures
 
-abbrev pub view_of : Sight → ℕ → View
+abbrev pub view_of : Sight → ℕ → Scene
 view_of s n = record { sight = s; first = n }
 
-abbrev pub statement_by : TreeView → ℕ → Sight → ℕ → At → StatementView → TextView → TextView
+abbrev pub statement_by : TreeView → ℕ → Sight → ℕ → Ahead → StatementView → TextView → TextView
 statement_by t n s first a f k = expanded_statement t.procedures (table_by t n) (calls_by t n) (view_of s first) a f k
 
-abbrev pub block_by : TreeView → ℕ → Sight → ℕ → At → BlockView → TextView
+abbrev pub block_by : TreeView → ℕ → Sight → ℕ → Ahead → BlockView → TextView
 block_by t n s first a b = expanded_block t.procedures (table_by t n) (calls_by t n) (view_of s first) a b
 
 -- what the bodies of procedures see; and none has a section
@@ -71,29 +71,29 @@ total_size (p ∷ ps) = block_size p.body + total_size ps
 
 -- the statements `rest` are left of a block
 pub record IsExpanding (t : TreeView) (n : ℕ) (s : Sight) (first : ℕ) (block all rest : BlockView)
-    (old now : At) (before text : TextView) : Type 0 where
+    (old now : Ahead) (before text : TextView) : Type 0 where
   pub whole : all ≡ block
   pub written : (k : TextView)
       → joined text (joined (block_by t n s first now rest) k) ≡ joined before
       (joined (block_by t n s first old block) k)
-  pub past : (e : At) → IsPast now e (block_sums t.procedures (table_by t n) rest) (block_sections rest)
+  pub past : (e : Ahead) → IsPast now e (block_sums t.procedures (table_by t n) rest) (block_sections rest)
       → IsPast old e (block_sums t.procedures (table_by t n) block) (block_sections block)
   pub room : HasRoom now (block_sums t.procedures (table_by t n) rest) (block_sections rest)
 
-abbrev pub argument_of : View → Option Operand → Value
+abbrev pub argument_of : Scene → Option Operand → Value
 argument_of v None = value.Null
 argument_of v (Some u) = argument_in v.first (operand_of v.sight u)
 
 -- the argument at an index; where there is none this says nothing
-abbrev pub argument_at : View → List Operand → ℕ → Value
+abbrev pub argument_at : Scene → List Operand → ℕ → Value
 argument_at v vs i = argument_of v (slice_get vs i)
 
 -- before the body of a thread
-abbrev pub at_thread : At → Thread → At
+abbrev pub at_thread : Ahead → Thread → Ahead
 at_thread a h = record a { fresh = length h.locals }
 
 -- the expanded texts of these threads pass no limit
-abbrev pub RoomFor : TreeView → At → List Thread → Type 0
+abbrev pub RoomFor : TreeView → Ahead → List Thread → Type 0
 RoomFor t a [] = ⊤
 RoomFor t a (h ∷ hs) =
     (length h.locals ≤ MOST_LOCALS)
@@ -101,7 +101,7 @@ RoomFor t a (h ∷ hs) =
     × RoomFor t (past_thread t a h) hs
 
 -- the threads `rest` are left, before which these texts were written
-pub record AreExpanded (t : TreeView) (now : At) (rest : List Thread) (texts : List TextView) : Type 0 where
+pub record AreExpanded (t : TreeView) (now : Ahead) (rest : List Thread) (texts : List TextView) : Type 0 where
   pub written : texts ++ expanded_threads t now rest ≡ texts_of t
   pub room : RoomFor t now rest
 

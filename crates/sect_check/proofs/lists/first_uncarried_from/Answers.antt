@@ -5,29 +5,33 @@ use Rattle.sect_check.proofs.lists.first_uncarried_from.Goals as goal
 
 pub returns-then-not-branch-clause-some : goal.returns-then-not-branch-clause-some
 returns-then-not-branch-clause-some c =
-    first_is c.args.scheme.now _ c.args.flow.now c.args.claims.now c.args.from _ _ c.action-label.ensures
-    c.succ.ensures _ _ c.list_at.ensures c.in_ok-set.ensures _ _ c.in_order-first.ensures.each c.in_order-first.ensures.order _
-    c.list_at-2.ensures (λ h. true≢false (sym (c.in_ok-carries_into.ensures.1 h) ∙ c.if-not-branch.true))
+    first_is c.args.scheme.now _ c.args.flow.now c.args.claims.now c.args.from _ _
+    c.action-label.ensures c.succ.ensures _ _ c.list_at.ensures c.in_ok-set.ensures _ _
+    c.in_order-first.ensures.each c.in_order-first.ensures.order _ c.list_at-2.ensures
+    (λ h. true≢false (sym (c.in_ok-carries_into.ensures.1 h) ∙ c.if-not-branch.true))
 
 pub returns-then-not-branch-2-clause-some : goal.returns-then-not-branch-2-clause-some
 returns-then-not-branch-2-clause-some c =
-    second_is c.args.scheme.now _ c.args.flow.now c.args.claims.now c.args.from _ _ c.action-label.ensures
-    c.succ.ensures _ _ c.list_at.ensures c.in_ok-set.ensures _ _ c.in_order-first.ensures.each c.in_order-first.ensures.order _
-    c.list_at-2.ensures (c.in_ok-carries_into.ensures.0 c.if-not-branch.false) _ c.list_at-3.ensures
+    second_is c.args.scheme.now _ c.args.flow.now c.args.claims.now c.args.from _ _
+    c.action-label.ensures c.succ.ensures _ _ c.list_at.ensures c.in_ok-set.ensures _ _
+    c.in_order-first.ensures.each c.in_order-first.ensures.order _ c.list_at-2.ensures
+    (c.in_ok-carries_into.ensures.0 c.if-not-branch.false) _ c.list_at-3.ensures
     (λ h. true≢false (sym (c.in_ok-carries_into-2.ensures.1 h) ∙ c.if-not-branch-2.true))
 
 pub returns-clause-none : goal.returns-clause-none
 returns-clause-none c =
-    all_hold c.args.scheme.now _ c.args.flow.now c.args.claims.now c.args.from _ _ c.action-label.ensures
-    c.succ.ensures _ _ c.list_at.ensures c.in_ok-set.ensures _ _ c.in_order-first.ensures.each c.in_order-first.ensures.order _
-    c.list_at-2.ensures (c.in_ok-carries_into.ensures.0 c.if-not-branch.false) _ c.list_at-3.ensures
+    all_hold c.args.scheme.now _ c.args.flow.now c.args.claims.now c.args.from _ _
+    c.action-label.ensures c.succ.ensures _ _ c.list_at.ensures c.in_ok-set.ensures _ _
+    c.in_order-first.ensures.each c.in_order-first.ensures.order _ c.list_at-2.ensures
+    (c.in_ok-carries_into.ensures.0 c.if-not-branch.false) _ c.list_at-3.ensures
     (c.in_ok-carries_into-2.ensures.0 c.if-not-branch-2.false)
 
 pub returns-then-second-first-clause-none : goal.returns-then-second-first-clause-none
 returns-then-second-first-clause-none c =
-    one_holds c.args.scheme.now _ c.args.flow.now c.args.claims.now c.args.from _ _ c.action-label.ensures
-    c.succ.ensures _ _ c.list_at.ensures c.in_ok-set.ensures _ _ c.in_order-first.ensures.each c.in_order-first.ensures.order _
-    c.list_at-2.ensures c.if-second-first.true (c.in_ok-carries_into.ensures.0 c.if-not-branch.false)
+    one_holds c.args.scheme.now _ c.args.flow.now c.args.claims.now c.args.from _ _
+    c.action-label.ensures c.succ.ensures _ _ c.list_at.ensures c.in_ok-set.ensures _ _
+    c.in_order-first.ensures.each c.in_order-first.ensures.order _ c.list_at-2.ensures
+    c.if-second-first.true (c.in_ok-carries_into.ensures.0 c.if-not-branch.false)
 
 pub list_at-requires-2 : goal.list_at-requires-2
 list_at-requires-2 c =

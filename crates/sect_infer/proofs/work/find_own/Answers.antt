@@ -29,5 +29,5 @@ returns-in-None c =
 pub returns-in-Some : goal.returns-in-Some
 returns-in-Some c =
     let node = told (goal.at.returns-in-Some c).After-generate in
-    on_ok_weaker c.find.result (own_some _ _ c.args.flow.now c.args.node node.0 node.1 c.generate.result node.2 _ _ _ _ c.in-Some.lock
-    c.in-Some.is) c.find.ensures
+    on_ok_weaker c.find.result (own_some _ _ c.args.flow.now c.args.node
+    node.0 node.1 c.generate.result node.2 _ _ _ _ c.in-Some.lock c.in-Some.is) c.find.ensures

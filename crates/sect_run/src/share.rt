@@ -109,6 +109,7 @@ impl<J: Naming> Post<J> {
     /// The post of a thread, where there are so many threads.
     pub fn new(alloc: Global, thread: u16, threads: u16) -> Result<Post<J>, AllocError>
         requires { thread < J.threads }
+        ensures { IfOk result (λ post. post.thread ≡ thread) }
     {
         Ok(Post {
             thread,

@@ -27,7 +27,7 @@ use Rattle.sect_types.specs.Expanded.{after_call, expand_within}
 use Rattle.sect_types.specs.Expanded.{procedure_numbered, expanded_block, statement_sections}
 use Rattle.sect_types.specs.Expanded.{block_sections}
 use Rattle.sect_types.specs.Expanded.{statement_fresh, block_fresh, fresh_within}
-use Rattle.sect_types.specs.steps.Expanding.{WorldView, FrontView, Fits, front_past_statement, front_past_block}
+use Rattle.sect_types.specs.steps.Expanding.{SettingView, FrontView, Fits, front_past_statement, front_past_block}
 use Rattle.sect_types.specs.steps.Expanding.{expanded_there, block_there}
 use Rattle.sect_types.proofs.Lists.{drop_next}
 use Rattle.sect_types.proofs.Filling.{joined_twice, joined_step, joined_stop}
@@ -68,7 +68,7 @@ within_on (suc n) rs gs ps q v a vs b k =
     call_on rs gs ps (sums_within n ps) (expand_within n rs gs ps) (procedure_numbered ps q) q v a vs b k
 
 -- what follows a statement stands behind its expansion
-pub statement_on : (w : WorldView) (n : ℕ) (v : Scene) (f : FrontView) (s : StatementView) (b k : TextView)
+pub statement_on : (w : SettingView) (n : ℕ) (v : Scene) (f : FrontView) (s : StatementView) (b k : TextView)
     → expanded_there w n v f s (joined b k) ≡ joined (expanded_there w n v f s b) k
 statement_on w n v f (Primitive p) b k = refl
 statement_on w n v f (If t x) b k = refl
@@ -79,7 +79,7 @@ statement_on w n v f (Call g vs) b k =
     within_on n w.records w.globals w.procedures (number_of w.procedures g) v f.at vs b k
 
 -- past a statement, and then past a block
-pub front_next : (w : WorldView) (n : ℕ) (f : FrontView) (s : StatementView) (b : BlockView)
+pub front_next : (w : SettingView) (n : ℕ) (f : FrontView) (s : StatementView) (b : BlockView)
     → front_past_block w n (front_past_statement w n f s) b ≡ front_past_block w n f (Then s b)
 front_next w n f s b =
     let ps : List Procedure = w.procedures in
@@ -100,7 +100,7 @@ front_next w n f s b =
     }
 
 -- what is within the limits after a block was so before it
-pub fits_before : (w : WorldView) (n : ℕ) (f : FrontView) (b : BlockView) → Fits (front_past_block w n f b) → Fits f
+pub fits_before : (w : SettingView) (n : ℕ) (f : FrontView) (b : BlockView) → Fits (front_past_block w n f b) → Fits f
 fits_before w n f b h = record {
   few_sites = omega (arith, h.few_sites);
   few_sections = omega (arith, h.few_sections);
@@ -109,7 +109,7 @@ fits_before w n f b h = record {
 }
 
 -- the statements `rest` of `all` are left
-pub record AreExpanded (w : WorldView) (n : ℕ) (v : Scene) (block all rest : BlockView) (old now : FrontView)
+pub record AreExpanded (w : SettingView) (n : ℕ) (v : Scene) (block all rest : BlockView) (old now : FrontView)
     (start out : TextView) : Type 0 where
   pub whole : all ≡ block
   pub text : (k : TextView)
@@ -120,7 +120,8 @@ next_of : (ss : List Statement) (i : ℕ) (x : Statement) → i < length ss → 
     → block_of (drop i ss) ≡ Then (statement_of x) (block_of (drop (i + 1) ss))
 next_of ss i x h e = ap block_of (drop_next ss i x h e)
 
-pub one_expanded : (w : WorldView) (n : ℕ) (v : Scene) (block : BlockView) (ss : List Statement) (i : ℕ) (x : Statement)
+pub one_expanded : (w : SettingView) (n : ℕ) (v : Scene) (block : BlockView) (ss : List Statement) (i : ℕ)
+    (x : Statement)
     (old now then : FrontView) (start out new : TextView) → i < length ss → x ≡ get_or ss i x
     → AreExpanded w n v block (block_of ss) (block_of (drop i ss)) old now start out
     → ((k : TextView) → joined new k ≡ joined out (expanded_there w n v now (statement_of x) k))
@@ -143,7 +144,7 @@ one_expanded w n v block ss i x old now then start out new lt at so_far put past
     rest : BlockView
     rest = block_of (drop (i + 1) ss)
 
-pub fits_next : (w : WorldView) (n : ℕ) (v : Scene) (block : BlockView) (ss : List Statement) (i : ℕ) (x : Statement)
+pub fits_next : (w : SettingView) (n : ℕ) (v : Scene) (block : BlockView) (ss : List Statement) (i : ℕ) (x : Statement)
     (old now : FrontView) (start out : TextView) → i < length ss → x ≡ get_or ss i x
     → AreExpanded w n v block (block_of ss) (block_of (drop i ss)) old now start out
     → Fits (front_past_block w n old block) → Fits (front_past_statement w n now (statement_of x))
@@ -152,7 +153,7 @@ fits_next w n v block ss i x old now start out lt at so_far h =
     (subst Fits (sym (front_next w n now (statement_of x) (block_of (drop (i + 1) ss))
     ∙ (ap (front_past_block w n now) (sym (next_of ss i x lt at)) ∙ so_far.front))) h)
 
-past_end : (w : WorldView) (n : ℕ) (f : FrontView) → front_past_block w n f End ≡ f
+past_end : (w : SettingView) (n : ℕ) (f : FrontView) → front_past_block w n f End ≡ f
 past_end w n f =
     let the_sites : f.at.sites + 0 ≡ f.at.sites = omega arith in
     let the_sections : f.at.sections + 0 ≡ f.at.sections = omega arith in
@@ -164,14 +165,14 @@ past_end w n f =
       fresh = append-nil f.fresh i;
     }
 
-pub all_expanded : (w : WorldView) (n : ℕ) (v : Scene) (block : BlockView) (ss : List Statement) (i : ℕ)
+pub all_expanded : (w : SettingView) (n : ℕ) (v : Scene) (block : BlockView) (ss : List Statement) (i : ℕ)
     (old now : FrontView) (start out : TextView) → length ss ≤ i
     → AreExpanded w n v block (block_of ss) (block_of (drop i ss)) old now start out → (k : TextView)
     → joined out k ≡ joined start (joined (block_there w n v old block) k)
 all_expanded w n v block ss i old now start out le so_far k =
     ap (λ l. joined out (joined (block_there w n v now (block_of l)) k)) (sym (drop_all i ss le)) ∙ so_far.text k
 
-pub all_past : (w : WorldView) (n : ℕ) (v : Scene) (block : BlockView) (ss : List Statement) (i : ℕ)
+pub all_past : (w : SettingView) (n : ℕ) (v : Scene) (block : BlockView) (ss : List Statement) (i : ℕ)
     (old now : FrontView) (start out : TextView) → length ss ≤ i
     → AreExpanded w n v block (block_of ss) (block_of (drop i ss)) old now start out
     → now ≡ front_past_block w n old block
@@ -180,7 +181,7 @@ all_past w n v block ss i old now start out le so_far =
     ∙ (ap (λ l. front_past_block w n now (block_of l)) (sym (drop_all i ss le)) ∙ so_far.front)
 
 -- one step more
-pub put_step : {A E : Type 0} (r : Result A E) (w : WorldView) (n : ℕ) (v : Scene) (f : FrontView) (s : StatementView)
+pub put_step : {A E : Type 0} (r : Result A E) (w : SettingView) (n : ℕ) (v : Scene) (f : FrontView) (s : StatementView)
     (out new : TextView) (st : Step) → ((k : TextView) → step_then st k ≡ expanded_there w n v f s k)
     → OnOk r (new ≡ joined out (step_then st Stop))
     → OnOk r ((k : TextView) → joined new k ≡ joined out (expanded_there w n v f s k))

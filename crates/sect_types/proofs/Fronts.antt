@@ -23,7 +23,7 @@ use Rattle.sect_types.specs.Numbered.{condition_in}
 use Rattle.sect_types.specs.Expanded.{moved_condition}
 use Rattle.sect_types.specs.Expanded.{Scene, expand_within, set_parameters, clear_locals, of_call}
 use Rattle.sect_types.specs.Expanded.{block_fresh, fresh_of, fresh_within}
-use Rattle.sect_types.specs.steps.Expanding.{WorldView, FrontView, Fits, front_past_statement, front_past_block}
+use Rattle.sect_types.specs.steps.Expanding.{SettingView, FrontView, Fits, front_past_statement, front_past_block}
 use Rattle.sect_types.specs.steps.Expanding.{expanded_there, block_there, IsFront, most_size, tree_of, AreFlat}
 use Rattle.sect_types.specs.steps.Expansion.{Appends, table_by, view_of}
 use Rattle.sect_types.specs.Sight.{Sight, names_of_declared}
@@ -46,7 +46,7 @@ front_same a b e f g h i = λ j. record {
 }
 
 -- past a statement without a block
-pub primitive_front : (w : WorldView) (n : ℕ) (f new : FrontView) (s : StatementView) (p : leaf.Primitive)
+pub primitive_front : (w : SettingView) (n : ℕ) (f new : FrontView) (s : StatementView) (p : leaf.Primitive)
     → s ≡ Primitive p
     → new ≡ record f { at = record f.at { sites = f.at.sites + (primitive_sums p).sites } }
     → new ≡ front_past_statement w n f s
@@ -59,7 +59,7 @@ primitive_front w n f new s p e h =
     ∙ ap (front_past_statement w n f) (sym e)
 
 -- past an `if` with two branches
-pub either_front : (w : WorldView) (n : ℕ) (f one new : FrontView) (s : StatementView) (t : Test) (a b : BlockView)
+pub either_front : (w : SettingView) (n : ℕ) (f one new : FrontView) (s : StatementView) (t : Test) (a b : BlockView)
     → s ≡ IfElse t a b → one ≡ front_past_block w n f a → new ≡ front_past_block w n one b
     → new ≡ front_past_statement w n f s
 either_front w n f one new s t a b e h g =
@@ -70,7 +70,7 @@ either_front w n f one new s t a b e h g =
     ∙ ap (front_past_statement w n f) (sym e)
 
 -- past a section
-pub section_front : (w : WorldView) (n : ℕ) (f one new : FrontView) (s : StatementView) (l : Locking) (b : BlockView)
+pub section_front : (w : SettingView) (n : ℕ) (f one new : FrontView) (s : StatementView) (l : Locking) (b : BlockView)
     → s ≡ Atomic l b → one ≡ record f { at = record f.at { sections = f.at.sections + 1 } }
     → new ≡ front_past_block w n one b → new ≡ front_past_statement w n f s
 section_front w n f one new s l b e h g =
@@ -80,14 +80,15 @@ section_front w n f one new s l b e h g =
     ∙ ap (front_past_statement w n f) (sym e)
 
 -- past the first statement of a block
-then_front : (w : WorldView) (n : ℕ) (f : FrontView) (s : StatementView) (b : BlockView)
+then_front : (w : SettingView) (n : ℕ) (f : FrontView) (s : StatementView) (b : BlockView)
     → front_past_block w n (front_past_statement w n f s) b ≡ front_past_block w n f (Then s b)
 then_front w n f s b =
     front_same (front_past_block w n (front_past_statement w n f s) b) (front_past_block w n f (Then s b))
     (omega arith) (omega arith) (omega arith) (omega arith) (append_assoc f.fresh _ _)
 
 -- at the start of a block
-pub starts : (w : WorldView) (n : ℕ) (v : Scene) (block all : BlockView) (f : FrontView) (text : TextView) → all ≡ block
+pub starts : (w : SettingView) (n : ℕ) (v : Scene) (block all : BlockView) (f : FrontView) (text : TextView)
+    → all ≡ block
     → IsFront w n v block all all f f text text
 starts w n v block all f text e = record {
   whole = e;
@@ -99,7 +100,7 @@ next_of : (ss : List Statement) (i : ℕ) (x : Statement) → i < length ss → 
     → block_of (drop i ss) ≡ Then (statement_of x) (block_of (drop (i + 1) ss))
 next_of ss i x h e = ap block_of (drop_next ss i x h e)
 
-part_fits : (w : WorldView) (n : ℕ) (f : FrontView) (s : StatementView) (b : BlockView)
+part_fits : (w : SettingView) (n : ℕ) (f : FrontView) (s : StatementView) (b : BlockView)
     → Fits (front_past_block w n f (Then s b)) → Fits (front_past_statement w n f s)
 part_fits w n f s b h = record {
   few_sites = omega (arith, h.few_sites);
@@ -109,7 +110,7 @@ part_fits w n f s b h = record {
 }
 
 -- the next statement fits
-pub next_fits : (w : WorldView) (n : ℕ) (v : Scene) (block : BlockView) (ss : List Statement) (i : ℕ) (x : Statement)
+pub next_fits : (w : SettingView) (n : ℕ) (v : Scene) (block : BlockView) (ss : List Statement) (i : ℕ) (x : Statement)
     (old now : FrontView) (before text : TextView) → i < length ss → x ≡ get_or ss i x
     → IsFront w n v block (block_of ss) (block_of (drop i ss)) old now before text
     → Fits (front_past_block w n old block)
@@ -118,7 +119,7 @@ next_fits w n v block ss i x old now before text lt is h fits =
     part_fits w n now (statement_of x) (block_of (drop (i + 1) ss))
     (subst (λ b. Fits (front_past_block w n now b)) (next_of ss i x lt is) (subst Fits (sym h.past) fits))
 
-goes_on : (w : WorldView) (n : ℕ) (v : Scene) (block all : BlockView) (s : StatementView) (rest : BlockView)
+goes_on : (w : SettingView) (n : ℕ) (v : Scene) (block all : BlockView) (s : StatementView) (rest : BlockView)
     (old now next : FrontView) (before text new : TextView) → IsFront w n v block all (Then s rest) old now before text
     → next ≡ front_past_statement w n now s → Appends text new (expanded_there w n v now s)
     → IsFront w n v block all rest old next before new
@@ -134,7 +135,7 @@ goes_on w n v block all s rest old now next before text new h e writes = record 
 }
 
 -- the next statement is written
-pub one_more : (w : WorldView) (n : ℕ) (v : Scene) (block : BlockView) (ss : List Statement) (i : ℕ) (x : Statement)
+pub one_more : (w : SettingView) (n : ℕ) (v : Scene) (block : BlockView) (ss : List Statement) (i : ℕ) (x : Statement)
     (old now next : FrontView) (before text new : TextView) → i < length ss → x ≡ get_or ss i x
     → IsFront w n v block (block_of ss) (block_of (drop i ss)) old now before text
     → next ≡ front_past_statement w n now (statement_of x)
@@ -144,20 +145,21 @@ one_more w n v block ss i x old now next before text new lt is h e writes =
     goes_on w n v block (block_of ss) (statement_of x) (block_of (drop (i + 1) ss)) old now next before text new
     (subst (λ b. IsFront w n v block (block_of ss) b old now before text) (next_of ss i x lt is) h) e writes
 
-ended : (w : WorldView) (n : ℕ) (v : Scene) (block all : BlockView) (ss : List Statement) (i : ℕ) (old now : FrontView)
+ended : (w : SettingView) (n : ℕ) (v : Scene) (block all : BlockView) (ss : List Statement) (i : ℕ)
+    (old now : FrontView)
     (before text : TextView) → length ss ≤ i → IsFront w n v block all (block_of (drop i ss)) old now before text
     → IsFront w n v block all End old now before text
 ended w n v block all ss i old now before text le h =
     subst (λ l. IsFront w n v block all (block_of l) old now before text) (drop_all i ss le) h
 
-pub ends_text : (w : WorldView) (n : ℕ) (v : Scene) (block all : BlockView) (ss : List Statement) (i : ℕ)
+pub ends_text : (w : SettingView) (n : ℕ) (v : Scene) (block all : BlockView) (ss : List Statement) (i : ℕ)
     (old now : FrontView) (before text : TextView) → length ss ≤ i
     → IsFront w n v block all (block_of (drop i ss)) old now before text
     → Appends before text (joined (block_there w n v old block))
 ends_text w n v block all ss i old now before text le h k =
     (ended w n v block all ss i old now before text le h).written k
 
-pub ends_front : (w : WorldView) (n : ℕ) (v : Scene) (block all : BlockView) (ss : List Statement) (i : ℕ)
+pub ends_front : (w : SettingView) (n : ℕ) (v : Scene) (block all : BlockView) (ss : List Statement) (i : ℕ)
     (old now : FrontView) (before text : TextView) → length ss ≤ i
     → IsFront w n v block all (block_of (drop i ss)) old now before text → now ≡ front_past_block w n old block
 ends_front w n v block all ss i old now before text le h =
@@ -166,11 +168,11 @@ ends_front w n v block all ss i old now before text le h =
     ∙ (ended w n v block all ss i old now before text le h).past
 
 -- a call of what is no procedure, and one that is too deep, come to nothing
-nothing_numbered : (w : WorldView) (n : ℕ) (f : FrontView) → fresh_within n w.procedures None f.calls ≡ []
+nothing_numbered : (w : SettingView) (n : ℕ) (f : FrontView) → fresh_within n w.procedures None f.calls ≡ []
 nothing_numbered w zero f = refl
 nothing_numbered w (suc n) f = refl
 
-pub no_procedure : (w : WorldView) (n : ℕ) (f : FrontView) (x : List ℕ) (vs : List Operand)
+pub no_procedure : (w : SettingView) (n : ℕ) (f : FrontView) (x : List ℕ) (vs : List Operand)
     → number_of w.procedures x ≡ None → f ≡ front_past_statement w n f (Call x vs)
 no_procedure w n f x vs e =
     let s : Sums = sums_at (sums_within n w.procedures) (number_of w.procedures x) in
@@ -184,7 +186,7 @@ nothing_deep : (t : TreeView) (o : Option ℕ) → sums_at (table_by t 0) o ≡ 
 nothing_deep t None = refl
 nothing_deep t (Some q) = refl
 
-pub no_depth : (w : WorldView) (n : ℕ) (f : FrontView) (x : List ℕ) (vs : List Operand) → n ≡ 0
+pub no_depth : (w : SettingView) (n : ℕ) (f : FrontView) (x : List ℕ) (vs : List Operand) → n ≡ 0
     → f ≡ front_past_statement w n f (Call x vs)
 no_depth w n f x vs e =
     let none = nothing_deep (tree_of w []) (number_of w.procedures x) in
@@ -193,24 +195,24 @@ no_depth w n f x vs e =
     (sym (append-nil f.fresh))
     ∙ ap (λ m. front_past_statement w m f (Call x vs)) (sym e)
 
-not_called : (w : WorldView) (n : ℕ) (v : Scene) (f : FrontView) (vs : List Operand) (k : TextView)
+not_called : (w : SettingView) (n : ℕ) (v : Scene) (f : FrontView) (vs : List Operand) (k : TextView)
     → expand_within n w.records w.globals w.procedures None v f.at vs k ≡ k
 not_called w zero v f vs k = refl
 not_called w (suc n) v f vs k = refl
 
-pub no_procedure_text : (w : WorldView) (n : ℕ) (v : Scene) (f : FrontView) (x : List ℕ) (vs : List Operand)
+pub no_procedure_text : (w : SettingView) (n : ℕ) (v : Scene) (f : FrontView) (x : List ℕ) (vs : List Operand)
     (text : TextView) → number_of w.procedures x ≡ None → Appends text text (expanded_there w n v f (Call x vs))
 no_procedure_text w n v f x vs text e k =
     ap (joined text) (sym (not_called w n v f vs k))
     ∙ ap (λ o. joined text (expand_within n w.records w.globals w.procedures o v f.at vs k)) (sym e)
 
-pub no_depth_text : (w : WorldView) (n : ℕ) (v : Scene) (f : FrontView) (x : List ℕ) (vs : List Operand)
+pub no_depth_text : (w : SettingView) (n : ℕ) (v : Scene) (f : FrontView) (x : List ℕ) (vs : List Operand)
     (text : TextView)
     → n ≡ 0 → Appends text text (expanded_there w n v f (Call x vs))
 no_depth_text w n v f x vs text e k = ap (λ m. joined text (expanded_there w m v f (Call x vs) k)) (sym e)
 
 -- what a call comes to
-record CallIs (w : WorldView) (n most : ℕ) (f : FrontView) (x : List ℕ) (p : Procedure) : Type 0 where
+record CallIs (w : SettingView) (n most : ℕ) (f : FrontView) (x : List ℕ) (p : Procedure) : Type 0 where
   sites_are : (sums_at (sums_within most w.procedures) (number_of w.procedures x)).sites
       ≡ (block_sums w.procedures (sums_within n w.procedures) p.body).sites
   fresh_is : (sums_at (sums_within most w.procedures) (number_of w.procedures x)).fresh
@@ -221,7 +223,7 @@ record CallIs (w : WorldView) (n most : ℕ) (f : FrontView) (x : List ℕ) (p :
       ≡ of_call f.calls (variables p)
       ++ block_fresh w.procedures (sums_within n w.procedures) (fresh_within n w.procedures) (f.calls + 1) p.body
 
-call_is : (w : WorldView) (n most : ℕ) (f : FrontView) (x : List ℕ) (q : ℕ) (p : Procedure) → most ≡ suc n
+call_is : (w : SettingView) (n most : ℕ) (f : FrontView) (x : List ℕ) (q : ℕ) (p : Procedure) → most ≡ suc n
     → number_of w.procedures x ≡ Some q → slice_get w.procedures q ≡ Some p → CallIs w n most f x p
 call_is w n most f x q p e g h =
     let same = ap (sums_at (sums_within most w.procedures)) g
@@ -244,7 +246,7 @@ with_call f ds = record {
   fresh = f.fresh ++ of_call f.calls ds;
 }
 
-pub call_front : (w : WorldView) (n most : ℕ) (f two new : FrontView) (x : List ℕ) (vs : List Operand) (q : ℕ)
+pub call_front : (w : SettingView) (n most : ℕ) (f two new : FrontView) (x : List ℕ) (vs : List Operand) (q : ℕ)
     (p : Procedure) (ds : List Declaration) → AreFlat w.procedures → most ≡ suc n → number_of w.procedures x ≡ Some q
     → slice_get w.procedures q ≡ Some p → ds ≡ variables p → two ≡ with_call f ds
     → new ≡ front_past_block w n two p.body → new ≡ front_past_statement w most f (Call x vs)
@@ -260,12 +262,12 @@ call_front w n most f two new x vs q p ds flat e g h i j k =
     (append_assoc f.fresh (of_call f.calls (variables p)) body ∙ ap (λ l. f.fresh ++ l) (sym is.list_is))
 
 -- a call that fits: its body does, and its variables
-pub record CallFits (w : WorldView) (n : ℕ) (f two : FrontView) (p : Procedure) : Type 0 where
+pub record CallFits (w : SettingView) (n : ℕ) (f two : FrontView) (p : Procedure) : Type 0 where
   pub body_fits : Fits (front_past_block w n two p.body)
   pub few_own : f.at.fresh + (length p.parameters + length p.locals) ≤ 4160
   pub few_before : f.calls < 4096
 
-pub call_fits : (w : WorldView) (n most : ℕ) (f two : FrontView) (x : List ℕ) (vs : List Operand) (q : ℕ)
+pub call_fits : (w : SettingView) (n most : ℕ) (f two : FrontView) (x : List ℕ) (vs : List Operand) (q : ℕ)
     (p : Procedure)
     (ds : List Declaration) → AreFlat w.procedures → most ≡ suc n → number_of w.procedures x ≡ Some q
     → slice_get w.procedures q ≡ Some p → ds ≡ variables p → two ≡ with_call f ds
@@ -286,7 +288,7 @@ call_fits w n most f two x vs q p ds flat e g h i j fits =
     }
 
 -- the text of a call, as the code has it
-pub call_text : (w : WorldView) (n most : ℕ) (f two : FrontView) (x : List ℕ) (vs : List Operand) (q : ℕ)
+pub call_text : (w : SettingView) (n most : ℕ) (f two : FrontView) (x : List ℕ) (vs : List Operand) (q : ℕ)
     (p : Procedure)
     (s inner : Sight) (first own : ℕ) (ps ls ds : List Declaration) (old one more new : TextView) → most ≡ suc n
     → number_of w.procedures x ≡ Some q → slice_get w.procedures q ≡ Some p → ds ≡ variables p → two ≡ with_call f ds
@@ -330,7 +332,7 @@ variables_found ps all q p v e g h =
 pub anew : (start new e : TextView) → start ≡ Stop → Appends start new (joined e) → new ≡ e
 anew start new e h g = alone new e (subst (λ x. Appends x new (joined e)) h g)
 
-pub either_text : (w : WorldView) (n : ℕ) (v : Sight) (first : ℕ) (f one : FrontView) (s : StatementView) (t : Test)
+pub either_text : (w : SettingView) (n : ℕ) (v : Sight) (first : ℕ) (f one : FrontView) (s : StatementView) (t : Test)
     (b d : BlockView) (c : Condition) (p q old new : TextView) → s ≡ IfElse t b d
     → c ≡ moved_condition first (condition_in (test_of v t)) → p ≡ block_there w n (view_of v first) f b
     → one ≡ front_past_block w n f b → q ≡ block_there w n (view_of v first) one d

@@ -11,7 +11,7 @@ use Rattle.sect_types.specs.Sums.{sums, block_sums}
 use Rattle.sect_types.specs.Statements.{TextView}
 use Rattle.sect_types.specs.First.{IsTyped}
 use Rattle.sect_types.specs.Expanded.{Ahead, past_thread, expanded_threads, texts_of, fresh_in}
-use Rattle.sect_types.specs.steps.Expanding.{WorldView, FrontView, Fits, block_there, thread_start, thread_end}
+use Rattle.sect_types.specs.steps.Expanding.{SettingView, FrontView, Fits, block_there, thread_start, thread_end}
 use Rattle.sect_types.specs.steps.Expanding.{thread_text}
 use Rattle.sect_types.specs.steps.Expanding.{AllFit, tree_of, AreWritten, AreFlat}
 use Rattle.sect_types.specs.Items.{variables}
@@ -26,7 +26,7 @@ use Rattle.sect_types.proofs.WithinLimits.{HaveFewLocals, typed_few, block_takes
 use Rattle.sect_types.proofs.Threading.{same_texts}
 
 -- the text of a thread
-pub thread_written : (w : WorldView) (sites sections most : ℕ) (h : Thread) (s : Sight) (f : FrontView)
+pub thread_written : (w : SettingView) (sites sections most : ℕ) (h : Thread) (s : Sight) (f : FrontView)
     (text : TextView)
     → most ≡ length w.procedures → s ≡ sight w.records w.globals h.locals → f ≡ thread_start sites sections h
     → text ≡ block_there w most (view_of s 0) f h.body → text ≡ thread_text w sites sections h
@@ -36,7 +36,7 @@ thread_written w sites sections most h s f text e g i j =
 place : ℕ → ℕ → Ahead
 place sites sections = record { sites = sites; sections = sections; fresh = 0 }
 
-pub starts : (w : WorldView) (threads : List Thread) (sites : ℕ) → sites ≡ length w.globals
+pub starts : (w : SettingView) (threads : List Thread) (sites : ℕ) → sites ≡ length w.globals
     → AllFit w (length w.globals) 0 threads
     → AreWritten w threads threads sites 0 [] []
 starts w threads sites e fits = record {
@@ -45,7 +45,7 @@ starts w threads sites e fits = record {
   fits = subst (λ n. AllFit w n 0 threads) (sym e) fits;
 }
 
-goes_on : (w : WorldView) (all : List Thread) (h : Thread) (rest : List Thread) (sites sections more later : ℕ)
+goes_on : (w : SettingView) (all : List Thread) (h : Thread) (rest : List Thread) (sites sections more later : ℕ)
     (texts : List TextView) (fresh : List (List Fresh)) (text : TextView) (own : List Fresh)
     → AreWritten w all (h ∷ rest) sites sections texts fresh → text ≡ thread_text w sites sections h
     → own ≡ (thread_end w sites sections h).fresh → more ≡ (thread_end w sites sections h).at.sites
@@ -66,26 +66,27 @@ goes_on w all h rest sites sections more later texts fresh text own a e g i j =
           (subst (λ n. AllFit w (thread_end w sites sections h).at.sites n rest) (sym j) a.fits.2);
     }
 
-next_thread : (w : WorldView) (all : List Thread) (i : ℕ) (h : Thread) (sites sections : ℕ) (texts : List TextView)
+next_thread : (w : SettingView) (all : List Thread) (i : ℕ) (h : Thread) (sites sections : ℕ) (texts : List TextView)
     (fresh : List (List Fresh)) → i < length all → h ≡ get_or all i h
     → AreWritten w all (drop i all) sites sections texts fresh
     → AreWritten w all (h ∷ drop (i + 1) all) sites sections texts fresh
 next_thread w all i h sites sections texts fresh lt is a =
     subst (λ l. AreWritten w all l sites sections texts fresh) (drop_next all i h lt is) a
 
-pub thread_few : (w : WorldView) (all : List Thread) (i : ℕ) (h : Thread) (sites sections : ℕ) (texts : List TextView)
+pub thread_few : (w : SettingView) (all : List Thread) (i : ℕ) (h : Thread) (sites sections : ℕ) (texts : List TextView)
     (fresh : List (List Fresh)) → i < length all → h ≡ get_or all i h
     → AreWritten w all (drop i all) sites sections texts fresh → length h.locals ≤ 64
 thread_few w all i h sites sections texts fresh lt is a =
     (next_thread w all i h sites sections texts fresh lt is a).fits.0
 
-pub thread_fits : (w : WorldView) (all : List Thread) (i : ℕ) (h : Thread) (sites sections : ℕ) (texts : List TextView)
+pub thread_fits : (w : SettingView) (all : List Thread) (i : ℕ) (h : Thread) (sites sections : ℕ)
+    (texts : List TextView)
     (fresh : List (List Fresh)) → i < length all → h ≡ get_or all i h
     → AreWritten w all (drop i all) sites sections texts fresh → Fits (thread_end w sites sections h)
 thread_fits w all i h sites sections texts fresh lt is a =
     (next_thread w all i h sites sections texts fresh lt is a).fits.1
 
-pub one_thread : (w : WorldView) (all : List Thread) (i : ℕ) (h : Thread) (sites sections more later : ℕ)
+pub one_thread : (w : SettingView) (all : List Thread) (i : ℕ) (h : Thread) (sites sections more later : ℕ)
     (texts : List TextView) (fresh : List (List Fresh)) (text : TextView) (own : List Fresh) → i < length all
     → h ≡ get_or all i h → AreWritten w all (drop i all) sites sections texts fresh
     → text ≡ thread_text w sites sections h → own ≡ (thread_end w sites sections h).fresh
@@ -95,25 +96,25 @@ one_thread w all i h sites sections more later texts fresh text own lt is a =
     goes_on w all h (drop (i + 1) all) sites sections more later texts fresh text own
     (next_thread w all i h sites sections texts fresh lt is a)
 
-ended : (w : WorldView) (all : List Thread) (i sites sections : ℕ) (texts : List TextView) (fresh : List (List Fresh))
+ended : (w : SettingView) (all : List Thread) (i sites sections : ℕ) (texts : List TextView) (fresh : List (List Fresh))
     → length all ≤ i → AreWritten w all (drop i all) sites sections texts fresh
     → AreWritten w all [] sites sections texts fresh
 ended w all i sites sections texts fresh le a =
     subst (λ l. AreWritten w all l sites sections texts fresh) (drop_all i all le) a
 
-pub ends_texts : (w : WorldView) (all : List Thread) (i sites sections : ℕ) (texts : List TextView)
+pub ends_texts : (w : SettingView) (all : List Thread) (i sites sections : ℕ) (texts : List TextView)
     (fresh : List (List Fresh)) → length all ≤ i → AreWritten w all (drop i all) sites sections texts fresh
     → texts ≡ texts_of (tree_of w all)
 ends_texts w all i sites sections texts fresh le a =
     sym (append-nil texts) ∙ (ended w all i sites sections texts fresh le a).written
 
-pub ends_fresh : (w : WorldView) (all : List Thread) (i sites sections : ℕ) (texts : List TextView)
+pub ends_fresh : (w : SettingView) (all : List Thread) (i sites sections : ℕ) (texts : List TextView)
     (fresh : List (List Fresh)) → length all ≤ i → AreWritten w all (drop i all) sites sections texts fresh
     → fresh ≡ map (fresh_in (tree_of w all)) all
 ends_fresh w all i sites sections texts fresh le a =
     sym (append-nil fresh) ∙ (ended w all i sites sections texts fresh le a).listed
 
-fit_all : (t : TreeView) (w : WorldView) (sites section : ℕ) (hs : List Thread) → w.procedures ≡ t.procedures
+fit_all : (t : TreeView) (w : SettingView) (sites section : ℕ) (hs : List Thread) → w.procedures ≡ t.procedures
     → sites + (thread_sums (declared_in t) hs).sites ≤ 1024 → section + sections_in hs ≤ 256 → HaveFewLocals hs
     → (thread_sums (declared_in t) hs).statements ≤ 4096 → (thread_sums (declared_in t) hs).calls ≤ 4096
     → AllFit w sites section hs
@@ -136,7 +137,7 @@ fit_all t w sites section (h ∷ hs) e s n l c d =
     )
 
 -- the threads of a typed tree fit
-pub typed_fits : (t : TreeView) (w : WorldView) → w.procedures ≡ t.procedures → w.globals ≡ t.globals → IsTyped t
+pub typed_fits : (t : TreeView) (w : SettingView) → w.procedures ≡ t.procedures → w.globals ≡ t.globals → IsTyped t
     → AllFit w (length w.globals) 0 t.threads
 typed_fits t w e g h =
     let few = typed_few t h in

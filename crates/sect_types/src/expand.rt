@@ -41,7 +41,7 @@ pub struct Fresh {
 
 /// What the expansion of each thread sees.
 #[derive(Drop)]
-pub struct World<'a> {
+pub struct Setting<'a> {
     records: &'a [Record],
     record_names: &'a Names,
     field_names: &'a [Names],
@@ -51,23 +51,23 @@ pub struct World<'a> {
     variables: &'a [Variables],
 }
 
-impl<'a> Model for World<'a> {
+impl<'a> Model for Setting<'a> {
     ghost use Rattle.std.specs.Coded.{codes};
     ghost use Rattle.sect_front.specs.Coding.{block_code};
-    ghost use Rattle.sect_types.specs.steps.Expanding.{WorldView, IsWorld};
+    ghost use Rattle.sect_types.specs.steps.Expanding.{SettingView, IsSetting};
 
-    ghost Value = { WorldView };
+    ghost Value = { SettingView };
 
     ghost coded = { Prim.hlevel (codes, block_code) };
 
     ghost view = { λ w. record { records = w.records.now; globals = w.globals.now; procedures = w.called.now } };
 
-    ghost invariant = { λ w. IsWorld
+    ghost invariant = { λ w. IsSetting
         (record { records = w.records.now; globals = w.globals.now; procedures = w.called.now })
         w.record_names.now w.field_names.now w.global_names.now w.variables.now };
 }
 
-impl<'a> World<'a> {
+impl<'a> Setting<'a> {
     /// These declarations, whose names are given beside them.
     pub fn new(
         records: &'a [Record],
@@ -77,7 +77,7 @@ impl<'a> World<'a> {
         global_names: &'a Names,
         called: &'a Called<'a>,
         variables: &'a [Variables],
-    ) -> World<'a>
+    ) -> Setting<'a>
         requires records { record_names.now ≡ names_of_records records.now }
         requires fields { field_names.now ≡ all_fields records.now }
         requires globals { global_names.now ≡ names_of_globals globals.now }
@@ -89,7 +89,7 @@ impl<'a> World<'a> {
           procedures = called.now;
         } }
     {
-        World {
+        Setting {
             records,
             record_names,
             field_names,
@@ -308,24 +308,24 @@ fn expand_call(
         ≡ joined out.old (text_in inside.now front.old (Call name.now operands.now) k)) }
     ensures front { OnOk result (front.new ≡ past_in inside.now front.old (Call name.now operands.now)) }
 {
-    let world = inside.world;
-    let Some(number) = world.number_of(name) else {
+    let setting = inside.setting;
+    let Some(number) = setting.number_of(name) else {
         return Ok(());
     };
     if inside.most == 0 {
         return Ok(());
     }
-    let procedure = world.procedure(number);
-    let variables = world.variables(number);
+    let procedure = setting.procedure(number);
+    let variables = setting.variables(number);
     let fresh = front.next();
     let parameters = procedure.parameters.as_slice();
     put_parameters(inside.scope, inside.first, fresh, parameters, operands, out)?;
     let cleared = fresh + parameters.len() as u16;
     put_cleared(cleared, procedure.locals.as_slice(), out)?;
     front.pass_call(variables.as_slice())?;
-    let scope = world.scope(variables.as_slice(), variables.names());
+    let scope = setting.scope(variables.as_slice(), variables.names());
     let inner = Inside {
-        world,
+        setting,
         most: inside.most - 1,
         scope: &scope,
         first: fresh,
@@ -439,7 +439,7 @@ impl FreshLocals {
 /// The expanded text of a thread, with its fresh locals.
 fn expand_thread(
     alloc: Global,
-    world: &World<'_>,
+    setting: &Setting<'_>,
     sites: &mut u16,
     sections: &mut u16,
     thread: &Thread,
@@ -447,12 +447,12 @@ fn expand_thread(
 ) -> Result<(Text, FreshLocals), AllocError>
     requires few { length thread.now.locals ≤ 64 }
     requires names { names.now ≡ names_of_declared thread.now.locals }
-    requires fits { Fits (thread_end world.now sites.old sections.old thread.now) }
-    ensures sites { OnOk result (sites.new ≡ (thread_end world.now sites.old sections.old thread.now).at.sites) }
+    requires fits { Fits (thread_end setting.now sites.old sections.old thread.now) }
+    ensures sites { OnOk result (sites.new ≡ (thread_end setting.now sites.old sections.old thread.now).at.sites) }
     ensures sections { OnOk result (sections.new
-        ≡ (thread_end world.now sites.old sections.old thread.now).at.sections) }
-    ensures text { IfOk result (λ r. r.0 ≡ thread_text world.now sites.old sections.old thread.now) }
-    ensures fresh { IfOk result (λ r. r.1 ≡ (thread_end world.now sites.old sections.old thread.now).fresh) }
+        ≡ (thread_end setting.now sites.old sections.old thread.now).at.sections) }
+    ensures text { IfOk result (λ r. r.0 ≡ thread_text setting.now sites.old sections.old thread.now) }
+    ensures fresh { IfOk result (λ r. r.1 ≡ (thread_end setting.now sites.old sections.old thread.now).fresh) }
 {
     let list = thread.locals.as_slice();
     let mut front = Front {
@@ -462,10 +462,10 @@ fn expand_thread(
         own: list.len() as u16,
         fresh: Vec::new(alloc),
     };
-    let scope = world.scope(list, names);
+    let scope = setting.scope(list, names);
     let inside = Inside {
-        world,
-        most: world.len(),
+        setting,
+        most: setting.len(),
         scope: &scope,
         first: 0,
     };
@@ -479,25 +479,32 @@ fn expand_thread(
 /// The expanded texts of all threads, with the fresh locals of each.
 pub fn expand(
     alloc: Global,
-    world: &World<'_>,
+    setting: &Setting<'_>,
     threads: &[Thread],
     local_names: &[Names],
 ) -> Result<(Vec<Text>, Vec<FreshLocals>), AllocError>
-    requires globals { length world.now.globals ≤ 256 }
+    requires globals { length setting.now.globals ≤ 256 }
     requires names { local_names.now ≡ names_of_locals threads.now }
-    requires fits { AllFit world.now (length world.now.globals) 0 threads.now }
-    ensures texts { IfOk result (λ r. r.0.items ≡ texts_of (tree_of world.now threads.now)) }
+    requires fits { AllFit setting.now (length setting.now.globals) 0 threads.now }
+    ensures texts { IfOk result (λ r. r.0.items ≡ texts_of (tree_of setting.now threads.now)) }
     ensures fresh { IfOk result (λ r. r.1.items
-        ≡ map (fresh_in (tree_of world.now threads.now)) threads.now) }
+        ≡ map (fresh_in (tree_of setting.now threads.now)) threads.now) }
 {
-    let mut sites = world.globals.len() as u16;
+    let mut sites = setting.globals.len() as u16;
     let mut sections = 0;
     let mut texts = Vec::new(alloc);
     let mut fresh = Vec::new(alloc);
     for number in 0..threads.len() {
         let thread = &threads[number];
         let names = &local_names[number];
-        let (text, locals) = expand_thread(alloc, world, &mut sites, &mut sections, thread, names)?;
+        let (text, locals) = expand_thread(
+            alloc,
+            setting,
+            &mut sites,
+            &mut sections,
+            thread,
+            names,
+        )?;
         texts.push(text)?;
         fresh.push(locals)?;
     }

@@ -3,14 +3,14 @@
 ghost use Rattle.std.specs.Prelude.{◌+◌, ◌≤◌, length};
 ghost use Rattle.sect_types.specs.declared.limits.TheConstants.{MOST_ALL_LOCALS};
 
-use crate::expand::World;
+use crate::expand::Setting;
 use crate::scope::Scope;
 
 /// What all threads see, how deep calls stand in one another at most, and what the statements see, whose variables have
 /// the numbers from `first` on.
 #[derive(Drop)]
 pub struct Inside<'a> {
-    pub world: &'a World<'a>,
+    pub setting: &'a Setting<'a>,
     pub most: usize,
     pub scope: &'a Scope<'a>,
     pub first: u16,

@@ -26,7 +26,7 @@ ghost use Rattle.sect_types.specs.Programs.{numbered_by, sites_of, total_stateme
 
 use crate::called::Called;
 use crate::declare::{globals, known_records, locals, pass_procedure, pass_thread, records};
-use crate::expand::{FreshLocals, World, expand};
+use crate::expand::{FreshLocals, Setting, expand};
 use crate::limits::{MOST_SECTIONS, MOST_SITES, MOST_STATEMENTS, MOST_THREADS};
 use crate::local_name::LocalName;
 use crate::locking::lockings;
@@ -239,7 +239,7 @@ fn number_tree(
 {
     let records = field_types(alloc, shown.record_names, tree.records())?;
     let globals = global_records(alloc, shown.record_names, tree.globals())?;
-    let world = World::new(
+    let setting = Setting::new(
         tree.records(),
         shown.record_names,
         shown.field_names,
@@ -248,7 +248,7 @@ fn number_tree(
         called,
         variables,
     );
-    let (texts, fresh) = expand(alloc, &world, tree.threads(), local_names)?;
+    let (texts, fresh) = expand(alloc, &setting, tree.threads(), local_names)?;
     let locals = local_types(alloc, shown.record_names, tree.threads(), fresh.as_slice())?;
     let lockings = lockings(alloc, tree)?;
     Ok(Parts {

@@ -24,7 +24,7 @@ use Rattle.sect_types.specs.Expanded.{expand_within, statement_fresh, block_fres
 use Rattle.sect_types.specs.steps.Threads.{VariablesView, variables_shown}
 
 -- what all threads see
-pub record WorldView : Type 0 where
+pub record SettingView : Type 0 where
   pub records : List Record
   pub globals : List GlobalObject
   pub procedures : List Procedure
@@ -34,7 +34,7 @@ abbrev pub AreFlat : List Procedure → Type 0
 AreFlat ps = (q : ℕ) (p : Procedure) → slice_get ps q ≡ Some p → block_sections p.body ≡ 0
 
 -- the names are those of the declarations, and the variables those of the procedures
-pub record IsWorld (w : WorldView) (record_names : List (List ℕ)) (field_names : List (List (List ℕ)))
+pub record IsSetting (w : SettingView) (record_names : List (List ℕ)) (field_names : List (List (List ℕ)))
     (global_names : List (List ℕ)) (variables : List VariablesView) : Type 0 where
   pub of_records : record_names ≡ names_of_records w.records
   pub of_fields : field_names ≡ all_fields w.records
@@ -56,14 +56,14 @@ pub record Fits (f : FrontView) : Type 0 where
   pub few_calls : f.calls ≤ MOST_CALLS
 
 -- past a statement, where calls stand in one another at most n deep
-abbrev pub front_past_statement : WorldView → ℕ → FrontView → StatementView → FrontView
+abbrev pub front_past_statement : SettingView → ℕ → FrontView → StatementView → FrontView
 front_past_statement w n f s = record {
   at = past_statement w.procedures (sums_within n w.procedures) f.at s;
   calls = f.calls + (statement_sums w.procedures (sums_within n w.procedures) s).calls;
   fresh = f.fresh ++ statement_fresh w.procedures (sums_within n w.procedures) (fresh_within n w.procedures) f.calls s;
 }
 
-abbrev pub front_past_block : WorldView → ℕ → FrontView → BlockView → FrontView
+abbrev pub front_past_block : SettingView → ℕ → FrontView → BlockView → FrontView
 front_past_block w n f b = record {
   at = past_block w.procedures (sums_within n w.procedures) f.at b;
   calls = f.calls + (block_sums w.procedures (sums_within n w.procedures) b).calls;
@@ -71,12 +71,12 @@ front_past_block w n f b = record {
 }
 
 -- the statement that is expanded, and what follows it
-abbrev pub expanded_there : WorldView → ℕ → Scene → FrontView → StatementView → TextView → TextView
+abbrev pub expanded_there : SettingView → ℕ → Scene → FrontView → StatementView → TextView → TextView
 expanded_there w n v f s k =
     expanded_statement w.procedures (sums_within n w.procedures) (expand_within n w.records w.globals w.procedures) v
     f.at s k
 
-abbrev pub block_there : WorldView → ℕ → Scene → FrontView → BlockView → TextView
+abbrev pub block_there : SettingView → ℕ → Scene → FrontView → BlockView → TextView
 block_there w n v f b =
     expanded_block w.procedures (sums_within n w.procedures) (expand_within n w.records w.globals w.procedures) v f.at b
 
@@ -88,22 +88,22 @@ thread_start sites sections h = record {
   fresh = [];
 }
 
-abbrev pub thread_end : WorldView → ℕ → ℕ → Thread → FrontView
+abbrev pub thread_end : SettingView → ℕ → ℕ → Thread → FrontView
 thread_end w sites sections h = front_past_block w (length w.procedures) (thread_start sites sections h) h.body
 
-abbrev pub thread_text : WorldView → ℕ → ℕ → Thread → TextView
+abbrev pub thread_text : SettingView → ℕ → ℕ → Thread → TextView
 thread_text w sites sections h =
     block_there w (length w.procedures) (record { sight = sight w.records w.globals h.locals; first = 0 })
     (thread_start sites sections h) h.body
 
 -- the expansion of each thread is within the limits
-abbrev pub AllFit : WorldView → ℕ → ℕ → List Thread → Type 0
+abbrev pub AllFit : SettingView → ℕ → ℕ → List Thread → Type 0
 AllFit w sites sections [] = ⊤
 AllFit w sites sections (h ∷ hs) =
     (length h.locals ≤ 64) × Fits (thread_end w sites sections h)
     × AllFit w (thread_end w sites sections h).at.sites (thread_end w sites sections h).at.sections hs
 
-abbrev pub tree_of : WorldView → List Thread → TreeView
+abbrev pub tree_of : SettingView → List Thread → TreeView
 tree_of w hs = record { records = w.records; globals = w.globals; procedures = w.procedures; threads = hs }
 
 -- more than twice the blocks of any procedure
@@ -117,7 +117,7 @@ argument_of v None = value.Null
 argument_of v (Some u) = argument_in v.first (operand_of v.sight u)
 
 -- the statements `rest` of `all` are left
-pub record IsFront (w : WorldView) (n : ℕ) (v : Scene) (block all rest : BlockView) (old now : FrontView)
+pub record IsFront (w : SettingView) (n : ℕ) (v : Scene) (block all rest : BlockView) (old now : FrontView)
     (before text : TextView) : Type 0 where
   pub whole : all ≡ block
   pub written : (k : TextView)
@@ -125,7 +125,7 @@ pub record IsFront (w : WorldView) (n : ℕ) (v : Scene) (block all rest : Block
   pub past : front_past_block w n now rest ≡ front_past_block w n old block
 
 -- the threads `rest` are left, before which these texts were written and these fresh locals listed
-pub record AreWritten (w : WorldView) (all rest : List Thread) (sites sections : ℕ) (texts : List TextView)
+pub record AreWritten (w : SettingView) (all rest : List Thread) (sites sections : ℕ) (texts : List TextView)
     (fresh : List (List Fresh)) : Type 0 where
   pub written : texts ++ expanded_threads (tree_of w all) (record { sites = sites; sections = sections; fresh = 0 })
       rest

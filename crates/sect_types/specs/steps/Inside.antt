@@ -8,14 +8,14 @@ use Rattle.sect_types.specs.steps.Expansion.{view_of}
 
 -- past a statement, and past a block
 abbrev pub past_in : Inside → FrontView → StatementView → FrontView
-past_in i f s = front_past_statement i.world.now i.most f s
+past_in i f s = front_past_statement i.setting.now i.most f s
 
 abbrev pub past_block_in : Inside → FrontView → BlockView → FrontView
-past_block_in i f b = front_past_block i.world.now i.most f b
+past_block_in i f b = front_past_block i.setting.now i.most f b
 
 -- the statement that is expanded, and what follows it
 abbrev pub text_in : Inside → FrontView → StatementView → TextView → TextView
-text_in i f s k = expanded_there i.world.now i.most (view_of i.scope.now i.first) f s k
+text_in i f s k = expanded_there i.setting.now i.most (view_of i.scope.now i.first) f s k
 
 abbrev pub block_text_in : Inside → FrontView → BlockView → TextView
-block_text_in i f b = block_there i.world.now i.most (view_of i.scope.now i.first) f b
+block_text_in i f b = block_there i.setting.now i.most (view_of i.scope.now i.first) f b

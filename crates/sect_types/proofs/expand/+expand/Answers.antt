@@ -27,7 +27,7 @@ expand_block-expand_statement-requires t c =
         ap block_size c.loop-statement.invariant.whole,
         c.decreases,
       ),
-      next_fits i.world.now i.most (view_of i.scope.now i.first) c.args.block.now
+      next_fits i.setting.now i.most (view_of i.scope.now i.first) c.args.block.now
           c.as_slice-statement-items.result.now c.loop-statement.statement-index c.statement-item.result
           c.args.front.now c.loop-statement.front c.args.out.now c.loop-statement.out c.loop-statement-test.true
           c.statement-item.is c.loop-statement.invariant c.requires.fits,
@@ -36,13 +36,13 @@ expand_block-expand_statement-requires t c =
 pub expand_block-loop-statement-init : goal.expand_block-loop-statement-init
 expand_block-loop-statement-init t c =
     let i = c.args.inside.now in
-    starts i.world.now i.most (view_of i.scope.now i.first) c.args.block.now _ c.args.front.now
+    starts i.setting.now i.most (view_of i.scope.now i.first) c.args.block.now _ c.args.front.now
     c.args.out.now c.as_slice-statement-items.ensures
 
 pub expand_block-loop-statement-preserved : goal.expand_block-loop-statement-preserved
 expand_block-loop-statement-preserved t c =
     let i = c.args.inside.now in
-    one_more i.world.now i.most (view_of i.scope.now i.first) c.args.block.now
+    one_more i.setting.now i.most (view_of i.scope.now i.first) c.args.block.now
     c.as_slice-statement-items.result.now c.loop-statement.statement-index c.statement-item.result c.args.front.now
     c.loop-statement.front c.expand_statement.new.front c.args.out.now c.loop-statement.out c.expand_statement.new.out
     c.loop-statement-test.true c.statement-item.is c.loop-statement.invariant c.in_ok-expand_statement.ensures.front
@@ -51,14 +51,14 @@ expand_block-loop-statement-preserved t c =
 pub expand_block-returns-clause-text : goal.expand_block-returns-clause-text
 expand_block-returns-clause-text t c =
     let i = c.args.inside.now in
-    ends_text i.world.now i.most (view_of i.scope.now i.first) c.args.block.now _
+    ends_text i.setting.now i.most (view_of i.scope.now i.first) c.args.block.now _
     c.as_slice-statement-items.result.now c.loop-statement.statement-index c.args.front.now c.loop-statement.front
     c.args.out.now c.loop-statement.out (omega arith) c.loop-statement.invariant
 
 pub expand_block-returns-clause-front : goal.expand_block-returns-clause-front
 expand_block-returns-clause-front t c =
     let i = c.args.inside.now in
-    ends_front i.world.now i.most (view_of i.scope.now i.first) c.args.block.now _
+    ends_front i.setting.now i.most (view_of i.scope.now i.first) c.args.block.now _
     c.as_slice-statement-items.result.now c.loop-statement.statement-index c.args.front.now c.loop-statement.front
     c.args.out.now c.loop-statement.out (omega arith) c.loop-statement.invariant
 
@@ -70,14 +70,14 @@ expand_call-scope-scope-requires t c =
     c.as_slice-3.ensures c.names.ensures
 
 -- the body of the procedure is within the limits
-body_fits : (t : ℕ) (c : expand_call-After-scope-scope t) → CallFits c.args.inside.now.world.now
+body_fits : (t : ℕ) (c : expand_call-After-scope-scope t) → CallFits c.args.inside.now.setting.now
     (c.args.inside.now.most - 1) c.args.front.now c.pass_call.new.self c.procedure-procedure.result.now
 body_fits t c =
     let i = c.args.inside.now in
     let p = c.procedure-procedure.result.now in
     let there = c.procedure-procedure.ensures.there in
     let shown = c.variables-variables.ensures p there in
-    call_fits i.world.now (i.most - 1) i.most c.args.front.now c.pass_call.new.self c.args.name.now
+    call_fits i.setting.now (i.most - 1) i.most c.args.front.now c.pass_call.new.self c.args.name.now
     c.args.operands.now c.in-Some.number p c.as_slice-2.result.now c.procedure-procedure.ensures.flat
     (omega (arith, c.if-inside-eq0.false)) (sym c.number_of.ensures ∙ c.in-Some.is) there
     (c.as_slice-2.ensures ∙ ap (λ (v : VariablesView). v.list) shown)
@@ -100,7 +100,7 @@ pub expand_call-expand_block-requires : goal.expand_call-expand_block-requires
 expand_call-expand_block-requires t c =
     let i = c.args.inside.now in
     let p = c.procedure-procedure.result.now in
-    let procedures = i.world.now.procedures in
+    let procedures = i.setting.now.procedures in
     let more : i.most ≡ suc (i.most - 1) = omega (arith, c.if-inside-eq0.false) in (
       omega (
         arith,
@@ -116,7 +116,7 @@ expand_call-returns-clause-front t c =
     let i = c.args.inside.now in
     let p = c.procedure-procedure.result.now in
     let shown = c.variables-variables.ensures p c.procedure-procedure.ensures.there in
-    call_front i.world.now (i.most - 1) i.most c.args.front.now c.pass_call.new.self c.expand_block.new.front
+    call_front i.setting.now (i.most - 1) i.most c.args.front.now c.pass_call.new.self c.expand_block.new.front
     c.args.name.now c.args.operands.now c.in-Some.number p c.as_slice-2.result.now c.procedure-procedure.ensures.flat
     (omega (arith, c.if-inside-eq0.false)) (sym c.number_of.ensures ∙ c.in-Some.is) c.procedure-procedure.ensures.there
     (c.as_slice-2.ensures ∙ ap (λ (v : VariablesView). v.list) shown) c.in_ok-pass_call.ensures
@@ -130,12 +130,12 @@ expand_call-returns-clause-text t c =
     let shown = c.variables-variables.ensures p there in
     let own = c.as_slice-2.ensures ∙ ap (λ (v : VariablesView). v.list) shown in
     let same = c.as_slice-3.ensures ∙ sym c.as_slice-2.ensures in
-    call_text i.world.now (i.most - 1) i.most c.args.front.now c.pass_call.new.self c.args.name.now
+    call_text i.setting.now (i.most - 1) i.most c.args.front.now c.pass_call.new.self c.args.name.now
     c.args.operands.now c.in-Some.number p i.scope.now c.scope-scope.result i.first c.next-fresh.result
     c.as_slice-parameters.result.now c.as_slice.result.now c.as_slice-2.result.now c.args.out.now
     c.put_parameters.new.out c.put_cleared.new.out c.expand_block.new.out (omega (arith, c.if-inside-eq0.false))
     (sym c.number_of.ensures ∙ c.in-Some.is) there own c.in_ok-pass_call.ensures
-    (c.scope-scope.ensures ∙ ap (sight i.world.now.records i.world.now.globals) same) c.next-fresh.ensures
+    (c.scope-scope.ensures ∙ ap (sight i.setting.now.records i.setting.now.globals) same) c.next-fresh.ensures
     c.as_slice-parameters.ensures c.as_slice.ensures c.in_ok-put_parameters.ensures c.in_ok-put_cleared.ensures
     c.in_ok-expand_block.ensures.text
 
@@ -143,7 +143,7 @@ pub expand_statement-returns-in_ok-push-in-Primitive-clause-text :
     goal.expand_statement-returns-in_ok-push-in-Primitive-clause-text
 expand_statement-returns-in_ok-push-in-Primitive-clause-text t c =
     let i = c.args.inside.now in
-    primitive_written (tree_of i.world.now []) i.most i.scope.now i.first c.args.front.now.at _ _
+    primitive_written (tree_of i.setting.now []) i.most i.scope.now i.first c.args.front.now.at _ _
     c.action-action.result c.args.out.now c.push.new.self (ap statement_of c.in-Primitive.is)
     (c.action-action.ensures ∙ ap (λ (f : FrontView). moved_action i.first
     (action_in (primitive_of i.scope.now f.at.sites c.in-Primitive.primitive))) c.front.view_is)
@@ -152,7 +152,7 @@ expand_statement-returns-in_ok-push-in-Primitive-clause-text t c =
 pub expand_statement-returns-in_ok-push-in-If-clause-text : goal.expand_statement-returns-in_ok-push-in-If-clause-text
 expand_statement-returns-in_ok-push-in-If-clause-text t c =
     let i = c.args.inside.now in
-    if_written (tree_of i.world.now []) i.most i.scope.now i.first c.args.front.now.at _ _ _
+    if_written (tree_of i.setting.now []) i.most i.scope.now i.first c.args.front.now.at _ _ _
     c.condition-condition.result c.expand_block.new.out c.new.result c.args.out.now c.push-in-If.new.self
     (ap statement_of c.in-If.is) c.condition-condition.ensures
     (anew c.new-yes.result c.expand_block.new.out _ c.new-yes.ensures c.in_ok-expand_block-in-If.ensures.text)
@@ -163,7 +163,7 @@ pub expand_statement-returns-in_ok-push-in-IfElse-clause-text :
     goal.expand_statement-returns-in_ok-push-in-IfElse-clause-text
 expand_statement-returns-in_ok-push-in-IfElse-clause-text t c =
     let i = c.args.inside.now in
-    either_text i.world.now i.most i.scope.now i.first c.args.front.now
+    either_text i.setting.now i.most i.scope.now i.first c.args.front.now
     c.expand_block-in-IfElse.new.front _ _ _ _ c.condition-condition-in-IfElse.result c.expand_block-in-IfElse.new.out
     c.expand_block-in-IfElse-2.new.out c.args.out.now c.push-in-IfElse.new.self (ap statement_of c.in-IfElse.is)
     c.condition-condition-in-IfElse.ensures
@@ -177,7 +177,7 @@ pub expand_statement-returns-in_ok-push-in-While-clause-text :
     goal.expand_statement-returns-in_ok-push-in-While-clause-text
 expand_statement-returns-in_ok-push-in-While-clause-text t c =
     let i = c.args.inside.now in
-    while_written (tree_of i.world.now []) i.most i.scope.now i.first c.args.front.now.at _ _ _
+    while_written (tree_of i.setting.now []) i.most i.scope.now i.first c.args.front.now.at _ _ _
     c.condition-condition-in-While.result c.expand_block-in-While.new.out c.args.out.now c.push-in-While.new.self
     (ap statement_of c.in-While.is) c.condition-condition-in-While.ensures
     (anew c.new-inner.result c.expand_block-in-While.new.out _ c.new-inner.ensures
@@ -188,7 +188,7 @@ pub expand_statement-returns-in_ok-push-in-Atomic-clause-text :
     goal.expand_statement-returns-in_ok-push-in-Atomic-clause-text
 expand_statement-returns-in_ok-push-in-Atomic-clause-text t c =
     let i = c.args.inside.now in
-    section_written (tree_of i.world.now []) i.most i.scope.now i.first c.args.front.now.at
+    section_written (tree_of i.setting.now []) i.most i.scope.now i.first c.args.front.now.at
     c.pass_section-number.new.self.at _ _ _ c.pass_section-number.result c.expand_block-in-Atomic.new.out c.args.out.now
     c.push-in-Atomic.new.self (ap statement_of c.in-Atomic.is) c.pass_section-number.ensures.number
     (ap (λ (f : FrontView). f.at) c.pass_section-number.ensures.front)

@@ -1,42 +1,45 @@
 use Rattle.std.proofs.Common.{subst, sym, ap, length, [], drop, ◌+◌, ◌++◌, ◌∷◌}
-use Rattle.sect_types.specs.steps.Expanding.{WorldView, AreWritten}
+use Rattle.sect_types.specs.steps.Expanding.{SettingView, AreWritten}
 use Rattle.sect_types.proofs.Writings.{starts, thread_few, thread_fits, one_thread}
 use Rattle.sect_types.proofs.expand.expand.Goals as goal
 
 pub expand_thread-requires-clause-few : goal.expand_thread-requires-clause-few
 expand_thread-requires-clause-few c =
-    thread_few c.args.world.now c.args.threads.now c.loop-number.number c.index-threads-number.result
+    thread_few c.args.setting.now c.args.threads.now c.loop-number.number c.index-threads-number.result
     c.loop-number.sites
     c.loop-number.sections c.loop-number.texts.items c.loop-number.fresh.items c.loop-number-test.true
     c.index-threads-number.is c.loop-number.invariant
 
 pub expand_thread-requires-clause-fits : goal.expand_thread-requires-clause-fits
 expand_thread-requires-clause-fits c =
-    thread_fits c.args.world.now c.args.threads.now c.loop-number.number c.index-threads-number.result
+    thread_fits c.args.setting.now c.args.threads.now c.loop-number.number c.index-threads-number.result
     c.loop-number.sites
     c.loop-number.sections c.loop-number.texts.items c.loop-number.fresh.items c.loop-number-test.true
     c.index-threads-number.is c.loop-number.invariant
 
 pub loop-number-init : goal.loop-number-init
 loop-number-init c =
-    subst (λ l. AreWritten c.args.world.now c.args.threads.now c.args.threads.now (length c.world.inside.globals.now) 0
+    subst
+    (λ l. AreWritten c.args.setting.now c.args.threads.now c.args.threads.now
+    (length c.setting.inside.globals.now) 0
     l c.new-fresh.result.items)
     (sym c.new-texts.ensures.items)
-    (subst (AreWritten c.args.world.now c.args.threads.now c.args.threads.now (length c.world.inside.globals.now) 0 [])
+    (subst
+    (AreWritten c.args.setting.now c.args.threads.now c.args.threads.now (length c.setting.inside.globals.now) 0 [])
     (sym c.new-fresh.ensures.items)
-    (starts c.args.world.now c.args.threads.now (length c.world.inside.globals.now)
-    (ap (λ (w : WorldView). length w.globals) c.world.view_is) c.requires.fits))
+    (starts c.args.setting.now c.args.threads.now (length c.setting.inside.globals.now)
+    (ap (λ (w : SettingView). length w.globals) c.setting.view_is) c.requires.fits))
 
 pub loop-number-preserved : goal.loop-number-preserved
 loop-number-preserved c =
     let rest = drop (c.loop-number.number + 1) c.args.threads.now in
-    subst (λ l. AreWritten c.args.world.now c.args.threads.now rest c.expand_thread.new.sites
+    subst (λ l. AreWritten c.args.setting.now c.args.threads.now rest c.expand_thread.new.sites
     c.expand_thread.new.sections l c.push-in-loop-number.new.self.items)
     (sym c.in_ok-push.ensures.items)
-    (subst (AreWritten c.args.world.now c.args.threads.now rest c.expand_thread.new.sites c.expand_thread.new.sections
+    (subst (AreWritten c.args.setting.now c.args.threads.now rest c.expand_thread.new.sites c.expand_thread.new.sections
     (c.loop-number.texts.items ++ c.in_ok-text.text ∷ []))
     (sym c.in_ok-push-2.ensures.items)
-    (one_thread c.args.world.now c.args.threads.now c.loop-number.number c.index-threads-number.result
+    (one_thread c.args.setting.now c.args.threads.now c.loop-number.number c.index-threads-number.result
     c.loop-number.sites
     c.loop-number.sections c.expand_thread.new.sites c.expand_thread.new.sections c.loop-number.texts.items
     c.loop-number.fresh.items c.in_ok-text.text c.in_ok-text.locals c.loop-number-test.true c.index-threads-number.is

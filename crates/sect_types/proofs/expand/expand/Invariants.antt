@@ -4,4 +4,4 @@ use Rattle.sect_types.proofs.expand.expand.Given as goal
 
 abbrev pub invariant-loop-number : goal.invariant-loop-number
 invariant-loop-number l =
-    AreWritten l.world l.threads (drop l.number l.threads) l.sites l.sections l.texts.items l.fresh.items
+    AreWritten l.setting l.threads (drop l.number l.threads) l.sites l.sections l.texts.items l.fresh.items

@@ -3,40 +3,41 @@ use Rattle.sect_types.specs.Environments.{field_types, global_records}
 use Rattle.sect_types.specs.Expanded.{texts_of, fresh_in}
 use Rattle.sect_types.specs.steps.Threads.{variables_fine}
 use Rattle.sect_types.specs.steps.FreshTypes.{local_types, all_fresh_known}
-use Rattle.sect_types.specs.steps.Expanding.{WorldView, AllFit, AreFlat, tree_of}
+use Rattle.sect_types.specs.steps.Expanding.{SettingView, AllFit, AreFlat, tree_of}
 use Rattle.sect_types.proofs.Counting.{fine_typed}
 use Rattle.sect_types.proofs.Writings.{typed_fits, typed_flat}
 use Rattle.sect_types.proofs.FreshKnown.{all_fresh, types_are}
 use Rattle.sect_types.proofs.ProgramLemmas.{well_numbered}
 use Rattle.sect_types.proofs.program.number_tree.Goals as goal
 
-pub new-world-requires-clause-flat : goal.new-world-requires-clause-flat
-new-world-requires-clause-flat c =
+pub new-setting-requires-clause-flat : goal.new-setting-requires-clause-flat
+new-setting-requires-clause-flat c =
     let typed = (fine_typed c.args.tree.now c.args.spot.now c.requires.counted.fine).0 in
     subst AreFlat (sym c.requires.procedures) (typed_flat c.args.tree.now typed)
 
 pub expand-requires-clause-fits : goal.expand-requires-clause-fits
 expand-requires-clause-fits c =
     let typed = (fine_typed c.args.tree.now c.args.spot.now c.requires.counted.fine).0 in
-    let w = c.new-world.result in
+    let w = c.new-setting.result in
     subst (AllFit w (length w.globals) 0) (sym c.threads.ensures)
-    (typed_fits c.args.tree.now w (ap (λ (x : WorldView). x.procedures) c.new-world.ensures ∙ c.requires.procedures)
-    (ap (λ (x : WorldView). x.globals) c.new-world.ensures ∙ c.globals-2.ensures) typed)
+    (typed_fits c.args.tree.now w (ap (λ (x : SettingView). x.procedures) c.new-setting.ensures ∙ c.requires.procedures)
+    (ap (λ (x : SettingView). x.globals) c.new-setting.ensures ∙ c.globals-2.ensures) typed)
 
 pub local_types-requires-clause-fresh : goal.local_types-requires-clause-fresh
 local_types-requires-clause-fresh c =
     let t = c.args.tree.now in
-    let whole : WorldView = record { records = t.records; globals = t.globals; procedures = t.procedures } in
-    let world : c.new-world.result ≡ whole = c.new-world.ensures
+    let whole : SettingView = record { records = t.records; globals = t.globals; procedures = t.procedures } in
+    let setting : c.new-setting.result ≡ whole = c.new-setting.ensures
     ∙ (λ i. record {
       records = c.records-2.ensures i;
       globals = c.globals-2.ensures i;
       procedures =
           c.requires.procedures i;
     }) in
-    let same : map (fresh_in (tree_of c.new-world.result c.threads.result.now)) c.threads.result.now ≡ map (fresh_in t)
+    let same : map (fresh_in (tree_of c.new-setting.result c.threads.result.now)) c.threads.result.now ≡ map
+    (fresh_in t)
     t.threads =
-    λ i. map (fresh_in (tree_of (world i) (c.threads.ensures i))) (c.threads.ensures i) in
+    λ i. map (fresh_in (tree_of (setting i) (c.threads.ensures i))) (c.threads.ensures i) in
     let fresh = c.as_slice.ensures.value ∙ c.in_ok-texts.ensures.fresh ∙ same in
     subst (λ l. all_fresh_known c.args.shown.now.record_names.now l ≡ true) (sym fresh)
     (all_fresh t c.args.shown.now.record_names.now t.threads
@@ -45,8 +46,8 @@ local_types-requires-clause-fresh c =
 pub returns-clause-numbers : goal.returns-clause-numbers
 returns-clause-numbers c =
     let t = c.args.tree.now in
-    let whole : WorldView = record { records = t.records; globals = t.globals; procedures = t.procedures } in
-    let world : c.new-world.result ≡ whole = c.new-world.ensures
+    let whole : SettingView = record { records = t.records; globals = t.globals; procedures = t.procedures } in
+    let setting : c.new-setting.result ≡ whole = c.new-setting.ensures
     ∙ (λ i. record {
       records = c.records-2.ensures i;
       globals = c.globals-2.ensures i;
@@ -54,10 +55,11 @@ returns-clause-numbers c =
           c.requires.procedures i;
     }) in
     let texts : c.in_ok-texts.texts.items ≡ texts_of t =
-    c.in_ok-texts.ensures.texts ∙ (λ i. texts_of (tree_of (world i) (c.threads.ensures i))) in
-    let same : map (fresh_in (tree_of c.new-world.result c.threads.result.now)) c.threads.result.now ≡ map (fresh_in t)
+    c.in_ok-texts.ensures.texts ∙ (λ i. texts_of (tree_of (setting i) (c.threads.ensures i))) in
+    let same : map (fresh_in (tree_of c.new-setting.result c.threads.result.now)) c.threads.result.now ≡ map
+    (fresh_in t)
     t.threads =
-    λ i. map (fresh_in (tree_of (world i) (c.threads.ensures i))) (c.threads.ensures i) in
+    λ i. map (fresh_in (tree_of (setting i) (c.threads.ensures i))) (c.threads.ensures i) in
     let fresh = c.as_slice.ensures.value ∙ c.in_ok-texts.ensures.fresh ∙ same in
     well_numbered t c.args.spot.now c.in_ok-records.records.items c.in_ok-globals.globals.items
     c.in_ok-locals.locals.items

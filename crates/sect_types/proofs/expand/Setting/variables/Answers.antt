@@ -3,9 +3,9 @@ use Rattle.std.proofs.lemmas.Option.{slice_get_read}
 use Rattle.std.proofs.Common.{refl, length, ap, sym, ◌∙◌}
 use Rattle.std.specs.Prelude.{map}
 use Rattle.sect_types.specs.steps.Threads.{variables_shown}
-use Rattle.sect_types.specs.steps.Expanding.{WorldView}
+use Rattle.sect_types.specs.steps.Expanding.{SettingView}
 use Rattle.sect_types.proofs.Fronts.{variables_found}
-use Rattle.sect_types.proofs.expand.World.variables.Goals as goal
+use Rattle.sect_types.proofs.expand.Setting.variables.Goals as goal
 
 pub returns : goal.returns
 returns c p e =
@@ -14,4 +14,4 @@ returns c p e =
     let there = slice_get_read all (length all) c.args.number c.unwrap.result.now refl
     (ltb-true c.args.number (length all) (sym look.0)) look.1 in
     variables_found c.args.self.now.procedures all c.args.number p c.unwrap.result.now
-    (c.self.invariant.of_procedures ∙ ap (λ (w : WorldView). map variables_shown w.procedures) c.self.view_is) e there
+    (c.self.invariant.of_procedures ∙ ap (λ (w : SettingView). map variables_shown w.procedures) c.self.view_is) e there

@@ -1,5 +1,6 @@
 //! Nodes, one after another in text order.
 
+ghost use Rattle.sect_types.specs.declared.limits.TheConstants.{MOST_STATEMENTS};
 ghost use Rattle.std.specs.Prelude.{◌≡◌, ◌+◌, ◌≤◌, ◌++◌, ◌∷◌, [], length, OnOk};
 ghost use Rattle.sect_types.specs.Statements.{Stop};
 ghost use Rattle.sect_types.specs.Texts.{step_then};
@@ -14,7 +15,7 @@ use std::alloc::AllocError;
 /// How many nodes a text has.
 #[cycle(count)]
 pub fn text_count(text: &Text) -> usize
-    requires { node_count text.now ≤ 4096 }
+    requires { node_count text.now ≤ MOST_STATEMENTS }
     ensures { result ≡ node_count text.now }
 {
     let mut count = 0;
@@ -27,7 +28,7 @@ pub fn text_count(text: &Text) -> usize
 /// How many nodes a statement has.
 #[cycle(count)]
 fn step_count(step: &Step) -> usize
-    requires { node_count (step_then step.now Stop) ≤ 4096 }
+    requires { node_count (step_then step.now Stop) ≤ MOST_STATEMENTS }
     ensures { result ≡ node_count (step_then step.now Stop) }
 {
     match step {
@@ -53,7 +54,7 @@ fn entry_to(text: &Text, start: u16, next: u16) -> u16
 /// Adds the nodes of a text, from whose end control goes on to `next`.
 #[cycle(emit)]
 pub fn emit_text(nodes: &mut Vec<Node>, text: &Text, next: u16) -> Result<(), AllocError>
-    requires { length nodes.old.items + node_count text.now ≤ 4096 }
+    requires { length nodes.old.items + node_count text.now ≤ MOST_STATEMENTS }
     ensures { OnOk result (nodes.new.items ≡ nodes.old.items ++ nodes_of text.now (length nodes.old.items) next) }
 {
     let steps = text.as_slice();
@@ -70,7 +71,7 @@ pub fn emit_text(nodes: &mut Vec<Node>, text: &Text, next: u16) -> Result<(), Al
 /// Adds the nodes of a statement, from whose end control goes on to `next`.
 #[cycle(emit)]
 fn emit_step(nodes: &mut Vec<Node>, step: &Step, next: u16) -> Result<(), AllocError>
-    requires { length nodes.old.items + node_count (step_then step.now Stop) ≤ 4096 }
+    requires { length nodes.old.items + node_count (step_then step.now Stop) ≤ MOST_STATEMENTS }
     ensures { OnOk result (nodes.new.items
         ≡ nodes.old.items ++ nodes_of (step_then step.now Stop) (length nodes.old.items) next) }
 {

@@ -1,5 +1,6 @@
 //! The control-flow graphs of a program.
 
+ghost use Rattle.sect_types.specs.declared.limits.TheConstants.{MOST_STATEMENTS};
 ghost use Rattle.std.specs.Prelude.{◌≡◌, ◌<◌, ◌≤◌, ◌++◌, length, map, slice_get, Some, IfOk, OnOk};
 ghost use Rattle.sect_types.specs.Statements.{Stop, section_bodies, statement_count};
 ghost use Rattle.sect_types.specs.Texts.{step_then};
@@ -76,7 +77,7 @@ pub fn graph_of(alloc: Global, program: &Program) -> Result<Graph, AllocError>
 /// Adds the graphs of the sections of a text, in text order.
 #[cycle(put)]
 fn put_text(alloc: Global, sections: &mut Vec<Flow>, text: &Text) -> Result<(), AllocError>
-    requires { statement_count text.now ≤ 4096 }
+    requires { statement_count text.now ≤ MOST_STATEMENTS }
     ensures { OnOk result (sections.new.items ≡ sections.old.items ++ map flow_nodes (section_bodies text.now)) }
 {
     for step in text.as_slice() {
@@ -88,7 +89,7 @@ fn put_text(alloc: Global, sections: &mut Vec<Flow>, text: &Text) -> Result<(), 
 /// Adds the graphs of the sections of a statement.
 #[cycle(put)]
 fn put_step(alloc: Global, sections: &mut Vec<Flow>, step: &Step) -> Result<(), AllocError>
-    requires { statement_count (step_then step.now Stop) ≤ 4096 }
+    requires { statement_count (step_then step.now Stop) ≤ MOST_STATEMENTS }
     ensures { OnOk result (sections.new.items
         ≡ sections.old.items ++ map flow_nodes (section_bodies (step_then step.now Stop))) }
 {

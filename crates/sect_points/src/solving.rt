@@ -67,7 +67,7 @@ fn spread(
     sites: &SiteSet,
     marks: &mut Marks,
 ) -> bool
-    requires field { field < 16 }
+    requires field { field < MOST_FIELDS }
     requires bases { (base : ℕ) → HasSite bases.now.words base → base < sets.old.sites }
     requires suits { Suits sets.old marks.old }
     ensures { Grows sets.old sets.new (spread_to bases.now.words field sites.now.words) marks.old marks.new result }
@@ -293,7 +293,7 @@ fn carry_field(
     field: u16,
     marks: &mut Marks,
 ) -> bool
-    requires field { field < 16 }
+    requires field { field < MOST_FIELDS }
     requires fits { AllFit sets.old readers.now }
     requires most { sets.old.sites ≤ MOST_SITES }
     requires going { IsGoing readers.now sets.old moved.old marks.old }

@@ -9,7 +9,8 @@ ghost use Rattle.sect_types.specs.Rules.{sight};
 ghost use Rattle.sect_types.specs.Sums.{primitive_sums, number_of as number_by};
 ghost use Rattle.sect_front.specs.declared.tree.Procedure.{Procedure as Spec};
 ghost use Rattle.sect_types.specs.Expanded.{set_parameters, clear_locals, of_call, texts_of, fresh_in};
-ghost use Rattle.sect_types.specs.declared.limits.TheConstants.{MOST_ALL_LOCALS, MOST_SITES};
+ghost use Rattle.sect_types.specs.declared.limits.TheConstants.{MOST_ALL_LOCALS, MOST_SITES, MOST_SECTIONS};
+ghost use Rattle.sect_types.specs.declared.limits.TheConstants.{MOST_CALLS, MOST_LOCALS, MOST_GLOBALS};
 ghost use Rattle.sect_front.specs.Syntax.{Call};
 ghost use Rattle.sect_types.specs.steps.Threads.{variables_shown, local_names as names_of_locals};
 ghost use Rattle.sect_types.specs.steps.Expanding.{Fits};
@@ -188,7 +189,7 @@ impl Front {
 
     /// Takes the number of a section.
     fn pass_section(&mut self) -> u16
-        requires { self.old.at.sections < 256 }
+        requires { self.old.at.sections < MOST_SECTIONS }
         ensures number { result ≡ self.old.at.sections }
         ensures front { self.new ≡ record self.old { at = record self.old.at { sections = self.old.at.sections + 1 } } }
     {
@@ -207,7 +208,7 @@ impl Front {
 
     /// Takes a call and its fresh locals.
     fn pass_call(&mut self, variables: &[Declaration]) -> Result<(), AllocError>
-        requires { self.old.calls < 4096 }
+        requires { self.old.calls < MOST_CALLS }
         ensures { OnOk result (self.new ≡ record {
           at = record self.old.at { fresh = self.old.at.fresh + length variables.now };
           calls = self.old.calls + 1;
@@ -445,7 +446,7 @@ fn expand_thread(
     thread: &Thread,
     names: &Names,
 ) -> Result<(Text, FreshLocals), AllocError>
-    requires few { length thread.now.locals ≤ 64 }
+    requires few { length thread.now.locals ≤ MOST_LOCALS }
     requires names { names.now ≡ names_of_declared thread.now.locals }
     requires fits { Fits (thread_end setting.now sites.old sections.old thread.now) }
     ensures sites { OnOk result (sites.new ≡ (thread_end setting.now sites.old sections.old thread.now).at.sites) }
@@ -483,7 +484,7 @@ pub fn expand(
     threads: &[Thread],
     local_names: &[Names],
 ) -> Result<(Vec<Text>, Vec<FreshLocals>), AllocError>
-    requires globals { length setting.now.globals ≤ 256 }
+    requires globals { length setting.now.globals ≤ MOST_GLOBALS }
     requires names { local_names.now ≡ names_of_locals threads.now }
     requires fits { AllFit setting.now (length setting.now.globals) 0 threads.now }
     ensures texts { IfOk result (λ r. r.0.items ≡ texts_of (tree_of setting.now threads.now)) }

@@ -4,6 +4,7 @@ ghost use Rattle.std.specs.Prelude.{List, IsOkUnless, ◌≡◌, ◌≤◌, ◌<
 ghost use Rattle.std.specs.Prelude.{length, map, slice_get, slice_index_or};
 ghost use Rattle.sect_front.specs.Depth.{block_depth, procedures_depth, threads_depth};
 ghost use Rattle.sect_front.specs.declared.limits.TheConstants.{MOST_DEPTH};
+ghost use Rattle.sect_types.specs.declared.limits.TheConstants.{MOST_LOCALS, MOST_PROCEDURES};
 ghost use Rattle.sect_types.specs.Sight.{names_of_records, names_of_globals, names_of_declared, all_fields};
 ghost use Rattle.sect_types.specs.Items.{AProcedure, AThread, variables as variables_by, record_items, global_items};
 ghost use Rattle.sect_types.specs.Items.{local_items, block_items, procedure_items, thread_items};
@@ -73,8 +74,8 @@ fn pass_whole_procedure(
         (InProcedure (length names.old)) procedure.now.body w)) spot.old spot.new result }
     ensures names { OnOk result (names.new ≡ names.old ++ procedure.now.name ∷ []) }
     ensures shown { IfOk result (λ v. v ≡ variables_shown procedure.now) }
-    ensures few { OnOk result (length names.old < 64) }
-    ensures few_variables { OnOk result (length (variables_by procedure.now) ≤ 64) }
+    ensures few { OnOk result (length names.old < MOST_PROCEDURES) }
+    ensures few_variables { OnOk result (length (variables_by procedure.now) ≤ MOST_LOCALS) }
     ensures known_variables { OnOk result (all_known (names_of_records tree.now.records)
         (variables_by procedure.now) ≡ true) }
 {
@@ -118,7 +119,7 @@ fn procedures(
     ensures walks { Walks (declared_in tree.now) (procedure_items 0 [] tree.now.procedures)
         spot.old spot.new result }
     ensures shown { IfOk result (λ all. all.items ≡ map variables_shown tree.now.procedures) }
-    ensures few { OnOk result (length tree.now.procedures ≤ 64) }
+    ensures few { OnOk result (length tree.now.procedures ≤ MOST_PROCEDURES) }
     ensures fine { OnOk result (variables_fine (names_of_records tree.now.records)
         tree.now.procedures ≡ true) }
 {
@@ -151,8 +152,8 @@ fn whole_thread(
         thread.now.body w)) spot.old spot.new result }
     ensures names { OnOk result (names.new ≡ names.old ++ thread.now.name ∷ []) }
     ensures locals { IfOk result (λ own. own ≡ names_of_declared thread.now.locals) }
-    ensures few { OnOk result (length names.old < 64) }
-    ensures few_locals { OnOk result (length thread.now.locals ≤ 64) }
+    ensures few { OnOk result (length names.old < MOST_THREADS) }
+    ensures few_locals { OnOk result (length thread.now.locals ≤ MOST_LOCALS) }
     ensures known_locals { OnOk result (all_known (names_of_records tree.now.records)
         thread.now.locals ≡ true) }
 {
@@ -186,7 +187,7 @@ fn threads(
     ensures walks { Walks (declared_in tree.now) (thread_items [] tree.now.threads)
         spot.old spot.new result }
     ensures locals { IfOk result (λ all. all.items ≡ names_of_locals tree.now.threads) }
-    ensures few { OnOk result (length tree.now.threads ≤ 64) }
+    ensures few { OnOk result (length tree.now.threads ≤ MOST_THREADS) }
     ensures fine { OnOk result (locals_fine (names_of_records tree.now.records) tree.now.threads
         ≡ true) }
 {

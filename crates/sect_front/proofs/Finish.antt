@@ -49,9 +49,12 @@ use Rattle.sect_front.specs.declared.reader.Owner.{Owner}
 use Rattle.sect_front.specs.declared.reader.Owner.TheVariants as owner
 use Rattle.sect_front.specs.declared.reader.BodyStage.{BodyStage}
 use Rattle.sect_front.specs.declared.reader.BodyStage.TheVariants as in_body
+use Rattle.sect_front.specs.declared.reader.Outside.{Outside}
+use Rattle.sect_front.specs.declared.reader.Outside.TheVariants as outside
 use Rattle.sect_front.specs.declared.reader.Stage.{Stage}
 use Rattle.sect_front.specs.declared.reader.Stage.TheVariants as stage
-use Rattle.sect_front.proofs.Keeps.{line_tokens, call_stage_tokens, place_tokens, frames_tokens, stage_tokens}
+use Rattle.sect_front.proofs.Keeps.{line_tokens, call_stage_tokens, place_tokens, frames_tokens, outside_tokens}
+use Rattle.sect_front.proofs.Keeps.{stage_tokens, part_outside}
 use Rattle.sect_front.proofs.Keeps.{record_stage_tokens, global_stage_tokens, procedure_stage_tokens}
 use Rattle.sect_front.proofs.Keeps.{thread_stage_tokens, body_stage_tokens, body_tokens_append, after_law}
 use Rattle.sect_front.proofs.Keeps.{operands_append, declarations_append, parameters_append, hints_append, parametered}
@@ -417,20 +420,24 @@ body_stage_end s (in_body.AfterKind o ls k) h = let d : Declaration = record { k
 body_stage_end s (in_body.AfterLocal o ls k x) h = let d : Declaration = record { kind = k; name = x } in
     owner_end s o (ls ++ d ∷ []) End (body_stage_tokens (in_body.AfterLocal o ls k x))
     (token.Semicolon ∷ token.CloseBrace ∷ []) h (one_local o ls d)
-body_stage_end s (in_body.Inside o ls x) h = let e = stand_end x.frames x.before x.place in
-    owner_end s o ls e.body (body_stage_tokens (in_body.Inside o ls x)) (e.more (token.CloseBrace ∷ [])) h
-    (ap (opened o ls) (e.is (token.CloseBrace ∷ [])))
+
+outside_end : (s : TreeView) (g : Outside) → Fits (part_outside g) s
+    → SourceEnd (λ w. source_tokens s (outside_tokens g w))
+outside_end s (outside.Between p) h = record { source = s; rest = []; is = refl }
+outside_end s (outside.Record r) h = record_stage_end s r h
+outside_end s (outside.Global g) h = global_stage_end s g h
+outside_end s (outside.Procedure p) h = procedure_stage_end s p h
+outside_end s (outside.Thread t) h = thread_stage_end s t
+outside_end s (outside.Body b) h = body_stage_end s b h
 
 source_end : (s : TreeView) (g : Stage) → Fits (part_in g) s → SourceEnd (λ w. source_tokens s (stage_tokens g w))
-source_end s (stage.Between p) h = record { source = s; rest = []; is = refl }
-source_end s (stage.Record r) h = record_stage_end s r h
-source_end s (stage.Global g) h = global_stage_end s g h
-source_end s (stage.Procedure p) h = procedure_stage_end s p h
-source_end s (stage.Thread t) h = thread_stage_end s t
-source_end s (stage.Body b) h = body_stage_end s b h
+source_end s (stage.Outside g) h = outside_end s g h
+source_end s (stage.Inside o ls x) h = let e = stand_end x.frames x.before x.place in
+    owner_end s o ls e.body (stage_tokens (stage.Inside o ls x)) (e.more (token.CloseBrace ∷ [])) h
+    (ap (opened o ls) (e.is (token.CloseBrace ∷ [])))
 
 abbrev pub start : ReaderView
-start = reading empty (stage.Between part.Records)
+start = reading empty (outside.Between part.Records)
 
 pub start_ordered : IsOrdered start
 start_ordered = (refl, refl, refl)

@@ -15,7 +15,8 @@ use Rattle.sect_front.specs.steps.Advance.{comparison_of, goes_to, first_step, e
 use Rattle.sect_front.specs.steps.Step.{Next, Stays, Ends, Stuck, step_of, step_at, start_step, close_step}
 use Rattle.sect_front.specs.steps.Step.{argument_step, call_step, moved, moved_if}
 use Rattle.sect_front.specs.steps.ReaderView.{ReaderView}
-use Rattle.sect_front.specs.steps.Read.{read_one, read_at, begin_step, record_step, global_step, parameter_step}
+use Rattle.sect_front.specs.steps.Read.{read_one, read_at, read_outside, begin_step, record_step, global_step}
+use Rattle.sect_front.specs.steps.Read.{parameter_step}
 use Rattle.sect_front.specs.steps.Read.{procedure_step, thread_step, body_step, after_kind_step, end_step, goes_on}
 use Rattle.sect_front.specs.steps.Read.{after, begun, fresh, with_record, with_global, with_procedure, with_thread}
 use Rattle.sect_front.specs.declared.token.Token.{Token}
@@ -64,6 +65,8 @@ use Rattle.sect_front.specs.declared.reader.Owner.{Owner}
 use Rattle.sect_front.specs.declared.reader.Owner.TheVariants as owner
 use Rattle.sect_front.specs.declared.reader.BodyStage.{BodyStage}
 use Rattle.sect_front.specs.declared.reader.BodyStage.TheVariants as in_body
+use Rattle.sect_front.specs.declared.reader.Outside.{Outside}
+use Rattle.sect_front.specs.declared.reader.Outside.TheVariants as outside
 use Rattle.sect_front.specs.declared.reader.Stage.{Stage}
 use Rattle.sect_front.specs.declared.reader.Stage.TheVariants as stage
 
@@ -416,15 +419,18 @@ abbrev pub body_stage_tokens : BodyStage → List Token → List Token
 body_stage_tokens (in_body.Locals o ls) w = opened o ls w
 body_stage_tokens (in_body.AfterKind o ls k) w = opened o ls (kind_token k ∷ w)
 body_stage_tokens (in_body.AfterLocal o ls k x) w = opened o ls (kind_token k ∷ token.Name x ∷ w)
-body_stage_tokens (in_body.Inside o ls s) w = opened o ls (stand_tokens s.frames s.before s.place w)
+
+abbrev pub outside_tokens : Outside → List Token → List Token
+outside_tokens (outside.Between p) w = w
+outside_tokens (outside.Record r) w = record_stage_tokens r w
+outside_tokens (outside.Global g) w = global_stage_tokens g w
+outside_tokens (outside.Procedure p) w = procedure_stage_tokens p w
+outside_tokens (outside.Thread t) w = thread_stage_tokens t w
+outside_tokens (outside.Body b) w = body_stage_tokens b w
 
 abbrev pub stage_tokens : Stage → List Token → List Token
-stage_tokens (stage.Between p) w = w
-stage_tokens (stage.Record r) w = record_stage_tokens r w
-stage_tokens (stage.Global g) w = global_stage_tokens g w
-stage_tokens (stage.Procedure p) w = procedure_stage_tokens p w
-stage_tokens (stage.Thread t) w = thread_stage_tokens t w
-stage_tokens (stage.Body b) w = body_stage_tokens b w
+stage_tokens (stage.Outside g) w = outside_tokens g w
+stage_tokens (stage.Inside o ls s) w = opened o ls (stand_tokens s.frames s.before s.place w)
 
 abbrev pub reading_tokens : ReaderView → List Token → List Token
 reading_tokens r w = source_tokens r.source (stage_tokens r.stage w)
@@ -444,15 +450,18 @@ abbrev pub owner_in : BodyStage → Owner
 owner_in (in_body.Locals o ls) = o
 owner_in (in_body.AfterKind o ls k) = o
 owner_in (in_body.AfterLocal o ls k x) = o
-owner_in (in_body.Inside o ls s) = o
+
+abbrev pub part_outside : Outside → Part
+part_outside (outside.Between p) = p
+part_outside (outside.Record r) = part_of.Records
+part_outside (outside.Global g) = part_of.Globals
+part_outside (outside.Procedure p) = part_of.Procedures
+part_outside (outside.Thread t) = part_of.Threads
+part_outside (outside.Body b) = part_with (owner_in b)
 
 abbrev pub part_in : Stage → Part
-part_in (stage.Between p) = p
-part_in (stage.Record r) = part_of.Records
-part_in (stage.Global g) = part_of.Globals
-part_in (stage.Procedure p) = part_of.Procedures
-part_in (stage.Thread t) = part_of.Threads
-part_in (stage.Body b) = part_with (owner_in b)
+part_in (stage.Outside g) = part_outside g
+part_in (stage.Inside o ls s) = part_with o
 
 abbrev pub IsOrdered : ReaderView → Type 0
 IsOrdered r = Fits (part_in r.stage) r.source
@@ -639,19 +648,23 @@ body_law s (in_body.AfterLocal o ls k x) token.Semicolon w h =
           (sym (declarations_append ls (record { kind = k; name = x }) w));
       ordered = h;
     }
-body_law s (in_body.Inside o ls x) t w h =
-    goes_law s o ls (step_of x t) (stand_tokens x.frames x.before x.place (t ∷ w)) w h
-    (stand_law x.frames x.before x.place t w)
 body_law _ _ _ w h = tt
+
+outside_law : (s : TreeView) (g : Outside) (t : Token) (w : List Token) → Fits (part_outside g) s
+    → IfSome (read_outside s g t) (IsKept (source_tokens s (outside_tokens g (t ∷ w))) w)
+outside_law s (outside.Between p) t w h = begin_law s p t w h
+outside_law s (outside.Record r) t w h = record_law s r t w h
+outside_law s (outside.Global g) t w h = global_law s g t w h
+outside_law s (outside.Procedure p) t w h = procedure_law s p t w h
+outside_law s (outside.Thread x) t w h = thread_law s x t w
+outside_law s (outside.Body b) t w h = body_law s b t w h
 
 pub read_law : (s : TreeView) (g : Stage) (t : Token) (w : List Token) → Fits (part_in g) s
     → IfSome (read_at s g t) (IsKept (source_tokens s (stage_tokens g (t ∷ w))) w)
-read_law s (stage.Between p) t w h = begin_law s p t w h
-read_law s (stage.Record r) t w h = record_law s r t w h
-read_law s (stage.Global g) t w h = global_law s g t w h
-read_law s (stage.Procedure p) t w h = procedure_law s p t w h
-read_law s (stage.Thread x) t w h = thread_law s x t w
-read_law s (stage.Body b) t w h = body_law s b t w h
+read_law s (stage.Outside g) t w h = outside_law s g t w h
+read_law s (stage.Inside o ls x) t w h =
+    goes_law s o ls (step_of x t) (stand_tokens x.frames x.before x.place (t ∷ w)) w h
+    (stand_law x.frames x.before x.place t w)
 
 IfSome_weaker : (o : Option ReaderView) (P Q : ReaderView → Type 0) → ((x : ReaderView) → P x → Q x) → IfSome o P
     → IfSome o Q

@@ -10,7 +10,7 @@ use Rattle.sect_front.specs.steps.Tokens.{more_parameters, parameters_tokens, pr
 use Rattle.sect_front.specs.steps.Tokens.{records_tokens, globals_tokens, procedures_tokens, threads_tokens}
 use Rattle.sect_front.specs.steps.Tokens.{source_tokens}
 use Rattle.sect_front.specs.steps.Advance.{operand_of, operator_of, comparison_of}
-use Rattle.sect_front.specs.steps.ReaderView.{ReaderView, reading}
+use Rattle.sect_front.specs.steps.ReaderView.{ReaderView, reading, among}
 use Rattle.sect_front.specs.steps.Read.{after}
 use Rattle.sect_front.specs.declared.token.Token.{Token}
 use Rattle.sect_front.specs.declared.tree.Locking.TheVariants as locking
@@ -44,7 +44,7 @@ use Rattle.sect_front.specs.declared.reader.ThreadStage.TheVariants as in_thread
 use Rattle.sect_front.specs.declared.reader.Owner.{Owner}
 use Rattle.sect_front.specs.declared.reader.Owner.TheVariants as owner
 use Rattle.sect_front.specs.declared.reader.BodyStage.TheVariants as in_body
-use Rattle.sect_front.specs.declared.reader.Stage.TheVariants as stage
+use Rattle.sect_front.specs.declared.reader.Outside.TheVariants as outside
 use Rattle.sect_front.proofs.Finish.{start}
 
 operand_back : (v : Operand) → operand_of (operand_token v) ≡ Some v
@@ -90,7 +90,7 @@ join_end b = join_cat End b
 
 module _ (s : TreeView) (o : Owner) (ls : List Declaration) where
   abbrev at : List Frame → BlockView → Partial → ReaderView
-  at fs b p = reading s (stage.Body (in_body.Inside o ls (record { frames = fs; before = b; place = p })))
+  at fs b p = among s o ls (record { frames = fs; before = b; place = p })
 
   -- where a statement leads
   abbrev ended : List Frame → BlockView → StatementView → ReaderView
@@ -235,16 +235,16 @@ source rs gs ps ts = record { records = rs; globals = gs; procedures = ps; threa
 
 -- between declarations
 abbrev between : TreeView → Part → ReaderView
-between s p = reading s (stage.Between p)
+between s p = reading s (outside.Between p)
 
 abbrev in_head : TreeView → List ℕ → List (List ℕ) → ReaderView
-in_head s n hs = reading s (stage.Record (in_record.Head n hs))
+in_head s n hs = reading s (outside.Record (in_record.Head n hs))
 
 abbrev in_fields : TreeView → List ℕ → List (List ℕ) → List Declaration → ReaderView
-in_fields s n hs fs = reading s (stage.Record (in_record.Fields n hs fs))
+in_fields s n hs fs = reading s (outside.Record (in_record.Fields n hs fs))
 
 abbrev in_locals : TreeView → Owner → List Declaration → ReaderView
-in_locals s o ls = reading s (stage.Body (in_body.Locals o ls))
+in_locals s o ls = reading s (outside.Body (in_body.Locals o ls))
 
 -- the first statement after the locals starts as any other
 enter : (s : TreeView) (o : Owner) (ls : List Declaration) (b : BlockView) (w : List Token) →
@@ -341,30 +341,30 @@ globals_pass rs [] w = refl
 globals_pass rs (g ∷ gs) w = globals_more rs gs (g ∷ []) w
 
 parameter_passes : (s : TreeView) (n : List ℕ) (ps : List Declaration) (k : Kind) (x : List ℕ) (w : List Token) →
-    after (reading s (stage.Procedure (in_procedure.AfterComma n ps))) (kind_token k ∷ token.Name x ∷ w) ≡
-    after (reading s (stage.Procedure (in_procedure.AfterParameter n ps k x))) w
+    after (reading s (outside.Procedure (in_procedure.AfterComma n ps))) (kind_token k ∷ token.Name x ∷ w) ≡
+    after (reading s (outside.Procedure (in_procedure.AfterParameter n ps k x))) w
 parameter_passes s n ps kind.Int x w = refl
 parameter_passes s n ps (kind.Record r) x w = refl
 
 parameters_more : (s : TreeView) (n : List ℕ) (qs ps : List Declaration) (d : Declaration) (w : List Token) →
-    after (reading s (stage.Procedure (in_procedure.AfterParameter n ps d.kind d.name)))
+    after (reading s (outside.Procedure (in_procedure.AfterParameter n ps d.kind d.name)))
     (more_parameters qs (token.CloseParen ∷ w)) ≡
-    after (reading s (stage.Procedure (in_procedure.AfterClose n (ps ++ d ∷ qs)))) w
+    after (reading s (outside.Procedure (in_procedure.AfterClose n (ps ++ d ∷ qs)))) w
 parameters_more s n [] ps d w = refl
 parameters_more s n (q ∷ qs) ps d w =
     parameter_passes s n (ps ++ d ∷ []) q.kind q.name (more_parameters qs (token.CloseParen ∷ w)) ∙
     (parameters_more s n qs (ps ++ d ∷ []) q w ∙
-    ap (λ x. after (reading s (stage.Procedure (in_procedure.AfterClose n x))) w) (append_assoc ps (d ∷ []) (q ∷ qs)))
+    ap (λ x. after (reading s (outside.Procedure (in_procedure.AfterClose n x))) w) (append_assoc ps (d ∷ []) (q ∷ qs)))
 
 first_parameter_passes : (s : TreeView) (n : List ℕ) (k : Kind) (x : List ℕ) (w : List Token) →
-    after (reading s (stage.Procedure (in_procedure.Open n))) (kind_token k ∷ token.Name x ∷ w) ≡
-    after (reading s (stage.Procedure (in_procedure.AfterParameter n [] k x))) w
+    after (reading s (outside.Procedure (in_procedure.Open n))) (kind_token k ∷ token.Name x ∷ w) ≡
+    after (reading s (outside.Procedure (in_procedure.AfterParameter n [] k x))) w
 first_parameter_passes s n kind.Int x w = refl
 first_parameter_passes s n (kind.Record r) x w = refl
 
 parameters_pass : (s : TreeView) (n : List ℕ) (ps : List Declaration) (w : List Token) →
-    after (reading s (stage.Procedure (in_procedure.Open n))) (parameters_tokens ps (token.CloseParen ∷ w)) ≡
-    after (reading s (stage.Procedure (in_procedure.AfterClose n ps))) w
+    after (reading s (outside.Procedure (in_procedure.Open n))) (parameters_tokens ps (token.CloseParen ∷ w)) ≡
+    after (reading s (outside.Procedure (in_procedure.AfterClose n ps))) w
 parameters_pass s n [] w = refl
 parameters_pass s n (p ∷ ps) w =
     first_parameter_passes s n p.kind p.name (more_parameters ps (token.CloseParen ∷ w)) ∙ parameters_more s n ps [] p w
@@ -411,7 +411,7 @@ procedures_pass rs gs (p ∷ ps) w =
 
 -- a thread may come after each declaration
 thread_begins : (s : TreeView) (p : Part) (w : List Token)
-    → after (between s p) (token.Thread ∷ w) ≡ after (reading s (stage.Thread in_thread.AfterWord)) w
+    → after (between s p) (token.Thread ∷ w) ≡ after (reading s (outside.Thread in_thread.AfterWord)) w
 thread_begins s part.Records w = refl
 thread_begins s part.Globals w = refl
 thread_begins s part.Procedures w = refl
@@ -448,7 +448,7 @@ abbrev pub last_part : TreeView → Part
 last_part s = after_threads (after_procedures (after_globals s.globals) s.procedures) s.threads
 
 -- each tree's tokens lead to it
-pub source_passes : (s : TreeView) → after start (source_tokens s []) ≡ Some (reading s (stage.Between (last_part s)))
+pub source_passes : (s : TreeView) → after start (source_tokens s []) ≡ Some (reading s (outside.Between (last_part s)))
 source_passes s =
     let threads : List Token = threads_tokens s.threads [] in
     records_pass s.records [] (globals_tokens s.globals (procedures_tokens s.procedures threads)) ∙

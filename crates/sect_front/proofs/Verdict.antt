@@ -16,6 +16,7 @@ use Rattle.sect_front.specs.steps.Verdicts.{JudgesTokens}
 use Rattle.sect_front.specs.declared.token.Token.{Token}
 use Rattle.sect_front.specs.declared.token.Token.TheVariants as token
 use Rattle.sect_front.specs.declared.token.TokenAt.{TokenAt}
+use Rattle.sect_front.specs.declared.reader.Outside.TheVariants as outside
 use Rattle.sect_front.specs.declared.reader.Stage.{Stage}
 use Rattle.sect_front.specs.declared.reader.Stage.TheVariants as stage
 use Rattle.sect_front.specs.declared.reading.TokenFault.{TokenFault}
@@ -28,7 +29,7 @@ use Rattle.sect_front.proofs.Listed.{tokens_same}
 use Rattle.sect_front.proofs.Peaks.{peak, peak_from, peak_append, peak_cons, depth_peak, shallow_from}
 
 -- the tokens of a tree lead to it
-tree_passes : (tree : TreeView) → after start (tokens_of tree) ≡ Some (reading tree (stage.Between (last_part tree)))
+tree_passes : (tree : TreeView) → after start (tokens_of tree) ≡ Some (reading tree (outside.Between (last_part tree)))
 tree_passes tree = ap (after start) (tokens_same tree) ∙ source_passes tree
 
 -- what is read from the start on is viable
@@ -87,7 +88,7 @@ pub not_viable : (front : List Token) (r : ReaderView) (t : Token) → after sta
 not_viable front r t h e v =
     let one : after start (front ++ t ∷ v.1) ≡ None = after_one front r t v.1 h
     ∙ ap (option_and_then (λ m. after m v.1)) e in
-    let all : after start (front ++ t ∷ v.1) ≡ Some (reading v.0 (stage.Between (last_part v.0))) =
+    let all : after start (front ++ t ∷ v.1) ≡ Some (reading v.0 (outside.Between (last_part v.0))) =
     ap (after start) (sym (append_assoc front (t ∷ []) v.1) ∙ sym v.2) ∙ tree_passes v.0 in
     cc
 
@@ -116,20 +117,21 @@ pub unfinished : (list : List Token) (r : ReaderView) (k : ℕ) → ReadsTo list
     → IsUnfinished list
 unfinished list r k h e = record {
   viable = viable list r h.is;
-  none = λ tree same. let one : Some r ≡ Some (reading tree (stage.Between (last_part tree))) =
+  none = λ tree same. let one : Some r ≡ Some (reading tree (outside.Between (last_part tree))) =
       sym h.is ∙ (ap (after start) (sym same) ∙ tree_passes tree) in
       let two : finish_of r ≡ Some tree = ap (λ o. option_and_then finish_of o) one in no_some tree (sym e ∙ two);
   shallow = shallow_from list h.shallow;
 }
 
 finished_at : (s : TreeView) (g : Stage) (tree : TreeView) → finish_at s g ≡ Some tree
-    → reading_tokens (reading s g) [] ≡ source_tokens tree []
-finished_at s (stage.Between p) tree e = ap (λ x. source_tokens x []) (some_inj s tree e)
-finished_at s (stage.Record r) tree e = absurd (no_some tree e)
-finished_at s (stage.Global g) tree e = absurd (no_some tree e)
-finished_at s (stage.Procedure p) tree e = absurd (no_some tree e)
-finished_at s (stage.Thread t) tree e = absurd (no_some tree e)
-finished_at s (stage.Body b) tree e = absurd (no_some tree e)
+    → reading_tokens (record { source = s; stage = g }) [] ≡ source_tokens tree []
+finished_at s (stage.Outside (outside.Between p)) tree e = ap (λ x. source_tokens x []) (some_inj s tree e)
+finished_at s (stage.Outside (outside.Record r)) tree e = absurd (no_some tree e)
+finished_at s (stage.Outside (outside.Global g)) tree e = absurd (no_some tree e)
+finished_at s (stage.Outside (outside.Procedure p)) tree e = absurd (no_some tree e)
+finished_at s (stage.Outside (outside.Thread t)) tree e = absurd (no_some tree e)
+finished_at s (stage.Outside (outside.Body b)) tree e = absurd (no_some tree e)
+finished_at s (stage.Inside o ls x) tree e = absurd (no_some tree e)
 
 kept : (list : List Token) (r : ReaderView) → after start list ≡ Some r → list ≡ reading_tokens r []
 kept list r h = sym (append-nil list) ∙ (kept_from list [] r h).is
@@ -189,8 +191,8 @@ IsGiven tree (Err _) = ⊥
 pub given : (list : List Token) (result : Result TreeView TokenFault) → JudgesTokens list result → (tree : TreeView)
     → IsTree list tree → IsGiven tree result
 given list (Ok found) h tree p =
-    let e : Some (reading found (stage.Between (last_part found))) ≡ Some
-    (reading tree (stage.Between (last_part tree))) =
+    let e : Some (reading found (outside.Between (last_part found))) ≡ Some
+    (reading tree (outside.Between (last_part tree))) =
     sym (tree_passes found) ∙ (ap (after start) (h.tokens ∙ sym p.tokens) ∙ tree_passes tree) in ap source_in e
 given list (Err fault.Memory) h tree p = tt
 given list (Err (fault.Unexpected i)) h tree p =

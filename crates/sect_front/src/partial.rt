@@ -90,19 +90,19 @@ pub enum Move {
 }
 
 /// The operand that a token is.
-pub fn operand(token: Token) -> Option<Operand>
-    ensures { result ≡ operand_of token }
+pub fn operand(token: &Token) -> Option<Operand>
+    ensures { result ≡ operand_of token.now }
 {
     match token {
-        Token::Name(name) => Some(Operand::Name(name)),
-        Token::Number(value) => Some(Operand::Number(value)),
+        Token::Name(name) => Some(Operand::Name(*name)),
+        Token::Number(value) => Some(Operand::Number(*value)),
         Token::Null => Some(Operand::Null),
         _ => None,
     }
 }
 
-fn operator(token: Token) -> Option<Operator>
-    ensures { result ≡ operator_of token }
+fn operator(token: &Token) -> Option<Operator>
+    ensures { result ≡ operator_of token.now }
 {
     match token {
         Token::Plus => Some(Operator::Add),
@@ -112,8 +112,8 @@ fn operator(token: Token) -> Option<Operator>
     }
 }
 
-fn comparison(token: Token) -> Option<Comparison>
-    ensures { result ≡ comparison_of token }
+fn comparison(token: &Token) -> Option<Comparison>
+    ensures { result ≡ comparison_of token.now }
 {
     match token {
         Token::EqualEqual => Some(Comparison::Equal),
@@ -125,13 +125,13 @@ fn comparison(token: Token) -> Option<Comparison>
 }
 
 /// The statement after one more token, unless none goes on so.
-pub fn advance(line: PartialHead, token: Token) -> Option<Move>
-    ensures { result ≡ advance_of line token }
+pub fn advance(line: &PartialHead, token: &Token) -> Option<Move>
+    ensures { result ≡ advance_of line.now token.now }
 {
     match line {
         PartialHead::AfterName(x) => match token {
-            Token::Equal => Some(Move::To(PartialHead::Assign(x, PartialAssign::AfterEqual))),
-            Token::Dot => Some(Move::To(PartialHead::Store(x, PartialStore::AfterDot))),
+            Token::Equal => Some(Move::To(PartialHead::Assign(*x, PartialAssign::AfterEqual))),
+            Token::Dot => Some(Move::To(PartialHead::Store(*x, PartialStore::AfterDot))),
             _ => None,
         },
         PartialHead::Assign(x, assign) => advance_assign(x, assign, token),
@@ -140,8 +140,8 @@ pub fn advance(line: PartialHead, token: Token) -> Option<Move>
             let v = operand(token)?;
             Some(Move::To(PartialHead::AfterPrinted(v)))
         }
-        PartialHead::AfterPrinted(v) => whole(Primitive::Print(v), token),
-        PartialHead::Branch(branch, head) => advance_branch(branch, head, token),
+        PartialHead::AfterPrinted(v) => whole(Primitive::Print(*v), token),
+        PartialHead::Branch(branch, head) => advance_branch(*branch, head, token),
         PartialHead::AfterAtomic => match token {
             Token::OpenBrace => Some(Move::OpensAtomic(Locking::Inferred)),
             Token::All => Some(Move::To(PartialHead::AfterAll)),
@@ -155,8 +155,8 @@ pub fn advance(line: PartialHead, token: Token) -> Option<Move>
 }
 
 /// The end of a statement without a block.
-fn whole(primitive: Primitive, token: Token) -> Option<Move>
-    ensures { result ≡ ends_with primitive token }
+fn whole(primitive: Primitive, token: &Token) -> Option<Move>
+    ensures { result ≡ ends_with primitive token.now }
 {
     match token {
         Token::Semicolon => Some(Move::Whole(primitive)),
@@ -165,71 +165,74 @@ fn whole(primitive: Primitive, token: Token) -> Option<Move>
 }
 
 /// A token of a statement that begins with a name and `=`.
-fn advance_assign(x: Name, assign: PartialAssign, token: Token) -> Option<Move>
-    ensures { result ≡ assign_step x assign token }
+fn advance_assign(x: &Name, assign: &PartialAssign, token: &Token) -> Option<Move>
+    ensures { result ≡ assign_step x.now assign.now token.now }
 {
     let to = match assign {
         PartialAssign::AfterEqual => match token {
-            Token::Name(y) => PartialAssign::AfterFirstName(y),
+            Token::Name(y) => PartialAssign::AfterFirstName(*y),
             Token::New => PartialAssign::AfterNew,
             _ => PartialAssign::AfterFirst(operand(token)?),
         },
         PartialAssign::AfterFirstName(y) => match token {
-            Token::Dot => PartialAssign::AfterDot(y),
-            _ => return after_first(x, Operand::Name(y), token),
+            Token::Dot => PartialAssign::AfterDot(*y),
+            _ => return after_first(x, Operand::Name(*y), token),
         },
-        PartialAssign::AfterFirst(v) => return after_first(x, v, token),
-        PartialAssign::AfterOperator(v, o) => PartialAssign::AfterSecond(v, o, operand(token)?),
-        PartialAssign::AfterSecond(v, o, w) => return whole(Primitive::Compute(x, v, o, w), token),
+        PartialAssign::AfterFirst(v) => return after_first(x, *v, token),
+        PartialAssign::AfterOperator(v, o) => PartialAssign::AfterSecond(*v, *o, operand(token)?),
+        PartialAssign::AfterSecond(v, o, w) => return whole(
+            Primitive::Compute(*x, *v, *o, *w),
+            token,
+        ),
         PartialAssign::AfterNew => match token {
-            Token::Name(r) => PartialAssign::AfterRecord(r),
+            Token::Name(r) => PartialAssign::AfterRecord(*r),
             _ => return None,
         },
-        PartialAssign::AfterRecord(r) => return whole(Primitive::New(x, r), token),
+        PartialAssign::AfterRecord(r) => return whole(Primitive::New(*x, *r), token),
         PartialAssign::AfterDot(y) => match token {
-            Token::Name(f) => PartialAssign::AfterField(y, f),
+            Token::Name(f) => PartialAssign::AfterField(*y, *f),
             _ => return None,
         },
-        PartialAssign::AfterField(y, f) => return whole(Primitive::Load(x, y, f), token),
+        PartialAssign::AfterField(y, f) => return whole(Primitive::Load(*x, *y, *f), token),
     };
-    Some(Move::To(PartialHead::Assign(x, to)))
+    Some(Move::To(PartialHead::Assign(*x, to)))
 }
 
 /// After the first operand: an operator, or the end.
-fn after_first(x: Name, v: Operand, token: Token) -> Option<Move>
-    ensures { result ≡ first_step x v token }
+fn after_first(x: &Name, v: Operand, token: &Token) -> Option<Move>
+    ensures { result ≡ first_step x.now v token.now }
 {
     match token {
-        Token::Semicolon => Some(Move::Whole(Primitive::Assign(x, v))),
+        Token::Semicolon => Some(Move::Whole(Primitive::Assign(*x, v))),
         _ => {
             let o = operator(token)?;
-            Some(Move::To(PartialHead::Assign(x, PartialAssign::AfterOperator(v, o))))
+            Some(Move::To(PartialHead::Assign(*x, PartialAssign::AfterOperator(v, o))))
         }
     }
 }
 
 /// A token of a statement that begins with a name and `.`.
-fn advance_store(y: Name, store: PartialStore, token: Token) -> Option<Move>
-    ensures { result ≡ store_step y store token }
+fn advance_store(y: &Name, store: &PartialStore, token: &Token) -> Option<Move>
+    ensures { result ≡ store_step y.now store.now token.now }
 {
     let to = match store {
         PartialStore::AfterDot => match token {
-            Token::Name(f) => PartialStore::AfterField(f),
+            Token::Name(f) => PartialStore::AfterField(*f),
             _ => return None,
         },
         PartialStore::AfterField(f) => match token {
-            Token::Equal => PartialStore::AfterEqual(f),
+            Token::Equal => PartialStore::AfterEqual(*f),
             _ => return None,
         },
-        PartialStore::AfterEqual(f) => PartialStore::AfterValue(f, operand(token)?),
-        PartialStore::AfterValue(f, v) => return whole(Primitive::Store(y, f, v), token),
+        PartialStore::AfterEqual(f) => PartialStore::AfterValue(*f, operand(token)?),
+        PartialStore::AfterValue(f, v) => return whole(Primitive::Store(*y, *f, *v), token),
     };
-    Some(Move::To(PartialHead::Store(y, to)))
+    Some(Move::To(PartialHead::Store(*y, to)))
 }
 
 /// A token of an `if` or a `while`, up to its block.
-fn advance_branch(branch: Branch, head: PartialBranch, token: Token) -> Option<Move>
-    ensures { result ≡ branch_step branch head token }
+fn advance_branch(branch: Branch, head: &PartialBranch, token: &Token) -> Option<Move>
+    ensures { result ≡ branch_step branch head.now token.now }
 {
     let to = match head {
         PartialBranch::AfterWord => match token {
@@ -237,23 +240,23 @@ fn advance_branch(branch: Branch, head: PartialBranch, token: Token) -> Option<M
             _ => return None,
         },
         PartialBranch::AfterOpen => PartialBranch::AfterLeft(operand(token)?),
-        PartialBranch::AfterLeft(left) => PartialBranch::AfterComparison(left, comparison(token)?),
+        PartialBranch::AfterLeft(left) => PartialBranch::AfterComparison(*left, comparison(token)?),
         PartialBranch::AfterComparison(left, comparison) => {
             let right = operand(token)?;
             PartialBranch::AfterRight(Test {
-                left,
-                comparison,
+                left: *left,
+                comparison: *comparison,
                 right,
             })
         }
         PartialBranch::AfterRight(test) => match token {
-            Token::CloseParen => PartialBranch::AfterClose(test),
+            Token::CloseParen => PartialBranch::AfterClose(*test),
             _ => return None,
         },
         PartialBranch::AfterClose(test) => {
             return match (token, branch) {
-                (Token::OpenBrace, Branch::If) => Some(Move::OpensThen(test)),
-                (Token::OpenBrace, Branch::While) => Some(Move::OpensWhile(test)),
+                (Token::OpenBrace, Branch::If) => Some(Move::OpensThen(*test)),
+                (Token::OpenBrace, Branch::While) => Some(Move::OpensWhile(*test)),
                 _ => None,
             };
         }

@@ -70,24 +70,46 @@ pub enum Owner {
     Thread(Name),
 }
 
-/// What has been read of a procedure or a thread from its `{` on.
+impl Owner {
+    /// Takes the owner, and leaves one without parameters.
+    fn take(&mut self, alloc: Global) -> Owner
+        ensures { result ≡ self.old }
+    {
+        match self {
+            Owner::Procedure(name, parameters) => {
+                let parameters = mem::replace(parameters, Declarations::new(alloc));
+                Owner::Procedure(*name, parameters)
+            }
+            Owner::Thread(name) => Owner::Thread(*name),
+        }
+    }
+}
+
+/// What has been read of the locals of a procedure or a thread.
 #[derive(Drop)]
 pub enum BodyStage {
     Locals(Owner, Declarations),
     AfterKind(Owner, Declarations, Kind),
     AfterLocal(Owner, Declarations, Kind, Name),
-    Inside(Owner, Declarations, Within),
 }
 
-/// Where in a text the next token stands.
+/// Where the next token stands, outside of statements.
 #[derive(Drop)]
-pub enum Stage {
+pub enum Outside {
     Between(Part),
     Record(RecordStage),
     Global(GlobalStage),
     Procedure(ProcedureStage),
     Thread(ThreadStage),
     Body(BodyStage),
+}
+
+/// Where in a text the next token stands.
+#[derive(Drop)]
+pub enum Stage {
+    Outside(Outside),
+    /// Among the statements of a procedure or a thread with these locals.
+    Inside(Owner, Declarations, Within),
 }
 
 /// A text that is being read.
@@ -124,34 +146,56 @@ impl Reader {
     ghost use Rattle.sect_front.specs.steps.ReaderView.{reading, empty};
     ghost use Rattle.sect_front.specs.steps.Read.{Reads, read_one, begin_step, record_step, end_record_step};
     ghost use Rattle.sect_front.specs.steps.Read.{global_step, parameter_step, procedure_step, thread_step};
-    ghost use Rattle.sect_front.specs.steps.Read.{body_step, after_kind_step, end_step, goes_on, finish_of};
+    ghost use Rattle.sect_front.specs.steps.Read.{read_outside, body_step, after_kind_step, end_step, goes_on};
+    ghost use Rattle.sect_front.specs.steps.Read.{finish_of};
     ghost use Rattle.sect_front.specs.steps.Step.{step_of};
     ghost use Rattle.sect_front.specs.Depth.{depth};
 
     /// Nothing has been read.
     pub fn new(alloc: Global) -> Reader
-        ensures { result ≡ reading empty (Stage.Between Part.Records) }
+        ensures { result ≡ reading empty (Outside.Between Part.Records) }
     {
         Reader {
             records: Vec::new(alloc),
             globals: Vec::new(alloc),
             procedures: Vec::new(alloc),
             threads: Vec::new(alloc),
-            stage: Stage::Between(Part::Records),
+            stage: Stage::Outside(Outside::Between(Part::Records)),
         }
     }
 
     /// Takes one more token.
-    pub fn step(&mut self, alloc: Global, token: Token) -> Result<(), StepError>
-        ensures { Reads result self.new (read_one self.old token) }
+    pub fn step(&mut self, alloc: Global, token: &Token) -> Result<(), StepError>
+        ensures { Reads result self.new (read_one self.old token.now) }
     {
-        match mem::replace(&mut self.stage, Stage::Between(Part::Threads)) {
-            Stage::Between(part) => self.begin(part, token),
-            Stage::Record(record) => self.record(alloc, record, token),
-            Stage::Global(global) => self.global(global, token),
-            Stage::Procedure(procedure) => self.procedure(alloc, procedure, token),
-            Stage::Thread(thread) => self.thread(alloc, thread, token),
-            Stage::Body(body) => self.body(alloc, body, token),
+        match &mut self.stage {
+            Stage::Outside(outside) => {
+                let outside = mem::replace(outside, Outside::Between(Part::Threads));
+                self.outside(alloc, outside, *token)
+            }
+            // What has been read stays where it is: a text has most of its tokens here.
+            Stage::Inside(owner, locals, within) => {
+                let Some(body) = within.step(alloc, token)? else {
+                    return Ok(());
+                };
+                let owner = owner.take(alloc);
+                let locals = mem::replace(locals, Declarations::new(alloc));
+                self.end(owner, locals, body)
+            }
+        }
+    }
+
+    /// A token outside of statements.
+    fn outside(&mut self, alloc: Global, outside: Outside, token: Token) -> Result<(), StepError>
+        ensures { Reads result self.new (read_outside self.old.source outside token) }
+    {
+        match outside {
+            Outside::Between(part) => self.begin(part, token),
+            Outside::Record(record) => self.record(alloc, record, token),
+            Outside::Global(global) => self.global(global, token),
+            Outside::Procedure(procedure) => self.procedure(alloc, procedure, token),
+            Outside::Thread(thread) => self.thread(alloc, thread, token),
+            Outside::Body(body) => self.body(alloc, body, token),
         }
     }
 
@@ -159,22 +203,23 @@ impl Reader {
     fn begin(&mut self, part: Part, token: Token) -> Result<(), StepError>
         ensures { Reads result self.new (begin_step self.old.source part token) }
     {
-        self.stage = match token {
+        let next = match token {
             Token::Record => match part {
-                Part::Records => Stage::Record(RecordStage::AfterWord),
+                Part::Records => Outside::Record(RecordStage::AfterWord),
                 _ => return Err(StepError::Unexpected),
             },
             Token::Global => match part {
-                Part::Records | Part::Globals => Stage::Global(GlobalStage::AfterWord),
+                Part::Records | Part::Globals => Outside::Global(GlobalStage::AfterWord),
                 _ => return Err(StepError::Unexpected),
             },
             Token::Proc => match part {
                 Part::Threads => return Err(StepError::Unexpected),
-                _ => Stage::Procedure(ProcedureStage::AfterWord),
+                _ => Outside::Procedure(ProcedureStage::AfterWord),
             },
-            Token::Thread => Stage::Thread(ThreadStage::AfterWord),
+            Token::Thread => Outside::Thread(ThreadStage::AfterWord),
             _ => return Err(StepError::Unexpected),
         };
+        self.stage = Stage::Outside(next);
         Ok(())
     }
 
@@ -217,7 +262,7 @@ impl Reader {
                 _ => return Err(StepError::Unexpected),
             },
         };
-        self.stage = Stage::Record(next);
+        self.stage = Stage::Outside(Outside::Record(next));
         Ok(())
     }
 
@@ -235,7 +280,7 @@ impl Reader {
             hints,
             fields,
         })?;
-        self.stage = Stage::Between(Part::Records);
+        self.stage = Stage::Outside(Outside::Between(Part::Records));
         Ok(())
     }
 
@@ -243,23 +288,24 @@ impl Reader {
     fn global(&mut self, stage: GlobalStage, token: Token) -> Result<(), StepError>
         ensures { Reads result self.new (global_step self.old.source stage token) }
     {
-        self.stage = match stage {
+        let next = match stage {
             GlobalStage::AfterWord => match token {
-                Token::Name(of) => Stage::Global(GlobalStage::AfterRecord(of)),
+                Token::Name(of) => Outside::Global(GlobalStage::AfterRecord(of)),
                 _ => return Err(StepError::Unexpected),
             },
             GlobalStage::AfterRecord(of) => match token {
-                Token::Name(name) => Stage::Global(GlobalStage::AfterName(of, name)),
+                Token::Name(name) => Outside::Global(GlobalStage::AfterName(of, name)),
                 _ => return Err(StepError::Unexpected),
             },
             GlobalStage::AfterName(of, name) => match token {
                 Token::Semicolon => {
                     self.globals.push(GlobalObject { of, name })?;
-                    Stage::Between(Part::Globals)
+                    Outside::Between(Part::Globals)
                 }
                 _ => return Err(StepError::Unexpected),
             },
         };
+        self.stage = Stage::Outside(next);
         Ok(())
     }
 
@@ -299,7 +345,7 @@ impl Reader {
                 return self.open_procedure(alloc, name, parameters, token);
             }
         };
-        self.stage = Stage::Procedure(next);
+        self.stage = Stage::Outside(Outside::Procedure(next));
         Ok(())
     }
 
@@ -317,7 +363,7 @@ impl Reader {
             Token::Name(of) => ProcedureStage::AfterKind(name, parameters, Kind::Record(of)),
             _ => return Err(StepError::Unexpected),
         };
-        self.stage = Stage::Procedure(next);
+        self.stage = Stage::Outside(Outside::Procedure(next));
         Ok(())
     }
 
@@ -344,7 +390,7 @@ impl Reader {
             }
             _ => return Err(StepError::Unexpected),
         };
-        self.stage = Stage::Procedure(next);
+        self.stage = Stage::Outside(Outside::Procedure(next));
         Ok(())
     }
 
@@ -362,7 +408,8 @@ impl Reader {
         match token {
             Token::OpenBrace => {
                 let owner = Owner::Procedure(name, parameters);
-                self.stage = Stage::Body(BodyStage::Locals(owner, Declarations::new(alloc)));
+                let body = BodyStage::Locals(owner, Declarations::new(alloc));
+                self.stage = Stage::Outside(Outside::Body(body));
                 Ok(())
             }
             _ => Err(StepError::Unexpected),
@@ -373,19 +420,20 @@ impl Reader {
     fn thread(&mut self, alloc: Global, stage: ThreadStage, token: Token) -> Result<(), StepError>
         ensures { Reads result self.new (thread_step self.old.source stage token) }
     {
-        self.stage = match stage {
+        let next = match stage {
             ThreadStage::AfterWord => match token {
-                Token::Name(name) => Stage::Thread(ThreadStage::AfterName(name)),
+                Token::Name(name) => Outside::Thread(ThreadStage::AfterName(name)),
                 _ => return Err(StepError::Unexpected),
             },
             ThreadStage::AfterName(name) => match token {
-                Token::OpenBrace => Stage::Body(BodyStage::Locals(
+                Token::OpenBrace => Outside::Body(BodyStage::Locals(
                     Owner::Thread(name),
                     Declarations::new(alloc),
                 )),
                 _ => return Err(StepError::Unexpected),
             },
         };
+        self.stage = Stage::Outside(next);
         Ok(())
     }
 
@@ -410,11 +458,8 @@ impl Reader {
                 }
                 _ => return Err(StepError::Unexpected),
             },
-            BodyStage::Inside(owner, locals, within) => {
-                return self.inside(alloc, owner, locals, within, token);
-            }
         };
-        self.stage = Stage::Body(next);
+        self.stage = Stage::Outside(Outside::Body(next));
         Ok(())
     }
 
@@ -438,7 +483,7 @@ impl Reader {
         }
     }
 
-    /// A token of the statements.
+    /// The first token of the statements, or the first after a name.
     fn inside(
         &mut self,
         alloc: Global,
@@ -449,9 +494,9 @@ impl Reader {
     ) -> Result<(), StepError>
         ensures { Reads result self.new (goes_on self.old.source owner locals (step_of within token)) }
     {
-        match within.step(alloc, token)? {
+        match within.step(alloc, &token)? {
             None => {
-                self.stage = Stage::Body(BodyStage::Inside(owner, locals, within));
+                self.stage = Stage::Inside(owner, locals, within);
                 Ok(())
             }
             Some(body) => self.end(owner, locals, body),
@@ -462,7 +507,7 @@ impl Reader {
     fn end(&mut self, owner: Owner, locals: Declarations, body: Block) -> Result<(), StepError>
         ensures { Reads result self.new (end_step self.old.source owner locals body) }
     {
-        self.stage = match owner {
+        let next = match owner {
             Owner::Procedure(name, parameters) => {
                 self.procedures.push(Procedure {
                     name,
@@ -470,13 +515,14 @@ impl Reader {
                     locals,
                     body,
                 })?;
-                Stage::Between(Part::Procedures)
+                Outside::Between(Part::Procedures)
             }
             Owner::Thread(name) => {
                 self.threads.push(Thread { name, locals, body })?;
-                Stage::Between(Part::Threads)
+                Outside::Between(Part::Threads)
             }
         };
+        self.stage = Stage::Outside(next);
         Ok(())
     }
 
@@ -493,7 +539,9 @@ impl Reader {
             stage,
         } = self;
         match stage {
-            Stage::Between(_) => Some(Tree::new(records, globals, procedures, threads)),
+            Stage::Outside(Outside::Between(_)) => {
+                Some(Tree::new(records, globals, procedures, threads))
+            }
             _ => None,
         }
     }

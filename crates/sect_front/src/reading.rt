@@ -43,7 +43,7 @@ pub fn read_tokens(alloc: Global, tokens: &[TokenAt]) -> Result<Tree, TokenFault
     let mut reader = Reader::new(alloc);
     let mut level = 0;
     for (i, placed) in tokens.iter().enumerate() {
-        match reader.step(alloc, placed.token) {
+        match reader.step(alloc, &placed.token) {
             Ok(()) => {}
             Err(StepError::Unexpected) => return Err(TokenFault::Unexpected(i)),
             Err(StepError::Memory) => return Err(TokenFault::Memory),

@@ -1,7 +1,7 @@
 //! The statements of a procedure or a thread, token by token.
 
 ghost use Rattle.std.specs.Prelude.{◌≡◌, ◌∷◌, [], OnOk};
-ghost use Rattle.sect_front.specs.Syntax.{End};
+ghost use Rattle.sect_front.specs.Syntax.{End, If};
 
 use crate::name::Name;
 use crate::partial::{Branch, Move, PartialBranch, PartialCall, PartialHead, advance, operand};
@@ -82,7 +82,7 @@ impl Model for Within {
 
 impl Within {
     ghost use Rattle.sect_front.specs.steps.Step.{Steps, start_step, close_step, call_step, argument_step};
-    ghost use Rattle.sect_front.specs.steps.Step.{moved, step_of};
+    ghost use Rattle.sect_front.specs.steps.Step.{after_then, after_else, moved, step_of};
     ghost use Rattle.sect_front.specs.steps.Advance.{operand_of};
 
     /// No statements.
@@ -108,44 +108,83 @@ impl Within {
     }
 
     /// Takes one more token. The whole body comes with its last brace.
-    pub fn step(&mut self, alloc: Global, token: Token) -> Result<Option<Block>, StepError>
-        ensures { Steps result self.new (step_of self.old token) }
+    pub fn step(&mut self, alloc: Global, token: &Token) -> Result<Option<Block>, StepError>
+        ensures { Steps result self.new (step_of self.old token.now) }
     {
-        match mem::replace(&mut self.place, Partial::Start) {
+        match &mut self.place {
             Partial::Start => self.start(alloc, token),
+            // What has been read stays where it is until a token is taken.
             Partial::Inside(line) => match advance(line, token) {
                 None => Err(StepError::Unexpected),
                 Some(to) => self.go(alloc, to),
             },
-            Partial::InCall(call) => self.call(alloc, call, token),
-            Partial::AfterThen(test, then) => match token {
-                Token::Else => {
-                    self.place = Partial::AfterElse(test, then);
-                    Ok(None)
-                }
-                _ => {
-                    self.before.push(Statement::If(test, then))?;
-                    self.start(alloc, token)
-                }
-            },
-            Partial::AfterElse(test, then) => match token {
-                Token::OpenBrace => {
-                    let before = mem::replace(&mut self.before, Block::new(alloc));
-                    self.frames.push(Frame::Else(before, test, then))?;
-                    Ok(None)
-                }
-                _ => Err(StepError::Unexpected),
-            },
+            Partial::InCall(call) => {
+                let call = mem::replace(call, PartialCall::AfterWord);
+                self.call(alloc, call, token)
+            }
+            Partial::AfterThen(test, then) => {
+                let (test, then) = (*test, mem::replace(then, Block::new(alloc)));
+                self.after_then(alloc, test, then, token)
+            }
+            Partial::AfterElse(test, then) => {
+                let (test, then) = (*test, mem::replace(then, Block::new(alloc)));
+                self.after_else(alloc, test, then, token)
+            }
+        }
+    }
+
+    /// A token after the first block of an `if`.
+    fn after_then(
+        &mut self,
+        alloc: Global,
+        test: Test,
+        then: Block,
+        token: &Token,
+    ) -> Result<Option<Block>, StepError>
+        ensures { Steps result self.new (after_then self.old.frames self.old.before (If test then)
+            (Partial.AfterElse test then) token.now) }
+    {
+        match token {
+            Token::Else => {
+                self.place = Partial::AfterElse(test, then);
+                Ok(None)
+            }
+            _ => {
+                self.before.push(Statement::If(test, then))?;
+                self.start(alloc, token)
+            }
+        }
+    }
+
+    /// A token after `else`.
+    fn after_else(
+        &mut self,
+        alloc: Global,
+        test: Test,
+        then: Block,
+        token: &Token,
+    ) -> Result<Option<Block>, StepError>
+        ensures { Steps result self.new
+            (after_else (Frame.Else self.old.before test then ∷ self.old.frames) End token.now) }
+    {
+        match token {
+            Token::OpenBrace => {
+                let before = mem::replace(&mut self.before, Block::new(alloc));
+                self.frames.push(Frame::Else(before, test, then))?;
+                self.place = Partial::Start;
+                Ok(None)
+            }
+            _ => Err(StepError::Unexpected),
         }
     }
 
     /// A token where a statement may start.
-    fn start(&mut self, alloc: Global, token: Token) -> Result<Option<Block>, StepError>
-        ensures { Steps result self.new (start_step self.old.frames self.old.before token) }
+    fn start(&mut self, alloc: Global, token: &Token) -> Result<Option<Block>, StepError>
+        ensures { Steps result self.new (start_step self.old.frames self.old.before token.now) }
     {
         match token {
             Token::Name(x) => {
-                self.place = Partial::Inside(PartialHead::AfterName(x));
+                self.place = Partial::Inside(PartialHead::AfterName(*x));
                 Ok(None)
             }
             Token::Print => {
@@ -184,13 +223,13 @@ impl Within {
         &mut self,
         alloc: Global,
         call: PartialCall,
-        token: Token,
+        token: &Token,
     ) -> Result<Option<Block>, StepError>
-        ensures { Steps result self.new (call_step self.old.frames self.old.before call token) }
+        ensures { Steps result self.new (call_step self.old.frames self.old.before call token.now) }
     {
         let next = match call {
             PartialCall::AfterWord => match token {
-                Token::Name(callee) => PartialCall::AfterName(callee),
+                Token::Name(callee) => PartialCall::AfterName(*callee),
                 _ => return Err(StepError::Unexpected),
             },
             PartialCall::AfterName(callee) => match token {
@@ -224,10 +263,10 @@ impl Within {
         &mut self,
         callee: Name,
         values: Operands,
-        token: Token,
+        token: &Token,
     ) -> Result<Option<Block>, StepError>
         ensures { Steps result self.new
-            (argument_step self.old.frames self.old.before callee values (operand_of token)) }
+            (argument_step self.old.frames self.old.before callee values (operand_of token.now)) }
     {
         let Some(value) = operand(token) else {
             return Err(StepError::Unexpected);
@@ -241,10 +280,10 @@ impl Within {
         &mut self,
         callee: Name,
         values: Operands,
-        token: Token,
+        token: &Token,
     ) -> Result<Option<Block>, StepError>
         ensures { Steps result self.new
-            (call_step self.old.frames self.old.before (PartialCall.AfterClose callee values) token) }
+            (call_step self.old.frames self.old.before (PartialCall.AfterClose callee values) token.now) }
     {
         match token {
             Token::Semicolon => {

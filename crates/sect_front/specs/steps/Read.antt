@@ -4,7 +4,7 @@ use Rattle.sect_front.specs.Syntax.{BlockView, End}
 use Rattle.sect_front.specs.TreeView.{TreeView}
 use Rattle.sect_front.specs.steps.WithinView.{WithinView}
 use Rattle.sect_front.specs.steps.Step.{Next, Stays, Ends, Stuck, step_of}
-use Rattle.sect_front.specs.steps.ReaderView.{ReaderView, reading}
+use Rattle.sect_front.specs.steps.ReaderView.{ReaderView, reading, among}
 use Rattle.sect_front.specs.declared.token.Token.{Token}
 use Rattle.sect_front.specs.declared.token.Token.TheVariants as token
 use Rattle.sect_front.specs.declared.tree.Record.{Record}
@@ -32,6 +32,8 @@ use Rattle.sect_front.specs.declared.reader.Owner.{Owner}
 use Rattle.sect_front.specs.declared.reader.Owner.TheVariants as owner
 use Rattle.sect_front.specs.declared.reader.BodyStage.{BodyStage}
 use Rattle.sect_front.specs.declared.reader.BodyStage.TheVariants as in_body
+use Rattle.sect_front.specs.declared.reader.Outside.{Outside}
+use Rattle.sect_front.specs.declared.reader.Outside.TheVariants as outside
 use Rattle.sect_front.specs.declared.reader.Stage.{Stage}
 use Rattle.sect_front.specs.declared.reader.Stage.TheVariants as stage
 
@@ -53,22 +55,22 @@ with_thread s t =
     record { records = s.records; globals = s.globals; procedures = s.procedures; threads = s.threads ++ t ∷ [] }
 
 abbrev pub begin_step : TreeView → Part → Token → Option ReaderView
-begin_step s part.Records token.Record = Some (reading s (stage.Record in_record.AfterWord))
-begin_step s part.Records token.Global = Some (reading s (stage.Global in_global.AfterWord))
-begin_step s part.Globals token.Global = Some (reading s (stage.Global in_global.AfterWord))
-begin_step s part.Records token.Proc = Some (reading s (stage.Procedure in_procedure.AfterWord))
-begin_step s part.Globals token.Proc = Some (reading s (stage.Procedure in_procedure.AfterWord))
-begin_step s part.Procedures token.Proc = Some (reading s (stage.Procedure in_procedure.AfterWord))
-begin_step s _ token.Thread = Some (reading s (stage.Thread in_thread.AfterWord))
+begin_step s part.Records token.Record = Some (reading s (outside.Record in_record.AfterWord))
+begin_step s part.Records token.Global = Some (reading s (outside.Global in_global.AfterWord))
+begin_step s part.Globals token.Global = Some (reading s (outside.Global in_global.AfterWord))
+begin_step s part.Records token.Proc = Some (reading s (outside.Procedure in_procedure.AfterWord))
+begin_step s part.Globals token.Proc = Some (reading s (outside.Procedure in_procedure.AfterWord))
+begin_step s part.Procedures token.Proc = Some (reading s (outside.Procedure in_procedure.AfterWord))
+begin_step s _ token.Thread = Some (reading s (outside.Thread in_thread.AfterWord))
 begin_step _ _ _ = None
 
 -- a stage in a record
 abbrev pub at_record : TreeView → RecordStage → Option ReaderView
-at_record s r = Some (reading s (stage.Record r))
+at_record s r = Some (reading s (outside.Record r))
 
 abbrev pub end_record_step : TreeView → List ℕ → List (List ℕ) → List Declaration → Option ReaderView
 end_record_step s n hs fs =
-    Some (reading (with_record s (record { name = n; hints = hs; fields = fs })) (stage.Between part.Records))
+    Some (reading (with_record s (record { name = n; hints = hs; fields = fs })) (outside.Between part.Records))
 
 abbrev pub record_step : TreeView → RecordStage → Token → Option ReaderView
 record_step s in_record.AfterWord (token.Name n) = at_record s (in_record.Head n [])
@@ -84,19 +86,19 @@ record_step s (in_record.AfterField n hs fs k f) token.Semicolon =
 record_step _ _ _ = None
 
 abbrev pub global_step : TreeView → GlobalStage → Token → Option ReaderView
-global_step s in_global.AfterWord (token.Name r) = Some (reading s (stage.Global (in_global.AfterRecord r)))
-global_step s (in_global.AfterRecord r) (token.Name g) = Some (reading s (stage.Global (in_global.AfterName r g)))
+global_step s in_global.AfterWord (token.Name r) = Some (reading s (outside.Global (in_global.AfterRecord r)))
+global_step s (in_global.AfterRecord r) (token.Name g) = Some (reading s (outside.Global (in_global.AfterName r g)))
 global_step s (in_global.AfterName r g) token.Semicolon =
-    Some (reading (with_global s (record { of = r; name = g })) (stage.Between part.Globals))
+    Some (reading (with_global s (record { of = r; name = g })) (outside.Between part.Globals))
 global_step _ _ _ = None
 
 -- a stage in a procedure, up to its `{`
 abbrev pub at_procedure : TreeView → ProcedureStage → Option ReaderView
-at_procedure s p = Some (reading s (stage.Procedure p))
+at_procedure s p = Some (reading s (outside.Procedure p))
 
 -- a stage in a body
 abbrev pub at_body : TreeView → BodyStage → Option ReaderView
-at_body s b = Some (reading s (stage.Body b))
+at_body s b = Some (reading s (outside.Body b))
 
 -- where a parameter has to stand
 abbrev pub parameter_step : TreeView → List ℕ → List Declaration → Token → Option ReaderView
@@ -119,7 +121,7 @@ procedure_step s (in_procedure.AfterClose n ps) token.OpenBrace = at_body s (in_
 procedure_step _ _ _ = None
 
 abbrev pub thread_step : TreeView → ThreadStage → Token → Option ReaderView
-thread_step s in_thread.AfterWord (token.Name n) = Some (reading s (stage.Thread (in_thread.AfterName n)))
+thread_step s in_thread.AfterWord (token.Name n) = Some (reading s (outside.Thread (in_thread.AfterName n)))
 thread_step s (in_thread.AfterName n) token.OpenBrace = at_body s (in_body.Locals (owner.Thread n) [])
 thread_step _ _ _ = None
 
@@ -135,12 +137,12 @@ begun x = record { frames = []; before = End; place = place.Inside (line.AfterNa
 abbrev pub end_step : TreeView → Owner → List Declaration → BlockView → Option ReaderView
 end_step s (owner.Procedure n ps) ls b =
     let p : Procedure = record { name = n; parameters = ps; locals = ls; body = b } in
-    Some (reading (with_procedure s p) (stage.Between part.Procedures))
+    Some (reading (with_procedure s p) (outside.Between part.Procedures))
 end_step s (owner.Thread n) ls b =
-    Some (reading (with_thread s (record { name = n; locals = ls; body = b })) (stage.Between part.Threads))
+    Some (reading (with_thread s (record { name = n; locals = ls; body = b })) (outside.Between part.Threads))
 
 abbrev pub goes_on : TreeView → Owner → List Declaration → Next → Option ReaderView
-goes_on s o ls (Stays x) = at_body s (in_body.Inside o ls x)
+goes_on s o ls (Stays x) = Some (among s o ls x)
 goes_on s o ls (Ends b) = end_step s o ls b
 goes_on s o ls Stuck = None
 
@@ -157,16 +159,19 @@ body_step s (in_body.AfterKind o ls k) (token.Name x) = at_body s (in_body.After
 body_step s (in_body.AfterKind o ls k) t = after_kind_step s o ls k t
 body_step s (in_body.AfterLocal o ls k x) token.Semicolon =
     at_body s (in_body.Locals o (ls ++ record { kind = k; name = x } ∷ []))
-body_step s (in_body.Inside o ls x) t = goes_on s o ls (step_of x t)
 body_step _ _ _ = None
 
+abbrev pub read_outside : TreeView → Outside → Token → Option ReaderView
+read_outside s (outside.Between p) t = begin_step s p t
+read_outside s (outside.Record r) t = record_step s r t
+read_outside s (outside.Global g) t = global_step s g t
+read_outside s (outside.Procedure p) t = procedure_step s p t
+read_outside s (outside.Thread h) t = thread_step s h t
+read_outside s (outside.Body b) t = body_step s b t
+
 abbrev pub read_at : TreeView → Stage → Token → Option ReaderView
-read_at s (stage.Between p) t = begin_step s p t
-read_at s (stage.Record r) t = record_step s r t
-read_at s (stage.Global g) t = global_step s g t
-read_at s (stage.Procedure p) t = procedure_step s p t
-read_at s (stage.Thread h) t = thread_step s h t
-read_at s (stage.Body b) t = body_step s b t
+read_at s (stage.Outside g) t = read_outside s g t
+read_at s (stage.Inside o ls x) t = goes_on s o ls (step_of x t)
 
 abbrev pub read_one : ReaderView → Token → Option ReaderView
 read_one r t = read_at r.source r.stage t
@@ -184,7 +189,7 @@ after r (t ∷ w) = option_and_then (λ m. after m w) (read_one r t)
 
 -- the source, where no declaration is begun
 abbrev pub finish_at : TreeView → Stage → Option TreeView
-finish_at s (stage.Between p) = Some s
+finish_at s (stage.Outside (outside.Between p)) = Some s
 finish_at s _ = None
 
 abbrev pub finish_of : ReaderView → Option TreeView

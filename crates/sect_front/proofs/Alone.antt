@@ -11,11 +11,11 @@ use Rattle.sect_front.specs.Lexing.{Spells, IsBadAt}
 use Rattle.sect_front.specs.Faults.{IsViable, tokens_in, IsUnexpectedAt, IsTooDeepAt, IsUnfinished}
 use Rattle.sect_front.specs.Front.{IsBadOn, IsFault, Judges, Refuses, line_of}
 use Rattle.sect_front.specs.declared.token.Token.{Token}
-use Rattle.sect_front.specs.declared.token.TokenAt.{TokenAt}
+use Rattle.sect_front.specs.TokenAt.{TokenAt}
 use Rattle.sect_front.specs.declared.parsing.FrontFault.{FrontFault}
 use Rattle.sect_front.specs.declared.parsing.FrontFault.TheVariants as fault
-use Rattle.sect_front.specs.declared.reading.TokenFault.{TokenFault}
-use Rattle.sect_front.specs.declared.reading.TokenFault.TheVariants as token_fault
+use Rattle.sect_front.proofs.TokenFaults.{TokenFault, IsTokenFault}
+use Rattle.sect_front.proofs.TokenFaults as token_fault
 use Rattle.sect_front.proofs.Reach.{one_lexing, one_bad, bad_or_lexed}
 use Rattle.sect_front.proofs.Only.{only}
 
@@ -65,13 +65,6 @@ compare (suc i) (suc j) = go (compare i j)
     go (inr (inl h)) = inr (inl (omega arith))
     go (inr (inr h)) = inr (inr (ap suc h))
 
--- a fault of tokens that isn't want of memory
-abbrev IsTokenFault : List Token → TokenFault → Type 0
-IsTokenFault list (token_fault.Unexpected i) = IsUnexpectedAt list i
-IsTokenFault list (token_fault.TooDeep i) = IsTooDeepAt list i
-IsTokenFault list token_fault.Unfinished = IsUnfinished list
-IsTokenFault list token_fault.Memory = ⊥
-
 same_unexpected : (list : List Token) (i j : ℕ) → IsUnexpectedAt list i → IsUnexpectedAt list j → i ≡ j
 same_unexpected list i j h k = go (compare i j)
   where
@@ -113,8 +106,6 @@ same_token list token_fault.Unfinished (token_fault.Unexpected j) h k =
     absurd (k.here (viable_front (j + 1) list h.viable))
 same_token list token_fault.Unfinished (token_fault.TooDeep j) h k = absurd (deep_ends list j k h)
 same_token list token_fault.Unfinished token_fault.Unfinished h k = refl
-same_token list token_fault.Memory g h k = absurd h
-same_token list f token_fault.Memory h k = absurd k
 
 -- the place of a token by its number
 abbrev place_at : List TokenAt → ℕ → ℕ
@@ -125,7 +116,6 @@ abbrev token_answer : List ℕ → List TokenAt → TokenFault → FrontFault
 token_answer bytes ps (token_fault.Unexpected i) = fault.Unexpected (line_of bytes (place_at ps i))
 token_answer bytes ps (token_fault.TooDeep i) = fault.TooDeep (line_of bytes (place_at ps i))
 token_answer bytes ps token_fault.Unfinished = fault.UnexpectedEnd (line_of bytes (length bytes - 1))
-token_answer bytes ps token_fault.Memory = fault.Memory
 
 abbrev bad_answer : Bool → Bool → ℕ → FrontFault
 bad_answer true digit line = fault.LongName line

@@ -3,11 +3,11 @@ use Rattle.std.proofs.Common.{ℕ, List, Result, Ok, Err, subst, arith, Bool}
 use Rattle.sect_front.specs.Front.{IsSpelled, IsBadOn, Judges, Gives}
 use Rattle.sect_front.specs.Faults.{tokens_in, IsTree}
 use Rattle.sect_front.specs.Lexing.{Spells}
-use Rattle.sect_front.specs.declared.token.TokenAt.{TokenAt}
+use Rattle.sect_front.specs.TokenAt.{TokenAt}
 use Rattle.sect_front.specs.TreeView.{TreeView}
 use Rattle.sect_front.specs.declared.parsing.FrontFault.{FrontFault}
 use Rattle.sect_front.specs.declared.parsing.FrontFault.TheVariants as fault
-use Rattle.sect_front.specs.declared.reading.TokenFault.TheVariants as token_fault
+use Rattle.sect_front.proofs.TokenFaults as token_fault
 use Rattle.sect_front.proofs.Reach.{one_lexing, bad_or_lexed}
 use Rattle.sect_front.proofs.Verdict.{given}
 

@@ -19,7 +19,7 @@ use Rattle.sect_front.specs.Layout.{separator, layout_of, IsTextOf}
 use Rattle.sect_front.specs.steps.Spread.{spread}
 use Rattle.sect_front.specs.declared.token.Token.{Token}
 use Rattle.sect_front.specs.declared.token.Token.TheVariants as token
-use Rattle.sect_front.specs.declared.token.TokenAt.{TokenAt}
+use Rattle.sect_front.specs.TokenAt.{TokenAt}
 use Rattle.sect_front.specs.declared.tree.Record.{Record}
 use Rattle.sect_front.specs.declared.tree.Procedure.{Procedure}
 use Rattle.sect_front.specs.declared.tree.Thread.{Thread}

@@ -1,22 +1,14 @@
 -- How the tokens of a text follow one another.
-use Rattle.std.proofs.Common.{◌≡◌, ◌≢◌, ℕ, zero, suc, ◌+◌, ◌<◌, ◌≤◌, Bool, true, false, not, ◌&&◌, cond, eqb, List, []}
-use Rattle.std.proofs.Common.{◌∷◌, ◌++◌, Some, None, length, drop, get_or, refl, sym, ◌∙◌, ap, subst, arith}
+use Rattle.std.proofs.Common.{◌≡◌, ◌≢◌, ℕ, suc, ◌+◌, ◌≤◌, Bool, true, false, not, ◌&&◌, cond, eqb, List, []}
+use Rattle.std.proofs.Common.{◌∷◌, ◌++◌, Some, None, length, drop, refl, sym, ◌∙◌, ap, subst, arith}
 use Rattle.std.proofs.Common.{length-drop}
-use Rattle.std.specs.List.{slice_get}
-use Rattle.std.proofs.lemmas.Option.{slice_get-get_or}
 use Rattle.sect_front.specs.Gaps.{begins_with, after_gap, skip, is_blank}
 use Rattle.sect_front.specs.Lexeme.{lexeme_of}
 use Rattle.sect_front.specs.Lexing.{IsFirst, IsBad, Reaches, Spells, IsBadAt}
+use Rattle.sect_front.specs.steps.Verdicts.{Reached}
 use Rattle.sect_front.proofs.Choices.{some_inj}
 use Rattle.sect_front.proofs.Lexemes.{lexeme_first, lexeme_only, lexeme_bad, pair}
-use Rattle.sect_front.specs.declared.token.TokenAt.{TokenAt}
-
--- these tokens have been read, and here the next one stands
-pub record Reached (bytes : List ℕ) (ps : List TokenAt) (here : List ℕ) : Type 0 where
-  pub rest : List ℕ
-  pub reaches : Reaches (length bytes) bytes ps rest
-  pub gap : after_gap rest ≡ here
-  pub fits : length here ≤ length bytes
+use Rattle.sect_front.specs.TokenAt.{TokenAt}
 
 skip_fits : (c : Bool) (bytes : List ℕ) → length (skip c bytes) ≤ length bytes
 skip_fits c [] = omega arith
@@ -109,19 +101,3 @@ pub one_bad : (bytes : List ℕ) (at at' : ℕ) → IsBadAt bytes at → IsBadAt
 one_bad bytes at at' h k =
     let e = (same_reach (length bytes) bytes h.before k.before h.rest k.rest h.reaches k.reaches h.bad k.bad).1 in
     omega (arith, h.place, k.place, ap (λ r. length (after_gap r)) e)
-
--- each place is in the text
-places_fit : (total : ℕ) (bytes : List ℕ) (ps : List TokenAt) (rest : List ℕ) → Reaches total bytes ps rest
-    → (i : ℕ) (d : TokenAt) → i < length ps → (get_or ps i d).at ≤ total
-places_fit total bytes [] rest h i d lt = absurd (omega arith)
-places_fit total bytes (p ∷ ps) rest h zero d lt = omega (arith, h.1)
-places_fit total bytes (p ∷ ps) rest h (suc i) d lt =
-    places_fit total (drop h.0 (after_gap bytes)) ps rest h.3 i d (omega arith)
-
-pub place_fits : (bytes : List ℕ) (ps : List TokenAt) → Spells bytes ps → (i : ℕ) (p : TokenAt) → i < length ps
-    → p ≡ get_or ps i p → p.at ≤ length bytes
-place_fits bytes ps h i p lt e = omega (arith, places_fit (length bytes) bytes ps h.0 h.1 i p lt, ap (λ q. q.at) e)
-
--- a place that is read is found
-pub found_at : (ps : List TokenAt) (i : ℕ) (p : TokenAt) → i < length ps → p ≡ get_or ps i p → slice_get ps i ≡ Some p
-found_at ps i p lt e = slice_get-get_or ps i p lt ∙ ap Some (sym e)

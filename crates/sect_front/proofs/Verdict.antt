@@ -1,26 +1,22 @@
 -- What the end of a reading says of its tokens.
 use Rattle.std.proofs.Common.{◌≡◌, ℕ, ◌+◌, ◌<◌, ◌≤◌, List, [], ◌∷◌, ◌++◌, Option, Some, None, Result, Ok, Err}
 use Rattle.std.proofs.Common.{option_and_then, length, take, drop, refl, sym, ◌∙◌, ap, subst, arith, append_assoc}
-use Rattle.std.proofs.Common.{append-nil, get_or, zero, suc, add-one}
-use Rattle.std.proofs.lemmas.List.{take-append-drop, length-map}
-use Rattle.std.specs.Prelude.{⊤}
-use Rattle.std.specs.Option.{ok_or}
+use Rattle.std.proofs.Common.{append-nil}
+use Rattle.std.proofs.lemmas.List.{take-append-drop}
 use Rattle.sect_front.specs.TreeView.{TreeView}
 use Rattle.sect_front.specs.Grammar.{tokens_of}
 use Rattle.sect_front.specs.steps.Tokens.{source_tokens}
 use Rattle.sect_front.specs.Braces.{brace, open_after}
 use Rattle.sect_front.specs.steps.ReaderView.{ReaderView, reading, empty}
 use Rattle.sect_front.specs.steps.Read.{read_one, after, finish_of, finish_at}
-use Rattle.sect_front.specs.Faults.{IsViable, IsTree, IsUnexpectedAt, IsTooDeepAt, IsUnfinished, tokens_in}
-use Rattle.sect_front.specs.steps.Verdicts.{JudgesTokens}
+use Rattle.sect_front.specs.Faults.{IsViable, IsTree, IsUnexpectedAt, IsTooDeepAt, IsUnfinished}
 use Rattle.sect_front.specs.declared.token.Token.{Token}
 use Rattle.sect_front.specs.declared.token.Token.TheVariants as token
-use Rattle.sect_front.specs.declared.token.TokenAt.{TokenAt}
 use Rattle.sect_front.specs.declared.reader.Outside.TheVariants as outside
 use Rattle.sect_front.specs.declared.reader.Stage.{Stage}
 use Rattle.sect_front.specs.declared.reader.Stage.TheVariants as stage
-use Rattle.sect_front.specs.declared.reading.TokenFault.{TokenFault}
-use Rattle.sect_front.specs.declared.reading.TokenFault.TheVariants as fault
+use Rattle.sect_front.proofs.TokenFaults.{TokenFault, JudgesTokens}
+use Rattle.sect_front.proofs.TokenFaults as fault
 use Rattle.sect_front.proofs.Choices.{some_inj, no_some}
 use Rattle.sect_front.proofs.Keeps.{reading_tokens}
 use Rattle.sect_front.proofs.Finish.{start, finishes, kept_from}
@@ -163,28 +159,9 @@ brace_most k token.OpenBrace = omega arith
 brace_most k token.CloseBrace = omega arith
 brace_most k _ = omega arith
 
-pub length_tokens : (ps : List TokenAt) → length (tokens_in ps) ≡ length ps
-length_tokens ps = length-map ps (λ p. p.token)
-
--- the tokens up to the next one
-pub next_token : (ps : List TokenAt) (i : ℕ) (p : TokenAt) → i < length ps → p ≡ get_or ps i p →
-    take (i + 1) (tokens_in ps) ≡ take i (tokens_in ps) ++ p.token ∷ []
-next_token [] i p h e = absurd (omega arith)
-next_token (q ∷ ps) zero p h e = ap (λ x. x.token ∷ []) (sym e)
-next_token (q ∷ ps) (suc i) p h e =
-    let one : i + 1 ≡ suc i = omega arith in
-    rw add-one (ap (λ w. q.token ∷ w) (ap (λ j. take j (tokens_in ps)) (sym one) ∙ next_token ps i p (omega arith) e))
-
--- the end of the tokens
-pub at_end : (list : List Token) (r : ReaderView) (k : ℕ) → ReadsTo list r k → (o : Option TreeView) → o ≡ finish_of r
-    → JudgesTokens list (ok_or o fault.Unfinished)
-at_end list r k h None e = unfinished list r k h (sym e)
-at_end list r k h (Some tree) e = finished list r k tree h (sym e)
-
--- only this tree, unless memory ran out
+-- only this tree
 abbrev pub IsGiven : TreeView → Result TreeView TokenFault → Type 0
 IsGiven tree (Ok given) = given ≡ tree
-IsGiven tree (Err fault.Memory) = ⊤
 IsGiven tree (Err _) = ⊥
 
 -- a tree is given wherever there is one
@@ -194,7 +171,6 @@ given list (Ok found) h tree p =
     let e : Some (reading found (outside.Between (last_part found))) ≡ Some
     (reading tree (outside.Between (last_part tree))) =
     sym (tree_passes found) ∙ (ap (after start) (h.tokens ∙ sym p.tokens) ∙ tree_passes tree) in ap source_in e
-given list (Err fault.Memory) h tree p = tt
 given list (Err (fault.Unexpected i)) h tree p =
     h.here (tree, drop (i + 1) list, p.tokens ∙ sym (take-append-drop (i + 1) list))
 given list (Err (fault.TooDeep i)) h tree p =

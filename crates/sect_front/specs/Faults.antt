@@ -6,7 +6,7 @@ use Rattle.sect_front.specs.TreeView.{TreeView}
 use Rattle.sect_front.specs.Depth.{depth}
 use Rattle.sect_front.specs.Braces.{open_after, IsShallow}
 use Rattle.sect_front.specs.declared.token.Token.{Token}
-use Rattle.sect_front.specs.declared.token.TokenAt.{TokenAt}
+use Rattle.sect_front.specs.TokenAt.{TokenAt}
 
 -- the tokens without their places
 abbrev pub tokens_in : List TokenAt → List Token

@@ -8,7 +8,7 @@ use Rattle.sect_front.specs.Lexing.{Spells}
 use Rattle.sect_front.specs.Faults.{tokens_in}
 use Rattle.sect_front.specs.declared.token.Token.{Token}
 use Rattle.sect_front.specs.declared.token.Token.TheVariants as token
-use Rattle.sect_front.specs.declared.token.TokenAt.{TokenAt}
+use Rattle.sect_front.specs.TokenAt.{TokenAt}
 
 -- what stands between a token and the next: a line feed after `;`, `{` and `}`, and else a blank
 abbrev pub separator : Token → ℕ

@@ -5,7 +5,7 @@ use Rattle.sect_front.specs.Gaps.{equals_sign, begins_with, after_gap}
 use Rattle.sect_front.specs.Spelling.{IsSpelling}
 use Rattle.sect_front.specs.declared.token.Token.{Token}
 use Rattle.sect_front.specs.declared.token.Token.TheVariants as token
-use Rattle.sect_front.specs.declared.token.TokenAt.{TokenAt}
+use Rattle.sect_front.specs.TokenAt.{TokenAt}
 
 -- whether a token may stand directly before these bytes: `=` and `<` not before `=`, and a name, a keyword or an
 -- integer not before a byte of names

@@ -11,6 +11,7 @@ pub mod Gaps
 pub mod Spelling
 pub mod Layout
 pub mod Lexeme
+pub mod TokenAt
 pub mod Lexing
 pub mod Braces
 pub mod Faults

@@ -1,6 +1,6 @@
 //! One token at the front of a text.
 
-ghost use Rattle.std.specs.Prelude.{◌≡◌, ◌<◌, ◌≤◌, ◌^◌, length, take_while, true, false, IfSome};
+ghost use Rattle.std.specs.Prelude.{◌≡◌, ◌<◌, ◌≤◌, ◌^◌, length, drop, take_while, true, false, IfSome};
 ghost use Rattle.std.specs.List.{list_all};
 ghost use Rattle.sect_front.specs.Words.{is_name_byte as name_byte, begins, is_letter as letter_of};
 ghost use Rattle.sect_front.specs.Gaps.{is_blank as blank_of, begins_with as begins_so, after_gap as gap_of};
@@ -180,4 +180,13 @@ pub fn lexeme(bytes: &[u8]) -> Option<(Token, usize)>
     } else {
         sign(*first, others)
     }
+}
+
+/// What follows so many bytes and the gap behind them.
+pub fn behind(here: &[u8], count: usize) -> &[u8]
+    requires { count ≤ length here.now }
+    ensures { result.now ≡ gap_of (drop count here.now) }
+{
+    let (_, after) = here.split_at(count);
+    after_gap(after)
 }

@@ -2,7 +2,6 @@
 #![tactic(auto)]
 
 mod lexer;
-mod lexing;
 mod limits;
 mod listing;
 mod literal;
@@ -25,7 +24,7 @@ pub use name::Name;
 pub use parsing::{FrontFault, parse};
 pub use printing::print;
 pub use same::is_same;
-pub use token::{Token, TokenAt};
+pub use token::Token;
 pub use tree::{
     Block, Comparison, Declaration, Declarations, GlobalObject, Hints, Kind, Locking, Operand,
     Operands, Operator, Primitive, Procedure, Record, Statement, Test, Thread, Tree,

@@ -1,17 +1,16 @@
 //! A source text as a tree.
 //!
-//! The tokens are found first, and then read by a machine that takes one at a time and keeps the open blocks in a
-//! `Vec`: it calls nothing by recursion on the text, so no text makes it use more stack. What walks over a tree, as its
-//! `Drop` and `print` do, goes as deep as its blocks stand in one another, at most 32.
+//! The text is read by a machine that takes one token at a time and keeps the open blocks in a `Vec`: it calls nothing
+//! by recursion on the text, so no text makes it use more stack. What walks over a tree, as its `Drop` and `print` do,
+//! goes as deep as its blocks stand in one another, at most 32.
 
 ghost use Rattle.std.specs.Prelude.{◌≡◌, ◌≢◌, ◌≤◌, length};
 ghost use Rattle.sect_front.specs.Front.{IsSpelled, IsFault, Judges, Gives, Refuses, line_of as line};
 ghost use Rattle.sect_front.specs.Lexing.{IsBadAt};
 ghost use Rattle.sect_front.specs.TreeView.{TreeView};
 
-use crate::lexing::{LexFault, lex};
 use crate::limits::MOST_BYTES;
-use crate::reading::{TokenFault, read_tokens};
+use crate::reading::{ReadFault, read};
 use crate::tree::Tree;
 use crate::words::{is_digit, is_letter};
 use std::alloc::Global;
@@ -94,23 +93,19 @@ fn judge(alloc: Global, bytes: &[u8]) -> Result<Tree, FrontFault>
     if bytes.len() > MOST_BYTES {
         return Err(FrontFault::TooLarge);
     }
-    let tokens = match lex(alloc, bytes) {
-        Ok(tokens) => tokens,
-        Err(LexFault::Memory) => return Err(FrontFault::Memory),
-        Err(LexFault::Bad(at)) => return Err(bad(bytes, at)),
-    };
-    match read_tokens(alloc, tokens.as_slice()) {
+    match read(alloc, bytes) {
         Ok(tree) => Ok(tree),
-        Err(TokenFault::Memory) => Err(FrontFault::Memory),
-        Err(TokenFault::Unexpected(i)) => {
-            let line = line_of(bytes, tokens[i].at);
+        Err(ReadFault::Memory) => Err(FrontFault::Memory),
+        Err(ReadFault::Bad(at)) => Err(bad(bytes, at)),
+        Err(ReadFault::Unexpected(at)) => {
+            let line = line_of(bytes, at);
             Err(FrontFault::Unexpected { line })
         }
-        Err(TokenFault::TooDeep(i)) => {
-            let line = line_of(bytes, tokens[i].at);
+        Err(ReadFault::TooDeep(at)) => {
+            let line = line_of(bytes, at);
             Err(FrontFault::TooDeep { line })
         }
-        Err(TokenFault::Unfinished) => {
+        Err(ReadFault::Unfinished) => {
             let line = line_of(bytes, bytes.len().saturating_sub(1));
             Err(FrontFault::UnexpectedEnd { line })
         }

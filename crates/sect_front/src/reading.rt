@@ -1,33 +1,36 @@
-//! The tree that tokens are.
+//! The tree that a text spells.
 
-ghost use Rattle.std.specs.Prelude.{◌≡◌, ◌<◌};
+ghost use Rattle.std.specs.Prelude.{◌≡◌, ◌<◌, ◌≤◌, length, List, Err};
 ghost use Rattle.sect_front.specs.Braces.{brace};
-ghost use Rattle.sect_front.specs.Faults.{tokens_in};
-ghost use Rattle.sect_front.specs.steps.Verdicts.{JudgesTokens};
+ghost use Rattle.sect_front.specs.TokenAt.{TokenAt};
+ghost use Rattle.sect_front.specs.steps.Verdicts.{Reached, JudgesText, IsAnswerOf};
 
+use crate::lexer::{after_gap, behind, lexeme};
 use crate::limits::MOST_DEPTH;
 use crate::reader::Reader;
-use crate::token::{Token, TokenAt};
+use crate::token::Token;
 use crate::tree::Tree;
 use crate::within::StepError;
 use std::alloc::Global;
 
-/// Why tokens are those of no tree.
-#[derive(Debug, Drop)]
-pub enum TokenFault {
+/// Why a text spells no tree. Places are offsets in the text.
+#[derive(Clone, Copy, Debug)]
+pub enum ReadFault {
     Memory,
-    /// The tokens before the one of this index begin a tree, and with it they begin none.
+    /// No token stands at this place, and all that stands before it is tokens.
+    Bad(usize),
+    /// The tokens before the one at this place begin a tree, and with it they begin none.
     Unexpected(usize),
-    /// The token of this index opens too many blocks.
+    /// The token at this place opens too many blocks.
     TooDeep(usize),
     /// The tokens begin a tree and are none.
     Unfinished,
 }
 
 /// The braces that are open after one more token.
-fn braces(level: usize, token: Token) -> usize
+fn braces(level: usize, token: &Token) -> usize
     requires { level < 1000 }
-    ensures { result ≡ brace level token }
+    ensures { result ≡ brace level token.now }
 {
     match token {
         Token::OpenBrace => level + 1,
@@ -36,22 +39,46 @@ fn braces(level: usize, token: Token) -> usize
     }
 }
 
-/// The tree of these tokens, or the first token at which there is none.
-pub fn read_tokens(alloc: Global, tokens: &[TokenAt]) -> Result<Tree, TokenFault>
-    ensures { JudgesTokens (tokens_in tokens.now) result }
+/// The fault of a text in which this one comes before `here`: a bad lexeme anywhere in the text is named first.
+fn unless_bad(bytes: &[u8], here: &[u8], fault: ReadFault) -> ReadFault
+    requires { length here.now ≤ length bytes.now }
+    ensures { (before : List TokenAt) → Reached bytes.now before here.now → IsAnswerOf bytes.now before fault result }
+{
+    let mut here = here;
+    while !here.is_empty() {
+        let at = bytes.len() - here.len();
+        let Some((_, length)) = lexeme(here) else {
+            return ReadFault::Bad(at);
+        };
+        here = behind(here, length);
+    }
+    fault
+}
+
+/// The tree of a text, or the first place at which there is none: a bad lexeme comes before all other faults.
+pub fn read(alloc: Global, bytes: &[u8]) -> Result<Tree, ReadFault>
+    ensures { JudgesText bytes.now result }
 {
     let mut reader = Reader::new(alloc);
     let mut level = 0;
-    for (i, placed) in tokens.iter().enumerate() {
-        match reader.step(alloc, &placed.token) {
+    let mut here = after_gap(bytes);
+    while !here.is_empty() {
+        let at = bytes.len() - here.len();
+        let Some((token, length)) = lexeme(here) else {
+            return Err(ReadFault::Bad(at));
+        };
+        here = behind(here, length);
+        match reader.step(alloc, &token) {
             Ok(()) => {}
-            Err(StepError::Unexpected) => return Err(TokenFault::Unexpected(i)),
-            Err(StepError::Memory) => return Err(TokenFault::Memory),
+            Err(StepError::Memory) => return Err(ReadFault::Memory),
+            Err(StepError::Unexpected) => {
+                return Err(unless_bad(bytes, here, ReadFault::Unexpected(at)));
+            }
         }
-        level = braces(level, placed.token);
+        level = braces(level, &token);
         if level > MOST_DEPTH {
-            return Err(TokenFault::TooDeep(i));
+            return Err(unless_bad(bytes, here, ReadFault::TooDeep(at)));
         }
     }
-    reader.finish().ok_or(TokenFault::Unfinished)
+    reader.finish().ok_or(ReadFault::Unfinished)
 }

@@ -40,10 +40,3 @@ pub enum Token {
     Less,
     LessEqual,
 }
-
-/// A token and the offset of its first byte in the text.
-#[derive(Clone, Copy)]
-pub struct TokenAt {
-    pub token: Token,
-    pub at: usize,
-}

@@ -1,25 +1,52 @@
--- What the two halves of a reading answer.
-use Rattle.std.specs.Prelude.{ℕ, List, Result, Ok, Err, ⊤}
+-- What a reading of a text answers.
+use Rattle.std.specs.Prelude.{◌≡◌, ℕ, ◌≤◌, List, ◌++◌, Some, Result, Ok, Err, ⊤, length, slice_get}
 use Rattle.sect_front.specs.TreeView.{TreeView}
-use Rattle.sect_front.specs.Lexing.{Spells, IsBadAt}
-use Rattle.sect_front.specs.Faults.{IsTree, IsUnexpectedAt, IsTooDeepAt, IsUnfinished}
+use Rattle.sect_front.specs.TokenAt.{TokenAt}
+use Rattle.sect_front.specs.Gaps.{after_gap}
+use Rattle.sect_front.specs.Lexing.{Reaches, Spells, IsBadAt}
+use Rattle.sect_front.specs.Faults.{tokens_in, IsTree, IsUnexpectedAt, IsTooDeepAt, IsUnfinished}
 use Rattle.sect_front.specs.declared.token.Token.{Token}
-use Rattle.sect_front.specs.declared.token.TokenAt.{TokenAt}
-use Rattle.sect_front.specs.declared.lexing.LexFault.{LexFault}
-use Rattle.sect_front.specs.declared.lexing.LexFault.TheVariants as lex_fault
-use Rattle.sect_front.specs.declared.reading.TokenFault.{TokenFault}
-use Rattle.sect_front.specs.declared.reading.TokenFault.TheVariants as token_fault
+use Rattle.sect_front.specs.declared.reading.ReadFault.{ReadFault}
+use Rattle.sect_front.specs.declared.reading.ReadFault.TheVariants as fault
 
--- of a text, its tokens or the first place at which none stands
-abbrev pub Lexes : List ℕ → Result (List TokenAt) LexFault → Type 0
-Lexes bytes (Ok places) = Spells bytes places
-Lexes bytes (Err (lex_fault.Bad at)) = IsBadAt bytes at
-Lexes bytes (Err lex_fault.Memory) = ⊤
+-- these tokens have been read, and here the next one stands
+pub record Reached (bytes : List ℕ) (before : List TokenAt) (here : List ℕ) : Type 0 where
+  pub rest : List ℕ
+  pub reaches : Reaches (length bytes) bytes before rest
+  pub gap : after_gap rest ≡ here
+  pub fits : length here ≤ length bytes
 
--- of tokens, their tree or the first of them at which there is none
-abbrev pub JudgesTokens : List Token → Result TreeView TokenFault → Type 0
-JudgesTokens list (Ok tree) = IsTree list tree
-JudgesTokens list (Err (token_fault.Unexpected i)) = IsUnexpectedAt list i
-JudgesTokens list (Err (token_fault.TooDeep i)) = IsTooDeepAt list i
-JudgesTokens list (Err token_fault.Unfinished) = IsUnfinished list
-JudgesTokens list (Err token_fault.Memory) = ⊤
+-- the text spells tokens, and this holds of them
+pub record Spelling (bytes : List ℕ) (holds : List Token → Type 0) : Type 0 where
+  pub places : List TokenAt
+  pub spells : Spells bytes places
+  pub is : holds (tokens_in places)
+
+-- the text spells tokens, one of them stands at this place, and this holds of it by its number
+pub record SpellingAt (bytes : List ℕ) (at : ℕ) (holds : List Token → ℕ → Type 0) : Type 0 where
+  pub places : List TokenAt
+  pub spells : Spells bytes places
+  pub index : ℕ
+  pub token : TokenAt
+  pub found : slice_get places index ≡ Some token
+  pub is : holds (tokens_in places) index
+  pub place : at ≡ token.at
+  pub within : at ≤ length bytes
+
+-- the fault is the text's first
+abbrev pub IsReadFault : List ℕ → ReadFault → Type 0
+IsReadFault bytes (fault.Bad at) = IsBadAt bytes at
+IsReadFault bytes (fault.Unexpected at) = SpellingAt bytes at IsUnexpectedAt
+IsReadFault bytes (fault.TooDeep at) = SpellingAt bytes at IsTooDeepAt
+IsReadFault bytes fault.Unfinished = Spelling bytes IsUnfinished
+IsReadFault bytes fault.Memory = ⊤
+
+-- of a text, its tree or its first fault
+abbrev pub JudgesText : List ℕ → Result TreeView ReadFault → Type 0
+JudgesText bytes (Ok tree) = Spelling bytes (λ list. IsTree list tree)
+JudgesText bytes (Err e) = IsReadFault bytes e
+
+-- the answer is the text's first fault, if the given one is wherever more tokens follow these up to the text's end
+abbrev pub IsAnswerOf : List ℕ → List TokenAt → ReadFault → ReadFault → Type 0
+IsAnswerOf bytes before given answer =
+    ((behind : List TokenAt) → Spells bytes (before ++ behind) → IsReadFault bytes given) → IsReadFault bytes answer

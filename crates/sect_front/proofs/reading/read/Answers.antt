@@ -1,0 +1,104 @@
+use Rattle.std.proofs.Common.{◌≡◌, ◌<◌, ◌-◌, ◌++◌, ◌∷◌, [], None, length, arith, sym, ◌∙◌, ap}
+use Rattle.std.proofs.lemmas.Bool.Decides.{nat_tests}
+use Rattle.sect_front.specs.Faults.{tokens_in}
+use Rattle.sect_front.specs.steps.Read.{read_one}
+use Rattle.sect_front.proofs.Lexemes.{lexeme_first}
+use Rattle.sect_front.proofs.Reach.{reached_none, bad_at, lexed}
+use Rattle.sect_front.proofs.Verdict.{reads_nothing, finished, is_low, brace_most}
+use Rattle.sect_front.proofs.Texts.{token_here, passed, reads_on, shorter, unexpected_at, too_deep_at, text_ends}
+use Rattle.sect_front.proofs.Texts.{nothing_left}
+use Rattle.sect_front.proofs.reading.read.Goals as goal
+
+pub loop-here-init : goal.loop-here-init
+loop-here-init c = rw (c.new-reader.ensures, c.after_gap-here.ensures)
+    record { places = []; reached = reached_none c.args.bytes.now; reads = reads_nothing }
+
+pub overflow_sub-at : goal.overflow_sub-at
+overflow_sub-at c = c.loop-here.invariant.reached.fits
+
+pub returns-in_default : goal.returns-in_default
+returns-in_default c =
+    let some : 0 < length c.loop-here.here.now = grind (arith, nat_tests) in
+    let read = c.loop-here.invariant in
+    bad_at c.args.bytes.now read.places c.loop-here.here.now
+    (length c.args.bytes.now - length c.loop-here.here.now) read.reached
+    (λ e. absurd (omega (arith, ap length e, some))) (sym c.lexeme.ensures ∙ c.in_default.is)
+    (omega (arith, read.reached.fits))
+
+pub behind-here-requires : goal.behind-here-requires
+behind-here-requires c =
+    (lexeme_first c.loop-here.here.now _ c.in-Some.length (sym c.lexeme.ensures ∙ c.in-Some.is)).within
+
+pub unless_bad-requires : goal.unless_bad-requires
+unless_bad-requires c = omega (
+  arith,
+  c.loop-here.invariant.reached.fits,
+  shorter c.loop-here.here.now c.in-Some.token c.in-Some.length (sym c.lexeme.ensures ∙ c.in-Some.is),
+  ap length c.behind-here.ensures,
+)
+
+pub returns-in-Err-Unexpected : goal.returns-in-Err-Unexpected
+returns-in-Err-Unexpected c =
+    let bytes = c.args.bytes.now in
+    let here = c.loop-here.here.now in
+    let read = c.loop-here.invariant in
+    let token = c.in-Some.token in
+    let none : read_one c.loop-here.reader token ≡ None =
+    rw c.in-Err-Unexpected.field-0-is at c.in-Err-Unexpected.ensures in
+    c.unless_bad.ensures (read.places ++ token_here bytes here token ∷ [])
+    (rw c.behind-here.ensures (passed bytes here c.loop-here.reader c.loop-here.level token c.in-Some.length read
+    (sym c.lexeme.ensures ∙ c.in-Some.is)))
+    (unexpected_at bytes here c.loop-here.reader c.loop-here.level (token_here bytes here token) read none
+    (omega arith))
+
+pub braces-level-requires : goal.braces-level-requires
+braces-level-requires c = omega (arith, is_low _ _ _ c.loop-here.invariant.reads)
+
+pub unless_bad-requires-then-level-gt-MOST_DEPTH : goal.unless_bad-requires-then-level-gt-MOST_DEPTH
+unless_bad-requires-then-level-gt-MOST_DEPTH c = omega (
+  arith,
+  c.loop-here.invariant.reached.fits,
+  shorter c.loop-here.here.now c.in-Some.token c.in-Some.length (sym c.lexeme.ensures ∙ c.in-Some.is),
+  ap length c.behind-here.ensures,
+)
+
+pub returns-then-level-gt-MOST_DEPTH : goal.returns-then-level-gt-MOST_DEPTH
+returns-then-level-gt-MOST_DEPTH c =
+    let bytes = c.args.bytes.now in
+    let here = c.loop-here.here.now in
+    let read = c.loop-here.invariant in
+    let token = c.in-Some.token in
+    let deep : c.braces-level.result ≡ 33 = omega (
+      arith,
+      is_low _ _ _ read.reads,
+      brace_most c.loop-here.level token,
+      c.braces-level.ensures,
+    ) in
+    c.unless_bad-then-level-gt-MOST_DEPTH.ensures (read.places ++ token_here bytes here token ∷ [])
+    (rw c.behind-here.ensures (passed bytes here c.loop-here.reader c.loop-here.level token c.in-Some.length read
+    (sym c.lexeme.ensures ∙ c.in-Some.is)))
+    (too_deep_at bytes here c.loop-here.reader c.step.new.self c.loop-here.level (token_here bytes here token) read
+    c.in-Ok.ensures (sym c.braces-level.ensures ∙ deep) (omega arith))
+
+pub loop-here-smaller : goal.loop-here-smaller
+loop-here-smaller c = rw c.behind-here.ensures
+    (shorter c.loop-here.here.now c.in-Some.token c.in-Some.length (sym c.lexeme.ensures ∙ c.in-Some.is))
+
+pub loop-here-preserved : goal.loop-here-preserved
+loop-here-preserved c = rw (c.behind-here.ensures, c.braces-level.ensures)
+    (reads_on c.args.bytes.now c.loop-here.here.now c.loop-here.reader c.step.new.self c.loop-here.level c.in-Some.token
+    c.in-Some.length c.loop-here.invariant (sym c.lexeme.ensures ∙ c.in-Some.is) c.in-Ok.ensures
+    (omega (arith, c.braces-level.ensures)))
+
+pub finish-requires : goal.finish-requires
+finish-requires c = λ tree e. let read = c.loop-here.invariant in
+    (finished (tokens_in read.places) c.loop-here.reader c.loop-here.level tree read.reads e).shallow
+
+pub returns : goal.returns
+returns c =
+    let read = c.loop-here.invariant in
+    let left : length c.loop-here.here.now ≡ 0 = grind (arith, nat_tests) in
+    let spells = lexed c.args.bytes.now read.places c.loop-here.here.now read.reached (nothing_left _ left) in
+    rw c.ok_or.ensures.value
+    (text_ends c.args.bytes.now read.places c.loop-here.reader c.loop-here.level spells read.reads c.finish.result
+    c.finish.ensures)

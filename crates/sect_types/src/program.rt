@@ -9,7 +9,7 @@ ghost use Rattle.sect_types.specs.Sight.{names_of_records, names_of_globals, nam
 ghost use Rattle.sect_types.specs.Items.{AProcedure, AThread, variables as variables_by, record_items, global_items};
 ghost use Rattle.sect_types.specs.Items.{local_items, block_items, procedure_items, thread_items};
 ghost use Rattle.sect_types.specs.declared.place.Place.TheVariants.{InThread, InProcedure};
-ghost use Rattle.sect_types.specs.Rules.{declared_in};
+ghost use Rattle.sect_types.specs.Rules.{declared_in, sight};
 ghost use Rattle.sect_types.specs.steps.Walks.{Walks};
 ghost use Rattle.sect_types.specs.steps.Listing.{all_known, fields_fine, globals_known, locals_fine};
 ghost use Rattle.sect_types.specs.steps.Shown.{Shows};
@@ -42,7 +42,7 @@ use crate::text::Text;
 use crate::types::{Types, field_types, global_records, local_types};
 use crate::variables::{Variables, all_of};
 use crate::walk::walk_block;
-use sect_front::{Locking, Procedure, Thread, Tree, is_same};
+use sect_front::{Declaration, Locking, Procedure, Thread, Tree, is_same};
 use std::alloc::{AllocError, Global};
 use std::marker::Model;
 
@@ -53,6 +53,25 @@ struct Shown<'a> {
     record_names: &'a Names,
     field_names: &'a [Names],
     global_names: &'a Names,
+}
+
+impl<'a> Shown<'a> {
+    /// What statements with these locals see.
+    fn scope<'b>(&'b self, tree: &'b Tree, locals: &'b [Declaration], names: &'b Names) -> Scope<'b>
+        requires shown { Shows self.now tree.now }
+        requires names { names.now ≡ names_of_declared locals.now }
+        ensures { result ≡ sight tree.now.records tree.now.globals locals.now }
+    {
+        Scope::new(
+            tree.records(),
+            self.record_names,
+            self.field_names,
+            tree.globals(),
+            self.global_names,
+            locals,
+            names,
+        )
+    }
 }
 
 /// Judges a procedure, and gives its variables with their names.
@@ -90,15 +109,7 @@ fn pass_whole_procedure(
         spot,
         list.as_slice(),
     )?;
-    let scope = Scope::new(
-        tree.records(),
-        shown.record_names,
-        shown.field_names,
-        tree.globals(),
-        shown.global_names,
-        list.as_slice(),
-        &names,
-    );
+    let scope = shown.scope(tree, list.as_slice(), &names);
     let returning = called.returning(alloc, number)?;
     let standing = Standing::in_procedure(called, number, returning.as_slice());
     walk_block(&scope, spot, &standing, &procedure.body)?;
@@ -160,15 +171,7 @@ fn whole_thread(
     pass_thread(tree, names, spot, thread)?;
     let list = thread.locals.as_slice();
     let local_names = locals(alloc, tree, shown.known, shown.global_names, spot, list)?;
-    let scope = Scope::new(
-        tree.records(),
-        shown.record_names,
-        shown.field_names,
-        tree.globals(),
-        shown.global_names,
-        list,
-        &local_names,
-    );
+    let scope = shown.scope(tree, list, &local_names);
     walk_block(&scope, spot, standing, &thread.body)?;
     Ok(local_names)
 }

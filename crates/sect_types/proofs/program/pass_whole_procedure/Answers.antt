@@ -1,4 +1,4 @@
-use Rattle.std.proofs.Common.{◌∙◌, Ok, Err, [], ◌∷◌, ℕ, length, subst, List, ◌≡◌}
+use Rattle.std.proofs.Common.{◌∙◌, ap, Ok, Err, [], ◌∷◌, ℕ, length, subst, List, ◌≡◌}
 use Rattle.sect_types.specs.Rules.{declared_in, sight, judge}
 use Rattle.sect_types.specs.Items.{Item, AProcedure, variables, local_items, block_items}
 use Rattle.sect_types.specs.declared.place.Place.TheVariants.{InProcedure}
@@ -16,9 +16,9 @@ returns-in_err-walk_block-clause-walks c =
     c.from_residual-in_err-walk_block.result c.from_residual-in_err-walk_block.ensures.1
     (walks_body {A = ℕ} t (AProcedure p.name c.args.names.now) (variables p) c.in_ok-list.list.items
     (InProcedure (length c.args.names.now)) p.body
-    c.new-scope.result c.in_procedure-standing.result c.args.spot.now c.pass_procedure.new.spot c.locals.new.spot
+    c.scope-scope.result c.in_procedure-standing.result c.args.spot.now c.pass_procedure.new.spot c.locals.new.spot
     c.walk_block.new.spot (Err e) c.in_ok-list.ensures
-    (c.new-scope.ensures ∙ (λ i. sight (c.records.ensures i) (c.globals.ensures i) (c.as_slice-2.ensures.value i)))
+    (c.scope-scope.ensures ∙ ap (sight t.records t.globals) c.as_slice-2.ensures.value)
     (c.in_procedure-standing.ensures ∙ (λ i. record {
       procedures = c.requires.procedures i;
       at = InProcedure (c.len-number.ensures i);
@@ -33,9 +33,9 @@ returns-clause-walks c =
     let p = c.args.procedure.now in
     walks_body {A = ℕ} t (AProcedure p.name c.args.names.now) (variables p) c.in_ok-list.list.items
     (InProcedure (length c.args.names.now)) p.body
-    c.new-scope.result c.in_procedure-standing.result c.args.spot.now c.pass_procedure.new.spot c.locals.new.spot
+    c.scope-scope.result c.in_procedure-standing.result c.args.spot.now c.pass_procedure.new.spot c.locals.new.spot
     c.walk_block.new.spot (Ok 0) c.in_ok-list.ensures
-    (c.new-scope.ensures ∙ (λ i. sight (c.records.ensures i) (c.globals.ensures i) (c.as_slice-2.ensures.value i)))
+    (c.scope-scope.ensures ∙ ap (sight t.records t.globals) c.as_slice-2.ensures.value)
     (c.in_procedure-standing.ensures ∙ (λ i. record {
       procedures = c.requires.procedures i;
       at = InProcedure (c.len-number.ensures i);

@@ -1,5 +1,5 @@
-use Rattle.std.proofs.Common.{◌∙◌, false, Err, [], ◌∷◌, ℕ}
-use Rattle.sect_types.specs.Rules.{declared_in, sight}
+use Rattle.std.proofs.Common.{false, Err, [], ◌∷◌, ℕ}
+use Rattle.sect_types.specs.Rules.{declared_in}
 use Rattle.sect_types.specs.Items.{AThread, local_items, block_items}
 use Rattle.sect_types.specs.declared.place.Place.TheVariants.{InThread}
 use Rattle.sect_types.proofs.ThreadLemmas.{walks_body, handed_on}
@@ -15,7 +15,7 @@ returns-in_err-walk_block-clause-walks c =
     c.from_residual-in_err-walk_block.result c.from_residual-in_err-walk_block.ensures.1
     (walks_body {A = ℕ} t (AThread h.name c.args.names.now) h.locals c.as_slice-list.result.now (InThread false 1)
     h.body
-    c.new-scope.result c.args.standing.now c.args.spot.now c.pass_thread.new.spot c.locals.new.spot
+    c.scope-scope.result c.args.standing.now c.args.spot.now c.pass_thread.new.spot c.locals.new.spot
     c.walk_block.new.spot (Err e) c.as_slice-list.ensures
-    (c.new-scope.ensures ∙ (λ i. sight (c.records.ensures i) (c.globals.ensures i) c.as_slice-list.result.now))
+    c.scope-scope.ensures
     c.requires.standing c.in_ok-pass_thread.ensures.walks c.in_ok-local_names.ensures.walks c.in_err-walk_block.ensures)

@@ -6,7 +6,7 @@ ghost use Rattle.sect_types.specs.Items.{is_inside as inside_at};
 ghost use Rattle.sect_types.specs.Sums.{number_of as number_by, sums, sums_at};
 ghost use Rattle.sect_types.specs.Rules.{by_place, depth_at, returns_to, passes_by, plus_sums, after_item};
 ghost use Rattle.sect_types.specs.steps.Capped.{capped};
-ghost use Rattle.sect_types.specs.steps.Standing.{AreReturning};
+ghost use Rattle.sect_types.specs.steps.Standing.{AreReturning, AreTogether};
 ghost use Rattle.sect_types.specs.declared.place.Place.TheVariants.{InThread, InProcedure};
 ghost use Rattle.sect_front.specs.declared.limits.TheConstants.{MOST_DEPTH};
 
@@ -80,6 +80,19 @@ impl<'a> Standing<'a> {
         }
     }
 
+    /// At another place of the same thread or procedure.
+    fn elsewhere(&self, at: Place) -> Standing<'a>
+        requires { AreTogether self.now.at at }
+        ensures { result ≡ record self.now { at = at } }
+    {
+        Standing {
+            called: self.called,
+            at,
+            table: self.table,
+            returning: self.returning,
+        }
+    }
+
     /// In one more block.
     pub fn deeper(&self) -> Standing<'a>
         requires { depth_at self.now.at < MOST_DEPTH }
@@ -89,12 +102,7 @@ impl<'a> Standing<'a> {
             Place::InThread(inside, depth) => Place::InThread(inside, depth + 1),
             Place::InProcedure(number) => Place::InProcedure(number),
         };
-        Standing {
-            called: self.called,
-            at,
-            table: self.table,
-            returning: self.returning,
-        }
+        self.elsewhere(at)
     }
 
     /// In a section.
@@ -106,12 +114,7 @@ impl<'a> Standing<'a> {
             Place::InThread(_, depth) => Place::InThread(true, depth + 1),
             Place::InProcedure(number) => Place::InProcedure(number),
         };
-        Standing {
-            called: self.called,
-            at,
-            table: self.table,
-            returning: self.returning,
-        }
+        self.elsewhere(at)
     }
 
     /// Whether in a section or in a procedure.

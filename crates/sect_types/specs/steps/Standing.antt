@@ -22,6 +22,12 @@ pub record AreReturning (ps : List Procedure) (p : ℕ) (returning : List Bool) 
   pub as_many : length returning ≡ length ps
   pub each : (q : ℕ) → q < length ps → slice_get returning q ≡ Some (returns ps p q)
 
+-- both in a thread, or both in one procedure
+abbrev pub AreTogether : Place → Place → Type 0
+AreTogether (InThread inside depth) (InThread inside_too depth_too) = Unit {0}
+AreTogether (InProcedure p) (InProcedure q) = p ≡ q
+AreTogether _ _ = ⊥
+
 -- what a call there is judged by
 abbrev pub IsReady : List Procedure → Place → List Sums → List Bool → Type 0
 IsReady ps (InThread inside depth) table returning = table ≡ map capped (sums ps)

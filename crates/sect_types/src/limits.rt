@@ -32,3 +32,6 @@ pub const MOST_SECTIONS: u16 = 256;
 
 /// The most calls that are met in expanding all threads, those in the bodies of the called procedures counted.
 pub const MOST_CALLS: u16 = 4096;
+
+/// The most items that are counted. A text has fewer.
+pub const MOST_ITEMS: u32 = u32::MAX;

@@ -1,6 +1,6 @@
 //! Where a statement stands, and what a call there is judged by.
 
-ghost use Rattle.std.specs.Prelude.{◌≡◌, ◌<◌, ◌≤◌, map, length, true, false, Some, OnOk};
+ghost use Rattle.std.specs.Prelude.{◌≡◌, ◌<◌, ◌≤◌, map, length, true, false, Some, OnOk, OnErr};
 ghost use Rattle.sect_types.specs.Items.{deeper as deeper_place, in_section as in_section_place};
 ghost use Rattle.sect_types.specs.Items.{is_inside as inside_at};
 ghost use Rattle.sect_types.specs.Sums.{number_of as number_by, sums, sums_at};
@@ -11,6 +11,7 @@ ghost use Rattle.sect_types.specs.declared.place.Place.TheVariants.{InThread, In
 ghost use Rattle.sect_front.specs.declared.limits.TheConstants.{MOST_DEPTH};
 
 use crate::called::Called;
+use crate::limits::MOST_ITEMS;
 use crate::spot::{Spot, Uncounted};
 use crate::sums::Sums;
 use sect_front::{Name, Procedure};
@@ -177,8 +178,9 @@ impl<'a> Standing<'a> {
         requires there { number < length self.now.procedures }
         requires room { by_place self.now.at (passes_by spot.old (depth_at self.now.at)
             (sums_at (sums self.now.procedures) (Some number))) false ≡ false }
-        ensures { OnOk result (spot.new ≡ by_place self.now.at (plus_sums (after_item spot.old)
+        ensures counted { OnOk result (spot.new ≡ by_place self.now.at (plus_sums (after_item spot.old)
             (sums_at (sums self.now.procedures) (Some number))) (after_item spot.old)) }
+        ensures uncounted { OnErr result (spot.old.items ≡ MOST_ITEMS) }
     {
         match self.at {
             Place::InThread(_, _) => spot.pass_sums(self.table[number]),

@@ -1,12 +1,12 @@
 //! How far a walk through the items has come.
 
-ghost use Rattle.std.specs.Prelude.{◌≡◌, ◌+◌, ◌<◌, ◌≤◌, OnOk, false, nat_le};
+ghost use Rattle.std.specs.Prelude.{◌≡◌, ◌+◌, ◌<◌, ◌≤◌, OnOk, OnErr, false, nat_le};
 ghost use Rattle.sect_types.specs.Items.{PrimitiveHead, TestHead, AtomicHead};
 ghost use Rattle.sect_types.specs.Rules.{passes_by, after_item, after_primitive, plus_sums};
 ghost use Rattle.sect_types.specs.steps.Spots.{full_for, full_for_section};
 ghost use Rattle.sect_types.specs.steps.Capped.{IsSmall};
 
-use crate::limits::{MOST_CALLS, MOST_SECTIONS, MOST_SITES, MOST_STATEMENTS};
+use crate::limits::{MOST_CALLS, MOST_ITEMS, MOST_SECTIONS, MOST_SITES, MOST_STATEMENTS};
 use crate::sums::Sums;
 use sect_front::{MOST_DEPTH, Primitive};
 use std::marker::Model;
@@ -125,9 +125,10 @@ impl Spot {
 
     /// Passes an item that isn't counted but as an item.
     pub fn pass_item(&mut self) -> Result<(), Uncounted>
-        ensures { OnOk result (self.new ≡ after_item self.old) }
+        ensures counted { OnOk result (self.new ≡ after_item self.old) }
+        ensures uncounted { OnErr result (self.old.items ≡ MOST_ITEMS) }
     {
-        if self.items == u32::MAX {
+        if self.items == MOST_ITEMS {
             return Err(Uncounted);
         }
         self.items += 1;
@@ -137,8 +138,9 @@ impl Spot {
     /// Passes a global, which is a site too.
     pub fn pass_global(&mut self) -> Result<(), Uncounted>
         requires { self.old.sites < MOST_SITES }
-        ensures { OnOk result (self.new
+        ensures counted { OnOk result (self.new
             ≡ record self.old { items = self.old.items + 1; sites = self.old.sites + 1 }) }
+        ensures uncounted { OnErr result (self.old.items ≡ MOST_ITEMS) }
     {
         self.pass_item()?;
         self.sites += 1;
@@ -148,7 +150,8 @@ impl Spot {
     /// Passes a statement without a block.
     pub fn pass_primitive(&mut self, primitive: &Primitive) -> Result<(), Uncounted>
         requires { full_for self.old primitive.now ≡ false }
-        ensures { OnOk result (self.new ≡ after_primitive self.old primitive.now) }
+        ensures counted { OnOk result (self.new ≡ after_primitive self.old primitive.now) }
+        ensures uncounted { OnErr result (self.old.items ≡ MOST_ITEMS) }
     {
         self.pass_item()?;
         if let Primitive::New(_, _) = primitive {
@@ -161,8 +164,9 @@ impl Spot {
     /// Passes an `if` or a `while`.
     pub fn pass_test(&mut self) -> Result<(), Uncounted>
         requires { nat_le MOST_STATEMENTS self.old.statements ≡ false }
-        ensures { OnOk result (self.new
+        ensures counted { OnOk result (self.new
             ≡ record self.old { items = self.old.items + 1; statements = self.old.statements + 1 }) }
+        ensures uncounted { OnErr result (self.old.items ≡ MOST_ITEMS) }
     {
         self.pass_item()?;
         self.statements += 1;
@@ -172,11 +176,12 @@ impl Spot {
     /// Passes an `atomic`.
     pub fn pass_section(&mut self) -> Result<(), Uncounted>
         requires { full_for_section self.old ≡ false }
-        ensures { OnOk result (self.new ≡ record self.old {
+        ensures counted { OnOk result (self.new ≡ record self.old {
           items = self.old.items + 1;
           statements = self.old.statements + 1;
           sections = self.old.sections + 1;
         }) }
+        ensures uncounted { OnErr result (self.old.items ≡ MOST_ITEMS) }
     {
         self.pass_item()?;
         self.sections += 1;
@@ -188,7 +193,8 @@ impl Spot {
     pub fn pass_sums(&mut self, sums: Sums) -> Result<(), Uncounted>
         requires small { IsSmall sums }
         requires room { passes_by self.old 0 sums ≡ false }
-        ensures { OnOk result (self.new ≡ plus_sums (after_item self.old) sums) }
+        ensures counted { OnOk result (self.new ≡ plus_sums (after_item self.old) sums) }
+        ensures uncounted { OnErr result (self.old.items ≡ MOST_ITEMS) }
     {
         self.pass_item()?;
         self.statements += u32::from(sums.statements);

@@ -17,7 +17,7 @@ returns-in_ok-pass_primitive c =
     (AStatement (PrimitiveHead c.args.primitive.now) c.args.scope.now.locals c.args.standing.now.at)
     (primitive_rule c.args.scope.now c.args.standing.now.procedures c.args.spot.now c.args.standing.now.at
     c.args.primitive.now ∙ sym c.in_default.ensures.rule)
-    (c.in_ok-pass_primitive.ensures ∙ sym (after_primitive_here c.args.scope.now c.args.standing.now.procedures
+    (c.in_ok-pass_primitive.ensures.counted ∙ sym (after_primitive_here c.args.scope.now c.args.standing.now.procedures
     c.args.spot.now c.args.standing.now.at c.args.primitive.now (sym c.is_in_thread.ensures ∙ c.if-is_in_thread.true)))
 
 pub returns-in_ok-pass_item : goal.returns-in_ok-pass_item
@@ -26,6 +26,6 @@ returns-in_ok-pass_item c =
     (AStatement (PrimitiveHead c.args.primitive.now) c.args.scope.now.locals c.args.standing.now.at)
     (primitive_rule c.args.scope.now c.args.standing.now.procedures c.args.spot.now c.args.standing.now.at
     c.args.primitive.now ∙ sym c.in_default.ensures.rule)
-    (c.in_ok-pass_item.ensures ∙ sym (after_elsewhere c.args.scope.now c.args.standing.now.procedures
+    (c.in_ok-pass_item.ensures.counted ∙ sym (after_elsewhere c.args.scope.now c.args.standing.now.procedures
     c.args.spot.now c.args.standing.now.at (PrimitiveHead c.args.primitive.now)
     (sym c.is_in_thread.ensures ∙ c.if-is_in_thread.false)))

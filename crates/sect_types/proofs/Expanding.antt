@@ -30,7 +30,8 @@ use Rattle.sect_types.specs.Expanded.{statement_fresh, block_fresh, fresh_within
 use Rattle.sect_types.specs.steps.Expanding.{SettingView, FrontView, Fits, front_past_statement, front_past_block}
 use Rattle.sect_types.specs.steps.Expanding.{expanded_there, block_there}
 use Rattle.sect_types.proofs.Lists.{drop_next}
-use Rattle.sect_types.proofs.Filling.{joined_twice, joined_step, joined_stop}
+use Rattle.sect_types.proofs.Filling.{joined_step}
+use Rattle.sect_types.proofs.Joining.{joined_again, joined_stop}
 
 set_on : (v : Scene) (x : ℕ) (ds : List Declaration) (us : List Operand) (b k : TextView)
     → set_parameters v x ds us (joined b k) ≡ joined (set_parameters v x ds us b) k
@@ -54,7 +55,7 @@ call_on rs gs ps table call (Some p) q v a vs b k =
     expanded_block ps table call (record { sight = sight rs gs (variables p); first = a.fresh }) (after_call a p)
     p.body in
     ap (λ x. set_parameters v a.fresh p.parameters vs (clear_locals (a.fresh + length p.parameters) p.locals x))
-    (sym (joined_twice body b k))
+    (sym (joined_again body b k))
     ∙ (ap (set_parameters v a.fresh p.parameters vs)
     (clear_on (a.fresh + length p.parameters) p.locals (joined body b) k)
     ∙ set_on v a.fresh p.parameters vs (clear_locals (a.fresh + length p.parameters) p.locals (joined body b)) k)

@@ -28,20 +28,6 @@ joined_step (Choose t p q r) st k = ap (Choose t p q) (joined_step r st k)
 joined_step (Loop t p r) st k = ap (Loop t p) (joined_step r st k)
 joined_step (Section i p r) st k = ap (Section i p) (joined_step r st k)
 
-pub joined_stop : (t : TextView) → joined t Stop ≡ t
-joined_stop Stop = refl
-joined_stop (Do a r) = ap (Do a) (joined_stop r)
-joined_stop (Choose t p q r) = ap (Choose t p q) (joined_stop r)
-joined_stop (Loop t p r) = ap (Loop t p) (joined_stop r)
-joined_stop (Section i p r) = ap (Section i p) (joined_stop r)
-
-pub joined_twice : (a b c : TextView) → joined (joined a b) c ≡ joined a (joined b c)
-joined_twice Stop b c = refl
-joined_twice (Do a r) b c = ap (Do a) (joined_twice r b c)
-joined_twice (Choose t p q r) b c = ap (Choose t p q) (joined_twice r b c)
-joined_twice (Loop t p r) b c = ap (Loop t p) (joined_twice r b c)
-joined_twice (Section i p r) b c = ap (Section i p) (joined_twice r b c)
-
 -- the locals from the i-th on are to be set
 pub record AreCleared (x : ℕ) (ds : List Declaration) (i : ℕ) (old now : TextView) : Type 0 where
   pub text : (k : TextView) → joined now (clear_locals (x + i) (drop i ds) k) ≡ joined old (clear_locals x ds k)

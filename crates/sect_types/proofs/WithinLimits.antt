@@ -1,7 +1,7 @@
 -- A text that breaks no rule stays within the limits.
 use Rattle.std.specs.Prelude.{Bool, true, false, ◌&&◌, ◌||◌, nat_le, nat_lt, is_some, ⊤}
 use Rattle.std.proofs.Common.{◌≡◌, ℕ, zero, suc, ◌+◌, ◌<◌, ◌≤◌, List, [], ◌∷◌, ◌++◌, map, Option, Some, None}
-use Rattle.std.proofs.Common.{sym, arith, subst, length, length-append}
+use Rattle.std.proofs.Common.{refl, sym, ◌∙◌, arith, subst, length, length-append}
 use Rattle.std.proofs.lemmas.List.{length-map}
 use Rattle.std.proofs.lemmas.Bool.Decides.{nat_tests}
 use Rattle.sect_front.specs.declared.tree.Primitive as leaf
@@ -178,18 +178,31 @@ mutual
       block_few d ls inside depth (statement_after d ls at c s) b w
       (statement_walked d ls at c s (block_items ls at b w) h).1 x
 
--- a variable is one of at most 64
-pub locals_few : (d : Declared) (c : Counts) (before : List (List ℕ)) (ls : List Declaration) (w : List Item)
-    → NoneBroken d c (local_items before ls w) → length before ≤ 64 → length before + length ls ≤ 64
-locals_few d c before [] w h f = omega (arith, f)
-locals_few d c before (l ∷ ls) w h f =
-    let item = ALocal l.kind l.name before in
-    let rest = local_items (before ++ l.name ∷ []) ls w in
-    let one = length-append before (l.name ∷ []) in
-    let here = under 64 (length before) (first_few d c item rest h) in
-    let more = locals_few d (after d c item) (before ++ l.name ∷ []) ls w (next_none d c item rest h)
-    (omega (arith, one, here)) in
+-- what is named one after another, each where fewer than the most stand before it
+named_few : {X : Type 0} (most : ℕ) (item : X → List (List ℕ) → Item) (name : X → List ℕ)
+    (items : List (List ℕ) → List X → List Item → List Item) (d : Declared)
+    → ((before : List (List ℕ)) (x : X) (xs : List X) (w : List Item)
+    → items before (x ∷ xs) w ≡ item x before ∷ items (before ++ name x ∷ []) xs w)
+    → ((c : Counts) (before : List (List ℕ)) (x : X) → too_many d c (item x before) ≡ nat_le most (length before))
+    → (c : Counts) (before : List (List ℕ)) (xs : List X) (w : List Item)
+    → NoneBroken d c (items before xs w) → length before ≤ most → length before + length xs ≤ most
+named_few most item name items d step bound c before [] w h f = omega (arith, f)
+named_few most item name items d step bound c before (x ∷ xs) w h f =
+    let first = item x before in
+    let rest = items (before ++ name x ∷ []) xs w in
+    let none : NoneBroken d c (first ∷ rest) = subst (NoneBroken d c) (step before x xs w) h in
+    let one = length-append before (name x ∷ []) in
+    let here = under most (length before) (sym (bound c before x) ∙ first_few d c first rest none) in
+    let more = named_few most item name items d step bound (after d c first) (before ++ name x ∷ []) xs w
+    (next_none d c first rest none) (omega (arith, one, here)) in
     omega (arith, one, more)
+
+-- a variable is one of at most 64
+locals_few : (d : Declared) (c : Counts) (before : List (List ℕ)) (ls : List Declaration) (w : List Item)
+    → NoneBroken d c (local_items before ls w) → length before ≤ 64 → length before + length ls ≤ 64
+locals_few d =
+    named_few 64 (λ l before. ALocal l.kind l.name before) (λ l. l.name) local_items d (λ before l ls w. refl)
+    (λ c before l. refl)
 
 item_keeps : (c : Counts) → IsFew c → IsFew (after_item c)
 item_keeps c f = record {
@@ -229,15 +242,9 @@ threads_few d c before (t ∷ ts) w h f =
 
 globals_few : (d : Declared) (c : Counts) (before : List (List ℕ)) (gs : List GlobalObject) (w : List Item)
     → NoneBroken d c (global_items before gs w) → length before ≤ 256 → length before + length gs ≤ 256
-globals_few d c before [] w h f = omega (arith, f)
-globals_few d c before (g ∷ gs) w h f =
-    let item = AGlobal g.of g.name before in
-    let rest = global_items (before ++ g.name ∷ []) gs w in
-    let one = length-append before (g.name ∷ []) in
-    let here = under 256 (length before) (first_few d c item rest h) in
-    let more = globals_few d (after d c item) (before ++ g.name ∷ []) gs w (next_none d c item rest h)
-    (omega (arith, one, here)) in
-    omega (arith, one, more)
+globals_few d =
+    named_few 256 (λ g before. AGlobal g.of g.name before) (λ g. g.name) global_items d (λ before g gs w. refl)
+    (λ c before g. refl)
 
 -- the counts at the end of a typed text, and the locals of its threads
 pub typed_few : (t : TreeView) → IsTyped t → IsFew (end_of t) × HaveFewLocals t.threads

@@ -2,6 +2,7 @@
 
 ghost use Rattle.std.specs.Prelude.{◌≡◌, ◌<◌, ◌≤◌, length, slice_get, Some, IfOk, option_map};
 ghost use Rattle.sect_types.specs.Traces.{node_count};
+ghost use Rattle.sect_types.specs.declared.limits.TheConstants.{MOST_STATEMENTS};
 ghost use Rattle.sect_graph.specs.Graphs.{IsGraphOf};
 ghost use Rattle.sect_graph.specs.Layout.{flow_nodes};
 
@@ -34,13 +35,14 @@ pub struct Flow {
 
 impl Model for Flow {
     ghost use Rattle.std.specs.Prelude.{List, length, ◌≤◌};
+    ghost use Rattle.sect_types.specs.declared.limits.TheConstants.{MOST_STATEMENTS};
     ghost use Rattle.sect_graph.specs.declared.flow.Node.{Node};
 
     ghost Value = { List Node };
 
     ghost view = { λ f. f.nodes.items };
 
-    ghost invariant = { λ f. length f.nodes.items ≤ 4096 };
+    ghost invariant = { λ f. length f.nodes.items ≤ MOST_STATEMENTS };
 }
 
 impl Flow {
@@ -54,7 +56,7 @@ impl Flow {
     /// The node where control ends, numbered last: it does nothing. It is at most 4096.
     pub fn exit(&self) -> u16
         ensures number { result ≡ length self.now }
-        ensures most { result ≤ 4096 }
+        ensures most { result ≤ MOST_STATEMENTS }
     {
         self.nodes.len() as u16
     }
@@ -78,7 +80,7 @@ impl Flow {
 
 /// The control-flow graph of a text, in which a section is one node.
 pub fn flow_of(alloc: Global, text: &Text) -> Result<Flow, AllocError>
-    requires { node_count text.now ≤ 4096 }
+    requires { node_count text.now ≤ MOST_STATEMENTS }
     ensures graph { IfOk result (IsGraphOf text.now) }
     ensures nodes { IfOk result (λ flow. flow ≡ flow_nodes text.now) }
 {

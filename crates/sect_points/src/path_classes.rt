@@ -17,7 +17,7 @@ use crate::holders::Variable;
 use crate::rows::Rows;
 use crate::sets::{MOST_FIELDS, PointsTo};
 use crate::sites::SiteSet;
-use sect_types::Field;
+use sect_types::{Field, MOST_SITES};
 use std::marker::Model;
 
 /// Points-to sets, and the classes of their sites: the finest partition that keeps together what one variable or one
@@ -32,6 +32,7 @@ pub struct Classes {
 
 impl Model for Classes {
     ghost use Rattle.std.specs.Prelude.{◌≤◌};
+    ghost use Rattle.sect_types.specs.declared.limits.TheConstants.{MOST_SITES};
     ghost use Rattle.sect_points.specs.Partitions.{ClassesView, IsParted};
     ghost use Rattle.sect_points.specs.Filled.{AreFilled};
 
@@ -39,7 +40,7 @@ impl Model for Classes {
 
     ghost view = { λ c. record { sets = c.points; numbers = c.numbers.items } };
 
-    ghost invariant = { λ c. (c.points.sites ≤ 1024)
+    ghost invariant = { λ c. (c.points.sites ≤ MOST_SITES)
         × ∥ IsParted (record { sets = c.points; numbers = c.numbers.items }) ∥₁ × AreFilled c.points c.filled };
 }
 
@@ -84,7 +85,7 @@ impl Classes {
     pub fn class_count(&self) -> u16
         ensures below { (site : ℕ) → site < length self.now.numbers → slice_index self.now.numbers site < result }
         ensures each { (class : ℕ) → class < result → (site : ℕ) × (slice_get self.now.numbers site ≡ Some class) }
-        ensures few { result ≤ 1024 }
+        ensures few { result ≤ MOST_SITES }
     {
         let mut count = 0;
         for number in self.numbers.as_slice() {

@@ -18,8 +18,8 @@ use crate::holders::{Growth, Holder, ThreadAction};
 use crate::marks::{LOCAL_ROWS, Marks};
 use crate::readers::Readers;
 use crate::sets::{MOST_FIELDS, PointsTo};
-use crate::sites::{MOST_SITES, SiteSet};
-use sect_types::{Action, Base, MOST_THREADS, Value};
+use crate::sites::SiteSet;
+use sect_types::{Action, Base, MOST_SITES, MOST_THREADS, Value};
 
 /// The sites of a value.
 fn value_sites(sets: &PointsTo, thread: u16, value: Value) -> SiteSet

@@ -13,7 +13,7 @@ use Rattle.sect_table.specs.Contents.{Entry, Contents, number_of, entry_of, firs
 use Rattle.sect_table.specs.Contents.{give, hold_of, claim_of, with_holder, with_waiter, with_grant, without_holder}
 use Rattle.sect_table.specs.steps.Keys.{place_in}
 use Rattle.sect_table.specs.steps.Links.{Shape, head_or, list_at, label_at, Among, AreDistinct, IsAbsent, ArePlaced}
-use Rattle.sect_table.specs.steps.Links.{without, moved}
+use Rattle.sect_table.specs.steps.Links.{without, moved, Goes}
 use Rattle.sect_table.specs.steps.Arena.{node_at, no_node, claims, holds_at, queue_at, chain_at, entry_at, entries_from}
 use Rattle.sect_table.specs.steps.Arena.{held_from, shown, HasRole, IsArena}
 use Rattle.sect_table.proofs.Runs.{each_map, without-same, without-other, without_absent}
@@ -22,22 +22,6 @@ use Rattle.sect_table.proofs.Shown.{seen, entries-put, entries-kept, held-set, h
 use Rattle.sect_table.proofs.Shown.{one_place, uncons}
 use Rattle.sect_table.proofs.Roles.{arena_moved, labelled_first, WaitsFor, waiter_role, HoldsBy, holding_role}
 use Rattle.sect_table.proofs.Roles.{free_role}
-
--- what `move_to` says
-pub record Goes (s s' : Shape) (x to : ℕ) : Type 0 where
-  pub size : s'.size ≡ s.size
-  pub count : length s'.lists ≡ length s.lists
-  pub labels : s'.labels ≡ set s.labels x to
-  pub lists : s'.lists ≡ moved x to s.lists
-  pub placed : ArePlaced s'
-  pub places : (from : ℕ) → from < length s.lists → Among x (list_at s.lists from)
-      → map (without x) s.lists ≡ set s.lists from (without x (list_at s.lists from))
-
-pub goes : (s s' : Shape) (x to : ℕ) → s'.size ≡ s.size → length s'.lists ≡ length s.lists
-    → s'.labels ≡ set s.labels x to → s'.lists ≡ moved x to s.lists → ArePlaced s'
-    → ((from : ℕ) → from < length s.lists → Among x (list_at s.lists from)
-    → map (without x) s.lists ≡ set s.lists from (without x (list_at s.lists from))) → Goes s s' x to
-goes s s' x to a b c d e f = record { size = a; count = b; labels = c; lists = d; placed = e; places = f }
 
 -- a number goes from one list to the end of another one
 pub record Moved (q q' : List (List ℕ)) (x from to : ℕ) : Type 0 where

@@ -1,8 +1,8 @@
 //! Lists over the numbers below a bound, each number in one list, linked through one arena.
 
 ghost use Rattle.std.specs.Prelude.{◌≡◌, ◌<◌, ◌+◌, ◌++◌, ◌∷◌, [], ◌^◌, length, slice_set, OnOk, OnErr, IfSome, ℕ, List};
-ghost use Rattle.std.specs.Prelude.{map, None};
-ghost use Rattle.sect_table.specs.steps.Links.{moved, list_at, head_or, Among, ArePlaced, without};
+ghost use Rattle.std.specs.Prelude.{None};
+ghost use Rattle.sect_table.specs.steps.Links.{list_at, head_or, ArePlaced, Goes};
 
 use crate::links::{Ends, Link, append, detach};
 use std::alloc::{AllocError, Global};
@@ -77,14 +77,7 @@ impl Lists {
     pub fn move_to(&mut self, node: usize, list: usize)
         requires node { node < self.old.size }
         requires list { list < length self.old.lists }
-        ensures size { self.new.size ≡ self.old.size }
-        ensures count { length self.new.lists ≡ length self.old.lists }
-        ensures labels { self.new.labels ≡ slice_set self.old.labels node list }
-        ensures lists { self.new.lists ≡ moved node list self.old.lists }
-        ensures placed { ArePlaced self.new }
-        ensures places { (from : ℕ) → from < length self.old.lists → Among node (list_at self.old.lists from) →
-            map (without node) self.old.lists ≡
-            slice_set self.old.lists from (without node (list_at self.old.lists from)) }
+        ensures { Goes self.old self.new node list }
     {
         let from = self.links[node].list;
         detach(&mut self.links, &mut self.ends[from], node);

@@ -133,3 +133,13 @@ pub record ArePlaced (s : Shape) : Type 0 where
   pub labelled : (l : ℕ) → l < length s.lists → Each (λ i. (i < s.size) × (label_at s i ≡ l)) (list_at s.lists l)
   pub there : (i : ℕ) → i < s.size → (label_at s i < length s.lists) × Among i (list_at s.lists (label_at s i))
   pub distinct : (l : ℕ) → l < length s.lists → AreDistinct (list_at s.lists l)
+
+-- a call takes `x` out of its list, and puts it at the end of list `l`
+pub record Goes (s s' : Shape) (x l : ℕ) : Type 0 where
+  pub size : s'.size ≡ s.size
+  pub count : length s'.lists ≡ length s.lists
+  pub labels : s'.labels ≡ slice_set s.labels x l
+  pub lists : s'.lists ≡ moved x l s.lists
+  pub placed : ArePlaced s'
+  pub places : (from : ℕ) → from < length s.lists → Among x (list_at s.lists from)
+      → map (without x) s.lists ≡ slice_set s.lists from (without x (list_at s.lists from))

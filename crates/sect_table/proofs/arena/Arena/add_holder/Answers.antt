@@ -1,7 +1,7 @@
 use Rattle.std.proofs.Common.{◌≡◌, ◌+◌, length, set, sym, ◌∙◌}
 use Rattle.sect_table.specs.Contents.{put, entry_of, with_holder, claim_of, give}
 use Rattle.sect_table.specs.steps.Links.{list_at}
-use Rattle.sect_table.proofs.Moving.{Shows, goes, holder_added}
+use Rattle.sect_table.proofs.Moving.{Shows, holder_added}
 use Rattle.sect_table.proofs.arena.Arena.add_holder.Goals as goal
 
 outcome : (c : goal.After-move_to-2)
@@ -12,13 +12,10 @@ outcome : (c : goal.After-move_to-2)
     (put (with_holder (claim_of c.args.thread c.args.mode) (entry_of c.args.key c.args.self.now.entries))
     c.args.self.now.entries) × (length (list_at c.move_to.new.self.lists 0) + 1 ≡ c.args.self.now.spare)
 outcome c =
-    let e1 = c.move_to.ensures in
-    let e2 = c.move_to-2.ensures in
     holder_added _ _ _ _ _ _ _ _ (record { thread = c.args.thread; key = c.args.key; mode = c.args.mode }) c.args.at
     c.unwrap-node.result c.self.invariant c.self.view_is c.requires.thread c.requires.number c.requires.known
     (sym c.first.ensures.first ∙ c.unwrap-node.ensures)
-    (goes _ _ _ _ e1.size e1.count e1.labels e1.lists e1.placed e1.places)
-    (goes _ _ _ _ e2.size e2.count e2.labels e2.lists e2.placed e2.places)
+    c.move_to.ensures c.move_to-2.ensures
 
 pub invariant_of-self : goal.invariant_of-self
 invariant_of-self c = (outcome c).0.arena

@@ -5,7 +5,7 @@ use Rattle.sect_table.specs.Contents.{put, entry_of, with_grant, claim_of, give}
 use Rattle.sect_table.specs.steps.Links.{list_at}
 use Rattle.sect_table.specs.steps.Arena.{no_node}
 use Rattle.sect_table.proofs.Shown.{queues-seen, claimed_first}
-use Rattle.sect_table.proofs.Moving.{Shows, goes, first_granted, Waiter, first_waiting}
+use Rattle.sect_table.proofs.Moving.{Shows, first_granted, Waiter, first_waiting}
 use Rattle.sect_table.proofs.arena.Arena.grant_first.Goals.{After-index-request}
 use Rattle.sect_table.proofs.arena.Arena.grant_first.Goals as goal
 
@@ -25,15 +25,12 @@ outcome : (c : goal.After-move_to-2)
     (entry_of c.args.key c.args.self.now.entries)) c.args.self.now.entries)
     × (length (list_at c.move_to.new.self.lists 0) ≡ c.args.self.now.spare)
 outcome c =
-    let e1 = c.move_to.ensures in
-    let e2 = c.move_to-2.ensures in
     first_granted _ _ _ _ _ _ _ _ c.args.key c.args.at c.unwrap-node.result c.index-request.result.now
     c.self.invariant c.self.view_is c.requires.number c.requires.known
     (sym c.first.ensures.first ∙ c.unwrap-node.ensures)
     (λ lt. get_or_read c.self.inside.nodes.items c.unwrap-node.result c.index-request.result.now lt
     c.index-request.ensures no_node)
-    (goes _ _ _ _ e1.size e1.count e1.labels e1.lists e1.placed e1.places)
-    (goes _ _ _ _ e2.size e2.count e2.labels e2.lists e2.placed e2.places)
+    c.move_to.ensures c.move_to-2.ensures
 
 pub unwrap-node-requires : goal.unwrap-node-requires
 unwrap-node-requires c =

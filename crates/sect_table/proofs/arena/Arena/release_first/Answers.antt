@@ -6,7 +6,7 @@ use Rattle.sect_table.specs.Contents.{put, entry_of, without_holder, first_hold}
 use Rattle.sect_table.specs.steps.Links.{head_or, list_at}
 use Rattle.sect_table.specs.steps.Arena.{node_at}
 use Rattle.sect_table.proofs.Shown.{chain-seen, held_key, found_first}
-use Rattle.sect_table.proofs.Moving.{Shows, goes, first_released}
+use Rattle.sect_table.proofs.Moving.{Shows, first_released}
 use Rattle.sect_table.proofs.arena.Arena.release_first.Goals as goal
 
 outcome : (c : goal.After-move_to-2)
@@ -25,14 +25,11 @@ outcome c =
     (chain-seen _ _ _ _ _ _ c.args.thread a c.self.view_is c.requires.thread) c.requires.first) in
     let same : Some found.0 ≡ Some x = sym (ap (λ z. head_or z None) found.2) ∙ first in
     let is : found.0 ≡ x = (cc) in
-    let e1 = c.move_to.ensures in
-    let e2 = c.move_to-2.ensures in
     first_released _ _ _ _ _ _ _ _ c.args.thread c.args.key c.args.at x found.1 a c.self.view_is c.requires.thread
     c.requires.number c.requires.known
     (subst (λ z. list_at c.self.inside.chains.lists list ≡ z ∷ found.1) is found.2)
     (subst (λ z. (node_at c.self.inside.nodes.items z).key ≡ c.args.key) is found.3) c.requires.apart
-    (goes _ _ _ _ e1.size e1.count e1.labels e1.lists e1.placed e1.places)
-    (goes _ _ _ _ e2.size e2.count e2.labels e2.lists e2.placed e2.places)
+    c.move_to.ensures c.move_to-2.ensures
 
 pub unwrap-node-requires : goal.unwrap-node-requires
 unwrap-node-requires c =

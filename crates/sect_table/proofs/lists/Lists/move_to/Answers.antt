@@ -43,24 +43,23 @@ pub invariant_of-self : goal.invariant_of-self
 invariant_of-self c = let at = goal.at.invariant_of-self c in
     closed _ _ _ (all_moved at.After-append (there at.After-index))
 
-pub returns-clause-lists : goal.returns-clause-lists
-returns-clause-lists c = let at = goal.at.returns-clause-lists c in
-    lists-found _ _ _ _ (all_moved at.After-append (there at.After-index))
-    ∙ ap (λ (s : Shape). moved c.args.node c.args.list s.lists) c.self.view_is
-
-pub returns-clause-places : goal.returns-clause-places
-returns-clause-places c = λ from below h. map-without c.self.inside.links.items c.self.inside.ends.items
-    c.args.self.now.lists c.args.node from
-    (subst (λ (s : Shape). AreLists c.self.inside.links.items c.self.inside.ends.items s.lists None) c.self.view_is
-    c.self.invariant) below h
-
-pub returns-clause-labels : goal.returns-clause-labels
-returns-clause-labels c =
-    labels-moved _ _ _ _ _ _ _ _ _ (there (goal.at.returns-clause-labels c).After-index).0 c.detach.ensures.places
-    c.append.ensures.places ∙ ap (λ (s : Shape). set s.labels c.args.node c.args.list) c.self.view_is
-
-pub returns-clause-placed : goal.returns-clause-placed
-returns-clause-placed c = placed_sized _ _ _ _ _ (search rules) (invariant_of-self c)
+pub returns : goal.returns
+returns c =
+    let at = goal.at.returns c in
+    let t = there at.After-index in
+    let all = all_moved at.After-append t in
+    record {
+      size = search rules;
+      count = search rules;
+      labels = labels-moved _ _ _ _ _ _ _ _ _ t.0 c.detach.ensures.places c.append.ensures.places
+          ∙ ap (λ (s : Shape). set s.labels c.args.node c.args.list) c.self.view_is;
+      lists = lists-found _ _ _ _ all ∙ ap (λ (s : Shape). moved c.args.node c.args.list s.lists) c.self.view_is;
+      placed = placed_sized _ _ _ _ _ (search rules) (invariant_of-self c);
+      places = λ from below h. map-without c.self.inside.links.items c.self.inside.ends.items c.args.self.now.lists
+          c.args.node from
+          (subst (λ (s : Shape). AreLists c.self.inside.links.items c.self.inside.ends.items s.lists None) c.self.view_is
+          c.self.invariant) below h;
+    }
 
 pub detach-requires-clause-previous : goal.detach-requires-clause-previous
 detach-requires-clause-previous c =

@@ -7,8 +7,8 @@ use Rattle.sect_table.proofs.releases.release_all.Goals as goal
 pub loop-hold-init : goal.loop-hold-init
 loop-hold-init c =
     record {
-      releasing = releasing_first c.args.thread (length c.args.arena.now.held) c.args.arena.now
-          c.clear.new.self.items c.requires.kept c.requires.waits (omega arith) c.clear.ensures.items;
+      releasing = releasing_first c.args.thread (length c.args.arena.now.held) c.args.arena.now _ c.requires.kept
+          c.requires.waits (omega arith) (search rules);
       capacity = refl;
     }
 
@@ -51,7 +51,6 @@ let_in-requires-clause-room c =
     let n : length c.loop-hold.grants.items ≡ vec_len c.loop-hold.grants = search rules in
     let fits = c.loop-hold.invariant.releasing.fits in
     let capacity = c.loop-hold.invariant.capacity in
-    let kept = c.clear.ensures.capacity in
     let room = c.requires.room in
     let same = (out c).waiting in
     omega arith

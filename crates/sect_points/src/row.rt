@@ -1,4 +1,4 @@
-//! TextView in a row.
+//! Statements in a row.
 
 ghost use Rattle.std.specs.Prelude.{◌≡◌, ◌++◌, ◌∷◌, [], OnOk, true};
 ghost use Rattle.sect_types.specs.Lists.{Has};
@@ -8,7 +8,7 @@ use sect_types::{Action, Base, Field, Value};
 use std::alloc::{AllocError, Global};
 use std::marker::Model;
 
-/// TextView, each maybe more than once.
+/// Statements, each maybe more than once.
 #[derive(Drop)]
 pub struct Row {
     statements: Vec<ThreadAction>,

@@ -13,7 +13,7 @@ use Rattle.sect_table.specs.Contents.{Entry, Contents, number_of, entry_of, firs
 use Rattle.sect_table.specs.Contents.{give, hold_of, claim_of, with_holder, with_waiter, with_grant, without_holder}
 use Rattle.sect_table.specs.steps.Keys.{place_in}
 use Rattle.sect_table.specs.steps.Links.{Shape, head_or, list_at, label_at, Among, AreDistinct, IsAbsent, ArePlaced}
-use Rattle.sect_table.specs.steps.Links.{without, moved, Goes}
+use Rattle.sect_table.specs.steps.Links.{without, Goes}
 use Rattle.sect_table.specs.steps.Arena.{node_at, no_node, claims, holds_at, queue_at, chain_at, entry_at, entries_from}
 use Rattle.sect_table.specs.steps.Arena.{held_from, shown, HasRole, IsArena}
 use Rattle.sect_table.proofs.Runs.{each_map, without-same, without-other, without_absent}

@@ -1,4 +1,4 @@
-use Rattle.std.proofs.Common.{rules, arith, ◌≡◌, ◌+◌, ◌<◌, length, vec_len, vec_capacity, sym, ◌∙◌, ap, subst, Some}
+use Rattle.std.proofs.Common.{rules, arith, ◌≡◌, ◌+◌, ◌<◌, length, vec_len, sym, ◌∙◌, ap, subst, Some}
 use Rattle.std.proofs.Common.{true}
 use Rattle.sect_table.specs.declared.claims.Claim.{Claim}
 use Rattle.sect_table.specs.Contents.{Entry, entry_of, claim_of, may_join}

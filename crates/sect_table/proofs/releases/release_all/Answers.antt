@@ -1,4 +1,4 @@
-use Rattle.std.proofs.Common.{rules, arith, ◌≡◌, ◌<◌, length, vec_len, vec_capacity, sym, ◌∙◌, refl}
+use Rattle.std.proofs.Common.{rules, arith, ◌≡◌, ◌<◌, length, vec_len, sym, ◌∙◌, refl}
 use Rattle.sect_table.specs.Contents.{held_by}
 use Rattle.sect_table.specs.steps.Letting.{Releasing}
 use Rattle.sect_table.proofs.Releasing.{releasing_first, first_known, first_apart, FirstOut, first_out, releasing_on}

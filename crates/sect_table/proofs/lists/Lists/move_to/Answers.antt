@@ -1,4 +1,5 @@
 use Rattle.std.proofs.Common.{rules, arith, ◌≡◌, ◌<◌, length, subst, ◌∙◌, ap, set, vec_len, None}
+use Rattle.std.proofs.lemmas.Grind.{common_steps}
 use Rattle.sect_table.specs.steps.Links.{moved, lists_of, AreLists, Shape}
 use Rattle.sect_table.proofs.Whole.{labels-moved, moved_all, room_read, closed, lists-found, placed_sized}
 use Rattle.sect_table.proofs.Whole.{previous_within, next_link_within, last_read, map-without}
@@ -50,7 +51,7 @@ returns c =
     let all = all_moved at.After-append t in
     record {
       size = search rules;
-      count = search rules;
+      count = grind (arith, common_steps);
       labels = labels-moved _ _ _ _ _ _ _ _ _ t.0 c.detach.ensures.places c.append.ensures.places
           ∙ ap (λ (s : Shape). set s.labels c.args.node c.args.list) c.self.view_is;
       lists = lists-found _ _ _ _ all ∙ ap (λ (s : Shape). moved c.args.node c.args.list s.lists) c.self.view_is;

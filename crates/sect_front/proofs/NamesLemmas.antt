@@ -7,10 +7,11 @@ use Rattle.std.proofs.lemmas.Bool.{leb-true, le-leb, eq-eqb}
 use Rattle.std.proofs.lemmas.Bool.Decides.{nat_tests}
 use Rattle.std.proofs.lemmas.List.Folds.{length-prefix_len, list_all_at}
 use Rattle.std.proofs.Math.Dec.{leb}
+use Rattle.std.proofs.Math.Bool.{and-false}
 use Rattle.std.specs.List.{list_all, list_any, take_while, prefix_len}
 use Rattle.sect_front.specs.declared.token.Token.{Token}
 use Rattle.std.specs.Str.{bytes_eq}
-use Rattle.std.specs.Prelude.{is_some, is_none}
+use Rattle.std.specs.Prelude.{is_some, is_none, nat_lt, nat_eq}
 use Rattle.sect_front.specs.Names.{IsPadded, zeros_from}
 use Rattle.sect_front.specs.Words.{is_name, is_letter, is_name_byte, is_keyword, begins}
 use Rattle.sect_front.specs.steps.Recognition.{keyword_of, keyword_table, token_beside}
@@ -72,6 +73,23 @@ keyword_free w = go (keyword_of w) (is_keyword w) (keyword_known w)
     go : (o : Option Token) (k : Bool) → is_some o ≡ k → is_none o ≡ not k
     go None k h = rw (← h) refl
     go (Some t) k h = rw (← h) refl
+
+-- a key of more than one byte is no byte alone
+one_other : (b : ℕ) (key : List ℕ) → nat_lt 1 (length key) ≡ true → bytes_eq (b ∷ []) key ≡ false
+one_other b [] h = cc
+one_other b (c ∷ []) h = cc
+one_other b (c ∷ d ∷ key) h = and-false (nat_eq b c)
+
+one_beside : (b : ℕ) (rows : List (List ℕ × Token)) → list_all (λ r. nat_lt 1 (length r.0)) rows ≡ true
+    → token_beside (b ∷ []) rows ≡ None
+one_beside b [] h = refl
+one_beside b (row ∷ rows) h = let each = both _ _ h in rw (one_other b row.0 each.0) (one_beside b rows each.1)
+
+-- no keyword is one byte
+pub one_byte : (w : List ℕ) → length w ≡ 1 → keyword_of w ≡ None
+one_byte [] h = absurd (omega arith)
+one_byte (b ∷ []) h = one_beside b keyword_table refl
+one_byte (b ∷ c ∷ w) h = absurd (omega arith)
 
 -- a short word that is no keyword is a name
 pub short_name : (w : List ℕ) → (begins is_letter w && list_all is_name_byte w) ≡ true → length w ≤ 32

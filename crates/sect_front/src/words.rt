@@ -38,10 +38,14 @@ pub fn word_length(bytes: &[u8]) -> usize
 }
 
 /// The keyword that these bytes are.
+#[tactic(auto, using(crate::proofs::NamesLemmas::one_byte))]
 pub fn keyword(word: &[u8]) -> Option<Token>
     ensures { result ≡ keyword_of word.now }
 {
-    if word == b"record".as_slice() {
+    // Many names are one letter, and no keyword is.
+    if word.len() == 1 {
+        None
+    } else if word == b"record".as_slice() {
         Some(Token::Record)
     } else if word == b"protected_by".as_slice() {
         Some(Token::ProtectedBy)

@@ -53,7 +53,7 @@ impl Flow {
         0
     }
 
-    /// The node where control ends, numbered last: it does nothing. It is at most 4096.
+    /// The node where control ends, numbered last: it does nothing. It is at most `MOST_STATEMENTS`.
     pub fn exit(&self) -> u16
         ensures number { result ≡ length self.now }
         ensures most { result ≤ MOST_STATEMENTS }

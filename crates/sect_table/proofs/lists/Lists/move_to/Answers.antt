@@ -58,8 +58,8 @@ returns c =
       placed = placed_sized _ _ _ _ _ (search rules) (invariant_of-self c);
       places = λ from below h. map-without c.self.inside.links.items c.self.inside.ends.items c.args.self.now.lists
           c.args.node from
-          (subst (λ (s : Shape). AreLists c.self.inside.links.items c.self.inside.ends.items s.lists None) c.self.view_is
-          c.self.invariant) below h;
+          (subst (λ (s : Shape). AreLists c.self.inside.links.items c.self.inside.ends.items s.lists None)
+          c.self.view_is c.self.invariant) below h;
     }
 
 pub detach-requires-clause-previous : goal.detach-requires-clause-previous

@@ -1,7 +1,7 @@
 -- Parts of what is joined.
 use Rattle.sect_cert.proofs.Counts.{same}
 use Rattle.std.proofs.Common.{◌≡◌, ℕ, zero, suc, ◌-◌, Bool, true, false, not, cond, eqb, ◌&&◌, List, [], ◌∷◌, ◌++◌}
-use Rattle.std.proofs.Common.{Some, None, length, refl, sym, ◌∙◌, ap, subst, arith}
+use Rattle.std.proofs.Common.{Some, length, refl, sym, ◌∙◌, ap, arith}
 use Rattle.std.proofs.lemmas.Bool.{eqb-true}
 use Rattle.std.specs.Prelude.{◌==◌, slice_get, take}
 use Rattle.std.specs.List.{onto_first, join_with_byte, list_all, AllByRecursion}
@@ -12,7 +12,6 @@ use Rattle.sect_cert.specs.Texts.{fed}
 use Rattle.std.specs.Prelude.{nat_le}
 use Rattle.std.proofs.Common.{length-append}
 use Rattle.std.proofs.Math.Seq.{take-append_seam}
-use Rattle.std.proofs.lemmas.List.Splits.{join_with_byte-slice_split}
 
 -- the byte isn't among these
 abbrev pub lacks : ℕ → List ℕ → Bool

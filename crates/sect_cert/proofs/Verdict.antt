@@ -81,10 +81,6 @@ state_taken front s t m h e = elim h [
   | inr r ↦ taken_text front s t m r e
 ]
 
--- nothing has been read
-pub reading_begins : (all left : List (List ℕ)) → all ≡ left → IsReading all left stage.Header 1
-reading_begins all left e = record { front = []; split = e; count = refl; state = inl (refl, refl) }
-
 -- one more line has been read
 pub reading_more : (all others : List (List ℕ)) (s m : CertStage) (n : ℕ) (t : List ℕ) → IsReading all (t ∷ others) s n
     → read_of s t ≡ Goes m → IsReading all others m (n + 1)

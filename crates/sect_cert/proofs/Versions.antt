@@ -1,7 +1,6 @@
 -- A text of version 1 is answered apart, and every text with one answer alone.
-use Rattle.std.proofs.Common.{◌≡◌, ◌≢◌, ℕ, ◌+◌, true, false, List, [], ◌∷◌, ◌++◌, map, length, drop, refl, sym, ◌∙◌, ap}
-use Rattle.std.specs.Prelude.{codes, nat_eq, Result, Ok, Err}
-use Rattle.std.specs.List.{starts_with}
+use Rattle.std.proofs.Common.{◌≡◌, ◌≢◌, ℕ, true, false, List, [], ◌∷◌, ◌++◌, map, drop, refl, sym, ◌∙◌, ap}
+use Rattle.std.specs.Prelude.{codes, Result, Ok, Err}
 use Rattle.std.specs.Str.{bytes_eq}
 use Rattle.std.proofs.lemmas.Slice.Eq.{starts_is}
 use Rattle.std.proofs.lemmas.Bool.Decides.{Decides-eqb}
@@ -9,7 +8,7 @@ use Rattle.sect_cert.specs.Parts.{parts}
 use Rattle.sect_cert.specs.Lines.{line_text}
 use Rattle.sect_cert.specs.Forms.{form_of}
 use Rattle.sect_cert.specs.Texts.{HasText, header_text, body_lines, certificate_text}
-use Rattle.sect_cert.specs.Verdicts.{IsViable, HasNoForm, IsFaultAt, is_old, Judges, Gives, Refuses}
+use Rattle.sect_cert.specs.Verdicts.{HasNoForm, IsFaultAt, is_old, Judges, Gives, Refuses}
 use Rattle.sect_cert.specs.steps.Closing.{JudgesLines}
 use Rattle.sect_cert.specs.declared.certificate.Cert.{Cert}
 use Rattle.sect_cert.specs.declared.fault.CertFault.{CertFault}

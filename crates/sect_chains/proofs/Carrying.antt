@@ -1,5 +1,5 @@
 -- Steps whose locks are generated, and steps that link to others.
-use Rattle.std.proofs.Common.{◌≡◌, ◌↔◌, ◌⊎◌, ℕ, ◌+◌, ◌<◌, ◌≤◌, List, [], Option, Some, None, inl, inr, refl, sym, ap}
+use Rattle.std.proofs.Common.{◌≡◌, ◌↔◌, ◌⊎◌, ℕ, ◌+◌, ◌<◌, ◌≤◌, List, [], Option, Some, None, inl, inr, sym}
 use Rattle.std.proofs.Common.{◌∙◌, subst, take, length, get_or, arith}
 use Rattle.std.specs.Prelude.{slice_get}
 use Rattle.std.proofs.lemmas.Bool.{cases_lt}
@@ -15,11 +15,10 @@ use Rattle.sect_names.specs.declared.lock.Lock.{Lock}
 use Rattle.sect_names.specs.Schemes.{SchemeView}
 use Rattle.sect_names.specs.Carrying.{Generated, CarriedBack}
 use Rattle.sect_names.specs.Chains.{link, IsGeneratedAt, LinksTo}
-use Rattle.sect_names.proofs.Making.{last_of, so_far}
+use Rattle.sect_names.proofs.Making.{last_of}
 use Rattle.sect_infer.specs.Tables.{TableView, HasLock, IsNumbered, Finds}
 use Rattle.sect_infer.specs.steps.Listing.{lock_at}
 use Rattle.sect_infer.proofs.Bounding.{named}
-use Rattle.sect_chains.specs.declared.keep.Step.{Step}
 use Rattle.sect_chains.specs.steps.Keeping.{KeptView, step_of, keep_one, keep_each}
 use Rattle.sect_graph.specs.Predecessors.{AreBefore}
 use Rattle.sect_chains.specs.steps.Working.{links_of, IsFoundAt, IsKept, Grows, IsGeneratedBy, IsGeneratedBelow}

@@ -5,11 +5,10 @@ use Rattle.std.specs.Option.{IsSome, is_some}
 use Rattle.std.proofs.lemmas.Option.{slice_get_within, get_or_from_slice_get}
 use Rattle.sect_types.specs.Lists.{Has}
 use Rattle.sect_types.proofs.Membership.{Has-unmap, Has-slice_get}
-use Rattle.sect_types.proofs.Places.{Has-index, one_at}
+use Rattle.sect_types.proofs.Places.{Has-index}
 use Rattle.sect_names.specs.declared.lock.Lock.{Lock}
 use Rattle.sect_names.specs.Chains.{link}
 use Rattle.sect_infer.specs.Numbers.{AreApart}
-use Rattle.sect_infer.specs.steps.Listing.{lock_at}
 use Rattle.sect_infer.proofs.Apart.{apart_one}
 use Rattle.sect_infer.proofs.Bounding.{named}
 use Rattle.sect_chains.specs.declared.keep.Step.{Step}

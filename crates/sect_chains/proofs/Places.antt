@@ -8,10 +8,6 @@ pub read_at : {X : Type 0} (xs : List X) (i : ℕ) (r x : X) → i < length xs �
     → slice_get xs i ≡ Some x
 read_at xs i r x within is e = slice_get-get_or xs i r within ∙ ap (λ z. Some z) (sym is ∙ e)
 
--- a list with an element behind it, where that is another
-pub behind_is : {X : Type 0} (new old : List X) (x y : X) → new ≡ old ++ x ∷ [] → x ≡ y → new ≡ old ++ y ∷ []
-behind_is new old x y is e = is ∙ ap (λ z. old ++ z ∷ []) e
-
 -- what stands in the front stands there in the whole
 pub in_front : {X : Type 0} (xs ys : List X) (i : ℕ) (x : X) → slice_get xs i ≡ Some x → slice_get (xs ++ ys) i ≡ Some x
 in_front [] ys i x at = absurd cc

@@ -8,7 +8,7 @@ use Rattle.sect_graph.specs.declared.flow.Node.{Node}
 use Rattle.sect_names.specs.declared.link.Link.{Link}
 use Rattle.sect_names.specs.declared.lock.Lock.{Lock}
 use Rattle.sect_names.specs.Schemes.{SchemeView}
-use Rattle.sect_names.specs.Chains.{link, LinksTo, IsGeneratedAt, AreLinked, IsChain}
+use Rattle.sect_names.specs.Chains.{link, LinksTo, AreLinked, IsChain}
 use Rattle.sect_chains.specs.steps.Working.{IsReason}
 use Rattle.sect_chains.specs.steps.Trails.{LeadsOn, LeadOn, GoBack, AreBehind, AreFrom, AreFromEntry}
 use Rattle.sect_chains.proofs.Places.{in_front}

@@ -6,7 +6,6 @@ use Rattle.std.specs.List.{flat_map}
 use Rattle.std.proofs.lemmas.Bool.{cases_lt}
 use Rattle.std.proofs.lemmas.List.{length-map}
 use Rattle.std.proofs.lemmas.Option.{slice_get_within}
-use Rattle.sect_types.specs.Lists.{Has}
 use Rattle.sect_types.proofs.Places.{Has-index, at_of, one_at}
 use Rattle.sect_graph.specs.declared.flow.Node.{Node}
 use Rattle.sect_names.specs.declared.link.Link.{Link}
@@ -21,7 +20,7 @@ use Rattle.sect_names.proofs.Telling.{link_tells}
 use Rattle.sect_infer.specs.Tables.{TableView}
 use Rattle.sect_infer.proofs.Apart.{apart_short}
 use Rattle.sect_chains.specs.steps.Keeping.{KeptView}
-use Rattle.sect_chains.specs.steps.Trails.{HasTrail, AreLawful, RespectCover}
+use Rattle.sect_chains.specs.steps.Trails.{AreLawful, RespectCover}
 use Rattle.sect_chains.specs.steps.Working.{link_of, links_of, IsFoundAt, IsCoveredAt, IsKept, Grows}
 use Rattle.sect_chains.proofs.Growing.{kept_trail, grows_found, grows_at}
 

@@ -16,6 +16,7 @@ ghost use Rattle.sect_check.specs.steps.Parts.{JudgesAt, JudgesCert};
 use crate::claiming::claims_of;
 use crate::claims::Claims;
 use crate::fault::{CheckFault, of_section};
+use crate::naming::Naming;
 use crate::section::judge_section;
 use crate::unresolved::Unresolved;
 use indexmap::IndexSet;
@@ -42,14 +43,8 @@ fn claims_at(
     scheme.program().typing();
     let thread = scheme.program().section(number).thread;
     let flow = scheme.graph().section(number);
-    claims_of(
-        alloc,
-        scheme,
-        globals,
-        thread,
-        flow,
-        &sections[number as usize],
-    )
+    let naming = Naming::new(scheme, globals, thread);
+    claims_of(alloc, &naming, flow, &sections[number as usize])
 }
 
 /// What a certificate claims of each section of a program.

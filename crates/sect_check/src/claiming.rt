@@ -1,38 +1,27 @@
 //! What a certificate claims of a section, by the program's numbers.
 
-ghost use Rattle.std.specs.Prelude.{◌≡◌, ◌<◌, length};
 ghost use Rattle.std.specs.List.{AllZip};
-ghost use Rattle.sect_types.specs.Sight.{names_of_globals};
 ghost use Rattle.sect_check.specs.Names.{Denotes};
 ghost use Rattle.sect_check.specs.Meaning.{DenotesStep, DenotesChain, DenotesSection};
 ghost use Rattle.sect_check.specs.steps.Resolving.{Resolves};
 
 use crate::claims::{ChainClaim, Claims};
 use crate::locks::lock_of;
+use crate::naming::Naming;
 use crate::unresolved::Unresolved;
-use indexmap::IndexSet;
 use sect_cert::{CertLock, CertSection, CertStep, Chain, Items};
-use sect_front::Name;
 use sect_graph::Flow;
-use sect_names::{Link, Lock, Scheme};
+use sect_names::{Link, Lock};
 use std::alloc::Global;
 
 /// The locks of a list.
 #[tactic(auto, using(sect_types::proofs::Places::zip_more))]
-fn locks_of(
-    alloc: Global,
-    scheme: &Scheme,
-    globals: &IndexSet<Name>,
-    thread: u16,
-    list: &[CertLock],
-) -> Result<Items<Lock>, Unresolved>
-    requires globals { globals.now.keys ≡ names_of_globals scheme.now.program.source.globals }
-    requires thread { thread < length scheme.now.program.locals }
-    ensures { Resolves result (AllZip (Denotes scheme.now thread) list.now) }
+fn locks_of(alloc: Global, naming: &Naming, list: &[CertLock]) -> Result<Items<Lock>, Unresolved>
+    ensures { Resolves result (AllZip (Denotes naming.now.scheme naming.now.thread) list.now) }
 {
     let mut locks = Vec::new(alloc);
     for named in list {
-        locks.push(lock_of(alloc, scheme, globals, thread, named)?)?;
+        locks.push(lock_of(alloc, naming, named)?)?;
     }
     Ok(Items::from_vec(locks))
 }
@@ -40,35 +29,23 @@ fn locks_of(
 /// The lists of the nodes.
 fn lists_of(
     alloc: Global,
-    scheme: &Scheme,
-    globals: &IndexSet<Name>,
-    thread: u16,
+    naming: &Naming,
     nodes: &[Items<CertLock>],
 ) -> Result<Items<Items<Lock>>, Unresolved>
-    requires globals { globals.now.keys ≡ names_of_globals scheme.now.program.source.globals }
-    requires thread { thread < length scheme.now.program.locals }
-    ensures { Resolves result (AllZip (AllZip (Denotes scheme.now thread)) nodes.now) }
+    ensures { Resolves result (AllZip (AllZip (Denotes naming.now.scheme naming.now.thread)) nodes.now) }
 {
     let mut lists = Vec::new(alloc);
     for list in nodes {
-        lists.push(locks_of(alloc, scheme, globals, thread, list.as_slice())?)?;
+        lists.push(locks_of(alloc, naming, list.as_slice())?)?;
     }
     Ok(Items::from_vec(lists))
 }
 
 /// A step of a chain.
-fn link_of(
-    alloc: Global,
-    scheme: &Scheme,
-    globals: &IndexSet<Name>,
-    thread: u16,
-    step: &CertStep,
-) -> Result<Link, Unresolved>
-    requires globals { globals.now.keys ≡ names_of_globals scheme.now.program.source.globals }
-    requires thread { thread < length scheme.now.program.locals }
-    ensures { Resolves result (DenotesStep scheme.now thread step.now) }
+fn link_of(alloc: Global, naming: &Naming, step: &CertStep) -> Result<Link, Unresolved>
+    ensures { Resolves result (DenotesStep naming.now.scheme naming.now.thread step.now) }
 {
-    let lock = lock_of(alloc, scheme, globals, thread, &step.lock)?;
+    let lock = lock_of(alloc, naming, &step.lock)?;
     Ok(Link {
         node: step.node,
         lock,
@@ -77,37 +54,21 @@ fn link_of(
 
 /// The steps of a chain.
 #[tactic(auto, using(sect_types::proofs::Places::zip_more))]
-fn links_of(
-    alloc: Global,
-    scheme: &Scheme,
-    globals: &IndexSet<Name>,
-    thread: u16,
-    steps: &[CertStep],
-) -> Result<Items<Link>, Unresolved>
-    requires globals { globals.now.keys ≡ names_of_globals scheme.now.program.source.globals }
-    requires thread { thread < length scheme.now.program.locals }
-    ensures { Resolves result (AllZip (DenotesStep scheme.now thread) steps.now) }
+fn links_of(alloc: Global, naming: &Naming, steps: &[CertStep]) -> Result<Items<Link>, Unresolved>
+    ensures { Resolves result (AllZip (DenotesStep naming.now.scheme naming.now.thread) steps.now) }
 {
     let mut links = Vec::new(alloc);
     for step in steps {
-        links.push(link_of(alloc, scheme, globals, thread, step)?)?;
+        links.push(link_of(alloc, naming, step)?)?;
     }
     Ok(Items::from_vec(links))
 }
 
 /// A chain.
-fn chain_claim(
-    alloc: Global,
-    scheme: &Scheme,
-    globals: &IndexSet<Name>,
-    thread: u16,
-    chain: &Chain,
-) -> Result<ChainClaim, Unresolved>
-    requires globals { globals.now.keys ≡ names_of_globals scheme.now.program.source.globals }
-    requires thread { thread < length scheme.now.program.locals }
-    ensures { Resolves result (DenotesChain scheme.now thread chain.now) }
+fn chain_claim(alloc: Global, naming: &Naming, chain: &Chain) -> Result<ChainClaim, Unresolved>
+    ensures { Resolves result (DenotesChain naming.now.scheme naming.now.thread chain.now) }
 {
-    let links = links_of(alloc, scheme, globals, thread, chain.steps.as_slice())?;
+    let links = links_of(alloc, naming, chain.steps.as_slice())?;
     Ok(ChainClaim {
         lock: chain.lock,
         links,
@@ -118,18 +79,14 @@ fn chain_claim(
 #[tactic(auto, using(sect_types::proofs::Places::zip_more))]
 fn chain_claims(
     alloc: Global,
-    scheme: &Scheme,
-    globals: &IndexSet<Name>,
-    thread: u16,
+    naming: &Naming,
     chains: &[Chain],
 ) -> Result<Items<ChainClaim>, Unresolved>
-    requires globals { globals.now.keys ≡ names_of_globals scheme.now.program.source.globals }
-    requires thread { thread < length scheme.now.program.locals }
-    ensures { Resolves result (AllZip (DenotesChain scheme.now thread) chains.now) }
+    ensures { Resolves result (AllZip (DenotesChain naming.now.scheme naming.now.thread) chains.now) }
 {
     let mut claims = Vec::new(alloc);
     for chain in chains {
-        claims.push(chain_claim(alloc, scheme, globals, thread, chain)?)?;
+        claims.push(chain_claim(alloc, naming, chain)?)?;
     }
     Ok(Items::from_vec(claims))
 }
@@ -137,22 +94,18 @@ fn chain_claims(
 /// What a certificate claims of a section.
 pub fn claims_of(
     alloc: Global,
-    scheme: &Scheme,
-    globals: &IndexSet<Name>,
-    thread: u16,
+    naming: &Naming,
     flow: &Flow,
     section: &CertSection,
 ) -> Result<Claims, Unresolved>
-    requires globals { globals.now.keys ≡ names_of_globals scheme.now.program.source.globals }
-    requires thread { thread < length scheme.now.program.locals }
-    ensures { Resolves result (DenotesSection scheme.now thread flow.now section.now) }
+    ensures { Resolves result (DenotesSection naming.now.scheme naming.now.thread flow.now section.now) }
 {
     if section.nodes.len() != flow.exit() as usize + 1 {
         return Err(Unresolved::Wrong);
     }
-    let nodes = lists_of(alloc, scheme, globals, thread, section.nodes.as_slice())?;
-    let entry = locks_of(alloc, scheme, globals, thread, section.entry.as_slice())?;
-    let chains = chain_claims(alloc, scheme, globals, thread, section.chains.as_slice())?;
+    let nodes = lists_of(alloc, naming, section.nodes.as_slice())?;
+    let entry = locks_of(alloc, naming, section.entry.as_slice())?;
+    let chains = chain_claims(alloc, naming, section.chains.as_slice())?;
     Ok(Claims {
         nodes,
         entry,

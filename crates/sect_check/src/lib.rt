@@ -13,6 +13,7 @@ mod links;
 mod lists;
 mod locks;
 mod names;
+mod naming;
 mod section;
 mod unresolved;
 

@@ -1,15 +1,12 @@
 //! What a name of a certificate stands for in a program: a variable or a field.
 
 ghost use Rattle.std.specs.Prelude.{◌≡◌, ◌<◌, length, slice_index_or, [], IfSome};
-ghost use Rattle.std.specs.Option.{option_map};
-ghost use Rattle.sect_types.specs.Sight.{place, names_of_declared, names_of_globals};
+ghost use Rattle.sect_types.specs.Sight.{place, names_of_declared};
 ghost use Rattle.sect_types.specs.LocalNames.{all_local_names, place_of_local};
 ghost use Rattle.sect_types.specs.LocalNames.{is_same_call as same_call, is_same_local as same_local};
-ghost use Rattle.sect_check.specs.Names.{local_named as local_by, variable_named as variable_by};
-ghost use Rattle.sect_check.specs.Names.{field_named as field_by, referred as refers_to};
+ghost use Rattle.sect_check.specs.Names.{local_named as local_by, field_named as field_by, referred as refers_to};
 ghost use Rattle.sect_check.specs.Names.{record_of_variable as variable_record, record_of_field as field_record};
 
-use indexmap::IndexSet;
 use sect_front::{Declaration, Name};
 use sect_points::Variable;
 use sect_types::{Field, LocalName, Program, ValueType};
@@ -70,39 +67,6 @@ pub fn local_named(program: &Program, thread: u16, name: &LocalName) -> Option<V
 {
     let number = local_number(program, thread, name)?;
     Some(Variable::Local(thread, number))
-}
-
-/// The number of the global of this name.
-fn global_number(program: &Program, globals: &IndexSet<Name>, name: &Name) -> Option<u16>
-    requires { globals.now.keys ≡ names_of_globals program.now.source.globals }
-    ensures { result ≡ place name.now (names_of_globals program.now.source.globals) }
-{
-    program.typing();
-    let _tree = program.tree();
-    let number = globals.get_index_of(name)?;
-    Some(number as u16)
-}
-
-/// The variable that a name stands for in a thread: a local, else a global, where the globals have these names.
-pub fn variable_named(
-    program: &Program,
-    globals: &IndexSet<Name>,
-    thread: u16,
-    name: &Name,
-) -> Option<Variable>
-    requires globals { globals.now.keys ≡ names_of_globals program.now.source.globals }
-    requires thread { thread < length program.now.locals }
-    ensures { result ≡ variable_by program.now.source thread name.now }
-{
-    let own = LocalName {
-        name: *name,
-        call: None,
-    };
-    if let Some(variable) = local_named(program, thread, &own) {
-        return Some(variable);
-    }
-    let number = global_number(program, globals, name)?;
-    Some(Variable::Global(number))
 }
 
 /// The field of this name of a record.

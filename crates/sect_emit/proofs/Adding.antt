@@ -1,11 +1,10 @@
 -- A key that is added to a list, place by place.
-use Rattle.std.proofs.Common.{◌≡◌, ℕ, suc, ◌+◌, ◌<◌, ◌≤◌, Bool, true, false, List, [], ◌∷◌, ◌++◌, length, take, drop}
+use Rattle.std.proofs.Common.{◌≡◌, ℕ, suc, ◌+◌, ◌<◌, Bool, true, false, List, [], ◌∷◌, ◌++◌, length, take, drop}
 use Rattle.std.proofs.Common.{get_or, slice_set, refl, sym, ap, ◌∙◌, subst, arith}
 use Rattle.std.specs.Prelude.{if◌then◌else◌, Result, Ok, Err, OnOk}
 use Rattle.std.specs.List.{insert}
-use Rattle.std.proofs.lemmas.List.{take-append-drop, take-set, drop-set, append_assoc, take_all}
+use Rattle.std.proofs.lemmas.List.{take-append-drop, take-set, drop-set, append_assoc}
 use Rattle.std.proofs.Math.Seq.{take-suc}
-use Rattle.std.proofs.Math.ListN.{drop_of_length-le}
 use Rattle.sect_types.proofs.Lists.{drop_next}
 use Rattle.sect_points.specs.Paths.{PathView}
 use Rattle.sect_points.specs.Partitions.{HasClass}
@@ -69,12 +68,6 @@ module _ (w : Grip) (xs : List Grip) (i : ℕ) (h : Grip) (within : i < length x
   passed other above =
       here false false other above ∙ sym (append_assoc (take i xs) (h ∷ []) (with_grip w (drop (i + 1) xs)))
       ∙ ap (λ ys. ys ++ with_grip w (drop (i + 1) xs)) (sym (take_next xs i h within is))
-
--- a key that comes behind all stands at the end
-pub at_the_end : (w : Grip) (xs : List Grip) (i : ℕ) → length xs ≤ i
-    → with_grip w xs ≡ take i xs ++ with_grip w (drop i xs) → xs ++ w ∷ [] ≡ with_grip w xs
-at_the_end w xs i past far = ap (λ ys. ys ++ w ∷ []) (sym (take_all i xs past))
-    ∙ ap (λ ys. take i xs ++ with_grip w ys) (sym (drop_of_length-le xs past)) ∙ sym far
 
 -- adding keys one after another gathers them
 pub gathered_more : (ws gs : List Grip) → gathered (ws ++ gs) ≡ with_grips ws (gathered gs)

@@ -7,6 +7,7 @@ use Rattle.std.proofs.lemmas.List.{length-map, get_or_past}
 use Rattle.std.proofs.lemmas.List.Elements.{All-get_or}
 use Rattle.std.proofs.lemmas.Bool.{cases_lt}
 use Rattle.std.proofs.lemmas.Option.{slice_get_within, get_or_from_slice_get}
+use Rattle.sect_types.specs.declared.limits.TheConstants.{MOST_ALL_LOCALS, MOST_FIELDS, MOST_GLOBALS, MOST_SITES}
 use Rattle.sect_types.specs.Lists.{Has}
 use Rattle.sect_types.proofs.Membership.{Has-left, Has-right}
 use Rattle.sect_types.specs.Programs.{ProgramView, IsWithinLimits, sites_of}
@@ -61,9 +62,10 @@ module _ {X Y : Type 0} (f : X → List Y) where
   length-thrice e (x ∷ xs) = let a = e x in let b = length-thrice e xs in
       omega (arith, a, b, length-append (f x) (flat_map f xs))
 
-  length-sixteen : ((x : X) → length (f x) ≡ 16) → (xs : List X) → length (flat_map f xs) ≡ 16 * length xs
-  length-sixteen e [] = refl
-  length-sixteen e (x ∷ xs) = let a = e x in let b = length-sixteen e xs in
+  length-by_fields : ((x : X) → length (f x) ≡ MOST_FIELDS) → (xs : List X)
+      → length (flat_map f xs) ≡ MOST_FIELDS * length xs
+  length-by_fields e [] = refl
+  length-by_fields e (x ∷ xs) = let a = e x in let b = length-by_fields e xs in
       omega (arith, a, b, length-append (f x) (flat_map f xs))
 
 -- the number of the record to whose objects a type refers
@@ -89,7 +91,7 @@ module _ (p : ProgramView) (t : ℕ) where
 
   -- the paths that go on from one by a field
   abbrev longer : PathView → List PathView
-  longer q = map (λ n. dot q (field_at (reach q) n)) (below 16)
+  longer q = map (λ n. dot q (field_at (reach q) n)) (below MOST_FIELDS)
 
   abbrev own_locals : List PathView
   own_locals = map (λ x. var (Local t x)) (below (length (slice_index_or p.locals t [])))
@@ -102,14 +104,15 @@ module _ (p : ProgramView) (t : ℕ) where
   paths (suc k) = bases ++ flat_map longer (paths k)
 
   module _ (limits : IsWithinLimits p) where
-    few_bases : length bases ≤ 4416
+    few_bases : length bases ≤ MOST_GLOBALS + MOST_ALL_LOCALS
     few_bases =
-        let locals : length (slice_index_or p.locals t []) ≤ 4160 =
+        let locals : length (slice_index_or p.locals t []) ≤ MOST_ALL_LOCALS =
         elim (cases_lt t (length p.locals)) [
-          | inl there ↦ All-get_or (λ (ts : List ValueType). length ts ≤ 4160) p.locals t [] there limits.few_locals
+          | inl there ↦
+              All-get_or (λ (ts : List ValueType). length ts ≤ MOST_ALL_LOCALS) p.locals t [] there limits.few_locals
           | inr past ↦ omega (arith, ap length (get_or_past p.locals t [] past))
         ] in
-        let globals : length p.globals ≤ 256 = limits.few_globals in
+        let globals : length p.globals ≤ MOST_GLOBALS = limits.few_globals in
         omega (
           arith,
           locals,
@@ -121,12 +124,14 @@ module _ (p : ProgramView) (t : ℕ) where
           length-below (length (slice_index_or p.locals t [])),
         )
 
-    sixteen : (q : PathView) → length (longer q) ≡ 16
-    sixteen q = length-map (below 16) (λ n. dot q (field_at (reach q) n))
+    one_by_field : (q : PathView) → length (longer q) ≡ MOST_FIELDS
+    one_by_field q = length-map (below MOST_FIELDS) (λ n. dot q (field_at (reach q) n))
 
-    more_paths : (k : ℕ) → length (paths (suc k)) ≤ 4416 + 16 * length (paths k)
-    more_paths k = let b = few_bases in
-        omega (arith, b, length-append bases (flat_map longer (paths k)), length-sixteen longer sixteen (paths k))
+    more_paths : (k : ℕ) → length (paths (suc k)) ≤ MOST_GLOBALS + MOST_ALL_LOCALS + MOST_FIELDS * length (paths k)
+    more_paths k =
+        let b = few_bases in
+        let l = length-by_fields longer one_by_field (paths k) in
+        omega (arith, b, l, length-append bases (flat_map longer (paths k)))
 
     few_paths : (k : ℕ) → k ≤ 3 → length (paths k) ≤ 19293504
     few_paths zero most = let b = few_bases in omega (arith, b)
@@ -150,9 +155,9 @@ module _ (p : ProgramView) (t : ℕ) where
         (Has-map (λ y. var (Local t y)) (below (length (slice_index_or p.locals t []))) x
         (Has-below (length (slice_index_or p.locals t [])) x within)))
 
-    few_in_record : (f : Field) → IsField p f → f.number < 16
+    few_in_record : (f : Field) → IsField p f → f.number < MOST_FIELDS
     few_in_record f there =
-        let few = All-get_or (λ (ts : List ValueType). length ts ≤ 16) p.records f.of []
+        let few = All-get_or (λ (ts : List ValueType). length ts ≤ MOST_FIELDS) p.records f.of []
         (slice_get_within p.records f.of there.0 there.1) limits.few_fields in
         omega (arith, there.2, few, ap length (get_or_from_slice_get p.records f.of there.0 [] there.1))
 
@@ -163,8 +168,8 @@ module _ (p : ProgramView) (t : ℕ) where
     has_path (suc k) (dot q f) r own to few =
         let here = has_path k q f.of own to.0 (omega (arith, few)) in
         let at : field_at (reach q) f.number ≡ f = ap (λ n. field_at n f.number) (reaches q f.of to.0) in
-        let goes = Has-map (λ n. dot q (field_at (reach q) n)) (below 16) f.number
-        (Has-below 16 f.number (few_in_record f (path_there p (dot q f) r to).1)) in
+        let goes = Has-map (λ n. dot q (field_at (reach q) n)) (below MOST_FIELDS) f.number
+        (Has-below MOST_FIELDS f.number (few_in_record f (path_there p (dot q f) r to).1)) in
         Has-right bases (flat_map longer (paths k)) (dot q f)
         (Has-flat_map longer (paths k) q (dot q f) here (subst (λ g. Has (longer q) (dot q g)) at goes))
 
@@ -201,7 +206,7 @@ module _ (s : SchemeView) (scheme : IsScheme s) (limits : IsWithinLimits s.progr
   few_own : length own_locks ≤ 4294967296
   few_own =
       let paths_few = few_paths s.program t limits s.most scheme.most in
-      let sites : length (sites_of s.program.globals s.program.texts) ≤ 1024 = limits.few_sites in
+      let sites : length (sites_of s.program.globals s.program.texts) ≤ MOST_SITES = limits.few_sites in
       let numbers : length s.classes.numbers ≡ length (sites_of s.program.globals s.program.texts) =
       scheme.parted.sites ∙ scheme.sites in
       omega (

@@ -1,7 +1,6 @@
 -- Why several workers refuse to compile a text.
 use Rattle.std.proofs.Common.{◌≡◌, ℕ, List, inl, inr, refl, arith}
-use Rattle.sect_names.specs.Schemes.{SchemeView}
-use Rattle.sect_names.specs.Sources.{IsAccepted, IsDue}
+use Rattle.sect_names.specs.Sources.{IsDue}
 use Rattle.sect_names.specs.declared.refusal.Refusal.{Refusal}
 use Rattle.sect_names.specs.declared.refusal.Refusal.TheVariants as refusal
 use Rattle.sect_infer.specs.Workers.{AreOffered, AreRefused}
@@ -36,9 +35,3 @@ source_due workers bytes k refusal.Memory offered due = (offered, due)
 source_due workers bytes k (refusal.Front f) offered due = (offered, λ e. cc, due)
 source_due workers bytes k (refusal.Types f) offered due = (offered, λ e. cc, due)
 source_due workers bytes k (refusal.Scheme f) offered due = (offered, λ e. cc, due)
-
--- want of memory is due of a text that is accepted
-pub memory_due : (workers : ℕ) (bytes : List ℕ) (k : ℕ) (s : SchemeView) → AreOffered workers → IsAccepted bytes k s
-    → IsDueBy workers bytes k fault.Memory
-memory_due workers bytes k s offered accepted =
-    (offered, (let few = accepted.scheme.most in omega (arith, few, accepted.most), tt))

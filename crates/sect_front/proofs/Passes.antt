@@ -3,13 +3,13 @@ use Rattle.std.proofs.Common.{◌≡◌, ℕ, List, [], ◌∷◌, ◌++◌, Som
 use Rattle.sect_front.specs.Syntax.{StatementView, BlockView, Primitive, If, IfElse, While, Atomic, Call, End, Then}
 use Rattle.sect_front.specs.TreeView.{TreeView}
 use Rattle.sect_front.specs.Trees.{append}
-use Rattle.sect_front.specs.Grammar.{operand_token, operator_token, comparison_token, kind_token}
+use Rattle.sect_front.specs.Grammar.{operand_token, comparison_token, kind_token}
 use Rattle.sect_front.specs.steps.Tokens.{primitive_tokens, test_tokens, more_operands, call_tokens, statement_tokens}
 use Rattle.sect_front.specs.steps.Tokens.{block_tokens, declarations_tokens, hints_tokens, record_tokens}
 use Rattle.sect_front.specs.steps.Tokens.{more_parameters, parameters_tokens, procedure_tokens, thread_tokens}
 use Rattle.sect_front.specs.steps.Tokens.{records_tokens, globals_tokens, procedures_tokens, threads_tokens}
 use Rattle.sect_front.specs.steps.Tokens.{source_tokens}
-use Rattle.sect_front.specs.steps.Advance.{operand_of, operator_of, comparison_of}
+use Rattle.sect_front.specs.steps.Advance.{operand_of, comparison_of}
 use Rattle.sect_front.specs.steps.ReaderView.{ReaderView, reading, among}
 use Rattle.sect_front.specs.steps.Read.{after}
 use Rattle.sect_front.specs.declared.token.Token.{Token}
@@ -51,11 +51,6 @@ operand_back : (v : Operand) → operand_of (operand_token v) ≡ Some v
 operand_back (operand.Number n) = refl
 operand_back (operand.Name n) = refl
 operand_back operand.Null = refl
-
-operator_back : (o : Operator) → operator_of (operator_token o) ≡ Some o
-operator_back operator.Add = refl
-operator_back operator.Subtract = refl
-operator_back operator.Multiply = refl
 
 comparison_back : (c : Comparison) → comparison_of (comparison_token c) ≡ Some c
 comparison_back comparison.Less = refl

@@ -5,6 +5,7 @@ use Rattle.std.specs.List.{list_all, flat_map}
 use Rattle.std.specs.Fmt.{decimal}
 use Rattle.std.proofs.Math.Seq.{take-append_seam}
 use Rattle.std.proofs.lemmas.Bool.Decides.{nat_tests}
+use Rattle.sect_front.specs.declared.limits.TheConstants.{MOST_BYTES, MOST_DEPTH}
 use Rattle.sect_front.specs.Words.{is_letter, is_digit, begins}
 use Rattle.sect_front.specs.Gaps.{is_blank, after_gap}
 use Rattle.sect_front.specs.TreeView.{TreeView}
@@ -270,9 +271,9 @@ spread_layout (t ∷ u ∷ w) h = ap (λ x. spelling_of t ++ separator t ∷ x) 
 pub record IsPrinted (tree : TreeView) (text : List ℕ) : Type 0 where
   pub layout : text ≡ layout_of (tokens_of tree)
   pub spells : IsTextOf text tree
-  pub reads_back : length text ≤ 1048576 → IsSpelled text tree
+  pub reads_back : length text ≤ MOST_BYTES → IsSpelled text tree
 
-printed_spread : (tree : TreeView) → list_all is_proper (tokens_of tree) ≡ true → depth tree ≤ 32
+printed_spread : (tree : TreeView) → list_all is_proper (tokens_of tree) ≡ true → depth tree ≤ MOST_DEPTH
     → IsPrinted tree (spread (tokens_of tree))
 printed_spread tree proper low =
     let list : List Token = tokens_of tree in
@@ -296,10 +297,5 @@ printed_spread tree proper low =
     }
 
 pub printed : (tree : TreeView) (text : List ℕ) → text ≡ spread (tokens_of tree)
-    → list_all is_proper (tokens_of tree) ≡ true → depth tree ≤ 32 → IsPrinted tree text
+    → list_all is_proper (tokens_of tree) ≡ true → depth tree ≤ MOST_DEPTH → IsPrinted tree text
 printed tree text e proper low = subst (IsPrinted tree) (sym e) (printed_spread tree proper low)
-
--- a tree without declarations has no tokens
-pub no_tokens : (tree : TreeView) →
-    (tree.records ≡ []) × (tree.globals ≡ []) × (tree.procedures ≡ []) × (tree.threads ≡ []) → tokens_of tree ≡ []
-no_tokens tree h = rw (h.0, h.1, h.2, h.3) refl

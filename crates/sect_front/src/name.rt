@@ -17,7 +17,7 @@ use std::marker::Model;
 /// A name, which is kept inline: its bytes, and zeros behind them.
 #[derive(Clone, Copy)]
 pub struct Name {
-    bytes: [u8; 32],
+    bytes: [u8; MOST_NAME_BYTES],
     len: usize,
 }
 

@@ -1,9 +1,16 @@
 //! The tree that a text spells.
 
-ghost use Rattle.std.specs.Prelude.{◌≡◌, ◌<◌, ◌≤◌, length, List, Err};
+ghost use Rattle.std.specs.Prelude.{◌≡◌, ◌<◌, ◌≤◌, length, List, Err, OnOk, IfErr};
 ghost use Rattle.sect_front.specs.Braces.{brace};
 ghost use Rattle.sect_front.specs.TokenAt.{TokenAt};
-ghost use Rattle.sect_front.specs.steps.Verdicts.{Reached, JudgesText, IsAnswerOf};
+ghost use Rattle.sect_front.specs.steps.Verdicts.{Reached, JudgesText, IsAnswerOf, IsReadFault};
+ghost use Rattle.sect_front.specs.steps.ReaderView.{reading, empty};
+ghost use Rattle.sect_front.specs.steps.Read.{finish_of};
+ghost use Rattle.sect_front.specs.declared.reader.Outside.TheVariants as Outside;
+ghost use Rattle.sect_front.specs.declared.reader.Part.TheVariants as Part;
+ghost use Rattle.sect_front.specs.declared.reading.ReadFault.TheVariants.{Unfinished};
+ghost use Rattle.sect_front.specs.Depth.{depth};
+ghost use Rattle.std.specs.Option.{ForSome, ok_or};
 
 use crate::lexer::{after_gap, behind, lexeme};
 use crate::limits::MOST_DEPTH;
@@ -55,11 +62,13 @@ fn unless_bad(bytes: &[u8], here: &[u8], fault: ReadFault) -> ReadFault
     fault
 }
 
-/// The tree of a text, or the first place at which there is none: a bad lexeme comes before all other faults.
-pub fn read(alloc: Global, bytes: &[u8]) -> Result<Tree, ReadFault>
-    ensures { JudgesText bytes.now result }
+/// Has a reader that begins take all tokens of a text, unless there is a fault.
+fn take_all(alloc: Global, bytes: &[u8], reader: &mut Reader) -> Result<(), ReadFault>
+    requires { reader.old ≡ reading empty (Outside.Between Part.Records) }
+    ensures ends { OnOk result (JudgesText bytes.now (ok_or (finish_of reader.new) Unfinished)) }
+    ensures shallow { OnOk result (ForSome (finish_of reader.new) (λ tree. depth tree ≤ MOST_DEPTH)) }
+    ensures fault { IfErr result (IsReadFault bytes.now) }
 {
-    let mut reader = Reader::new(alloc);
     let mut level = 0;
     let mut here = after_gap(bytes);
     while !here.is_empty() {
@@ -80,5 +89,14 @@ pub fn read(alloc: Global, bytes: &[u8]) -> Result<Tree, ReadFault>
             return Err(unless_bad(bytes, here, ReadFault::TooDeep(at)));
         }
     }
+    Ok(())
+}
+
+/// The tree of a text, or the first place at which there is none: a bad lexeme comes before all other faults.
+pub fn read(alloc: Global, bytes: &[u8]) -> Result<Tree, ReadFault>
+    ensures { JudgesText bytes.now result }
+{
+    let mut reader = Reader::new(alloc);
+    take_all(alloc, bytes, &mut reader)?;
     reader.finish().ok_or(ReadFault::Unfinished)
 }

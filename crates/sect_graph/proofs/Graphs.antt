@@ -2,7 +2,7 @@
 use Rattle.std.proofs.Common.{◌≡◌, ℕ, zero, suc, ◌+◌, ◌<◌, ◌≤◌, List, [], ◌∷◌, ◌++◌, map, drop, length, get_or, refl}
 use Rattle.std.proofs.Common.{sym, ap, ◌∙◌, subst, arith, Some, append_assoc}
 use Rattle.std.specs.Prelude.{slice_get}
-use Rattle.std.proofs.lemmas.List.{at_drop_more, append-nil, map-append, length-map, drop_all}
+use Rattle.std.proofs.lemmas.List.{append-nil, map-append, length-map, drop_all}
 use Rattle.std.proofs.lemmas.Option.{slice_get_within, get_or_from_slice_get}
 use Rattle.sect_types.proofs.Lists.{drop_next}
 use Rattle.sect_types.specs.Programs.{total_statements}
@@ -52,30 +52,6 @@ statements_at [] i d h = absurd (omega arith)
 statements_at (s ∷ xs) zero d h = omega (arith, statements_front s (statements_of xs))
 statements_at (s ∷ xs) (suc i) d h =
     omega (arith, statements_front s (statements_of xs), statements_at xs i d (omega arith))
-
-bodies_front : (s : Step) (rest : TextView) → section_bodies (step_then s rest) ≡ section_bodies (step_then s Stop)
-    ++ section_bodies rest
-bodies_front (step.Do a) rest = refl
-bodies_front (step.If t p q) rest =
-    rw (append-nil (section_bodies q)) (sym (append_assoc (section_bodies p) (section_bodies q) (section_bodies rest)))
-bodies_front (step.While t p) rest = rw (append-nil (section_bodies p)) refl
-bodies_front (step.Section i p) rest = refl
-
--- the graphs that are there and those to come, after one statement more
-pub put_more : (xs : List Step) (i : ℕ) (s : Step) (old new init : List (List Node)) → i < length xs → s ≡ get_or xs i s
-    → new ≡ old ++ map flow_nodes (section_bodies (step_then s Stop))
-    → old ++ map flow_nodes (section_bodies (statements_of (drop i xs))) ≡ init
-    → new ++ map flow_nodes (section_bodies (statements_of (drop (i + 1) xs))) ≡ init
-put_more xs i s old new init h is_s is_new before =
-    let rest = statements_of (drop (i + 1) xs) in
-    let left : section_bodies (statements_of (drop i xs)) ≡ section_bodies (step_then s Stop) ++ section_bodies rest =
-    at_drop_more (λ l. section_bodies (statements_of l)) xs i s h
-    ∙ ap (λ x. section_bodies (step_then x rest)) (sym is_s) ∙ bodies_front s rest in
-    let mine = map flow_nodes (section_bodies (step_then s Stop)) in
-    let others = map flow_nodes (section_bodies rest) in
-    let split : map flow_nodes (section_bodies (statements_of (drop i xs))) ≡ mine ++ others =
-    ap (map flow_nodes) left ∙ map-append flow_nodes (section_bodies (step_then s Stop)) (section_bodies rest) in
-    ap (λ l. l ++ others) is_new ∙ append_assoc old mine others ∙ ap (λ l. old ++ l) (sym split) ∙ before
 
 -- the bodies of all sections
 abbrev pub all_bodies : List TextView → List TextView

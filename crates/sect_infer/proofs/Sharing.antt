@@ -1,5 +1,5 @@
 -- Locks of sections that workers have found, put in their places.
-use Rattle.std.proofs.Common.{◌≡◌, ◌⊎◌, ℕ, zero, suc, ◌+◌, ◌<◌, List, [], ◌∷◌, ◌++◌, Option, Some, None, length}
+use Rattle.std.proofs.Common.{◌≡◌, ◌⊎◌, ℕ, zero, suc, ◌+◌, ◌<◌, List, [], ◌∷◌, ◌++◌, Option, Some, length}
 use Rattle.std.proofs.Common.{length-append, slice_get, slice_set, refl, sym, ap, ◌∙◌, subst, arith, inl, inr}
 use Rattle.std.proofs.lemmas.List.{length-set}
 use Rattle.sect_types.specs.Sections.{sections_of}
@@ -8,7 +8,7 @@ use Rattle.sect_types.proofs.Places.{pushed_at}
 use Rattle.sect_names.specs.Schemes.{SchemeView}
 use Rattle.sect_infer.specs.Sets.{LocksView, AreInferredAt}
 use Rattle.sect_infer.specs.declared.workers.SectionLocks.{SectionLocks}
-use Rattle.sect_infer.specs.steps.Sharing.{AreFound, AreInPlace, Handle, AreOf}
+use Rattle.sect_infer.specs.steps.Sharing.{AreFound, AreInPlace}
 
 -- the locks of so many sections
 pub record AreInferredBelow (s : SchemeView) (n : ℕ) (all : List LocksView) : Type 0 where
@@ -38,40 +38,14 @@ one_found s found x before within is = record {
   ];
 }
 
--- one worker more
-pub one_started : (s : SchemeView) (handles : List Handle) (h : Handle) → AreOf s handles → h.promise.scheme.now ≡ s
-    → AreOf s (handles ++ h ∷ [])
-one_started s handles h before is = record {
-  each = λ k x at. elim (pushed_at handles h x k at) [
-    | inl e ↦ subst (λ (z : Handle). z.promise.scheme.now ≡ s) e.1 is
-    | inr b ↦ before.each k x b
-  ];
-}
-
 -- none so far
 pub none_found : (s : SchemeView) → AreFound s []
 none_found s = record { each = λ k x at. absurd (none_or_some x at) }
-
-pub none_started : (s : SchemeView) → AreOf s []
-none_started s = record { each = λ k h at. absurd (none_or_some h at) }
 
 -- no place is filled
 pub record AreEmpty (n : ℕ) (places : List (Option LocksView)) : Type 0 where
   pub count : length places ≡ n
   pub each : (i : ℕ) (locks : LocksView) → slice_get places i ≡ Some (Some locks) → ⊥
-
-pub one_empty : (n : ℕ) (places : List (Option LocksView)) → AreEmpty n places → AreEmpty (n + 1) (places ++ None ∷ [])
-one_empty n places before = record {
-  count = (let e = before.count in omega (arith, e, length-append places (None ∷ [])));
-  each = λ i locks at. elim (pushed_at places None (Some locks) i at) [
-    | inl e ↦ none_or_some locks e.1
-    | inr h ↦ before.each i locks h
-  ];
-}
-
-pub empty_places : (s : SchemeView) (places : List (Option LocksView))
-    → AreEmpty (length (sections_of s.program.texts)) places → AreInPlace s places
-empty_places s places none = record { count = none.count; each = λ i locks at. absurd (none.each i locks at) }
 
 set_at : {X : Type 0} (xs : List X) (n : ℕ) (x : X) (i : ℕ) (y : X) → slice_get (slice_set xs n x) i ≡ Some y
     → ((i ≡ n) × (x ≡ y)) ⊎ (slice_get xs i ≡ Some y)

@@ -6,6 +6,7 @@ use Rattle.std.specs.Int.{bit_at}
 use Rattle.std.specs.List.{flat_map}
 use Rattle.std.proofs.lemmas.Bool.{cases_lt, cases_eq}
 use Rattle.std.proofs.lemmas.List.{get_or_past}
+use Rattle.sect_types.specs.declared.limits.TheConstants.{MOST_FIELDS}
 use Rattle.sect_types.specs.Lists.{Has}
 use Rattle.sect_types.proofs.Membership.{Has-left, Has-right, Has-cases}
 use Rattle.sect_points.specs.declared.holders.Fact.{Fact}
@@ -44,10 +45,11 @@ module _ (sets : PointsToView) where
   in_or_not : (h : Holder) (s : ℕ) → InSets sets h s ⊎ (InSets sets h s → ⊥)
   in_or_not (Local t x) s = cases_eq
       (bit_at (slice_index (slice_index_or (rows_of sets t) x no_sites).words (s / 64)) (s % 64)) 1
-  in_or_not (Slot o f) s = elim (cases_lt f 16) [
+  in_or_not (Slot o f) s = elim (cases_lt f MOST_FIELDS) [
     | inl few ↦
-        elim (cases_eq (bit_at (slice_index (slice_index_or sets.slots (o * 16 + f) no_sites).words (s / 64)) (s % 64))
-        1) [ inl e ↦ inl (few, e) | inr n ↦ inr (λ h. n h.1) ]
+        let words = (slice_index_or sets.slots (o * MOST_FIELDS + f) no_sites).words in
+        elim (cases_eq (bit_at (slice_index words (s / 64)) (s % 64)) 1)
+        [ inl e ↦ inl (few, e) | inr n ↦ inr (λ h. n h.1) ]
     | inr past ↦ inr (λ h. omega (arith, h.0, past))
   ]
 
@@ -55,7 +57,7 @@ module _ (sets : PointsToView) where
   locals_of t = map (Local t) (below (length (rows_of sets t)))
 
   abbrev slots_of : ℕ → List Holder
-  slots_of o = map (Slot o) (below 16)
+  slots_of o = map (Slot o) (below MOST_FIELDS)
 
   -- all holders that may hold something
   abbrev holders : List Holder
@@ -82,7 +84,7 @@ module _ (sets : PointsToView) where
   holder_there slots (Slot o f) s h =
       Has-right (flat_map locals_of (below (length sets.locals))) (flat_map slots_of (below sets.sites)) (Slot o f)
       (Has-flat_map slots_of (below sets.sites) o (Slot o f) (Has-below sets.sites o (slots o f s h))
-      (Has-map (Slot o) (below 16) f (Has-below 16 f h.0)))
+      (Has-map (Slot o) (below MOST_FIELDS) f (Has-below MOST_FIELDS f h.0)))
 
   -- the sets have just these facts
   pub facts_tell : AreBelow sets → AreSlotsOfSites sets → (h : Holder) (s : ℕ) → InSets sets h s ↔ Has facts (fact h s)

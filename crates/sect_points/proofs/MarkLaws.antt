@@ -1,7 +1,7 @@
 -- Laws of what grows and of what is moved on.
 use Rattle.std.proofs.Common.{◌≡◌, ℕ, ◌+◌, ◌<◌, ◌≤◌, ◌⊎◌, ◌↔◌, Bool, true, false, true≢false, ◌||◌, List, [], ◌∷◌}
 use Rattle.std.proofs.Common.{length, refl, sym, ap, ◌∙◌, subst, inl, inr, arith}
-use Rattle.std.proofs.Common.{◌++◌, take, get_or, ◌*◌, ◌/◌, ◌%◌}
+use Rattle.std.proofs.Common.{◌++◌, take, get_or, ◌/◌, ◌%◌}
 use Rattle.std.specs.Prelude.{slice_index}
 use Rattle.std.specs.Int.{bit_at}
 use Rattle.std.proofs.lemmas.Bool.{cases_eq, cases_lt}
@@ -26,93 +26,19 @@ use Rattle.sect_points.specs.Sets.{sets_room}
 use Rattle.sect_points.specs.steps.Solving.{FitsBase, FitsAction, AllFit}
 use Rattle.sect_points.specs.Sets.{AreBelow}
 use Rattle.sect_types.specs.declared.action.Field.{Field}
-use Rattle.sect_points.specs.steps.Marks.{IsUntouched, MissesBases, Marked, HasMark, IsMarkable, Suits, Grows, Grown}
+use Rattle.sect_points.specs.steps.Marks.{IsUntouched, MissesBases, Marked, HasMark, Suits, Grows, Grown}
 use Rattle.sect_points.specs.steps.Marks.{grown, GrewBy, Reads, ReadsValue, ReadsBase, ReadsGrowth, IsBase, AreBases}
 use Rattle.sect_points.specs.steps.Marks.{MovedBy, IsGrowth, Handles, Covers, IsThere, IsBaseAlone, IsOnlyBase}
-use Rattle.sect_points.specs.steps.Marks.{IsStretch, IsGoing, IsLeft, IsSpan, local_row, local_of}
-use Rattle.sect_points.specs.Rows.{RowHas}
+use Rattle.sect_points.specs.steps.Marks.{IsStretch, IsGoing, IsLeft, IsSpan}
 use Rattle.sect_points.proofs.SetLaws.{both_false, one_true, adds_as, spread_below, spread_more, spread_all}
 use Rattle.sect_points.proofs.SolvingLaws.{moved_more, moved_below, base_below, action_same}
 use Rattle.sect_points.specs.declared.holders.Holder.{Holder}
 use Rattle.sect_points.specs.declared.holders.Holder.TheVariants.{Local, Slot}
 
--- a local is known by its row of marks and by its place there
-local_same : (t x u y : ℕ) → x / 1024 < 5 → y / 1024 < 5 → local_row u y ≡ local_row t x → y % 1024 ≡ x % 1024
-    → Local u y ≡ Local t x
-local_same t x u y part other row at =
-    let thread : u ≡ t = omega (arith, part, other, row) in
-    let local : y ≡ x = omega (arith, part, other, row, at) in
-    ap (λ v. Local v y) thread ∙ ap (λ z. Local t z) local
-
--- the mark of a local is set
-pub local_marked : (old new : Marked) (t x : ℕ) (sites : List ℕ) → IsMarkable old (Local t x)
-    → ((other : ℕ) → HasSite sites other ↔ (other ≡ x % 1024))
-    → ((other site : ℕ) → RowHas new.locals other site
-    ↔ (RowHas old.locals other site ⊎ ((other ≡ local_row t x) × HasSite sites site)))
-    → new.fields ≡ old.fields → (h : Holder) → HasMark new h ↔ (HasMark old h ⊎ (h ≡ Local t x))
-local_marked old new t x sites place only join fields (Local u y) = (
-  λ m. elim ((join (local_row u y) (y % 1024)).0 m.1) [
-    | inl k ↦ inl (m.0, k)
-    | inr k ↦ inr (local_same t x u y place.0 m.0 k.0 ((only (y % 1024)).0 k.1))
-  ],
-  λ m. elim m [
-    | inl k ↦ (k.0, (join (local_row u y) (y % 1024)).1 (inl k.1))
-    | inr is ↦
-        let thread : u ≡ t = cc in
-        let local : y ≡ x = cc in (
-          subst (λ z. z / 1024 < 5) (sym local) place.0,
-          (join (local_row u y) (y % 1024)).1 (inr (
-            ap (λ v. local_row v y) thread ∙ ap (λ z. local_row t z) local,
-            (only (y % 1024)).1 (ap (λ z. z % 1024) local),
-          )),
-        )
-  ],
-)
-local_marked old new t x sites place only join fields (Slot o f) = (
-  λ m. inl (subst (λ rows. RowHas rows f o) fields m),
-  λ m. elim m [
-    | inl k ↦ subst (λ rows. RowHas rows f o) (sym fields) k
-    | inr is ↦ (let e : Slot o f ≡ Local t x = is in absurd cc)
-  ],
-)
-
--- the marks of a row of locals are taken away
-pub row_taken : (old new : Marked) (row : ℕ) (words : List ℕ)
-    → ((at : ℕ) → HasSite words at ↔ RowHas old.locals row at)
-    → ((other at : ℕ) → RowHas new.locals other at ↔ (RowHas old.locals other at × (other ≡ row → ⊥)))
-    → new.fields ≡ old.fields → (h : Holder) → HasMark old h
-    → HasMark new h ⊎ ((at : ℕ) × (h ≡ local_of row at) × HasSite words at)
-row_taken old new row words sites left fields (Local u y) m = elim (cases_eq (local_row u y) row) [
-  | inl same ↦
-      let thread : u ≡ row / 5 = omega (arith, m.0, same) in
-      let local : y ≡ row % 5 * 1024 + y % 1024 = omega (arith, m.0, same) in
-      inr (
-        y % 1024,
-        ap (λ v. Local v y) thread ∙ ap (λ z. Local (row / 5) z) local,
-        (sites (y % 1024)).1 (subst (λ r. RowHas old.locals r (y % 1024)) same m.1),
-      )
-  | inr apart ↦ inl (m.0, (left (local_row u y) (y % 1024)).1 (m.1, apart))
-]
-row_taken old new row words sites left fields (Slot o f) m = inl (subst (λ rows. RowHas rows f o) (sym fields) m)
-
 -- the places of sets that have the same
 pub place_back : (old new : PointsToView) (h : Holder) → SameHolders old new → HasSet new h → HasSet old h
 place_back old new (Local t x) same p = (omega (arith, same.locals, p.0), omega (arith, same.rows t, p.1))
 place_back old new (Slot o f) same p = (p.0, omega (arith, same.slots, p.1))
-
--- a holder's set is joined, and the holder marked where it grew
-pub add_marked : (old new : PointsToView) (k : Holder) (sites : List ℕ) (before after : Marked)
-    → Adds old new (sites_for k sites) true → Suits old before
-    → ((h : Holder) → HasMark after h ↔ (HasMark before h ⊎ (h ≡ k)))
-    → ((h : Holder) → IsMarkable before h → IsMarkable after h)
-    → Grows old new (sites_for k sites) before after true
-add_marked old new k sites before after a suits marks places = record {
-  adds = a;
-  marked = λ h s i. elim ((a.has h s).0 i) [ inl j ↦ inl j | inr j ↦ inr ((marks h).1 (inr j.0)) ];
-  keeps = λ h m. (marks h).1 (inl m);
-  same = λ e. absurd (true≢false e);
-  suits = λ h p. places h (suits h (place_back old new h a.places p));
-}
 
 pub add_none : (old new : PointsToView) (T : Family) (marks : Marked) → Adds old new T false → Suits old marks
     → Grows old new T marks marks false
@@ -327,23 +253,6 @@ untouched sets p (growth.Field f) new none before after grew-so sub h s m = inl 
     by (action.Store b g v) none m = absurd none
     by (action.Print v) none m = absurd none
 
--- a new base is one
-pub only_bases : (sets : PointsToView) (p : ThreadAction) (t x : ℕ) (new : List ℕ) → IsOnlyBase p (growth.Local t x)
-    → IsThere (growth.Local t x) new sets → AreBases (InSets sets) p new
-only_bases sets p t x new (same, alone) there o k = by p.action alone
-  where
-    at : (b : Base) → b ≡ base.Local x → BaseHas (InSets sets) p.thread b o
-    at b is = subst (λ c. BaseHas (InSets sets) p.thread c o) (sym is)
-        (subst (λ u. InSets sets (Local u x) o) (sym same) (there o k))
-
-    by : (a : Action) → IsBaseAlone a x → IsBase (InSets sets) p.thread a o
-    by (action.Assign y v) alone = absurd alone
-    by (action.Compute y v z w) alone = absurd alone
-    by (action.New y r i) alone = absurd alone
-    by (action.Load y b f) alone = at b alone
-    by (action.Store b f v) alone = at b alone.0
-    by (action.Print v) alone = absurd alone
-
 -- nothing is moved
 pub stretch_none : (list : List ThreadAction) (sets : PointsToView) (marks : Marked)
     → IsStretch list sets sets marks marks false
@@ -539,12 +448,6 @@ pub covers_alone : (sets : PointsToView) (p : ThreadAction) (g : Growth) (new ba
 covers_alone sets p (growth.Local t x) new bases only both = covers_new sets p t x new bases only both
 covers_alone sets p (growth.Field f) new bases only both = absurd only
 
-pub alone_bases : (sets : PointsToView) (p : ThreadAction) (g : Growth) (new bases : List ℕ) → IsOnlyBase p g
-    → ((o : ℕ) → HasSite bases o ↔ InBoth new new o) → IsThere g new sets → AreBases (InSets sets) p bases
-alone_bases sets p (growth.Local t x) new bases only both there o h =
-    only_bases sets p t x new only there o ((both o).0 h).0
-alone_bases sets p (growth.Field f) new bases only both there o h = absurd only
-
 pub there_after : (g : Growth) (words : List ℕ) (old new : PointsToView) → Within (InSets old) (InSets new)
     → IsThere g words old → IsThere g words new
 there_after (growth.Local t x) words old new more there = λ s h. more (Local t x) s (there s h)
@@ -593,17 +496,6 @@ local_here t x all before words sets moved moved' grew a is_all is_before is s h
       | inr zero ↦ inr (refl, (is s).1 ((is_all s).1 h, zero))
     ])
 
--- nothing new: all was moved on
-pub none_new : (t x : ℕ) (all before words : List ℕ) (sets moved : PointsToView) → ((s : ℕ) → HasSite words s → ⊥)
-    → ((s : ℕ) → HasSite all s ↔ InSets sets (Local t x) s) → ((s : ℕ) → HasSite before s ↔ InSets moved (Local t x) s)
-    → ((s : ℕ) → HasSite words s ↔ (HasSite all s × (HasSite before s → ⊥)))
-    → (s : ℕ) → InSets sets (Local t x) s → InSets moved (Local t x) s
-none_new t x all before words sets moved none is_all is_before is s h =
-    elim (cases_eq (bit_at (slice_index before (s / 64)) (s % 64)) 1) [
-      | inl one ↦ (is_before s).0 one
-      | inr zero ↦ absurd (none s ((is s).1 ((is_all s).1 h, zero)))
-    ]
-
 pub span_taken : (list : List ThreadAction) (old new : PointsToView) (marks0 marks1 marks2 : Marked) (grew : Bool)
     → ((h : Holder) → HasMark marks1 h → HasMark marks0 h) → IsStretch list old new marks1 marks2 grew
     → IsSpan old new marks0 marks2 grew
@@ -613,46 +505,6 @@ span_taken list old new marks0 marks1 marks2 grew fewer r = record {
   less = r.less;
   places = r.places;
 }
-
-pub gone_taken : (list : List ThreadAction) (old new : PointsToView) (before after : Marked) (grew : Bool) (k : Holder)
-    → IsStretch list old new before after grew → (HasMark before k → ⊥) → grew ≡ false → HasMark after k → ⊥
-gone_taken list old new before after grew k r none e h = none (subst (λ m. HasMark m k) (r.same e).1 h)
-
--- the next marked local is moved on
-pub left_more : (from x : ℕ) (at : ℕ → Holder) (words : List ℕ) (list : List ThreadAction)
-    (now new moved moved' : PointsToView) (before after : Marked) (grew : Bool) → IsNext (HasSite words) from x
-    → IsLeft now moved before (λ h. (y : ℕ) × (from ≤ y) × (h ≡ at y) × HasSite words y)
-    → IsStretch list now new before after grew
-    → Within (InSets moved) (InSets moved') → ((s : ℕ) → InSets now (at x) s → InSets moved' (at x) s)
-    → IsLeft new moved' after (λ h. (y : ℕ) × (x + 1 ≤ y) × (h ≡ at y) × HasSite words y)
-left_more from x at words list now new moved moved' before after grew next left r more here h s k =
-    elim (r.marked h s k) [
-      | inr m ↦ inr (inl m)
-      | inl old ↦ elim (left h s old) [
-        | inl j ↦ inl (more h s j)
-        | inr j ↦ elim j [
-          | inl m ↦ inr (inl (r.keeps h m))
-          | inr (y, le, is, has) ↦ elim (cases_eq y x) [
-            | inl same ↦ inl (subst (λ h. InSets moved' h s) (sym (is ∙ ap at same))
-                (here s (subst (λ h. InSets now h s) (is ∙ ap at same) old)))
-            | inr apart ↦ elim (cases_lt y x) [
-              | inl lt ↦ absurd (next.3 y le lt has)
-              | inr ge ↦ inr (inr (y, omega arith, is, has))
-            ]
-          ]
-        ]
-      ]
-    ]
-
--- past the last marked local
-pub left_all : (from : ℕ) (at : ℕ → Holder) (words : List ℕ) (now moved : PointsToView) (marks : Marked)
-    → ((y : ℕ) → from ≤ y → HasSite words y → ⊥)
-    → IsLeft now moved marks (λ h. (y : ℕ) × (from ≤ y) × (h ≡ at y) × HasSite words y)
-    → IsLeft now moved marks (λ h. ⊥)
-left_all from at words now moved marks none left h s k = elim (left h s k) [
-  | inl j ↦ inl j
-  | inr j ↦ elim j [ inl m ↦ inr (inl m) | inr (y, le, is, has) ↦ absurd (none y le has) ]
-]
 
 -- the field of the marked sites below n is moved on
 pub record IsTaking (n f : ℕ) (words : List ℕ) (sets old new : PointsToView) : Type 0 where

@@ -1,8 +1,8 @@
 -- TextView are found by what they read.
-use Rattle.std.proofs.Common.{◌≡◌, inl, inr, ℕ, zero, suc, ◌+◌, ◌<◌, ◌≤◌, List, [], ◌∷◌, ◌++◌, length}
-use Rattle.std.proofs.Common.{length-append, get_or, set, take, refl, sym, ◌∙◌, ap, subst, arith}
+use Rattle.std.proofs.Common.{◌≡◌, inl, inr, ℕ, zero, suc, ◌+◌, ◌<◌, List, [], ◌∷◌, ◌++◌, length}
+use Rattle.std.proofs.Common.{get_or, set, take, refl, sym, ◌∙◌, ap, subst, arith}
 use Rattle.std.specs.Prelude.{Result, Ok, Err, OnOk}
-use Rattle.std.proofs.lemmas.List.{take_more, take_all, get_or-set_other, get_or-set_same, length-set}
+use Rattle.std.proofs.lemmas.List.{take_more, get_or-set_other, get_or-set_same, length-set}
 use Rattle.std.proofs.lemmas.Bool.{cases_eq}
 use Rattle.sect_types.specs.Lists.{Has}
 use Rattle.sect_types.proofs.Membership.{Has-left, Has-right, Has-cases}
@@ -18,7 +18,7 @@ use Rattle.sect_points.specs.declared.holders.Growth.TheVariants as growth
 use Rattle.sect_points.specs.declared.holders.ThreadAction.{ThreadAction}
 use Rattle.sect_points.specs.steps.Marks.{Reads, ReadsValue, ReadsBase, ReadsGrowth, grown}
 use Rattle.sect_points.specs.steps.Readers.{local_row_of, field_row_of, row_of, value_rows, base_rows, rows_read}
-use Rattle.sect_points.specs.steps.Readers.{row_at, AreFiled, IsPut, AreNoRows}
+use Rattle.sect_points.specs.steps.Readers.{row_at, AreFiled, IsPut}
 
 -- a statement that reads a local or a field has the row of it
 value_reads : (t : ℕ) (v : Value) (u x : ℕ) → ReadsValue t v (Local u x) → Has (value_rows t v) (local_row_of u x)
@@ -131,19 +131,6 @@ put_there rows row p item lt is has = record {
   only = λ r q h. inl h;
 }
 
-pub put_then : (old mid new : List (List ThreadAction)) (xs ys : List ℕ) (p : ThreadAction) → IsPut old mid xs p
-    → IsPut mid new ys p → IsPut old new (xs ++ ys) p
-put_then old mid new xs ys p a b = record {
-  long = b.long ∙ a.long;
-  there = λ r h. (elim (Has-cases xs ys r h) [ inl k ↦ b.keeps r p (a.there r k) | inr k ↦ b.there r k ]);
-  keeps = λ r q h. b.keeps r q (a.keeps r q h);
-  only = λ r q h. (elim (b.only r q h) [ inl k ↦ a.only r q k | inr e ↦ inr e ]);
-}
-
--- no statement is filed, one more is, and all are
-pub filed_none : (rows : List (List ThreadAction)) → AreNoRows 4112 rows → AreFiled [] rows
-filed_none rows h = record { long = h.long; each = λ p has. absurd has; only = λ r p has. absurd (h.none r p has) }
-
 pub filed_more : (i : ℕ) (all : List ThreadAction) (p : ThreadAction) (old new : List (List ThreadAction))
     → i < length all → p ≡ get_or all i p → AreFiled (take i all) old → IsPut old new (rows_read p.thread p.action) p
     → AreFiled (take (i + 1) all) new
@@ -166,10 +153,6 @@ filed_more i all p old new lt is a b =
       ]);
     }
 
-pub filed_all : (i : ℕ) (all : List ThreadAction) (rows : List (List ThreadAction)) → length all ≤ i
-    → AreFiled (take i all) rows → AreFiled all rows
-filed_all i all rows past a = subst (λ l. AreFiled l rows) (take_all i all past) a
-
 -- one more row in which nothing stands
 none_more : (rows : List (List ThreadAction)) (p : ThreadAction) → ((r : ℕ) → Has (row_at rows r) p → ⊥) → (r : ℕ)
     → Has (row_at (rows ++ [] ∷ []) r) p → ⊥
@@ -177,13 +160,6 @@ none_more [] p none zero h = h
 none_more [] p none (suc r) h = h
 none_more (row ∷ rows) p none zero h = none 0 h
 none_more (row ∷ rows) p none (suc r) h = none_more rows p (λ k. none (suc k)) r h
-
-pub no_rows_more : (n : ℕ) (rows : List (List ThreadAction)) → AreNoRows n rows → AreNoRows (n + 1) (rows ++ [] ∷ [])
-no_rows_more n rows h = record {
-  long = omega (arith, h.long, length-append rows ([] ∷ []));
-  none =
-      λ r p. none_more rows p (λ k. h.none k p) r;
-}
 
 -- the row that was found
 pub row_found : (rows : List (List ThreadAction)) (k n : ℕ) (item out : List ThreadAction) → k ≡ n → k < length rows

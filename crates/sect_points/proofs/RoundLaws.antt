@@ -1,8 +1,8 @@
 -- Rounds over the marks, until nothing grows.
-use Rattle.std.proofs.Common.{◌≡◌, ℕ, ◌+◌, ◌*◌, ◌<◌, ◌≤◌, ◌↔◌, Bool, true, false, true≢false, ◌||◌, List, [], ◌∷◌}
+use Rattle.std.proofs.Common.{◌≡◌, ℕ, ◌+◌, ◌<◌, ◌≤◌, ◌↔◌, Bool, true, false, true≢false, ◌||◌, List, [], ◌∷◌}
 use Rattle.std.proofs.Common.{length, refl, sym, ap, ◌∙◌, subst, inl, inr, arith}
 use Rattle.std.proofs.Common.{◌++◌, take, get_or}
-use Rattle.std.proofs.lemmas.Bool.{cases_eq, cases_lt}
+use Rattle.std.proofs.lemmas.Bool.{cases_eq}
 use Rattle.std.proofs.lemmas.List.{take_more, take_all}
 use Rattle.sect_types.specs.Lists.{Has}
 use Rattle.sect_types.proofs.Membership.{Has-cases, Has-get_or}
@@ -19,9 +19,7 @@ use Rattle.sect_points.specs.steps.Marks.{Marked, HasMark, IsMarkable, Suits, Gr
 use Rattle.sect_points.specs.steps.Marks.{grown, IsBase}
 use Rattle.sect_points.specs.steps.Marks.{MovedBy}
 use Rattle.sect_points.specs.steps.Marks.{IsStretch, IsGoing, IsLeft, IsSpan}
-use Rattle.std.proofs.lemmas.List.{get_or_past}
-use Rattle.sect_points.specs.Rows.{RowHas}
-use Rattle.sect_points.proofs.SetLaws.{row_past, both_false, one_true}
+use Rattle.sect_points.proofs.SetLaws.{both_false, one_true}
 use Rattle.sect_points.proofs.SolvingLaws.{moved_more}
 use Rattle.sect_points.specs.declared.holders.Holder.{Holder}
 use Rattle.sect_points.specs.declared.holders.Holder.TheVariants.{Local, Slot}
@@ -106,26 +104,6 @@ rounding_slot t f list old now new moved moved' marks marks' grew second both r 
       | inl same ↦ gone n.1 o (subst (λ v. HasMark marks' (Slot o v)) same m)
       | inr apart ↦ r.slots n.0 o g (omega arith) (span.fewer n.1 (Slot o g) m)
     ])
-
--- where nothing grew, all has been moved on
-pub rounding_all : (t f : ℕ) (list : List ThreadAction) (old now moved : PointsToView) (marks : Marked)
-    → IsRounding t f list old now moved marks false → length old.locals * 5 ≤ t → 16 ≤ f
-    → Within (InSets now) (InSets moved)
-rounding_all t f list old now moved marks r few all (Slot o g) s k = elim (r.left (Slot o g) s k) [
-  | inl j ↦ j
-  | inr j ↦ elim j [ inl m ↦ absurd (r.slots refl o g (omega (arith, k.0)) m) | inr e ↦ absurd e ]
-]
-rounding_all t f list old now moved marks r few all (Local u x) s k = elim (r.left (Local u x) s k) [
-  | inl j ↦ j
-  | inr j ↦ elim j [
-    | inl m ↦ elim (cases_lt u (length now.locals)) [
-      | inl lt ↦ absurd (r.locals refl u x (omega (arith, lt, r.places.locals, few, m.0)) m)
-      | inr past ↦ absurd (row_past [] x s (omega arith)
-          (subst (λ rows. RowHas rows x s) (get_or_past now.locals u [] past) k))
-    ]
-    | inr e ↦ absurd e
-  ]
-]
 
 -- marks are taken
 pub going_taken : (list : List ThreadAction) (now moved : PointsToView) (before after : Marked)

@@ -9,6 +9,7 @@ use Rattle.std.proofs.lemmas.Nat.Bits.{bit_at_set_same, bit_at_set_other, bit_at
 use Rattle.std.proofs.lemmas.Nat.Bits.{bit_at_above, bit_at-lt, bit_at-zero, bit_at-trailing_zeros}
 use Rattle.std.proofs.lemmas.Nat.{le_or_l, shr-shr}
 use Rattle.std.proofs.lemmas.List.Sums.{sum_by-set}
+use Rattle.sect_points.specs.declared.sites.TheConstants.{WORDS}
 use Rattle.sect_points.specs.Sites.{HasSite, InBoth, IsNext, room}
 
 -- one more bit
@@ -60,16 +61,6 @@ pub record IsJoined (n : ℕ) (old other new : List ℕ) (grew : Bool) : Type 0 
   pub same : grew ≡ false → new ≡ old
   pub less : grew ≡ true → room new < room old
   pub most : room new ≤ room old
-
-pub none_joined : (old other : List ℕ) → IsJoined 0 old other old false
-none_joined old other = record {
-  done = λ k h. absurd (omega arith);
-  left = λ k h. refl;
-  long = refl;
-  same = λ e. refl;
-  less = λ e. absurd (true≢false (sym e));
-  most = omega arith;
-}
 
 -- the next word has nothing new
 pub joined_same : (n : ℕ) (old other new : List ℕ) (grew : Bool) → IsJoined n old other new grew
@@ -166,7 +157,7 @@ none_here words others from i skipped x is zero before site le lt both = elim (c
 pub next_found : (words others : List ℕ) (from i skipped x t : ℕ)
     → x ≡ bit_and (get_or words i 0) (get_or others i 0) / 2 ^ skipped → t ≡ trailing_zeros w64 x
     → get_or words i 0 < 2 ^ 64 → x < 2 ^ 64
-    → (x ≡ 0 → ⊥) → i < 16 → skipped < 64 → from ≤ i * 64 + skipped
+    → (x ≡ 0 → ⊥) → i < WORDS → skipped < 64 → from ≤ i * 64 + skipped
     → ((site : ℕ) → from ≤ site → site < i * 64 + skipped → InBoth words others site → ⊥)
     → IsNext (InBoth words others) from (i * 64 + skipped + t)
 next_found words others from i skipped x t is at fits small some lt few le before =
@@ -229,14 +220,14 @@ mapped_more f n w old new h within is = record {
   long = length-set new n w ∙ h.long;
 }
 
-pub both_sites : (words others new : List ℕ) (n : ℕ) → IsMapped (both words others) n words new → length words ≡ 16
-    → 16 ≤ n → (site : ℕ) → HasSite new site ↔ (HasSite words site × HasSite others site)
+pub both_sites : (words others new : List ℕ) (n : ℕ) → IsMapped (both words others) n words new → length words ≡ WORDS
+    → WORDS ≤ n → (site : ℕ) → HasSite new site ↔ (HasSite words site × HasSite others site)
 both_sites words others new n h long all site =
     let i = site / 64 in
     let b = site % 64 in
     let w = bit_at (get_or words i 0) b in
     let o = bit_at (get_or others i 0) b in
-    elim (cases_lt i 16) [
+    elim (cases_lt i WORDS) [
       | inl lt ↦
           let is : bit_at (get_or new i 0) b ≡ min w o = ap (λ x. bit_at x b) (h.done i (omega arith))
           ∙ bit_at_and (get_or words i 0) (get_or others i 0) b in (
@@ -255,14 +246,14 @@ both_sites words others new n h long all site =
     ]
 
 pub without_sites : (words others new : List ℕ) (n : ℕ) → IsMapped (without words others) n words new
-    → length words ≡ 16 → 16 ≤ n → ((k : ℕ) → k < 16 → get_or others k 0 < 2 ^ 64)
+    → length words ≡ WORDS → WORDS ≤ n → ((k : ℕ) → k < WORDS → get_or others k 0 < 2 ^ 64)
     → (site : ℕ) → HasSite new site ↔ (HasSite words site × (HasSite others site → ⊥))
 without_sites words others new n h long all small site =
     let i = site / 64 in
     let b = site % 64 in
     let w = bit_at (get_or words i 0) b in
     let o = bit_at (get_or others i 0) b in
-    elim (cases_lt i 16) [
+    elim (cases_lt i WORDS) [
       | inl lt ↦
           let is : bit_at (get_or new i 0) b ≡ min w (1 - o) = ap (λ x. bit_at x b) (h.done i (omega arith))
           ∙ bit_at_and (get_or words i 0) (bit_not w64 (get_or others i 0)) b

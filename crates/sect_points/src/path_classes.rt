@@ -15,9 +15,9 @@ ghost use Rattle.sect_points.specs.PathClasses.{ArePathClasses, KeepsClasses};
 
 use crate::holders::Variable;
 use crate::rows::Rows;
-use crate::sets::{MOST_FIELDS, PointsTo};
+use crate::sets::PointsTo;
 use crate::sites::SiteSet;
-use sect_types::{Field, MOST_SITES};
+use sect_types::{Field, MOST_FIELDS, MOST_SITES};
 use std::marker::Model;
 
 /// Points-to sets, and the classes of their sites: the finest partition that keeps together what one variable or one
@@ -130,7 +130,7 @@ fn field_sites(points: &PointsTo, bases: &SiteSet, field: u16) -> SiteSet
     ensures { (site : ℕ) → HasSite result.words site
         ↔ ((base : ℕ) × HasSite bases.now.words base × InSets points.now (Slot base field) site) }
 {
-    if field < MOST_FIELDS {
+    if field < MOST_FIELDS as u16 {
         points.gathered(bases, field)
     } else {
         SiteSet::new()

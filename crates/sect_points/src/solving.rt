@@ -17,9 +17,9 @@ ghost use Rattle.sect_points.specs.declared.holders.Holder.TheVariants.{Local, S
 use crate::holders::{Growth, Holder, ThreadAction};
 use crate::marks::{LOCAL_ROWS, Marks};
 use crate::readers::Readers;
-use crate::sets::{MOST_FIELDS, PointsTo};
+use crate::sets::PointsTo;
 use crate::sites::SiteSet;
-use sect_types::{Action, Base, MOST_SITES, MOST_THREADS, Value};
+use sect_types::{Action, Base, MOST_FIELDS, MOST_SITES, MOST_THREADS, Value};
 
 /// The sites of a value.
 fn value_sites(sets: &PointsTo, thread: u16, value: Value) -> SiteSet
@@ -336,7 +336,7 @@ fn round(sets: &mut PointsTo, moved: &mut PointsTo, readers: &Readers, marks: &m
     for row in 0..MOST_THREADS as u16 * LOCAL_ROWS {
         grew = carry_locals(sets, moved, readers, row, marks) || grew;
     }
-    for field in 0..MOST_FIELDS {
+    for field in 0..MOST_FIELDS as u16 {
         grew = carry_field(sets, moved, readers, field, marks) || grew;
     }
     grew

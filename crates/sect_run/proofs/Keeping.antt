@@ -1,6 +1,5 @@
 -- What a name of a run says of what the workers share.
-use Rattle.std.proofs.Common.{◌≡◌, ℕ, Option, Some, sym, ◌∙◌, ap, subst}
-use Rattle.sect_types.proofs.Basics.{some_injective}
+use Rattle.std.proofs.Common.{◌≡◌, ℕ, Option, Some, ◌∙◌, ap, subst}
 use Rattle.sect_emit.specs.Compiled.{CompiledView}
 use Rattle.sect_world.specs.declared.world.Moment.{Moment}
 use Rattle.sect_world.specs.Moments.{IsMoment, world_at}
@@ -12,9 +11,3 @@ pub kept : (named : Option CompiledView) (fuel : ℕ) (c : CompiledView) (w : Wo
     → w.compiled ≡ c → w.fuel ≡ fuel → IsMoment w.compiled m → world_at w.compiled m ≡ w → IsKept (Some m) named fuel
 kept named fuel c w m is of fuelled moment same =
     (c, is, subst (λ z. IsMoment z m) of moment, ap (λ (z : WorldView). z.fuel) same ∙ fuelled)
-
--- what is there is a moment of a run of the program that is named
-pub moment_of : (named : Option CompiledView) (fuel : ℕ) (c : CompiledView) (m : Moment) → IsKept (Some m) named fuel
-    → named ≡ Some c → IsMoment c m × (m.fuel ≡ fuel)
-moment_of named fuel c m k is =
-    let same : k.0 ≡ c = some_injective k.0 c (sym k.1 ∙ is) in (subst (λ z. IsMoment z m) same k.2, k.3)

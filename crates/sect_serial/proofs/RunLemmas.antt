@@ -1,5 +1,5 @@
 -- The run of a program by whole sections.
-use Rattle.std.proofs.Common.{true≢false, ◌≡◌, ◌<◌, ◌≤◌, ◌+◌, ℕ, ℤ, zero, suc, List, [], ◌∷◌, ◌++◌, Option, Some, None}
+use Rattle.std.proofs.Common.{true≢false, ◌≡◌, ◌<◌, ◌+◌, ℕ, ℤ, zero, suc, List, [], ◌∷◌, ◌++◌, Option, Some, None}
 use Rattle.std.proofs.Common.{Bool, true, false, refl, sym, ap, subst, ◌∙◌, arith, if◌then◌else◌, length, drop, add-one}
 use Rattle.std.proofs.Common.{append_assoc, length-append, slice_get, slice_set, slice_index_or}
 use Rattle.sect_types.specs.Statements.{TextView, Stop, Do, Choose, Loop, Section}
@@ -62,14 +62,6 @@ ran_section p t s f g r printed true le is h =
     (sym h.3)
 ran_section p t s f g r printed false le is h =
     ap (λ o. section_of_thread p t o s) (get_there t f s.frames le is) ∙ no_section p t (ahead p t f) s h
-
--- where there is no such thread
-pub no_thread : (p : ProgramView) (t : ℕ) (s : RunView) → length s.frames ≤ t → run_section p t s ≡ None
-no_thread p t s le = ap (λ o. section_of_thread p t o s) (past t s.frames le) where
-  past : (n : ℕ) (fs : List FrameView) → length fs ≤ n → slice_get fs n ≡ None
-  past n [] le = refl
-  past zero (f ∷ fs) le = absurd (omega (arith, le))
-  past (suc n) (f ∷ fs) le = past n fs (omega (arith, le))
 
 -- one of the ready frames is ready for its own thread, where the first is that of thread k
 ready_get_from : (p : ProgramView) (k n : ℕ) (f : FrameView) (fs : List FrameView) → n < length fs

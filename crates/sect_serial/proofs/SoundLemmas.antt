@@ -6,10 +6,7 @@ use Rattle.sect_types.specs.declared.action.Action.TheVariants as action
 use Rattle.sect_types.specs.Environments.{Environment}
 use Rattle.sect_types.specs.Statements.{TextView, Stop, Do, Choose, Loop, Section, joined}
 use Rattle.sect_types.specs.Programs.{ProgramView}
-use Rattle.sect_types.specs.Texts.{step_then}
 use Rattle.sect_types.specs.Sound.{IsSound, StandsRight}
-use Rattle.sect_types.specs.declared.text.Step.{Step}
-use Rattle.sect_types.specs.declared.text.Step.TheVariants as step
 use Rattle.sect_types.specs.declared.store.Datum.TheVariants.{Number}
 use Rattle.sect_types.specs.declared.store.Fault.{Fault}
 use Rattle.sect_types.specs.declared.store.Fault.TheVariants as fault
@@ -21,7 +18,7 @@ use Rattle.sect_types.specs.Meaning.{taken, next, is_true, begins_step}
 use Rattle.sect_types.specs.Whole.{Left, Broken, body_of, FrameView, settled, failed, frame_after, begins_section}
 use Rattle.sect_types.specs.Whole.{has_ended, is_standing, ahead}
 use Rattle.sect_serial.specs.steps.Moves.{Stepped, stepped, stepped_by}
-use Rattle.sect_serial.specs.steps.Rests.{is_stop, Begins, after_first}
+use Rattle.sect_serial.specs.steps.Rests.{is_stop}
 use Rattle.sect_serial.specs.steps.Frames.{IsReady}
 use Rattle.sect_types.proofs.RunningAhead.{LeavesFuel, done_leaves, ahead_after_local}
 use Rattle.sect_types.proofs.BodySteps.{left_after, step_keeps}
@@ -103,29 +100,6 @@ pub left_stepped : (p : ProgramView) (t : ℕ) (k : TextView) (w : WorkView) (s 
     → body_of p t k w s ≡ left_now p t l v r f
 left_stepped p t k w s l v r f e =
     step_keeps p t k w s ∙ left_alike p t k s (next p t k (found_at s (looks k w)) w) ∙ ap (left_from p t) (sym e)
-
--- in a section there is no section
-pub steps_inside : (e : Environment) (k : TextView) → IsSound e true k → is_stop k ≡ false → begins_step k ≡ true
-steps_inside e Stop h n = absurd (true≢false n)
-steps_inside e (Do a k) h n = refl
-steps_inside e (Choose c p q k) h n = refl
-steps_inside e (Loop c p k) h n = refl
-steps_inside e (Section i p k) h n = absurd (true≢false h.0)
-
--- where a first statement was found, some are left
-pub begins_some : (o : Option Step) (k : TextView) → is_some o ≡ true → Begins o k → is_stop k ≡ false
-begins_some None k e h = absurd (true≢false (sym e))
-begins_some (Some s) k e h = ap is_stop h ∙ by s where
-  by : (s : Step) → is_stop (step_then s (after_first k)) ≡ false
-  by (step.Do a) = refl
-  by (step.If t p q) = refl
-  by (step.While t p) = refl
-  by (step.Section i p) = refl
-
--- where none was found, none is left
-pub begins_none : (o : Option Step) (k : TextView) → is_some o ≡ false → Begins o k → k ≡ Stop
-begins_none None k e h = h
-begins_none (Some s) k e h = absurd (true≢false e)
 
 -- outside a section a statement looks into no object
 pub looks_local : (e : Environment) (k : TextView) (w : WorkView) → IsSound e false k → looks k w ≡ None

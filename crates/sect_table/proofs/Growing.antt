@@ -256,9 +256,6 @@ held_from-empty chain t (suc n) none = ap (λ z. z ∷ held_from chain (suc t) n
 abbrev pub AreEmpty : List (List ℕ) → Type 0
 AreEmpty lists = (l : ℕ) → list_at lists l ≡ []
 
-pub empty_push : (lists : List (List ℕ)) → AreEmpty lists → AreEmpty (lists ++ [] ∷ [])
-empty_push lists e = λ l. padded lists l ∙ e l
-
 -- an arena of empty lists
 pub arena_fresh : (nodes : List Grant) (keys : List Key) (threads : ℕ) (q c : Shape) → nodes ≡ [] → keys ≡ []
     → q.size ≡ 0 → c.size ≡ 0 → length q.lists ≡ 1 → length q.lists < 2 ^ 60 → length c.lists ≡ threads + threads + 1

@@ -460,16 +460,6 @@ after_is links ends x k a lt is_k lists same l before later below is =
     ap (λ (z : Link). z.next) (get_or_read links x k lt is_k _)
     ∙ run_after links l None before x later (subst (λ q. Run links l None q None) is L.run)
 
-pub first_within : (links : List Link) (ends : List Ends) (l : ℕ) → AreLists links ends (lists_of links ends) None
-    → l < length ends → (x : ℕ) → (ends_at ends l).first ≡ Some x → x < length links
-first_within links ends l a lt x is =
-    let L : IsList links l (ends_at ends l) (list_at (lists_of links ends) l) = a.each l lt in
-    go (list_at (lists_of links ends) l) L.run (sym L.first ∙ is)
-  where
-    go : (xs : List ℕ) → Run links l None xs None → head_or xs None ≡ Some x → x < length links
-    go [] r h = absurd (let no_number : None ≡ Some x = h in cc)
-    go (y ∷ ys) r h = let same : y ≡ x = (cc) in subst (λ z. z < length links) same r.0
-
 next_within : (links : List Link) (l x : ℕ) (p : Option ℕ) (xs : List ℕ) → Run links l p xs None → Among x xs
     → IfSome ((link_at links x).next) (λ y. y < length links)
 next_within links l x p [] r h = absurd h

@@ -1,21 +1,20 @@
 -- How far an expansion has come, statement by statement.
 use Rattle.std.proofs.Common.{◌≡◌, ℕ, zero, suc, ◌+◌, ◌*◌, ◌<◌, ◌≤◌, List, [], ◌∷◌, ◌++◌, map, drop, get_or}
-use Rattle.std.proofs.Common.{Option, Some, None, refl, sym, ◌∙◌, ap, arith, subst, length, append_assoc, slice_get}
+use Rattle.std.proofs.Common.{Some, None, refl, sym, ◌∙◌, ap, arith, subst, length, append_assoc, slice_get}
 use Rattle.std.proofs.lemmas.List.{drop_all, append-nil}
 use Rattle.std.proofs.Common.{length-append}
 use Rattle.sect_front.specs.declared.tree.Declaration.{Declaration}
 use Rattle.sect_front.specs.declared.tree.Operand.{Operand}
 use Rattle.sect_front.specs.declared.tree.Procedure.{Procedure}
-use Rattle.sect_front.specs.declared.tree.Primitive as leaf
-use Rattle.sect_front.specs.declared.tree.Locking.{Locking}
 use Rattle.sect_front.specs.declared.tree.Test.{Test}
 use Rattle.sect_front.specs.declared.tree.Statement.{Statement}
-use Rattle.sect_front.specs.Syntax.{StatementView, Primitive, IfElse, Atomic, Call, BlockView, End, Then}
+use Rattle.sect_front.specs.Syntax.{StatementView, IfElse, Call, BlockView, End, Then}
 use Rattle.sect_front.specs.Trees.{statement_of, block_of, block_size}
+use Rattle.sect_types.specs.declared.limits.TheConstants.{MOST_ALL_LOCALS, MOST_CALLS}
 use Rattle.sect_types.specs.declared.expand.Fresh.{Fresh}
 use Rattle.sect_types.specs.declared.sums.Sums.{Sums}
 use Rattle.sect_types.specs.Items.{variables}
-use Rattle.sect_types.specs.Sums.{sums_within, block_sums, sums_at, number_of, primitive_sums, nothing}
+use Rattle.sect_types.specs.Sums.{sums_within, block_sums, sums_at, number_of}
 use Rattle.sect_types.specs.Statements.{TextView, Stop, Choose, joined}
 use Rattle.sect_types.specs.declared.action.Condition.{Condition}
 use Rattle.sect_types.specs.Resolve.{test_of}
@@ -25,15 +24,13 @@ use Rattle.sect_types.specs.Expanded.{Scene, expand_within, set_parameters, clea
 use Rattle.sect_types.specs.Expanded.{block_fresh, fresh_of, fresh_within}
 use Rattle.sect_types.specs.steps.Expanding.{SettingView, FrontView, Fits, front_past_statement, front_past_block}
 use Rattle.sect_types.specs.steps.Expanding.{expanded_there, block_there, IsFront, most_size, tree_of, AreFlat}
-use Rattle.sect_types.specs.steps.Expansion.{Appends, table_by, view_of}
+use Rattle.sect_types.specs.steps.Expansion.{Appends, view_of}
 use Rattle.sect_types.specs.Sight.{Sight, names_of_declared}
 use Rattle.sect_types.specs.Rules.{sight}
-use Rattle.sect_front.specs.TreeView.{TreeView}
 use Rattle.std.specs.Option.{option_map}
 use Rattle.std.proofs.lemmas.Option.{slice_get-map}
 use Rattle.sect_types.specs.steps.Threads.{VariablesView, variables_shown}
 use Rattle.sect_types.proofs.Lists.{drop_next}
-use Rattle.sect_types.proofs.CountLaws.{primitive_comes}
 use Rattle.sect_types.proofs.Writing.{called, statement_follows, call_by_parts, alone, either_written}
 
 -- two fronts of the same parts
@@ -44,40 +41,6 @@ front_same a b e f g h i = λ j. record {
   calls = h j;
   fresh = i j;
 }
-
--- past a statement without a block
-pub primitive_front : (w : SettingView) (n : ℕ) (f new : FrontView) (s : StatementView) (p : leaf.Primitive)
-    → s ≡ Primitive p
-    → new ≡ record f { at = record f.at { sites = f.at.sites + (primitive_sums p).sites } }
-    → new ≡ front_past_statement w n f s
-primitive_front w n f new s p e h =
-    h ∙ front_same (record f { at = record f.at { sites = f.at.sites + (primitive_sums p).sites } })
-    (front_past_statement w n f (Primitive p)) refl (omega arith)
-    (omega (arith, ap (λ (x : Sums). x.fresh) (primitive_comes p)))
-    (omega (arith, ap (λ (x : Sums). x.calls) (primitive_comes p)))
-    (sym (append-nil f.fresh))
-    ∙ ap (front_past_statement w n f) (sym e)
-
--- past an `if` with two branches
-pub either_front : (w : SettingView) (n : ℕ) (f one new : FrontView) (s : StatementView) (t : Test) (a b : BlockView)
-    → s ≡ IfElse t a b → one ≡ front_past_block w n f a → new ≡ front_past_block w n one b
-    → new ≡ front_past_statement w n f s
-either_front w n f one new s t a b e h g =
-    g ∙ ap (λ x. front_past_block w n x b) h
-    ∙ front_same (front_past_block w n (front_past_block w n f a) b) (front_past_statement w n f (IfElse t a b))
-    (omega arith) (omega arith) (omega arith) (omega arith)
-    (append_assoc f.fresh _ _)
-    ∙ ap (front_past_statement w n f) (sym e)
-
--- past a section
-pub section_front : (w : SettingView) (n : ℕ) (f one new : FrontView) (s : StatementView) (l : Locking) (b : BlockView)
-    → s ≡ Atomic l b → one ≡ record f { at = record f.at { sections = f.at.sections + 1 } }
-    → new ≡ front_past_block w n one b → new ≡ front_past_statement w n f s
-section_front w n f one new s l b e h g =
-    g ∙ ap (λ x. front_past_block w n x b) h
-    ∙ front_same (front_past_block w n (record f { at = record f.at { sections = f.at.sections + 1 } }) b)
-    (front_past_statement w n f (Atomic l b)) refl (omega arith) refl refl refl
-    ∙ ap (front_past_statement w n f) (sym e)
 
 -- past the first statement of a block
 then_front : (w : SettingView) (n : ℕ) (f : FrontView) (s : StatementView) (b : BlockView)
@@ -172,45 +135,6 @@ nothing_numbered : (w : SettingView) (n : ℕ) (f : FrontView) → fresh_within 
 nothing_numbered w zero f = refl
 nothing_numbered w (suc n) f = refl
 
-pub no_procedure : (w : SettingView) (n : ℕ) (f : FrontView) (x : List ℕ) (vs : List Operand)
-    → number_of w.procedures x ≡ None → f ≡ front_past_statement w n f (Call x vs)
-no_procedure w n f x vs e =
-    let s : Sums = sums_at (sums_within n w.procedures) (number_of w.procedures x) in
-    let none = ap (sums_at (sums_within n w.procedures)) e in
-    front_same f (front_past_statement w n f (Call x vs)) (omega (arith, ap (λ (y : Sums). y.sites) none)) (omega arith)
-    (omega (arith, ap (λ (y : Sums). y.fresh) none)) (omega (arith, ap (λ (y : Sums). y.calls) none))
-    (sym (append-nil f.fresh) ∙ ap (λ l. f.fresh ++ l) (sym (nothing_numbered w n f))
-    ∙ ap (λ o. f.fresh ++ fresh_within n w.procedures o f.calls) (sym e))
-
-nothing_deep : (t : TreeView) (o : Option ℕ) → sums_at (table_by t 0) o ≡ nothing
-nothing_deep t None = refl
-nothing_deep t (Some q) = refl
-
-pub no_depth : (w : SettingView) (n : ℕ) (f : FrontView) (x : List ℕ) (vs : List Operand) → n ≡ 0
-    → f ≡ front_past_statement w n f (Call x vs)
-no_depth w n f x vs e =
-    let none = nothing_deep (tree_of w []) (number_of w.procedures x) in
-    front_same f (front_past_statement w 0 f (Call x vs)) (omega (arith, ap (λ (y : Sums). y.sites) none)) (omega arith)
-    (omega (arith, ap (λ (y : Sums). y.fresh) none)) (omega (arith, ap (λ (y : Sums). y.calls) none))
-    (sym (append-nil f.fresh))
-    ∙ ap (λ m. front_past_statement w m f (Call x vs)) (sym e)
-
-not_called : (w : SettingView) (n : ℕ) (v : Scene) (f : FrontView) (vs : List Operand) (k : TextView)
-    → expand_within n w.records w.globals w.procedures None v f.at vs k ≡ k
-not_called w zero v f vs k = refl
-not_called w (suc n) v f vs k = refl
-
-pub no_procedure_text : (w : SettingView) (n : ℕ) (v : Scene) (f : FrontView) (x : List ℕ) (vs : List Operand)
-    (text : TextView) → number_of w.procedures x ≡ None → Appends text text (expanded_there w n v f (Call x vs))
-no_procedure_text w n v f x vs text e k =
-    ap (joined text) (sym (not_called w n v f vs k))
-    ∙ ap (λ o. joined text (expand_within n w.records w.globals w.procedures o v f.at vs k)) (sym e)
-
-pub no_depth_text : (w : SettingView) (n : ℕ) (v : Scene) (f : FrontView) (x : List ℕ) (vs : List Operand)
-    (text : TextView)
-    → n ≡ 0 → Appends text text (expanded_there w n v f (Call x vs))
-no_depth_text w n v f x vs text e k = ap (λ m. joined text (expanded_there w m v f (Call x vs) k)) (sym e)
-
 -- what a call comes to
 record CallIs (w : SettingView) (n most : ℕ) (f : FrontView) (x : List ℕ) (p : Procedure) : Type 0 where
   sites_are : (sums_at (sums_within most w.procedures) (number_of w.procedures x)).sites
@@ -264,8 +188,8 @@ call_front w n most f two new x vs q p ds flat e g h i j k =
 -- a call that fits: its body does, and its variables
 pub record CallFits (w : SettingView) (n : ℕ) (f two : FrontView) (p : Procedure) : Type 0 where
   pub body_fits : Fits (front_past_block w n two p.body)
-  pub few_own : f.at.fresh + (length p.parameters + length p.locals) ≤ 4160
-  pub few_before : f.calls < 4096
+  pub few_own : f.at.fresh + (length p.parameters + length p.locals) ≤ MOST_ALL_LOCALS
+  pub few_before : f.calls < MOST_CALLS
 
 pub call_fits : (w : SettingView) (n most : ℕ) (f two : FrontView) (x : List ℕ) (vs : List Operand) (q : ℕ)
     (p : Procedure)

@@ -151,10 +151,6 @@ least_law false r o m = refl
 least_law true true o m = refl
 least_law true false o m = refl
 
--- the rule of types doesn't depend on the site
-pub any_site : (s : Sight) (m n : ℕ) (p : leaf.Primitive) → rule_in (primitive_of s m p) ≡ rule_in (primitive_of s n p)
-any_site s m n p = primitive_law s m p ∙ sym (primitive_law s n p)
-
 -- what a statement without a block passes is so many
 full_law : (d : Declared) (c : Counts) (s : Sight) (at : Place) (p : leaf.Primitive)
     → passes_limit d c s at (PrimitiveHead p) ≡ full_for c p

@@ -19,9 +19,6 @@ use Rattle.sect_types.proofs.Replaced.{put_same, put_other, length-put_at, at-pu
 use Rattle.sect_types.proofs.EnoughLaws.{or_cases, or_left, or_right, same, there, calls_there}
 use Rattle.sect_types.proofs.ReachLaws.{returns_caller, closed_returns}
 
-false_some : {x : Bool} → Some false ≡ Some x → x ≡ true → ⊥
-false_some {x} e h = absurd cc
-
 -- one mark more
 marks_put : (n : ℕ) (bs : List Bool) → slice_get bs n ≡ Some false → marks (put_at n true bs) ≡ marks bs + 1
 marks_put n [] e = absurd cc

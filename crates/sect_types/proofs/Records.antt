@@ -4,6 +4,7 @@ use Rattle.std.proofs.Common.{append_assoc, length-append, arith, Bool, true, �
 use Rattle.std.proofs.lemmas.Bool.Decides.{nat_tests}
 use Rattle.sect_types.proofs.Lists.{drop_next}
 use Rattle.sect_front.specs.declared.tree.Record.{Record}
+use Rattle.sect_types.specs.declared.limits.TheConstants.{MOST_FIELDS, MOST_RECORDS}
 use Rattle.sect_types.specs.declared.rule.Fault.{Fault}
 use Rattle.sect_types.specs.declared.rule.Fault.TheVariants as fault
 use Rattle.sect_types.specs.Sight.{names_of_records, names_of_declared, all_fields}
@@ -26,7 +27,8 @@ pub go_on : (d : Declared) (all rs : List Record) (i : ℕ) (r : Record) (names 
     → new ≡ names ++ r.name ∷ []
     → more ≡ fields ++ names_of_declared r.fields ∷ []
     → then.sites ≡ now.sites
-    → length names < 64 → length r.fields ≤ 16 → all_known (names_of_records d.records) r.fields ≡ true
+    → length names < MOST_RECORDS → length r.fields ≤ MOST_FIELDS
+    → all_known (names_of_records d.records) r.fields ≡ true
     → AreRecords d all (drop (i + 1) rs) new more old then
 go_on d all rs i r names new fields more old now then h e so_far step named with_fields sites few few_fields known =
     record {
@@ -47,8 +49,8 @@ go_on d all rs i r names new fields more old now then h e so_far step named with
           so_far.fine
           ∙ (ap (fields_fine (names_of_records d.records)) at
           ∙ ap (λ b. b && fields_fine (names_of_records d.records) rest)
-          (both_true (all_known (names_of_records d.records) r.fields) (nat_le (length r.fields) 16) known
-          (at_most (length r.fields) 16 few_fields)));
+          (both_true (all_known (names_of_records d.records) r.fields) (nat_le (length r.fields) MOST_FIELDS) known
+          (at_most (length r.fields) MOST_FIELDS few_fields)));
     }
   where
     rest : List Record

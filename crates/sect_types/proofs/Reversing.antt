@@ -111,12 +111,6 @@ one_reversed n ps callers all i q row lt at calls there is so_far = record {
     next : take (i + 1) all ≡ take i all ++ q ∷ []
     next = take_more all i 0 lt ∙ ap (λ z. take i all ++ z ∷ []) (sym at)
 
-pub none_reversed : (n : ℕ) (ps : List Procedure) (callers : List (List ℕ)) (all : List ℕ)
-    → AreCallersBefore n ps callers
-    → AreReversed n ps callers (take 0 all)
-none_reversed n ps callers all h =
-    record { before = h; own = λ q k. absurd (let off : false ≡ true = k in cc) }
-
 -- once all that procedure n calls have been gone through
 pub all_reversed : (n : ℕ) (ps : List Procedure) (callers : List (List ℕ)) (all : List ℕ) (i : ℕ) → length all ≤ i
     → all ≡ calls_in ps (slice_get ps n) → AreReversed n ps callers (take i all) → AreCallersBefore (n + 1) ps callers

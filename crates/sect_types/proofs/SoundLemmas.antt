@@ -1,6 +1,6 @@
 -- What is typed is sound by number.
-use Rattle.std.proofs.Common.{◌≡◌, ℕ, nat_eq, Bool, true, false, not, ◌&&◌, List, map, Option, Some, None, Ok, IfOk}
-use Rattle.std.proofs.Common.{IfSome, slice_get, refl, sym, ap, ◌∙◌, true≢false, arith, subst, ◌<◌, cond, nat_lt}
+use Rattle.std.proofs.Common.{◌≡◌, ℕ, nat_eq, Bool, true, false, not, ◌&&◌, List, map, Option, Some, None, IfOk}
+use Rattle.std.proofs.Common.{IfSome, slice_get, refl, sym, ap, ◌∙◌, true≢false, arith, ◌<◌, cond, nat_lt}
 use Rattle.std.proofs.Common.{length, ◌⊎◌, inl, inr}
 use Rattle.std.proofs.lemmas.List.{length-map}
 use Rattle.std.specs.Bool.{⊤}
@@ -374,23 +374,12 @@ pub test_sound : (s : Sight) (t : Test) → IfOk (test_of s t) (IsSoundCondition
 test_sound s t = condition_sound s (operand_of s t.left) t.comparison (operand_of s t.right) (operand_there s t.left)
     (operand_there s t.right)
 
-pub test_stands : (s : Sight) (t : Test) (c : Condition) → test_of s t ≡ Ok c → IsSoundCondition (environment s) c
-test_stands s t c e = subst (λ r. IfOk r (IsSoundCondition (environment s))) e (test_sound s t)
-
 -- an action that touches shared things only in a section stands right
 stands : (e : Environment) (b inside : Bool) (a : Action) → Fits e b a → ((b ≡ true) × (inside ≡ true)) ⊎ (b ≡ false)
     → IsSound e inside (Do a Stop)
 stands e b true a (sound, same) h = (sound, tt, tt)
 stands e b false a (sound, same) (inr h) = (sound, same ∙ h, tt)
 stands e b false a (sound, same) (inl (h, g)) = absurd (true≢false (sym g))
-
-pub primitive_stands : (s : Sight) (site : ℕ) (p : leaf.Primitive) (shared inside : Bool) (a : Action)
-    → primitive_of s site p ≡ Ok a → shared ≡ shares (PrimitiveHead p)
-    → ((shared ≡ true) × (inside ≡ true)) ⊎ (shared ≡ false) → IsSound (environment s) inside (Do a Stop)
-primitive_stands s site p shared inside a e same h =
-    stands (environment s) shared inside a
-    (subst (λ b. Fits (environment s) b a) (sym same)
-    (subst (λ r. IfOk r (Fits (environment s) (shares (PrimitiveHead p)))) e (primitive_sound s site p))) h
 
 -- statements that are sound, one after another, are sound
 pub joined_sound : (e : Environment) (inside : Bool) (a b : TextView) → IsSound e inside a → IsSound e inside b

@@ -10,6 +10,7 @@ use Rattle.sect_front.specs.declared.tree.Declaration.{Declaration}
 use Rattle.sect_front.specs.declared.tree.Procedure.{Procedure}
 use Rattle.sect_front.specs.declared.tree.Thread.{Thread}
 use Rattle.sect_front.specs.TreeView.{TreeView}
+use Rattle.sect_types.specs.declared.limits.TheConstants.{MOST_LOCALS, MOST_PROCEDURES, MOST_THREADS}
 use Rattle.sect_types.specs.declared.place.Place.{Place}
 use Rattle.sect_types.specs.declared.place.Place.TheVariants.{InThread, InProcedure}
 use Rattle.sect_types.specs.declared.rule.Fault.{Fault}
@@ -71,7 +72,8 @@ pub procedure_more : (d : Declared) (all ps : List Procedure) (i : ℕ) (p : Pro
     → ((w : List Item) → judge d now (AProcedure p.name names ∷ local_items [] (variables p)
     (block_items (variables p) (InProcedure (length names)) p.body w)) ≡ judge d then w)
     → new ≡ names ++ p.name ∷ [] → more ≡ scopes ++ v ∷ [] → v ≡ variables_shown p
-    → length names < 64 → length (variables p) ≤ 64 → all_known (names_of_records d.records) (variables p) ≡ true
+    → length names < MOST_PROCEDURES → length (variables p) ≤ MOST_LOCALS
+    → all_known (names_of_records d.records) (variables p) ≡ true
     → AreProcedures d all (drop (i + 1) ps) new more old then
 procedure_more d all ps i p names new scopes more v old now then h e so_far step named pushed is few few_own known =
     record {
@@ -92,8 +94,9 @@ procedure_more d all ps i p names new scopes more v old now then h e so_far step
           so_far.fine
           ∙ (ap (variables_fine (names_of_records d.records)) at
           ∙ ap (λ b. b && variables_fine (names_of_records d.records) rest)
-          (both_true (all_known (names_of_records d.records) (variables p)) (nat_le (length (variables p)) 64) known
-          (at_most (length (variables p)) 64 few_own)));
+          (both_true (all_known (names_of_records d.records) (variables p))
+          (nat_le (length (variables p)) MOST_LOCALS) known
+          (at_most (length (variables p)) MOST_LOCALS few_own)));
     }
   where
     rest : List Procedure
@@ -122,7 +125,8 @@ pub thread_more : (d : Declared) (all ts : List Thread) (i : ℕ) (t : Thread) (
     → ((w : List Item) → judge d now (AThread t.name names ∷ local_items [] t.locals
     (block_items t.locals (InThread false 1) t.body w)) ≡ judge d then w)
     → new ≡ names ++ t.name ∷ [] → more ≡ locals ++ own ∷ [] → own ≡ names_of_declared t.locals
-    → length names < 64 → length t.locals ≤ 64 → all_known (names_of_records d.records) t.locals ≡ true
+    → length names < MOST_THREADS → length t.locals ≤ MOST_LOCALS
+    → all_known (names_of_records d.records) t.locals ≡ true
     → AreThreads d all (drop (i + 1) ts) new more old then
 thread_more d all ts i t names new locals more own old now then h e so_far step named pushed is few few_own known =
     record {
@@ -142,8 +146,8 @@ thread_more d all ts i t names new locals more own old now then h e so_far step 
           so_far.fine
           ∙ (ap (locals_fine (names_of_records d.records)) at
           ∙ ap (λ b. b && locals_fine (names_of_records d.records) rest)
-          (both_true (all_known (names_of_records d.records) t.locals) (nat_le (length t.locals) 64) known
-          (at_most (length t.locals) 64 few_own)));
+          (both_true (all_known (names_of_records d.records) t.locals) (nat_le (length t.locals) MOST_LOCALS) known
+          (at_most (length t.locals) MOST_LOCALS few_own)));
     }
   where
     rest : List Thread
@@ -182,10 +186,10 @@ pub few_variables : (records : List (List ℕ)) (ps : List Procedure) → variab
     → HaveFewVariables ps
 few_variables records [] h = tt
 few_variables records (p ∷ ps) h =
-    let parts = both (all_known records (variables p) && nat_le (length (variables p)) 64) (variables_fine records ps)
-    h in
-    let own = both (all_known records (variables p)) (nat_le (length (variables p)) 64) parts.0 in (
-      omega (arith, is_at_most (length (variables p)) 64 own.1, length-append p.parameters p.locals),
+    let few = nat_le (length (variables p)) MOST_LOCALS in
+    let parts = both (all_known records (variables p) && few) (variables_fine records ps) h in
+    let own = both (all_known records (variables p)) few parts.0 in (
+      omega (arith, is_at_most (length (variables p)) MOST_LOCALS own.1, length-append p.parameters p.locals),
       few_variables records ps parts.1,
     )
 
@@ -195,18 +199,15 @@ pub for_memory : {A : Type 0} (d : Declared) (all : List Item → List Item) (ol
 for_memory d all old new (Ok a) is = absurd is
 for_memory {A} d all old new (Err e) is = subst (λ x. Walks {A = A} d all old new (Err x)) (sym is) tt
 
--- a fault of what comes third or fourth
-pub third_fails : (d : Declared) (one two three four : List Item → List Item) (c0 c1 c2 c3 : Counts) (e : Fault)
-    → ((w : List Item) → judge d c0 (one w) ≡ judge d c1 w) → ((w : List Item) → judge d c1 (two w) ≡ judge d c2 w)
-    → Walks {A = ℕ} d three c2 c3 (Err e) → Walks {A = ℕ} d (λ w. one (two (three (four w)))) c0 c3 (Err e)
-third_fails d one two three four c0 c1 c2 c3 fault.Memory f g k = tt
-third_fails d one two three four c0 c1 c2 c3 (fault.Broken i r) f g k =
-    λ w. f (two (three (four w))) ∙ (g (three (four w)) ∙ k (four w))
+-- a fault of what comes first
+pub first_fails : (d : Declared) (one two : List Item → List Item) (c0 c1 : Counts) (e : Fault)
+    → Walks {A = ℕ} d one c0 c1 (Err e) → Walks {A = ℕ} d (λ w. one (two w)) c0 c1 (Err e)
+first_fails d one two c0 c1 fault.Memory k = tt
+first_fails d one two c0 c1 (fault.Broken i r) k = λ w. k (two w)
 
-pub fourth_fails : (d : Declared) (one two three four : List Item → List Item) (c0 c1 c2 c3 c4 : Counts) (e : Fault)
-    → ((w : List Item) → judge d c0 (one w) ≡ judge d c1 w) → ((w : List Item) → judge d c1 (two w) ≡ judge d c2 w)
-    → ((w : List Item) → judge d c2 (three w) ≡ judge d c3 w)
-    → Walks {A = ℕ} d four c3 c4 (Err e) → Walks {A = ℕ} d (λ w. one (two (three (four w)))) c0 c4 (Err e)
-fourth_fails d one two three four c0 c1 c2 c3 c4 fault.Memory f g h k = tt
-fourth_fails d one two three four c0 c1 c2 c3 c4 (fault.Broken i r) f g h k =
-    λ w. f (two (three (four w))) ∙ (g (three (four w)) ∙ (h (four w) ∙ k w))
+-- a fault of what comes second
+pub second_fails : (d : Declared) (one two : List Item → List Item) (c0 c1 c2 : Counts) (e : Fault)
+    → ((w : List Item) → judge d c0 (one w) ≡ judge d c1 w) → Walks {A = ℕ} d two c1 c2 (Err e)
+    → Walks {A = ℕ} d (λ w. one (two w)) c0 c2 (Err e)
+second_fails d one two c0 c1 c2 fault.Memory f k = tt
+second_fails d one two c0 c1 c2 (fault.Broken i r) f k = λ w. f (two w) ∙ k w

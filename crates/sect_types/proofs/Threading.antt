@@ -1,15 +1,14 @@
 -- The expanded texts of all threads.
 use Rattle.std.proofs.Common.{◌≡◌, ℕ, ◌+◌, ◌<◌, ◌≤◌, List, [], ◌∷◌, ◌++◌, drop, get_or}
 use Rattle.std.proofs.Common.{refl, sym, ◌∙◌, ap, arith, subst, length, append_assoc}
-use Rattle.std.proofs.lemmas.List.{append-nil}
-use Rattle.std.proofs.lemmas.List.{drop_all}
 use Rattle.sect_front.specs.declared.tree.Thread.{Thread}
 use Rattle.sect_front.specs.TreeView.{TreeView}
+use Rattle.sect_types.specs.declared.limits.TheConstants.{MOST_LOCALS, MOST_SECTIONS, MOST_SITES, MOST_STATEMENTS}
 use Rattle.sect_types.specs.Rules.{declared_in, sight}
 use Rattle.sect_types.specs.Sums.{sums, block_sums}
 use Rattle.sect_types.specs.Statements.{TextView}
 use Rattle.sect_types.specs.First.{IsTyped}
-use Rattle.sect_types.specs.Expanded.{Ahead, block_sections, past_thread, expanded_thread, expanded_threads, texts_of}
+use Rattle.sect_types.specs.Expanded.{Ahead, block_sections, past_thread, expanded_thread, expanded_threads}
 use Rattle.sect_types.specs.steps.Expansion.{IsPast, HasRoom, block_by, at_thread, RoomFor, AreExpanded}
 use Rattle.sect_types.proofs.Lists.{drop_next}
 use Rattle.sect_types.proofs.SectionLaws.{sections_in}
@@ -89,23 +88,12 @@ one_thread t now next hs i h texts text lt is e w p =
 -- there is room for it
 pub thread_few : (t : TreeView) (now : Ahead) (hs : List Thread) (i : ℕ) (h : Thread) (texts : List TextView)
     → i < length hs
-    → h ≡ get_or hs i h → AreExpanded t now (drop i hs) texts → length h.locals ≤ 64
+    → h ≡ get_or hs i h → AreExpanded t now (drop i hs) texts → length h.locals ≤ MOST_LOCALS
 thread_few t now hs i h texts lt is e = (next_thread t now hs i h texts lt is e).room.0
 
-pub thread_room : (t : TreeView) (now : Ahead) (hs : List Thread) (i : ℕ) (h : Thread) (texts : List TextView)
-    → i < length hs
-    → h ≡ get_or hs i h → AreExpanded t now (drop i hs) texts
-    → HasRoom (at_thread now h) (block_sums t.procedures (sums t.procedures) h.body) (block_sections h.body)
-thread_room t now hs i h texts lt is e = (next_thread t now hs i h texts lt is e).room.1
-
-pub all_threads : (t : TreeView) (now : Ahead) (hs : List Thread) (i : ℕ) (texts : List TextView) → length hs ≤ i
-    → AreExpanded t now (drop i hs) texts → texts ≡ texts_of t
-all_threads t now hs i texts le e =
-    let done = subst (λ l. AreExpanded t now l texts) (drop_all i hs le) e in
-    sym (append-nil texts) ∙ done.written
-
-room_for : (t : TreeView) (a : Ahead) (hs : List Thread) → a.sites + (thread_sums (declared_in t) hs).sites ≤ 1024
-    → a.sections + sections_in hs ≤ 256 → HaveFewLocals hs → (thread_sums (declared_in t) hs).statements ≤ 4096
+room_for : (t : TreeView) (a : Ahead) (hs : List Thread) → a.sites + (thread_sums (declared_in t) hs).sites ≤ MOST_SITES
+    → a.sections + sections_in hs ≤ MOST_SECTIONS → HaveFewLocals hs
+    → (thread_sums (declared_in t) hs).statements ≤ MOST_STATEMENTS
     → RoomFor t a hs
 room_for t a [] sites sections locals statements = tt
 room_for t a (h ∷ hs) sites sections locals statements =

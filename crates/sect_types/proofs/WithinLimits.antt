@@ -9,6 +9,8 @@ use Rattle.sect_front.specs.declared.tree.Primitive.TheVariants as primitive
 use Rattle.sect_front.specs.declared.tree.Operand.{Operand}
 use Rattle.sect_front.specs.declared.tree.Declaration.{Declaration}
 use Rattle.sect_front.specs.declared.tree.GlobalObject.{GlobalObject}
+use Rattle.sect_types.specs.declared.limits.TheConstants.{MOST_ALL_LOCALS, MOST_CALLS, MOST_GLOBALS}
+use Rattle.sect_types.specs.declared.limits.TheConstants.{MOST_LOCALS, MOST_SECTIONS, MOST_SITES, MOST_STATEMENTS}
 use Rattle.sect_types.specs.declared.types.ValueType.{ValueType}
 use Rattle.sect_types.specs.Sight.{names_of_records}
 use Rattle.sect_types.specs.Environments.{type_of, types_of}
@@ -41,10 +43,10 @@ use Rattle.sect_types.proofs.Counting.{end_of, before_add, typed_counts, thread_
 
 -- the counts of the expanded text so far
 pub record IsFew (c : Counts) : Type 0 where
-  pub few_statements : c.statements ≤ 4096
-  pub few_sites : c.sites ≤ 1024
-  pub few_sections : c.sections ≤ 256
-  pub few_calls : c.calls ≤ 4096
+  pub few_statements : c.statements ≤ MOST_STATEMENTS
+  pub few_sites : c.sites ≤ MOST_SITES
+  pub few_sections : c.sections ≤ MOST_SECTIONS
+  pub few_calls : c.calls ≤ MOST_CALLS
 
 under : (m n : ℕ) → nat_le m n ≡ false → n < m
 under m n h = grind (arith, nat_tests)
@@ -52,10 +54,10 @@ under m n h = grind (arith, nat_tests)
 at_most : (m n : ℕ) → nat_lt m n ≡ false → n ≤ m
 at_most m n h = grind (arith, nat_tests)
 
-one_statement : (c : Counts) → nat_le 4096 c.statements ≡ false → IsFew c
+one_statement : (c : Counts) → nat_le MOST_STATEMENTS c.statements ≡ false → IsFew c
     → IsFew (record c { items = c.items + 1; statements = c.statements + 1 })
 one_statement c h f = record {
-  few_statements = omega (arith, under 4096 c.statements h);
+  few_statements = omega (arith, under MOST_STATEMENTS c.statements h);
   few_sites = f.few_sites;
   few_sections = f.few_sections;
   few_calls = f.few_calls;
@@ -67,10 +69,10 @@ primitive_few : (d : Declared) (ls : List Declaration) (inside : Bool) (depth : 
 primitive_few d ls inside depth c (primitive.Assign x v) h f = one_statement c h f
 primitive_few d ls inside depth c (primitive.Compute x v o w) h f = one_statement c h f
 primitive_few d ls inside depth c (primitive.New x r) h f =
-    let g = or_false (nat_le 4096 c.statements) (nat_le 1024 c.sites) h in
+    let g = or_false (nat_le MOST_STATEMENTS c.statements) (nat_le MOST_SITES c.sites) h in
     record {
-      few_statements = omega (arith, under 4096 c.statements g.0);
-      few_sites = omega (arith, under 1024 c.sites g.1);
+      few_statements = omega (arith, under MOST_STATEMENTS c.statements g.0);
+      few_sites = omega (arith, under MOST_SITES c.sites g.1);
       few_sections = f.few_sections;
       few_calls = f.few_calls;
     }
@@ -78,14 +80,14 @@ primitive_few d ls inside depth c (primitive.Load x y g) h f = one_statement c h
 primitive_few d ls inside depth c (primitive.Store y g v) h f = one_statement c h f
 primitive_few d ls inside depth c (primitive.Print v) h f = one_statement c h f
 
-section_few : (c : Counts) → (nat_le 4096 c.statements || nat_le 256 c.sections) ≡ false → IsFew c
+section_few : (c : Counts) → (nat_le MOST_STATEMENTS c.statements || nat_le MOST_SECTIONS c.sections) ≡ false → IsFew c
     → IsFew (record c { items = c.items + 1; statements = c.statements + 1; sections = c.sections + 1 })
 section_few c h f =
-    let g = or_false (nat_le 4096 c.statements) (nat_le 256 c.sections) h in
+    let g = or_false (nat_le MOST_STATEMENTS c.statements) (nat_le MOST_SECTIONS c.sections) h in
     record {
-      few_statements = omega (arith, under 4096 c.statements g.0);
+      few_statements = omega (arith, under MOST_STATEMENTS c.statements g.0);
       few_sites = f.few_sites;
-      few_sections = omega (arith, under 256 c.sections g.1);
+      few_sections = omega (arith, under MOST_SECTIONS c.sections g.1);
       few_calls = f.few_calls;
     }
 
@@ -109,10 +111,10 @@ passes_few c depth s h f =
     let i = or_false _ _ g.1 in
     let j = or_false _ _ i.1 in
     record {
-      few_statements = at_most 4096 (c.statements + s.statements) g.0;
-      few_sites = at_most 1024 (c.sites + s.sites) i.0;
+      few_statements = at_most MOST_STATEMENTS (c.statements + s.statements) g.0;
+      few_sites = at_most MOST_SITES (c.sites + s.sites) i.0;
       few_sections = f.few_sections;
-      few_calls = at_most 4096 (c.calls + s.calls) j.0;
+      few_calls = at_most MOST_CALLS (c.calls + s.calls) j.0;
     }
 
 call_few : (d : Declared) (ls : List Declaration) (inside : Bool) (depth : ℕ) (c : Counts) (x : List ℕ)
@@ -197,11 +199,11 @@ named_few most item name items d step bound c before (x ∷ xs) w h f =
     (next_none d c first rest none) (omega (arith, one, here)) in
     omega (arith, one, more)
 
--- a variable is one of at most 64
+-- a variable is one of at most `MOST_LOCALS`
 locals_few : (d : Declared) (c : Counts) (before : List (List ℕ)) (ls : List Declaration) (w : List Item)
-    → NoneBroken d c (local_items before ls w) → length before ≤ 64 → length before + length ls ≤ 64
+    → NoneBroken d c (local_items before ls w) → length before ≤ MOST_LOCALS → length before + length ls ≤ MOST_LOCALS
 locals_few d =
-    named_few 64 (λ l before. ALocal l.kind l.name before) (λ l. l.name) local_items d (λ before l ls w. refl)
+    named_few MOST_LOCALS (λ l before. ALocal l.kind l.name before) (λ l. l.name) local_items d (λ before l ls w. refl)
     (λ c before l. refl)
 
 item_keeps : (c : Counts) → IsFew c → IsFew (after_item c)
@@ -217,10 +219,10 @@ declared_keep : (c : Counts) (ls : List Declaration) → IsFew c → IsFew (decl
 declared_keep c [] f = f
 declared_keep c (l ∷ ls) f = declared_keep (after_item c) ls (item_keeps c f)
 
--- each thread has at most 64 locals of its own
+-- each thread has at most `MOST_LOCALS` locals of its own
 abbrev pub HaveFewLocals : List Thread → Type 0
 HaveFewLocals [] = ⊤
-HaveFewLocals (t ∷ ts) = (length t.locals ≤ 64) × HaveFewLocals ts
+HaveFewLocals (t ∷ ts) = (length t.locals ≤ MOST_LOCALS) × HaveFewLocals ts
 
 -- the threads of a text stay within the limits
 pub threads_few : (d : Declared) (c : Counts) (before : List (List ℕ)) (ts : List Thread) (w : List Item)
@@ -241,9 +243,10 @@ threads_few d c before (t ∷ ts) w h f =
     (y.0, (omega (arith, locals_few d e [] t.locals body at_locals (omega arith)), y.1))
 
 globals_few : (d : Declared) (c : Counts) (before : List (List ℕ)) (gs : List GlobalObject) (w : List Item)
-    → NoneBroken d c (global_items before gs w) → length before ≤ 256 → length before + length gs ≤ 256
+    → NoneBroken d c (global_items before gs w) → length before ≤ MOST_GLOBALS
+    → length before + length gs ≤ MOST_GLOBALS
 globals_few d =
-    named_few 256 (λ g before. AGlobal g.of g.name before) (λ g. g.name) global_items d (λ before g gs w. refl)
+    named_few MOST_GLOBALS (λ g before. AGlobal g.of g.name before) (λ g. g.name) global_items d (λ before g gs w. refl)
     (λ c before g. refl)
 
 -- the counts at the end of a typed text, and the locals of its threads
@@ -268,9 +271,9 @@ typed_few t h =
 
 -- the expanded texts of a typed text are within the limits
 pub record AreWithinLimits (t : TreeView) : Type 0 where
-  pub statements_within : total_statements (texts_of t) ≤ 4096
-  pub sites_within : length t.globals + length (all_made (texts_of t)) ≤ 1024
-  pub sections_within : length (sections_of (texts_of t)) ≤ 256
+  pub statements_within : total_statements (texts_of t) ≤ MOST_STATEMENTS
+  pub sites_within : length t.globals + length (all_made (texts_of t)) ≤ MOST_SITES
+  pub sections_within : length (sections_of (texts_of t)) ≤ MOST_SECTIONS
 
 pub typed_within : (t : TreeView) → IsTyped t → AreWithinLimits t
 typed_within t h =
@@ -321,12 +324,13 @@ calls_take (suc n) ps q =
     subst (λ (s : Sums). s.fresh ≤ s.statements) (sym (looked ps (sums_within n ps) q))
     (call_takes ps (sums_within n ps) (calls_take n ps) (procedure_numbered ps q))
 
--- a thread has at most 64 locals of its own, and 4096 fresh ones
+-- each expanded thread has at most `MOST_ALL_LOCALS` locals
 abbrev pub AreFewTypes : List (List ValueType) → Type 0
 AreFewTypes [] = ⊤
-AreFewTypes (ls ∷ more) = (length ls ≤ 4160) × AreFewTypes more
+AreFewTypes (ls ∷ more) = (length ls ≤ MOST_ALL_LOCALS) × AreFewTypes more
 
-types_few : (t : TreeView) (hs : List Thread) → HaveFewLocals hs → (thread_sums (declared_in t) hs).statements ≤ 4096
+types_few : (t : TreeView) (hs : List Thread) → HaveFewLocals hs
+    → (thread_sums (declared_in t) hs).statements ≤ MOST_STATEMENTS
     → AreFewTypes (map (local_types_of t) hs)
 types_few t [] f s = tt
 types_few t (h ∷ hs) f s =

@@ -1,10 +1,7 @@
 -- Writing an expansion, statement by statement.
-use Rattle.std.specs.Prelude.{map}
 use Rattle.std.proofs.Common.{◌≡◌, ℕ, zero, suc, ◌+◌, ◌*◌, ◌<◌, ◌≤◌, List, [], ◌∷◌, drop, get_or, Option, Some, None}
 use Rattle.std.proofs.Common.{refl, sym, ◌∙◌, ap, arith, subst, length, length-append, slice_get}
 use Rattle.std.proofs.lemmas.List.{drop_all}
-use Rattle.std.proofs.lemmas.Option.{slice_get-map}
-use Rattle.std.specs.Option.{option_map}
 use Rattle.sect_front.specs.declared.tree.Declaration.{Declaration}
 use Rattle.sect_front.specs.declared.tree.Operand.{Operand}
 use Rattle.sect_front.specs.declared.tree.Procedure.{Procedure}
@@ -14,6 +11,7 @@ use Rattle.sect_front.specs.declared.tree.Statement.{Statement}
 use Rattle.sect_front.specs.Syntax.{StatementView, Primitive, If, IfElse, While, Atomic, Call, BlockView, End, Then}
 use Rattle.sect_front.specs.TreeView.{TreeView}
 use Rattle.sect_front.specs.Trees.{statement_of, block_of, block_size}
+use Rattle.sect_types.specs.declared.limits.TheConstants.{MOST_ALL_LOCALS}
 use Rattle.sect_types.specs.declared.action.Value.{Value}
 use Rattle.sect_types.specs.declared.action.Value.TheVariants as value
 use Rattle.sect_types.specs.declared.action.Action.TheVariants as action
@@ -206,20 +204,6 @@ next_of : (ss : List Statement) (i : ℕ) (x : Statement) → i < length ss → 
     → block_of (drop i ss) ≡ Then (statement_of x) (block_of (drop (i + 1) ss))
 next_of ss i x h e = ap block_of (drop_next ss i x h e)
 
--- there is room for the next statement
-pub room_next : (t : TreeView) (n : ℕ) (s : Sight) (first : ℕ) (block : BlockView) (ss : List Statement) (i : ℕ)
-    (x : Statement) (old now : Ahead) (before text : TextView) → i < length ss → x ≡ get_or ss i x
-    → IsExpanding t n s first block (block_of ss) (block_of (drop i ss)) old now before text
-    → HasRoom now (statement_sums t.procedures (table_by t n) (statement_of x)) (statement_sections (statement_of x))
-room_next t n s first block ss i x old now before text lt e h =
-    let r = subst (λ b. HasRoom now (block_sums t.procedures (table_by t n) b) (block_sections b)) (next_of ss i x lt e)
-    h.room in
-    record {
-      for_sites = omega (arith, r.for_sites);
-      for_sections = omega (arith, r.for_sections);
-      for_fresh = omega (arith, r.for_fresh);
-    }
-
 goes_on : (t : TreeView) (n : ℕ) (s : Sight) (first : ℕ) (block all : BlockView) (f : StatementView) (rest : BlockView)
     (old now next : Ahead) (before text new : TextView)
     → IsExpanding t n s first block all (Then f rest) old now before text
@@ -263,14 +247,6 @@ ended : (t : TreeView) (n : ℕ) (s : Sight) (first : ℕ) (block all : BlockVie
     → IsExpanding t n s first block all End old now before text
 ended t n s first block all ss i old now before text le h =
     subst (λ l. IsExpanding t n s first block all (block_of l) old now before text) (drop_all i ss le) h
-
-pub ends_past : (t : TreeView) (n : ℕ) (s : Sight) (first : ℕ) (block all : BlockView) (ss : List Statement) (i : ℕ)
-    (old now : Ahead) (before text : TextView) → length ss ≤ i
-    → IsExpanding t n s first block all (block_of (drop i ss)) old now before text
-    → IsPast old now (block_sums t.procedures (table_by t n) block) (block_sections block)
-ends_past t n s first block all ss i old now before text le h =
-    (ended t n s first block all ss i old now before text le h).past now
-    (record { of_sites = omega arith; of_sections = omega arith; of_fresh = omega arith })
 
 pub ends_text : (t : TreeView) (n : ℕ) (s : Sight) (first : ℕ) (block all : BlockView) (ss : List Statement) (i : ℕ)
     (old now : Ahead) (before text : TextView) → length ss ≤ i
@@ -330,41 +306,11 @@ call_counts t n fuel q p f e =
     let same = ap (λ m. sums_at (table_by t m) (Some q)) f ∙ called t n q p e in
     record { sites_are = ap (λ (s : Sums). s.sites) same; fresh_are = ap (λ (s : Sums). s.fresh) same }
 
-pub call_past : (t : TreeView) (n fuel q : ℕ) (p : Procedure) (a b e : Ahead) (ps ls : List Declaration) → fuel ≡ suc n
-    → slice_get t.procedures q ≡ Some p → ps ≡ p.parameters → ls ≡ p.locals → block_sections p.body ≡ 0
-    → b ≡ record a { fresh = a.fresh + (length ps + length ls) }
-    → IsPast b e (block_sums t.procedures (table_by t n) p.body) (block_sections p.body)
-    → IsPast a e (sums_at (table_by t fuel) (Some q)) 0
-call_past t n fuel q p a b e ps ls f g x y flat c h =
-    let counts = call_counts t n fuel q p f g in
-    let same_sites : b.sites ≡ a.sites = ap (λ (z : Ahead). z.sites) c in
-    let same_sections : b.sections ≡ a.sections = ap (λ (z : Ahead). z.sections) c in
-    let more : b.fresh ≡ a.fresh + (length ps + length ls) = ap (λ (z : Ahead). z.fresh) c in
-    record {
-      of_sites = omega (arith, h.of_sites, same_sites, counts.sites_are);
-      of_sections = omega (arith, h.of_sections, same_sections, flat);
-      of_fresh = omega (arith, h.of_fresh, more, counts.fresh_are, ap length x, ap length y);
-    }
-
-pub call_room : (t : TreeView) (n fuel q : ℕ) (p : Procedure) (a b : Ahead) (ps ls : List Declaration) → fuel ≡ suc n
-    → slice_get t.procedures q ≡ Some p → ps ≡ p.parameters → ls ≡ p.locals → block_sections p.body ≡ 0
-    → b ≡ record a { fresh = a.fresh + (length ps + length ls) } → HasRoom a (sums_at (table_by t fuel) (Some q)) 0
-    → HasRoom b (block_sums t.procedures (table_by t n) p.body) (block_sections p.body)
-call_room t n fuel q p a b ps ls f g x y flat c h =
-    let counts = call_counts t n fuel q p f g in
-    let same_sites : b.sites ≡ a.sites = ap (λ (z : Ahead). z.sites) c in
-    let same_sections : b.sections ≡ a.sections = ap (λ (z : Ahead). z.sections) c in
-    let more : b.fresh ≡ a.fresh + (length ps + length ls) = ap (λ (z : Ahead). z.fresh) c in
-    record {
-      for_sites = omega (arith, h.for_sites, same_sites, counts.sites_are);
-      for_sections = omega (arith, h.for_sections, same_sections, flat);
-      for_fresh = omega (arith, h.for_fresh, more, counts.fresh_are, ap length x, ap length y);
-    }
-
 -- there are so many locals left for its variables
 pub call_own : (t : TreeView) (n fuel q : ℕ) (p : Procedure) (a : Ahead) → fuel ≡ suc n
     → slice_get t.procedures q ≡ Some p
-    → HasRoom a (sums_at (table_by t fuel) (Some q)) 0 → a.fresh + (length p.parameters + length p.locals) ≤ 4160
+    → HasRoom a (sums_at (table_by t fuel) (Some q)) 0
+    → a.fresh + (length p.parameters + length p.locals) ≤ MOST_ALL_LOCALS
 call_own t n fuel q p a f g h =
     let counts = call_counts t n fuel q p f g in omega (arith, h.for_fresh, counts.fresh_are)
 
@@ -375,16 +321,6 @@ size_within [] q p e = absurd (cc)
 size_within (x ∷ ps) zero p e = let same : x ≡ p = cc in omega (arith, ap (λ (y : Procedure). block_size y.body) same)
 size_within (x ∷ ps) (suc q) p e = omega (arith, size_within ps q p e)
 
--- what the statements of a procedure see
-pub scope_found : (t : TreeView) (scopes : List Sight) (q : ℕ) (p : Procedure) (s : Sight)
-    → scopes ≡ map (λ (x : Procedure). sight t.records t.globals (variables x)) t.procedures
-    → slice_get t.procedures q ≡ Some p → slice_get scopes q ≡ Some s → s ≡ sight t.records t.globals (variables p)
-scope_found t scopes q p s e g h =
-    let f : Procedure → Sight = λ x. sight t.records t.globals (variables x) in
-    let found : Some s ≡ Some (f p) = sym h ∙ ap (λ l. slice_get l q) e ∙ slice_get-map f t.procedures q
-    ∙ ap (option_map f) g in
-    cc
-
 -- the measure of a body is less than that of a call
 pub falls : (n fuel total size : ℕ) → fuel ≡ suc n → size ≤ total
     → n * (4 * total + 3) + 4 * size + 2 < fuel * (4 * total + 3)
@@ -393,7 +329,7 @@ falls n fuel total size e le = omega (arith, e, le, ap (λ m. m * (4 * total + 3
 -- the variables of a procedure are as many as it takes
 pub own_locals : (t : TreeView) (n fuel q : ℕ) (p : Procedure) (a : Ahead) (s : Sight) (own : ℕ) → fuel ≡ suc n
     → slice_get t.procedures q ≡ Some p → s ≡ sight t.records t.globals (variables p) → own ≡ a.fresh
-    → HasRoom a (sums_at (table_by t fuel) (Some q)) 0 → own + length s.locals ≤ 4160
+    → HasRoom a (sums_at (table_by t fuel) (Some q)) 0 → own + length s.locals ≤ MOST_ALL_LOCALS
 own_locals t n fuel q p a s own f g i o h =
     omega (
       arith,

@@ -1,16 +1,18 @@
 -- The expanded texts of all threads, with their fresh locals.
 use Rattle.std.proofs.Common.{◌≡◌, ℕ, ◌+◌, ◌<◌, ◌≤◌, List, [], ◌∷◌, ◌++◌, map, drop, get_or}
 use Rattle.std.proofs.Common.{refl, sym, ◌∙◌, ap, arith, subst, length, append_assoc}
-use Rattle.std.proofs.lemmas.List.{drop_all, append-nil}
+use Rattle.std.proofs.lemmas.List.{drop_all}
 use Rattle.sect_front.specs.declared.tree.Thread.{Thread}
 use Rattle.sect_front.specs.TreeView.{TreeView}
+use Rattle.sect_types.specs.declared.limits.TheConstants.{MOST_CALLS, MOST_LOCALS, MOST_SECTIONS, MOST_SITES}
+use Rattle.sect_types.specs.declared.limits.TheConstants.{MOST_STATEMENTS}
 use Rattle.sect_types.specs.declared.expand.Fresh.{Fresh}
 use Rattle.sect_types.specs.Sight.{Sight}
 use Rattle.sect_types.specs.Rules.{sight, declared_in}
 use Rattle.sect_types.specs.Sums.{sums, block_sums}
 use Rattle.sect_types.specs.Statements.{TextView}
 use Rattle.sect_types.specs.First.{IsTyped}
-use Rattle.sect_types.specs.Expanded.{Ahead, past_thread, expanded_threads, texts_of, fresh_in}
+use Rattle.sect_types.specs.Expanded.{Ahead, past_thread, expanded_threads, fresh_in}
 use Rattle.sect_types.specs.steps.Expanding.{SettingView, FrontView, Fits, block_there, thread_start, thread_end}
 use Rattle.sect_types.specs.steps.Expanding.{thread_text}
 use Rattle.sect_types.specs.steps.Expanding.{AllFit, tree_of, AreWritten, AreFlat}
@@ -75,7 +77,7 @@ next_thread w all i h sites sections texts fresh lt is a =
 
 pub thread_few : (w : SettingView) (all : List Thread) (i : ℕ) (h : Thread) (sites sections : ℕ) (texts : List TextView)
     (fresh : List (List Fresh)) → i < length all → h ≡ get_or all i h
-    → AreWritten w all (drop i all) sites sections texts fresh → length h.locals ≤ 64
+    → AreWritten w all (drop i all) sites sections texts fresh → length h.locals ≤ MOST_LOCALS
 thread_few w all i h sites sections texts fresh lt is a =
     (next_thread w all i h sites sections texts fresh lt is a).fits.0
 
@@ -102,21 +104,11 @@ ended : (w : SettingView) (all : List Thread) (i sites sections : ℕ) (texts : 
 ended w all i sites sections texts fresh le a =
     subst (λ l. AreWritten w all l sites sections texts fresh) (drop_all i all le) a
 
-pub ends_texts : (w : SettingView) (all : List Thread) (i sites sections : ℕ) (texts : List TextView)
-    (fresh : List (List Fresh)) → length all ≤ i → AreWritten w all (drop i all) sites sections texts fresh
-    → texts ≡ texts_of (tree_of w all)
-ends_texts w all i sites sections texts fresh le a =
-    sym (append-nil texts) ∙ (ended w all i sites sections texts fresh le a).written
-
-pub ends_fresh : (w : SettingView) (all : List Thread) (i sites sections : ℕ) (texts : List TextView)
-    (fresh : List (List Fresh)) → length all ≤ i → AreWritten w all (drop i all) sites sections texts fresh
-    → fresh ≡ map (fresh_in (tree_of w all)) all
-ends_fresh w all i sites sections texts fresh le a =
-    sym (append-nil fresh) ∙ (ended w all i sites sections texts fresh le a).listed
-
 fit_all : (t : TreeView) (w : SettingView) (sites section : ℕ) (hs : List Thread) → w.procedures ≡ t.procedures
-    → sites + (thread_sums (declared_in t) hs).sites ≤ 1024 → section + sections_in hs ≤ 256 → HaveFewLocals hs
-    → (thread_sums (declared_in t) hs).statements ≤ 4096 → (thread_sums (declared_in t) hs).calls ≤ 4096
+    → sites + (thread_sums (declared_in t) hs).sites ≤ MOST_SITES → section + sections_in hs ≤ MOST_SECTIONS
+    → HaveFewLocals hs
+    → (thread_sums (declared_in t) hs).statements ≤ MOST_STATEMENTS
+    → (thread_sums (declared_in t) hs).calls ≤ MOST_CALLS
     → AllFit w sites section hs
 fit_all t w sites section [] e s n l c d = tt
 fit_all t w sites section (h ∷ hs) e s n l c d =

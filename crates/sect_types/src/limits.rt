@@ -19,7 +19,7 @@ pub const MOST_THREADS: usize = 64;
 pub const MOST_LOCALS: usize = 64;
 
 /// The most locals of an expanded thread: those that it declares, and one for each statement that sets a fresh one.
-pub const MOST_ALL_LOCALS: usize = 4160;
+pub const MOST_ALL_LOCALS: usize = MOST_LOCALS + MOST_STATEMENTS as usize;
 
 /// The most statements of all expanded threads together; an `if`, a `while` and an `atomic` count too.
 pub const MOST_STATEMENTS: u32 = 4096;

@@ -19,12 +19,13 @@ pub struct Names {
 
 impl Model for Names {
     ghost use Rattle.std.specs.Prelude.{ℕ, List, length, ◌≤◌};
+    ghost use Rattle.sect_types.specs.declared.names.TheConstants.{MOST_NAMES};
 
     ghost Value = { List (List ℕ) };
 
     ghost view = { λ names. names.set.keys };
 
-    ghost invariant = { λ names. length names.set.keys ≤ 65535 };
+    ghost invariant = { λ names. length names.set.keys ≤ MOST_NAMES };
 }
 
 impl Names {

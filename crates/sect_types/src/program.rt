@@ -1,10 +1,11 @@
 //! Typed programs.
 
-ghost use Rattle.std.specs.Prelude.{List, IsOkUnless, ◌≡◌, ◌≤◌, ◌<◌, ◌+◌, ◌++◌, ◌∷◌, [], true, false, IfOk, OnOk, Some};
+ghost use Rattle.std.specs.Prelude.{IsOkUnless, ◌≡◌, ◌≤◌, ◌<◌, ◌+◌, ◌++◌, ◌∷◌, [], true, false, IfOk, OnOk, Some};
 ghost use Rattle.std.specs.Prelude.{length, map, slice_get, slice_index_or};
 ghost use Rattle.sect_front.specs.Depth.{block_depth, procedures_depth, threads_depth};
 ghost use Rattle.sect_front.specs.declared.limits.TheConstants.{MOST_DEPTH};
-ghost use Rattle.sect_types.specs.declared.limits.TheConstants.{MOST_LOCALS, MOST_PROCEDURES};
+ghost use Rattle.sect_types.specs.declared.limits.TheConstants.{MOST_LOCALS, MOST_PROCEDURES, MOST_RECORDS};
+ghost use Rattle.sect_types.specs.declared.limits.TheConstants.{MOST_GLOBALS};
 ghost use Rattle.sect_types.specs.Sight.{names_of_records, names_of_globals, names_of_declared, all_fields};
 ghost use Rattle.sect_types.specs.Items.{AProcedure, AThread, variables as variables_by, record_items, global_items};
 ghost use Rattle.sect_types.specs.Items.{local_items, block_items, procedure_items, thread_items};
@@ -46,39 +47,61 @@ use sect_front::{Declaration, Locking, Procedure, Thread, Tree, is_same};
 use std::alloc::{AllocError, Global};
 use std::marker::Model;
 
-/// The names that all threads see.
+/// The names that all procedures and threads see.
 #[derive(Drop)]
-struct Shown<'a> {
-    known: &'a NameSet,
-    record_names: &'a Names,
-    field_names: &'a [Names],
-    global_names: &'a Names,
+struct Shown {
+    known: NameSet,
+    record_names: Names,
+    field_names: Vec<Names>,
+    global_names: Names,
 }
 
-impl<'a> Shown<'a> {
+impl Shown {
     /// What statements with these locals see.
-    fn scope<'b>(&'b self, tree: &'b Tree, locals: &'b [Declaration], names: &'b Names) -> Scope<'b>
+    fn scope<'a>(&'a self, tree: &'a Tree, locals: &'a [Declaration], names: &'a Names) -> Scope<'a>
         requires shown { Shows self.now tree.now }
         requires names { names.now ≡ names_of_declared locals.now }
         ensures { result ≡ sight tree.now.records tree.now.globals locals.now }
     {
         Scope::new(
             tree.records(),
-            self.record_names,
-            self.field_names,
+            &self.record_names,
+            self.field_names.as_slice(),
             tree.globals(),
-            self.global_names,
+            &self.global_names,
             locals,
             names,
         )
     }
 }
 
+/// Judges the declarations of records and globals, and gives the names that all procedures and threads see.
+fn declarations(alloc: Global, tree: &Tree, spot: &mut Spot) -> Result<Shown, Fault>
+    requires { spot.old ≡ none_yet }
+    ensures walks { Walks (declared_in tree.now)
+        (λ w. record_items [] tree.now.records (global_items [] tree.now.globals w)) spot.old spot.new result }
+    ensures shown { IfOk result (λ shown. Shows shown tree.now) }
+    ensures few_records { OnOk result (length tree.now.records ≤ MOST_RECORDS) }
+    ensures fine_fields { OnOk result (fields_fine (names_of_records tree.now.records) tree.now.records ≡ true) }
+    ensures few_globals { OnOk result (length tree.now.globals ≤ MOST_GLOBALS) }
+    ensures known_globals { OnOk result (globals_known (names_of_records tree.now.records) tree.now.globals ≡ true) }
+{
+    let known = known_records(alloc, tree)?;
+    let (record_names, field_names) = records(alloc, tree, &known, spot)?;
+    let global_names = globals(alloc, tree, &known, spot)?;
+    Ok(Shown {
+        known,
+        record_names,
+        field_names,
+        global_names,
+    })
+}
+
 /// Judges a procedure, and gives its variables with their names.
 fn pass_whole_procedure(
     alloc: Global,
     tree: &Tree,
-    shown: &Shown<'_>,
+    shown: &Shown,
     called: &Called<'_>,
     names: &mut Names,
     spot: &mut Spot,
@@ -104,8 +127,8 @@ fn pass_whole_procedure(
     let names = locals(
         alloc,
         tree,
-        shown.known,
-        shown.global_names,
+        &shown.known,
+        &shown.global_names,
         spot,
         list.as_slice(),
     )?;
@@ -120,7 +143,7 @@ fn pass_whole_procedure(
 fn procedures(
     alloc: Global,
     tree: &Tree,
-    shown: &Shown<'_>,
+    shown: &Shown,
     called: &Called<'_>,
     spot: &mut Spot,
 ) -> Result<Vec<Variables>, Fault>
@@ -149,7 +172,7 @@ fn procedures(
 fn whole_thread(
     alloc: Global,
     tree: &Tree,
-    shown: &Shown<'_>,
+    shown: &Shown,
     standing: &Standing<'_>,
     names: &mut Names,
     spot: &mut Spot,
@@ -170,7 +193,7 @@ fn whole_thread(
 {
     pass_thread(tree, names, spot, thread)?;
     let list = thread.locals.as_slice();
-    let local_names = locals(alloc, tree, shown.known, shown.global_names, spot, list)?;
+    let local_names = locals(alloc, tree, &shown.known, &shown.global_names, spot, list)?;
     let scope = shown.scope(tree, list, &local_names);
     walk_block(&scope, spot, standing, &thread.body)?;
     Ok(local_names)
@@ -180,7 +203,7 @@ fn whole_thread(
 fn threads(
     alloc: Global,
     tree: &Tree,
-    shown: &Shown<'_>,
+    shown: &Shown,
     standing: &Standing<'_>,
     spot: &mut Spot,
 ) -> Result<Vec<Names>, Fault>
@@ -223,15 +246,15 @@ struct Parts {
 fn number_tree(
     alloc: Global,
     tree: &Tree,
-    shown: &Shown<'_>,
+    shown: &Shown,
     called: &Called<'_>,
     variables: &[Variables],
     local_names: &[Names],
     spot: &Spot,
 ) -> Result<Parts, AllocError>
-    requires records { shown.now.record_names.now ≡ names_of_records tree.now.records }
-    requires fields { shown.now.field_names.now ≡ all_fields tree.now.records }
-    requires globals { shown.now.global_names.now ≡ names_of_globals tree.now.globals }
+    requires records { shown.now.record_names ≡ names_of_records tree.now.records }
+    requires fields { shown.now.field_names.items ≡ all_fields tree.now.records }
+    requires globals { shown.now.global_names ≡ names_of_globals tree.now.globals }
     requires procedures { called.now ≡ tree.now.procedures }
     requires variables { variables.now ≡ map variables_shown tree.now.procedures }
     requires locals { local_names.now ≡ names_of_locals tree.now.threads }
@@ -241,19 +264,19 @@ fn number_tree(
         p.section_count p.site_count p.statement_count) }
     ensures fresh { IfOk result (λ p. p.fresh.items ≡ map (fresh_in tree.now) tree.now.threads) }
 {
-    let records = field_types(alloc, shown.record_names, tree.records())?;
-    let globals = global_records(alloc, shown.record_names, tree.globals())?;
+    let records = field_types(alloc, &shown.record_names, tree.records())?;
+    let globals = global_records(alloc, &shown.record_names, tree.globals())?;
     let setting = Setting::new(
         tree.records(),
-        shown.record_names,
-        shown.field_names,
+        &shown.record_names,
+        shown.field_names.as_slice(),
         tree.globals(),
-        shown.global_names,
+        &shown.global_names,
         called,
         variables,
     );
     let (texts, fresh) = expand(alloc, &setting, tree.threads(), local_names)?;
-    let locals = local_types(alloc, shown.record_names, tree.threads(), fresh.as_slice())?;
+    let locals = local_types(alloc, &shown.record_names, tree.threads(), fresh.as_slice())?;
     let lockings = lockings(alloc, tree)?;
     Ok(Parts {
         records,
@@ -266,6 +289,37 @@ fn number_tree(
         site_count: spot.sites(),
         statement_count: spot.statements(),
     })
+}
+
+/// Judges all procedures and threads, and gives the variables of each procedure and the names of each thread's locals.
+fn bodies(
+    alloc: Global,
+    tree: &Tree,
+    shown: &Shown,
+    called: &Called<'_>,
+    spot: &mut Spot,
+) -> Result<(Vec<Variables>, Vec<Names>), Fault>
+    requires shown { Shows shown.now tree.now }
+    requires procedures { called.now ≡ tree.now.procedures }
+    requires shallow_procedures { procedures_depth tree.now.procedures ≤ MOST_DEPTH }
+    requires shallow_threads { threads_depth tree.now.threads ≤ MOST_DEPTH }
+    ensures walks { Walks (declared_in tree.now)
+        (λ w. procedure_items 0 [] tree.now.procedures (thread_items [] tree.now.threads w))
+        spot.old spot.new result }
+    ensures variables { IfOk result (λ r. r.0.items ≡ map variables_shown tree.now.procedures) }
+    ensures locals { IfOk result (λ r. r.1.items ≡ names_of_locals tree.now.threads) }
+    ensures few_procedures { OnOk result (length tree.now.procedures ≤ MOST_PROCEDURES) }
+    ensures fine_variables { OnOk result (variables_fine (names_of_records tree.now.records)
+        tree.now.procedures ≡ true) }
+    ensures few_threads { OnOk result (length tree.now.threads ≤ MOST_THREADS) }
+    ensures fine_locals { OnOk result (locals_fine (names_of_records tree.now.records) tree.now.threads
+        ≡ true) }
+{
+    let variables = procedures(alloc, tree, shown, called, spot)?;
+    let table = table(alloc, called)?;
+    let standing = Standing::in_thread(called, table.as_slice());
+    let local_names = threads(alloc, tree, shown, &standing, spot)?;
+    Ok((variables, local_names))
 }
 
 /// Judges all items of a tree and numbers its names.
@@ -281,20 +335,9 @@ fn judge_tree(alloc: Global, tree: &Tree, spot: &mut Spot) -> Result<Parts, Faul
     ensures fresh { IfOk result (λ p. p.fresh.items ≡ map (fresh_in tree.now) tree.now.threads) }
 {
     let _ = tree.is_empty();
-    let known = known_records(alloc, tree)?;
     let called = Called::new(alloc, tree.procedures())?;
-    let (record_names, field_names) = records(alloc, tree, &known, spot)?;
-    let global_names = globals(alloc, tree, &known, spot)?;
-    let shown = Shown {
-        known: &known,
-        record_names: &record_names,
-        field_names: field_names.as_slice(),
-        global_names: &global_names,
-    };
-    let variables = procedures(alloc, tree, &shown, &called, spot)?;
-    let table = table(alloc, &called)?;
-    let standing = Standing::in_thread(&called, table.as_slice());
-    let local_names = threads(alloc, tree, &shown, &standing, spot)?;
+    let shown = declarations(alloc, tree, spot)?;
+    let (variables, local_names) = bodies(alloc, tree, &shown, &called, spot)?;
     let parts = number_tree(
         alloc,
         tree,

@@ -245,15 +245,6 @@ act c s serial t i k th is at holds tidy apart ser = by (step_in c t k th.frame.
 
 -- ---- events outside sections
 
--- a thread that hasn't begun has its frame
-apart_of : (c : CompiledView) (s : State) (serial : RunView) (t : ℕ) (th : ThreadState) (q : Position) → IsOut q
-    → (f : FrameView)
-    → Follows c t q th s.store serial.store f → IsApart (program_of c) t th s.store serial.store f
-apart_of c s serial t th Outside out f fo = fo
-apart_of c s serial t th Entered out f fo = fo.apart
-apart_of c s serial t th (Running i k) out f fo = absurd (out tt)
-apart_of c s serial t th (Faulted i why) out f fo = absurd (out tt)
-
 -- a thread that is where nobody is in a section is in none
 out_at : (p q : Position) → p ≡ q → IsOut q → IsOut p
 out_at p q e out inside = out (subst IsInSection e inside)

@@ -5,8 +5,7 @@ use Rattle.std.specs.Prelude.{slice_get, slice_index_or, replicate}
 use Rattle.std.proofs.lemmas.List.{length-replicate}
 use Rattle.std.proofs.lemmas.Option.{get_or_from_slice_get}
 use Rattle.sect_types.specs.declared.types.ValueType.{ValueType}
-use Rattle.sect_types.specs.declared.store.End.TheVariants.{Done, Failed}
-use Rattle.sect_types.specs.declared.store.Fault.{Fault}
+use Rattle.sect_types.specs.declared.store.End.TheVariants.{Done}
 use Rattle.sect_types.specs.Lists.{Has}
 use Rattle.sect_types.specs.Statements.{TextView, Stop}
 use Rattle.sect_types.specs.Meaning.{WorkView}
@@ -25,10 +24,6 @@ use Rattle.sect_world.specs.Worlds.{first_world}
 use Rattle.sect_world.proofs.NodeSteps.{thread_graph, at_exit, before_exit, settled_at_exit}
 use Rattle.sect_world.specs.steps.Viewing.{text_at, position_of, frame_of, BeginsSo, EndsSo, IsFirst, AreFirst, IsSited}
 use Rattle.sect_world.specs.steps.Viewing.{IsWorld, thread_of, threads_of, state_of, shown}
-
--- how a thread ends that comes out of a section
-pub ends_failed : (why : Fault) (rest : TextView) → EndsSo (Some why) rest (Some (Failed why))
-ends_failed why rest w before = refl
 
 module _ (c : CompiledView) (is : IsCompiled c) (t : ℕ) (within : t < length (program_of c).texts) (g : List Node)
     (at : slice_get c.scheme.graphs.threads t ≡ Some g) where

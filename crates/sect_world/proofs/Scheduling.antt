@@ -15,7 +15,7 @@ use Rattle.sect_types.specs.Whole.{SerialEndView, RunsWhole}
 use Rattle.sect_world.specs.Blocked.{IsStuck}
 use Rattle.sect_world.specs.Runs.{IsRun, IsComplete, order_of}
 use Rattle.sect_world.specs.Schedules.{TakeTurns, IsProgress, IsUnrun, all_events}
-use Rattle.sect_world.specs.Worlds.{WorldView, Does, AllEnded, IsRefused, first_world, outcome_at}
+use Rattle.sect_world.specs.Worlds.{WorldView, Does, AllEnded, IsRefused, outcome_at}
 use Rattle.sect_world.specs.steps.Counting.{IsCounted}
 
 -- one turn more
@@ -44,18 +44,6 @@ pub record SoFar (c : CompiledView) (fuel : ℕ) (ts : List ℕ) (w : WorldView)
   pub trace : w.trace ≡ all_events blocks
   pub made : counts ≡ map length blocks
   pub within : (t : ℕ) → Has ts t → t < length (program_of c).texts
-
-pub so_far_none : (c : CompiledView) (fuel : ℕ) (w : WorldView) (counts : List ℕ) → w ≡ first_world c fuel → counts ≡ []
-    → SoFar c fuel [] w counts
-so_far_none c fuel w counts is none = record {
-  compiled = ap (λ (z : WorldView). z.compiled) is;
-  fuelled = ap (λ (z : WorldView). z.fuel) is;
-  blocks = [];
-  turns = sym (ap (λ (z : WorldView). z.state) is);
-  trace = ap (λ (z : WorldView). z.trace) is;
-  made = none;
-  within = λ t there. absurd there;
-}
 
 pub so_far_more : (c : CompiledView) (fuel : ℕ) (ts : List ℕ) (w v : WorldView) (counts counts' : List ℕ) (t n : ℕ)
     → SoFar c fuel ts w counts → IsCounted t n w v → t < length (program_of w.compiled).texts

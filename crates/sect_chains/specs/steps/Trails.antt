@@ -1,9 +1,8 @@
 -- The steps of chains, one from another.
-use Rattle.std.specs.Prelude.{◌≡◌, ◌↔◌, ◌⊎◌, ◌<◌, ◌≤◌, ◌+◌, ℕ, List, [], ◌∷◌, ◌++◌, length, slice_get, slice_index_or}
+use Rattle.std.specs.Prelude.{◌≡◌, ◌<◌, ℕ, List, [], ◌∷◌, length, slice_get}
 use Rattle.std.specs.Prelude.{Option, Some, None}
 use Rattle.sect_types.specs.Lists.{Has}
 use Rattle.sect_graph.specs.declared.flow.Node.{Node}
-use Rattle.sect_graph.specs.Paths.{LeadsTo}
 use Rattle.sect_names.specs.declared.link.Link.{Link}
 use Rattle.sect_names.specs.declared.lock.Lock.{Lock}
 use Rattle.sect_names.specs.Schemes.{SchemeView}

@@ -9,6 +9,11 @@ use Rattle.sect_check.specs.declared.unresolved.Unresolved.{Unresolved}
 use Rattle.sect_check.specs.declared.unresolved.Unresolved.TheVariants.{Memory, Wrong}
 use Rattle.sect_check.specs.Meaning.{IsSectionAt, DenotesSection}
 
+-- an accepted program, and the thread whose names are looked up
+pub record NamingView : Type 0 where
+  pub scheme : SchemeView
+  pub thread : ℕ
+
 -- what is so related is given; or it is refused, and there is nothing of the kind
 abbrev pub Resolves : {A : Type 0} → Result A Unresolved → (A → Type 0) → Type 0
 Resolves (Ok x) R = R x

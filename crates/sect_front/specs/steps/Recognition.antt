@@ -3,6 +3,7 @@ use Rattle.std.specs.Prelude.{ℕ, ◌+◌, ◌-◌, ◌*◌, ◌&&◌, ◌==◌
 use Rattle.std.specs.Prelude.{length, codes}
 use Rattle.std.specs.List.{list_all}
 use Rattle.std.specs.Str.{bytes_eq}
+use Rattle.sect_front.specs.declared.limits.TheConstants.{MOST_NAME_BYTES}
 use Rattle.sect_front.specs.Words.{is_letter, is_digit, is_name_byte}
 use Rattle.sect_front.specs.declared.token.Token.{Token}
 use Rattle.sect_front.specs.declared.token.Token.TheVariants as token
@@ -91,6 +92,6 @@ sign_token b _ = None
 abbrev pub spelled : List ℕ → Option Token
 spelled [] = None
 spelled (b ∷ bs) =
-    if is_letter b then (if list_all is_name_byte bs && nat_lt (length bs) 32 then Some (word_token (b ∷ bs)) else None)
-    else (
-    if is_digit b then as_number (number_of (b ∷ bs)) else sign_token b bs)
+    if is_letter b
+    then (if list_all is_name_byte bs && nat_lt (length bs) MOST_NAME_BYTES then Some (word_token (b ∷ bs)) else None)
+    else (if is_digit b then as_number (number_of (b ∷ bs)) else sign_token b bs)

@@ -7,16 +7,18 @@ use Rattle.sect_types.specs.declared.action.Base.{Base}
 use Rattle.sect_types.specs.declared.action.Base.TheVariants as base
 use Rattle.sect_types.specs.declared.action.Action.{Action}
 use Rattle.sect_types.specs.declared.action.Action.TheVariants as action
+use Rattle.sect_types.specs.declared.limits.TheConstants.{MOST_FIELDS, MOST_LOCALS}
+use Rattle.sect_points.specs.declared.readers.TheConstants.{ROWS, ROWS_OF_LOCALS}
 use Rattle.sect_points.specs.declared.holders.Growth.{Growth}
 use Rattle.sect_points.specs.declared.holders.Growth.TheVariants as growth
 use Rattle.sect_points.specs.declared.holders.ThreadAction.{ThreadAction}
 
--- 4,096 rows for the locals, and 16 for the fields behind them
+-- the rows for the locals, and those for the fields behind them
 abbrev pub local_row_of : ℕ → ℕ → ℕ
-local_row_of t x = (t * 64 + x) % 4096
+local_row_of t x = (t * MOST_LOCALS + x) % ROWS_OF_LOCALS
 
 abbrev pub field_row_of : ℕ → ℕ
-field_row_of f = 4096 + f % 16
+field_row_of f = ROWS_OF_LOCALS + f % MOST_FIELDS
 
 -- the row of what grew
 abbrev pub row_of : Growth → ℕ
@@ -47,7 +49,7 @@ row_at rows r = slice_index_or rows r []
 
 -- each statement stands in the rows of what it reads, and nothing else stands in a row
 pub record AreFiled (all : List ThreadAction) (rows : List (List ThreadAction)) : Type 0 where
-  pub long : length rows ≡ 4112
+  pub long : length rows ≡ ROWS
   pub each : (p : ThreadAction) → Has all p → (r : ℕ) → Has (rows_read p.thread p.action) r → Has (row_at rows r) p
   pub only : (r : ℕ) (p : ThreadAction) → Has (row_at rows r) p → Has all p
 

@@ -63,9 +63,6 @@ pub record IsList (links : List Link) (l : ℕ) (e : Ends) (xs : List ℕ) : Typ
   pub len : e.len ≡ length xs
   pub distinct : AreDistinct xs
 
-abbrev pub IsNeighbor : Option ℕ → ℕ → Type 0
-IsNeighbor o j = o ≡ Some j
-
 -- what `detach` wrote, place by place
 pub record IsDetached (old new : List Link) (e e' : Ends) (x : ℕ) : Type 0 where
   pub size : length new ≡ length old

@@ -26,6 +26,6 @@ pub record IsSmall (s : Sums) : Type 0 where
 abbrev pub AreSmall : List Sums → Type 0
 AreSmall table = AllByRecursion IsSmall table
 
--- each has 64 parameters and locals at most
+-- each has at most `MOST_LOCALS` parameters and locals
 abbrev pub HaveFewVariables : List Procedure → Type 0
 HaveFewVariables ps = AllByRecursion (λ (p : Procedure). length p.parameters + length p.locals ≤ MOST_LOCALS) ps

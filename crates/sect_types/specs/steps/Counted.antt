@@ -1,6 +1,7 @@
 -- What a walk through a whole tree tells.
 use Rattle.std.specs.Prelude.{◌≡◌, ◌≤◌, true, length}
 use Rattle.sect_front.specs.TreeView.{TreeView}
+use Rattle.sect_types.specs.declared.limits.TheConstants.{MOST_GLOBALS, MOST_PROCEDURES, MOST_RECORDS, MOST_THREADS}
 use Rattle.sect_types.specs.Sight.{names_of_records}
 use Rattle.sect_types.specs.Items.{items}
 use Rattle.sect_types.specs.Rules.{Counts, judge, Fine, declared_in}
@@ -11,11 +12,11 @@ use Rattle.sect_types.specs.steps.Threads.{variables_fine}
 -- what a walk through all items has told: that none breaks a rule, the counts at the end, and that all is few and known
 pub record IsCounted (t : TreeView) (end : Counts) : Type 0 where
   pub fine : judge (declared_in t) none_yet (items t) ≡ Fine end
-  pub few_records : length t.records ≤ 64
+  pub few_records : length t.records ≤ MOST_RECORDS
   pub fine_fields : fields_fine (names_of_records t.records) t.records ≡ true
-  pub few_globals : length t.globals ≤ 256
+  pub few_globals : length t.globals ≤ MOST_GLOBALS
   pub known_globals : globals_known (names_of_records t.records) t.globals ≡ true
-  pub few_procedures : length t.procedures ≤ 64
+  pub few_procedures : length t.procedures ≤ MOST_PROCEDURES
   pub fine_variables : variables_fine (names_of_records t.records) t.procedures ≡ true
-  pub few_threads : length t.threads ≤ 64
+  pub few_threads : length t.threads ≤ MOST_THREADS
   pub fine_locals : locals_fine (names_of_records t.records) t.threads ≡ true

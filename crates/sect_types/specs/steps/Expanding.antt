@@ -2,6 +2,7 @@
 use Rattle.std.specs.Prelude.{◌≡◌, ◌≤◌, ◌+◌, ◌*◌, ℕ, ⊤, List, [], ◌∷◌, ◌++◌, map, length, slice_get}
 use Rattle.sect_front.specs.declared.tree.Thread.{Thread}
 use Rattle.sect_front.specs.TreeView.{TreeView}
+use Rattle.sect_types.specs.declared.limits.TheConstants.{MOST_LOCALS}
 use Rattle.sect_types.specs.Rules.{sight}
 use Rattle.sect_front.specs.declared.tree.Record.{Record}
 use Rattle.sect_front.specs.declared.tree.GlobalObject.{GlobalObject}
@@ -100,7 +101,7 @@ thread_text w sites sections h =
 abbrev pub AllFit : SettingView → ℕ → ℕ → List Thread → Type 0
 AllFit w sites sections [] = ⊤
 AllFit w sites sections (h ∷ hs) =
-    (length h.locals ≤ 64) × Fits (thread_end w sites sections h)
+    (length h.locals ≤ MOST_LOCALS) × Fits (thread_end w sites sections h)
     × AllFit w (thread_end w sites sections h).at.sites (thread_end w sites sections h).at.sections hs
 
 abbrev pub tree_of : SettingView → List Thread → TreeView

@@ -1,5 +1,5 @@
 -- What is written while a text is expanded.
-use Rattle.std.specs.Prelude.{◌≡◌, ◌≤◌, ℕ, Bool, true, ◌&&◌, ◌+◌, List, [], ◌∷◌, ◌++◌, ⊤, length, map, slice_get}
+use Rattle.std.specs.Prelude.{◌≡◌, ◌≤◌, ℕ, Bool, true, ◌&&◌, ◌+◌, List, [], ◌∷◌, ◌++◌, ⊤, length, slice_get}
 use Rattle.std.specs.Prelude.{Option, Some, None}
 use Rattle.sect_front.specs.declared.tree.Operand.{Operand}
 use Rattle.sect_front.specs.declared.tree.Procedure.{Procedure}
@@ -12,18 +12,15 @@ use Rattle.sect_types.specs.declared.limits.TheConstants.{MOST_SECTIONS}
 use Rattle.sect_types.specs.declared.sums.Sums.{Sums}
 use Rattle.sect_types.specs.declared.action.Value.{Value}
 use Rattle.sect_types.specs.declared.action.Value.TheVariants as value
-use Rattle.sect_types.specs.declared.types.ValueType.{ValueType}
 use Rattle.sect_types.specs.steps.Listing.{all_known}
-use Rattle.sect_types.specs.Environments.{type_of}
 use Rattle.sect_types.specs.Sight.{Sight, operand_of}
-use Rattle.sect_types.specs.Rules.{sight, knows_kind}
-use Rattle.sect_types.specs.Items.{variables}
+use Rattle.sect_types.specs.Rules.{knows_kind}
 use Rattle.sect_types.specs.Sums.{sums, sums_within, block_sums}
 use Rattle.sect_types.specs.Statements.{TextView, joined}
 use Rattle.sect_types.specs.declared.expand.Fresh.{Fresh}
 use Rattle.sect_types.specs.Expanded.{Scene, Ahead, Expander, argument_in, block_sections, expanded_statement}
 use Rattle.sect_types.specs.Expanded.{expanded_block, expand_within}
-use Rattle.sect_types.specs.Expanded.{block_fresh, fresh_within, fresh_in, local_types_of, past_thread}
+use Rattle.sect_types.specs.Expanded.{fresh_in, past_thread}
 use Rattle.sect_types.specs.Expanded.{expanded_threads, texts_of}
 
 -- the new text is the old one, then what the function puts before what follows
@@ -57,12 +54,6 @@ statement_by t n s first a f k = expanded_statement t.procedures (table_by t n) 
 
 abbrev pub block_by : TreeView → ℕ → Sight → ℕ → Ahead → BlockView → TextView
 block_by t n s first a b = expanded_block t.procedures (table_by t n) (calls_by t n) (view_of s first) a b
-
--- what the bodies of procedures see; and none has a section
-pub record IsCallees (t : TreeView) (called : List Procedure) (scopes : List Sight) : Type 0 where
-  pub procedures_are : called ≡ t.procedures
-  pub scopes_are : scopes ≡ map (λ (p : Procedure). sight t.records t.globals (variables p)) t.procedures
-  pub flat : (q : ℕ) (p : Procedure) → slice_get t.procedures q ≡ Some p → block_sections p.body ≡ 0
 
 -- how many statements with blocks all bodies have
 abbrev pub total_size : List Procedure → ℕ
@@ -105,30 +96,10 @@ pub record AreExpanded (t : TreeView) (now : Ahead) (rest : List Thread) (texts 
   pub written : texts ++ expanded_threads t now rest ≡ texts_of t
   pub room : RoomFor t now rest
 
--- what the statements of each thread see
-abbrev pub thread_sights : TreeView → List Sight
-thread_sights t = map (λ (h : Thread). sight t.records t.globals h.locals) t.threads
-
 -- the types of these fresh locals are known
 abbrev pub fresh_known : List (List ℕ) → List Fresh → Bool
 fresh_known records [] = true
 fresh_known records (f ∷ fs) = knows_kind records f.declared.kind && fresh_known records fs
-
--- the fresh locals of the statements that are left
-pub record ArePut (t : TreeView) (n : ℕ) (block all rest : BlockView) (old now : ℕ) (before fresh : List Fresh) : Type 0
-  where
-    pub whole : all ≡ block
-    pub put : fresh ++ block_fresh t.procedures (table_by t n) (fresh_within n t.procedures) now rest
-        ≡ before ++ block_fresh t.procedures (table_by t n) (fresh_within n t.procedures) old block
-    pub calls : now + (block_sums t.procedures (table_by t n) rest).calls
-        ≡ old + (block_sums t.procedures (table_by t n) block).calls
-
--- these fresh locals have no types yet
-pub record AreFreshTyped (t : TreeView) (records : List (List ℕ)) (h : Thread) (all rest : List Fresh)
-    (types : List ValueType) : Type 0 where
-  pub whole : all ≡ fresh_in t h
-  pub typed : types ++ map (λ (f : Fresh). type_of records f.declared.kind) rest ≡ local_types_of t h
-  pub known : fresh_known records rest ≡ true
 
 -- all types of a thread's locals are known, and its calls are within the limit
 pub record IsReadyForTypes (t : TreeView) (records : List (List ℕ)) (h : Thread) : Type 0 where
@@ -139,9 +110,3 @@ pub record IsReadyForTypes (t : TreeView) (records : List (List ℕ)) (h : Threa
 abbrev pub AllReadyForTypes : TreeView → List (List ℕ) → List Thread → Type 0
 AllReadyForTypes t records [] = ⊤
 AllReadyForTypes t records (h ∷ hs) = IsReadyForTypes t records h × AllReadyForTypes t records hs
-
--- the threads `rest` have no types yet
-pub record AreTypesOf (t : TreeView) (records : List (List ℕ)) (all rest : List Thread)
-    (types : List (List ValueType)) : Type 0 where
-  pub typed : types ++ map (local_types_of t) rest ≡ map (local_types_of t) all
-  pub ready : AllReadyForTypes t records rest

@@ -3,7 +3,6 @@ use Rattle.sect_types.specs.Lists.{Has}
 use Rattle.sect_types.proofs.Membership.{Has-get_or}
 use Rattle.sect_types.proofs.Places.{zip_more}
 use Rattle.sect_names.specs.Chains.{link, IsChain}
-use Rattle.sect_chains.specs.steps.Trails.{AreFromEntry}
 use Rattle.sect_chains.specs.steps.Working.{links_of, nexts_of, kept_of}
 use Rattle.sect_chains.proofs.Growing.{kept_numbers, kept_trail}
 use Rattle.sect_chains.proofs.Trails.{go_back, entry_chain}

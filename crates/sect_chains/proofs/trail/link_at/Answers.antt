@@ -1,10 +1,7 @@
-use Rattle.std.proofs.Common.{◌≡◌, Some, get_or, sym, ap, ◌∙◌, subst}
+use Rattle.std.proofs.Common.{◌≡◌, Some, sym, ap, ◌∙◌}
 use Rattle.std.specs.Prelude.{slice_get}
 use Rattle.std.proofs.lemmas.Option.{slice_get-get_or}
-use Rattle.sect_types.specs.Lists.{Has}
 use Rattle.sect_types.proofs.Membership.{Has-slice_get}
-use Rattle.sect_names.specs.Chains.{link}
-use Rattle.sect_chains.specs.steps.Working.{links_of}
 use Rattle.sect_chains.proofs.Growing.{link_is}
 use Rattle.sect_chains.proofs.trail.link_at.Goals as goal
 

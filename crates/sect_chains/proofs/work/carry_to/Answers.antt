@@ -1,4 +1,4 @@
-use Rattle.std.proofs.Common.{◌≡◌, ◌<◌, [], Some, length, sym, ap, ◌∙◌, subst, arith}
+use Rattle.std.proofs.Common.{◌≡◌, [], Some, sym, ap, ◌∙◌, subst, arith}
 use Rattle.std.specs.Prelude.{slice_get}
 use Rattle.std.proofs.lemmas.Option.{slice_get-get_or}
 use Rattle.std.proofs.lemmas.Result.{on_ok_weaker}
@@ -7,11 +7,10 @@ use Rattle.sect_types.proofs.Membership.{Has-slice_get}
 use Rattle.sect_types.proofs.Places.{told_of, at_of}
 use Rattle.sect_graph.specs.declared.flow.Node.{Node}
 use Rattle.sect_graph.specs.Paths.{LeadsTo}
-use Rattle.sect_names.specs.declared.link.Link.{Link}
 use Rattle.sect_names.specs.Carrying.{CarriedBack}
 use Rattle.sect_names.specs.Chains.{link}
 use Rattle.sect_infer.specs.Tables.{Finds}
-use Rattle.sect_chains.specs.steps.Working.{links_of, kept_of, Grows}
+use Rattle.sect_chains.specs.steps.Working.{kept_of, Grows}
 use Rattle.sect_chains.proofs.Growing.{kept_numbers, step_found, lock_is}
 use Rattle.sect_chains.proofs.Working.{trail_lock}
 use Rattle.sect_chains.proofs.Carrying.{carried_to}

@@ -1,5 +1,4 @@
-use Rattle.std.proofs.Common.{[], ◌∷◌, ◌+◌, length, length-append, ap, ◌∙◌, subst}
-use Rattle.std.specs.Prelude.{slice_index_or}
+use Rattle.std.proofs.Common.{[], ◌∷◌, ◌+◌, length-append, ap, ◌∙◌}
 use Rattle.sect_graph.proofs.Adding.{empty_more}
 use Rattle.sect_chains.proofs.work.none_found.Goals as goal
 

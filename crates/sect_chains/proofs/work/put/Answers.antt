@@ -1,8 +1,7 @@
-use Rattle.std.proofs.Common.{◌≡◌, None, length, sym, ap, ◌∙◌, subst, arith}
+use Rattle.std.proofs.Common.{◌≡◌, sym, subst, arith}
 use Rattle.std.proofs.lemmas.Option.{slice_get_within}
 use Rattle.std.proofs.lemmas.Result.{on_ok_weaker}
 use Rattle.sect_names.specs.Chains.{link}
-use Rattle.sect_chains.specs.steps.Keeping.{KeptView, kept, step_of, keep_one}
 use Rattle.sect_chains.specs.steps.Working.{kept_of, Grows}
 use Rattle.sect_chains.proofs.Carrying.{put_one, generated_within}
 use Rattle.sect_chains.proofs.work.put.Goals as goal

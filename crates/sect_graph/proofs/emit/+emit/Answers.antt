@@ -1,4 +1,5 @@
 use Rattle.std.proofs.Common.{rules, arith, ap, sym, ◌≤◌, ◌≡◌, ◌+◌, ◌<◌, ◌∙◌, length, drop}
+use Rattle.sect_types.specs.declared.limits.TheConstants.{MOST_STATEMENTS}
 use Rattle.sect_types.specs.Statements.{Stop, weight}
 use Rattle.sect_types.specs.Texts.{step_then, statements_of}
 use Rattle.sect_types.specs.Traces.{node_count}
@@ -12,7 +13,7 @@ pub emit_step-emit_text-requires-in-If : goal.emit_step-emit_text-requires-in-If
 emit_step-emit_text-requires-in-If t c = (
   search rules,
   room_if c.args.step.now c.in-If.condition c.in-If.holds c.in-If.fails c.args.nodes.now.items
-      c.put-in-If.new.nodes.items c.emit_text.new.nodes.items _ c.args.next 4096
+      c.put-in-If.new.nodes.items c.emit_text.new.nodes.items _ c.args.next MOST_STATEMENTS
       (ap (λ s. step_then s Stop) c.in-If.is) c.in_ok-put-in-If.ensures c.in_ok-emit_text-in-If.ensures c.requires,
 )
 

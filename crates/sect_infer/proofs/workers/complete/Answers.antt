@@ -2,6 +2,7 @@ use Rattle.std.proofs.Common.{◌≡◌, ◌∙◌, ◌≤◌, [], ◌∷◌, le
 use Rattle.std.proofs.lemmas.Iterator.Adapters.{YieldsList-from_vec}
 use Rattle.std.proofs.lemmas.Iterator.Consumers.{YieldsList-turn}
 use Rattle.sect_types.proofs.Changed.{get_there}
+use Rattle.sect_types.specs.declared.limits.TheConstants.{MOST_SECTIONS}
 use Rattle.sect_types.specs.Programs.{ProgramView}
 use Rattle.sect_types.specs.Sections.{sections_of}
 use Rattle.sect_infer.specs.Sets.{LocksView}
@@ -17,7 +18,7 @@ overflow_add-section g c =
     let all = YieldsList-from_vec places.items given.0 (given.1 ∙ places.ok.0) in
     let turn = YieldsList-turn all c.loop-place.yielded _ c.loop-place.yielded_by c.next.result c.next.new.self
     c.in-Some.place c.in-Some.is c.next.ensures.steps in
-    let few : length places.items ≤ 256 =
+    let few : length places.items ≤ MOST_SECTIONS =
     let n = ap (λ (p : ProgramView). length (sections_of p.texts)) c.program.ensures in
     let m = c.section_count-few.ensures.count in
     omega (arith, c.requires.count, n, m, c.section_count-few.ensures.few) in

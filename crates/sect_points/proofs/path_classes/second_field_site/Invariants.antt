@@ -1,4 +1,5 @@
 use Rattle.std.proofs.Common.{◌-◌}
+use Rattle.sect_types.specs.declared.limits.TheConstants.{MOST_SITES}
 use Rattle.sect_points.proofs.FilledLaws.{NothingBelow}
 use Rattle.sect_points.proofs.path_classes.second_field_site.Given as goal
 
@@ -6,4 +7,4 @@ abbrev pub invariant-loop-base : goal.invariant-loop-base
 invariant-loop-base l = NothingBelow l.from l.classes.sets l.bases.words l.first l.second
 
 abbrev pub decreases-loop-base : goal.decreases-loop-base
-decreases-loop-base l = 1024 - l.from
+decreases-loop-base l = MOST_SITES - l.from

@@ -1,4 +1,5 @@
 use Rattle.std.proofs.Common.{◌*◌, ◌∙◌, sym, ap, length, subst}
+use Rattle.sect_points.specs.declared.marks.TheConstants.{LOCAL_ROWS}
 use Rattle.sect_points.specs.Flow.{IsLeastFlow}
 use Rattle.sect_points.specs.Sets.{InSets}
 use Rattle.sect_points.specs.steps.Solving.{AllFit}
@@ -25,7 +26,7 @@ pub close-requires-clause-suits : goal.close-requires-clause-suits
 close-requires-clause-suits c =
     all_markable c.args.program.now c.in_ok-sets.sets c.in_ok-marks.marks c.in_ok-sets.ensures.room
     c.typing.ensures.limits c.bounds.ensures.few c.bounds.ensures.rows
-    (c.in_ok-marks.ensures.locals ∙ ap (λ xs. length xs * 5) c.locals.ensures) c.in_ok-marks.ensures.fields
+    (c.in_ok-marks.ensures.locals ∙ ap (λ xs. length xs * LOCAL_ROWS) c.locals.ensures) c.in_ok-marks.ensures.fields
 
 pub returns-clause-least : goal.returns-clause-least
 returns-clause-least c =

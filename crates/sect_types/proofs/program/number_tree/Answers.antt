@@ -38,9 +38,9 @@ local_types-requires-clause-fresh c =
     (fresh_in t)
     t.threads =
     λ i. map (fresh_in (tree_of (setting i) (c.threads.ensures i))) (c.threads.ensures i) in
-    let fresh = c.as_slice.ensures.value ∙ c.in_ok-texts.ensures.fresh ∙ same in
-    subst (λ l. all_fresh_known c.args.shown.now.record_names.now l ≡ true) (sym fresh)
-    (all_fresh t c.args.shown.now.record_names.now t.threads
+    let fresh = c.as_slice-2.ensures.value ∙ c.in_ok-texts.ensures.fresh ∙ same in
+    subst (λ l. all_fresh_known c.args.shown.now.record_names l ≡ true) (sym fresh)
+    (all_fresh t c.args.shown.now.record_names t.threads
     (subst (λ n. variables_fine n t.procedures ≡ true) (sym c.requires.records) c.requires.counted.fine_variables))
 
 pub returns-clause-numbers : goal.returns-clause-numbers
@@ -60,7 +60,7 @@ returns-clause-numbers c =
     (fresh_in t)
     t.threads =
     λ i. map (fresh_in (tree_of (setting i) (c.threads.ensures i))) (c.threads.ensures i) in
-    let fresh = c.as_slice.ensures.value ∙ c.in_ok-texts.ensures.fresh ∙ same in
+    let fresh = c.as_slice-2.ensures.value ∙ c.in_ok-texts.ensures.fresh ∙ same in
     well_numbered t c.args.spot.now c.in_ok-records.records.items c.in_ok-globals.globals.items
     c.in_ok-locals.locals.items
     c.in_ok-texts.texts.items c.in_ok-lockings.lockings.items c.sections.result c.sites.result c.statements.result

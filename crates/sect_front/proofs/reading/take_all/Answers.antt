@@ -1,23 +1,23 @@
-use Rattle.std.proofs.Common.{◌≡◌, ◌<◌, ◌-◌, ◌++◌, ◌∷◌, [], None, length, arith, sym, ◌∙◌, ap}
+use Rattle.std.proofs.Common.{◌≡◌, ◌<◌, ◌-◌, ◌++◌, ◌∷◌, [], None, length, arith, refl, sym, ◌∙◌, ap}
 use Rattle.std.proofs.lemmas.Bool.Decides.{nat_tests}
 use Rattle.sect_front.specs.Faults.{tokens_in}
-use Rattle.sect_front.specs.steps.Read.{read_one}
+use Rattle.sect_front.specs.steps.Read.{read_one, finish_of}
 use Rattle.sect_front.proofs.Lexemes.{lexeme_first}
 use Rattle.sect_front.proofs.Reach.{reached_none, bad_at, lexed}
 use Rattle.sect_front.proofs.Verdict.{reads_nothing, finished, is_low, brace_most}
 use Rattle.sect_front.proofs.Texts.{token_here, passed, reads_on, shorter, unexpected_at, too_deep_at, text_ends}
 use Rattle.sect_front.proofs.Texts.{nothing_left}
-use Rattle.sect_front.proofs.reading.read.Goals as goal
+use Rattle.sect_front.proofs.reading.take_all.Goals as goal
 
 pub loop-here-init : goal.loop-here-init
-loop-here-init c = rw (c.new-reader.ensures, c.after_gap-here.ensures)
+loop-here-init c = rw (c.requires, c.after_gap-here.ensures)
     record { places = []; reached = reached_none c.args.bytes.now; reads = reads_nothing }
 
 pub overflow_sub-at : goal.overflow_sub-at
 overflow_sub-at c = c.loop-here.invariant.reached.fits
 
-pub returns-in_default : goal.returns-in_default
-returns-in_default c =
+pub returns-in_default-clause-fault : goal.returns-in_default-clause-fault
+returns-in_default-clause-fault c =
     let some : 0 < length c.loop-here.here.now = grind (arith, nat_tests) in
     let read = c.loop-here.invariant in
     bad_at c.args.bytes.now read.places c.loop-here.here.now
@@ -37,8 +37,8 @@ unless_bad-requires c = omega (
   ap length c.behind-here.ensures,
 )
 
-pub returns-in-Err-Unexpected : goal.returns-in-Err-Unexpected
-returns-in-Err-Unexpected c =
+pub returns-in-Err-Unexpected-clause-fault : goal.returns-in-Err-Unexpected-clause-fault
+returns-in-Err-Unexpected-clause-fault c =
     let bytes = c.args.bytes.now in
     let here = c.loop-here.here.now in
     let read = c.loop-here.invariant in
@@ -62,8 +62,8 @@ unless_bad-requires-then-level-gt-MOST_DEPTH c = omega (
   ap length c.behind-here.ensures,
 )
 
-pub returns-then-level-gt-MOST_DEPTH : goal.returns-then-level-gt-MOST_DEPTH
-returns-then-level-gt-MOST_DEPTH c =
+pub returns-then-level-gt-MOST_DEPTH-clause-fault : goal.returns-then-level-gt-MOST_DEPTH-clause-fault
+returns-then-level-gt-MOST_DEPTH-clause-fault c =
     let bytes = c.args.bytes.now in
     let here = c.loop-here.here.now in
     let read = c.loop-here.invariant in
@@ -90,15 +90,14 @@ loop-here-preserved c = rw (c.behind-here.ensures, c.braces-level.ensures)
     c.in-Some.length c.loop-here.invariant (sym c.lexeme.ensures ∙ c.in-Some.is) c.in-Ok.ensures
     (omega (arith, c.braces-level.ensures)))
 
-pub finish-requires : goal.finish-requires
-finish-requires c = λ tree e. let read = c.loop-here.invariant in
+pub returns-clause-shallow : goal.returns-clause-shallow
+returns-clause-shallow c = λ tree e. let read = c.loop-here.invariant in
     (finished (tokens_in read.places) c.loop-here.reader c.loop-here.level tree read.reads e).shallow
 
-pub returns : goal.returns
-returns c =
+pub returns-clause-ends : goal.returns-clause-ends
+returns-clause-ends c =
     let read = c.loop-here.invariant in
     let left : length c.loop-here.here.now ≡ 0 = grind (arith, nat_tests) in
     let spells = lexed c.args.bytes.now read.places c.loop-here.here.now read.reached (nothing_left _ left) in
-    rw c.ok_or.ensures.value
-    (text_ends c.args.bytes.now read.places c.loop-here.reader c.loop-here.level spells read.reads c.finish.result
-    c.finish.ensures)
+    text_ends c.args.bytes.now read.places c.loop-here.reader c.loop-here.level spells read.reads
+    (finish_of c.loop-here.reader) refl

@@ -164,6 +164,13 @@ impl Reader {
         }
     }
 
+    /// The next token stands here.
+    fn lead_to(&mut self, stage: Stage)
+        ensures { self.new ≡ record { source = self.old.source; stage = stage } }
+    {
+        self.stage = stage;
+    }
+
     /// Takes one more token.
     pub fn step(&mut self, alloc: Global, token: &Token) -> Result<(), StepError>
         ensures { Reads result self.new (read_one self.old token.now) }
@@ -219,7 +226,7 @@ impl Reader {
             Token::Thread => Outside::Thread(ThreadStage::AfterWord),
             _ => return Err(StepError::Unexpected),
         };
-        self.stage = Stage::Outside(next);
+        self.lead_to(Stage::Outside(next));
         Ok(())
     }
 
@@ -262,7 +269,7 @@ impl Reader {
                 _ => return Err(StepError::Unexpected),
             },
         };
-        self.stage = Stage::Outside(Outside::Record(next));
+        self.lead_to(Stage::Outside(Outside::Record(next)));
         Ok(())
     }
 
@@ -280,7 +287,7 @@ impl Reader {
             hints,
             fields,
         })?;
-        self.stage = Stage::Outside(Outside::Between(Part::Records));
+        self.lead_to(Stage::Outside(Outside::Between(Part::Records)));
         Ok(())
     }
 
@@ -305,7 +312,7 @@ impl Reader {
                 _ => return Err(StepError::Unexpected),
             },
         };
-        self.stage = Stage::Outside(next);
+        self.lead_to(Stage::Outside(next));
         Ok(())
     }
 
@@ -345,7 +352,7 @@ impl Reader {
                 return self.open_procedure(alloc, name, parameters, token);
             }
         };
-        self.stage = Stage::Outside(Outside::Procedure(next));
+        self.lead_to(Stage::Outside(Outside::Procedure(next)));
         Ok(())
     }
 
@@ -363,7 +370,7 @@ impl Reader {
             Token::Name(of) => ProcedureStage::AfterKind(name, parameters, Kind::Record(of)),
             _ => return Err(StepError::Unexpected),
         };
-        self.stage = Stage::Outside(Outside::Procedure(next));
+        self.lead_to(Stage::Outside(Outside::Procedure(next)));
         Ok(())
     }
 
@@ -390,7 +397,7 @@ impl Reader {
             }
             _ => return Err(StepError::Unexpected),
         };
-        self.stage = Stage::Outside(Outside::Procedure(next));
+        self.lead_to(Stage::Outside(Outside::Procedure(next)));
         Ok(())
     }
 
@@ -409,7 +416,7 @@ impl Reader {
             Token::OpenBrace => {
                 let owner = Owner::Procedure(name, parameters);
                 let body = BodyStage::Locals(owner, Declarations::new(alloc));
-                self.stage = Stage::Outside(Outside::Body(body));
+                self.lead_to(Stage::Outside(Outside::Body(body)));
                 Ok(())
             }
             _ => Err(StepError::Unexpected),
@@ -433,7 +440,7 @@ impl Reader {
                 _ => return Err(StepError::Unexpected),
             },
         };
-        self.stage = Stage::Outside(next);
+        self.lead_to(Stage::Outside(next));
         Ok(())
     }
 
@@ -459,7 +466,7 @@ impl Reader {
                 _ => return Err(StepError::Unexpected),
             },
         };
-        self.stage = Stage::Outside(Outside::Body(next));
+        self.lead_to(Stage::Outside(Outside::Body(next)));
         Ok(())
     }
 
@@ -496,7 +503,7 @@ impl Reader {
     {
         match within.step(alloc, &token)? {
             None => {
-                self.stage = Stage::Inside(owner, locals, within);
+                self.lead_to(Stage::Inside(owner, locals, within));
                 Ok(())
             }
             Some(body) => self.end(owner, locals, body),
@@ -522,7 +529,7 @@ impl Reader {
                 Outside::Between(Part::Threads)
             }
         };
-        self.stage = Stage::Outside(next);
+        self.lead_to(Stage::Outside(next));
         Ok(())
     }
 

@@ -107,6 +107,13 @@ impl Within {
         }
     }
 
+    /// The next token stands here.
+    fn lead_to(&mut self, place: Partial)
+        ensures { self.new ≡ record { frames = self.old.frames; before = self.old.before; place = place } }
+    {
+        self.place = place;
+    }
+
     /// Takes one more token. The whole body comes with its last brace.
     pub fn step(&mut self, alloc: Global, token: &Token) -> Result<Option<Block>, StepError>
         ensures { Steps result self.new (step_of self.old token.now) }
@@ -146,7 +153,7 @@ impl Within {
     {
         match token {
             Token::Else => {
-                self.place = Partial::AfterElse(test, then);
+                self.lead_to(Partial::AfterElse(test, then));
                 Ok(None)
             }
             _ => {
@@ -171,7 +178,7 @@ impl Within {
             Token::OpenBrace => {
                 let before = mem::replace(&mut self.before, Block::new(alloc));
                 self.frames.push(Frame::Else(before, test, then))?;
-                self.place = Partial::Start;
+                self.lead_to(Partial::Start);
                 Ok(None)
             }
             _ => Err(StepError::Unexpected),
@@ -184,33 +191,33 @@ impl Within {
     {
         match token {
             Token::Name(x) => {
-                self.place = Partial::Inside(PartialHead::AfterName(*x));
+                self.lead_to(Partial::Inside(PartialHead::AfterName(*x)));
                 Ok(None)
             }
             Token::Print => {
-                self.place = Partial::Inside(PartialHead::AfterPrint);
+                self.lead_to(Partial::Inside(PartialHead::AfterPrint));
                 Ok(None)
             }
             Token::If => {
-                self.place = Partial::Inside(PartialHead::Branch(
+                self.lead_to(Partial::Inside(PartialHead::Branch(
                     Branch::If,
                     PartialBranch::AfterWord,
-                ));
+                )));
                 Ok(None)
             }
             Token::While => {
-                self.place = Partial::Inside(PartialHead::Branch(
+                self.lead_to(Partial::Inside(PartialHead::Branch(
                     Branch::While,
                     PartialBranch::AfterWord,
-                ));
+                )));
                 Ok(None)
             }
             Token::Atomic => {
-                self.place = Partial::Inside(PartialHead::AfterAtomic);
+                self.lead_to(Partial::Inside(PartialHead::AfterAtomic));
                 Ok(None)
             }
             Token::Call => {
-                self.place = Partial::InCall(PartialCall::AfterWord);
+                self.lead_to(Partial::InCall(PartialCall::AfterWord));
                 Ok(None)
             }
             Token::CloseBrace => self.close(alloc),
@@ -254,7 +261,7 @@ impl Within {
             PartialCall::AfterComma(callee, values) => return self.argument(callee, values, token),
             PartialCall::AfterClose(callee, values) => return self.end_call(callee, values, token),
         };
-        self.place = Partial::InCall(next);
+        self.lead_to(Partial::InCall(next));
         Ok(None)
     }
 
@@ -271,7 +278,7 @@ impl Within {
         let Some(value) = operand(token) else {
             return Err(StepError::Unexpected);
         };
-        self.place = Partial::InCall(PartialCall::AfterArgument(callee, values, value));
+        self.lead_to(Partial::InCall(PartialCall::AfterArgument(callee, values, value)));
         Ok(None)
     }
 
@@ -288,7 +295,7 @@ impl Within {
         match token {
             Token::Semicolon => {
                 self.before.push(Statement::Call(callee, values))?;
-                self.place = Partial::Start;
+                self.lead_to(Partial::Start);
                 Ok(None)
             }
             _ => Err(StepError::Unexpected),
@@ -306,24 +313,24 @@ impl Within {
             Frame::Atomic(before, locking) => {
                 let block = mem::replace(&mut self.before, before);
                 self.before.push(Statement::Atomic(locking, block))?;
-                self.place = Partial::Start;
+                self.lead_to(Partial::Start);
                 Ok(None)
             }
             Frame::While(before, test) => {
                 let block = mem::replace(&mut self.before, before);
                 self.before.push(Statement::While(test, block))?;
-                self.place = Partial::Start;
+                self.lead_to(Partial::Start);
                 Ok(None)
             }
             Frame::Then(before, test) => {
                 let block = mem::replace(&mut self.before, before);
-                self.place = Partial::AfterThen(test, block);
+                self.lead_to(Partial::AfterThen(test, block));
                 Ok(None)
             }
             Frame::Else(before, test, then) => {
                 let block = mem::replace(&mut self.before, before);
                 self.before.push(Statement::IfElse(test, then, block))?;
-                self.place = Partial::Start;
+                self.lead_to(Partial::Start);
                 Ok(None)
             }
         }
@@ -335,30 +342,30 @@ impl Within {
     {
         match to {
             Move::To(line) => {
-                self.place = Partial::Inside(line);
+                self.lead_to(Partial::Inside(line));
                 Ok(None)
             }
             Move::Whole(primitive) => {
                 self.before.push(Statement::Primitive(primitive))?;
-                self.place = Partial::Start;
+                self.lead_to(Partial::Start);
                 Ok(None)
             }
             Move::OpensThen(test) => {
                 let before = mem::replace(&mut self.before, Block::new(alloc));
                 self.frames.push(Frame::Then(before, test))?;
-                self.place = Partial::Start;
+                self.lead_to(Partial::Start);
                 Ok(None)
             }
             Move::OpensWhile(test) => {
                 let before = mem::replace(&mut self.before, Block::new(alloc));
                 self.frames.push(Frame::While(before, test))?;
-                self.place = Partial::Start;
+                self.lead_to(Partial::Start);
                 Ok(None)
             }
             Move::OpensAtomic(locking) => {
                 let before = mem::replace(&mut self.before, Block::new(alloc));
                 self.frames.push(Frame::Atomic(before, locking))?;
-                self.place = Partial::Start;
+                self.lead_to(Partial::Start);
                 Ok(None)
             }
         }

@@ -1,23 +1,13 @@
 use Rattle.std.proofs.Common.{List, []}
 use Rattle.sect_types.specs.Items.{Item, record_items, global_items, procedure_items, thread_items}
 use Rattle.sect_types.specs.Rules.{declared_in}
-use Rattle.sect_types.proofs.ThreadLemmas.{second_fails, handed_on, for_memory}
+use Rattle.sect_types.proofs.ThreadLemmas.{walks_then}
 use Rattle.sect_types.proofs.program.judge_tree.Goals as goal
 
-pub returns-in_err-variables-clause-walks : goal.returns-in_err-variables-clause-walks
-returns-in_err-variables-clause-walks c =
+pub returns-clause-walks : goal.returns-clause-walks
+returns-clause-walks c =
     let t = c.args.tree.now in
-    let d = declared_in t in
     let one : List Item → List Item = λ w. record_items [] t.records (global_items [] t.globals w) in
     let two : List Item → List Item = λ w. procedure_items 0 [] t.procedures (thread_items [] t.threads w) in
-    handed_on d (λ w. one (two w)) c.args.spot.now c.bodies.new.spot c.in_err-variables.field-0.0
-    c.from_residual-in_err-variables.result c.from_residual-in_err-variables.ensures.1
-    (second_fails d one two c.args.spot.now c.declarations.new.spot c.bodies.new.spot c.in_err-variables.field-0.0
-    c.in_ok-shown.ensures.walks c.in_err-variables.ensures.walks)
-
-pub returns-in_err-parts-clause-walks : goal.returns-in_err-parts-clause-walks
-returns-in_err-parts-clause-walks c =
-    let t = c.args.tree.now in
-    for_memory (declared_in t) (λ w. record_items [] t.records (global_items [] t.globals
-    (procedure_items 0 [] t.procedures (thread_items [] t.threads w)))) c.args.spot.now c.bodies.new.spot
-    c.from_residual-in_err-parts.result c.from_residual-in_err-parts.ensures.1
+    walks_then (declared_in t) (λ w. one (two w)) two c.args.spot.now c.declarations.new.spot c.rest_of_tree.new.spot
+    c.rest_of_tree.result (λ w. c.in_ok-shown.ensures.walks (two w)) c.rest_of_tree.ensures.walks

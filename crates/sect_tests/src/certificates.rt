@@ -67,7 +67,7 @@ fn certificates_are_written_back(rt: HostRuntime) -> Result<(), Fail> {
 }
 
 /// What stands at a place.
-pub fn at<T>(items: &[T], place: usize) -> Result<&T, Fail> {
+fn at<T>(items: &[T], place: usize) -> Result<&T, Fail> {
     match items.get(place) {
         Some(item) => Ok(item),
         None => Err(Fail::from("too short")),

@@ -308,18 +308,28 @@ const BLOCKS: &[(usize, usize, &str)] = &[
     (1, 30, "15 TooMany item 34"),
 ];
 
+/// Adds a text within so many blocks.
+fn put_in_blocks(all: &mut String, text: &str, count: usize) -> Result<(), Fail> {
+    copies(all, "if (1 == 1) { ", count)?;
+    all.push_str(text)?;
+    copies(all, "} ", count)
+}
+
+/// A procedure of so many blocks, called within so many.
+fn called_in_blocks(alloc: Global, deep: usize, around: usize) -> Result<String, Fail> {
+    let mut source = String::new(alloc);
+    source.push_str("proc f() { ")?;
+    put_in_blocks(&mut source, "", deep)?;
+    source.push_str("} thread t { atomic { ")?;
+    put_in_blocks(&mut source, "call f(); ", around)?;
+    source.push_str("} }")?;
+    Ok(source)
+}
+
 #[test]
 fn blocks_of_the_expanded_text(rt: HostRuntime) -> Result<(), Fail> {
     for (deep, around, wanted) in BLOCKS {
-        let mut source = String::new(rt.alloc());
-        source.push_str("proc f() { ")?;
-        copies(&mut source, "if (1 == 1) { ", *deep)?;
-        copies(&mut source, "} ", *deep)?;
-        source.push_str("} thread t { atomic { ")?;
-        copies(&mut source, "if (1 == 1) { ", *around)?;
-        source.push_str("call f(); ")?;
-        copies(&mut source, "} ", *around)?;
-        source.push_str("} }")?;
+        let source = called_in_blocks(rt.alloc(), *deep, *around)?;
         let found = answer(rt.alloc(), &source)?;
         assert!(rt; found.as_str() == *wanted, "{deep} and {around}: {found}");
     }

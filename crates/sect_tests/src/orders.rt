@@ -1,19 +1,12 @@
 //! Programs run by whole sections in an order.
 
-use sect_front::parse;
+use crate::programs::{LIST, program_of};
 use sect_serial::{SerialEnd, serial};
 use sect_store::{Outcome, put_outcome};
-use sect_types::{Datum, End, ObjectName, Program, check_types};
+use sect_types::{Datum, End, ObjectName, Program};
 use std::alloc::Global;
+use std::process::Abort;
 use std::test::Fail;
-
-const LIST: &str = "record Node { int val; Node next; } global Node head;
- thread sum { Node p; int v; int s;
-   atomic { p = head.next;
-     while (p != null) { v = p.val; s = s + v; p = p.next; }
-     print s; } }
- thread push { Node n; Node p; int v; v = 5;
-   atomic { n = new Node; n.val = v; p = head.next; n.next = p; head.next = n; } }";
 
 const LOOPS: &str = "record A { int f; } global A a;
  thread t { int i; int x;
@@ -56,27 +49,33 @@ const ORDERS: &[(&str, u32, &[u16], &str)] = &[
     (REST_FAILS, 100, &[0], "thread 0 overflow\norder 0\nout 0\n"),
 ];
 
-/// The program of a source text.
-fn program_of(alloc: Global, source: &str) -> Result<Program, Fail> {
-    let tree = parse(alloc, source.as_bytes())?;
-    let program = check_types(alloc, tree)?;
-    Ok(program)
+/// What is shown of an outcome.
+fn outcome_text(alloc: Global, program: &Program, outcome: &Outcome) -> Result<String, Fail> {
+    let mut text = String::new(alloc);
+    put_outcome(alloc, &mut text, program, outcome)?;
+    Ok(text)
+}
+
+/// What is shown of the end of a run in an order.
+fn end_text(
+    alloc: Global,
+    program: &Program,
+    end: SerialEnd,
+    order: &[u16],
+) -> Result<String, Fail> {
+    let mut threads = Vec::new(alloc);
+    threads.extend_from_slice(order)?;
+    let outcome = end.into_outcome(alloc, threads)?;
+    outcome_text(alloc, program, &outcome)
 }
 
 /// What the run of a program in an order shows: the outcome, or the fault.
 fn shown(alloc: Global, source: &str, fuel: u32, order: &[u16]) -> Result<String, Fail> {
-    let program = program_of(alloc, source)?;
-    let mut text = String::new(alloc);
+    let program = program_of(alloc, source.as_bytes())?;
     match serial(alloc, &program, fuel, order) {
-        Ok(end) => {
-            let mut threads = Vec::new(alloc);
-            threads.extend_from_slice(order)?;
-            let outcome = end.into_outcome(alloc, threads)?;
-            put_outcome(alloc, &mut text, &program, &outcome)?;
-        }
-        Err(fault) => text.push_str(format!(in alloc; "{fault}")?.as_str())?,
+        Ok(end) => end_text(alloc, &program, end, order),
+        Err(fault) => Ok(format!(in alloc; "{fault}")?),
     }
-    Ok(text)
 }
 
 #[test]
@@ -88,10 +87,8 @@ fn orders_come_to_outcomes(rt: HostRuntime) -> Result<(), Fail> {
     Ok(())
 }
 
-#[test]
-fn the_end_shows_its_parts(rt: HostRuntime) -> Result<(), Fail> {
-    let program = program_of(rt.alloc(), LIST)?;
-    let end: SerialEnd = serial(rt.alloc(), &program, 10000, &[1, 0])?;
+/// The end of the run in which one thread has pushed a node that the other then found.
+fn is_pushed(rt: &impl Abort, end: &SerialEnd) -> Result<(), Fail> {
     assert_eq!(rt; end.ends(), [End::Done, End::Done].as_slice());
     assert_eq!(rt; end.output(), [5].as_slice());
     let made = ObjectName::Made {
@@ -108,13 +105,18 @@ fn the_end_shows_its_parts(rt: HostRuntime) -> Result<(), Fail> {
 }
 
 #[test]
+fn the_end_shows_its_parts(rt: HostRuntime) -> Result<(), Fail> {
+    let program = program_of(rt.alloc(), LIST)?;
+    is_pushed(&rt, &serial(rt.alloc(), &program, 10000, &[1, 0])?)
+}
+
+#[test]
 fn a_thread_that_runs_is_shown_so(rt: HostRuntime) -> Result<(), Fail> {
-    let program = program_of(rt.alloc(), "thread t { } thread u { }")?;
+    let program = program_of(rt.alloc(), b"thread t { } thread u { }")?;
     let store = sect_store::Store::first(rt.alloc(), &program)?;
     let ends = vec![in rt.alloc(); None, Some(End::Done)]?;
     let outcome = Outcome::new(ends, Vec::new(rt.alloc()), Vec::new(rt.alloc()), store);
-    let mut text = String::new(rt.alloc());
-    put_outcome(rt.alloc(), &mut text, &program, &outcome)?;
+    let text = outcome_text(rt.alloc(), &program, &outcome)?;
     assert_eq!(rt;
         text.as_str(),
         "thread 0 running\nthread 1 done\norder none\n"

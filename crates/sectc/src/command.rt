@@ -98,19 +98,33 @@ pub fn told<O: Write + Drop>(mut output: O, status: u8, text: &[u8]) -> u8 {
 fn answer_to<R: Threads + Wait + Sync + AllocGlobal, I: Read + Drop>(
     rt: &R,
     words: &[String],
-    mut input: I,
+    input: I,
 ) -> Result<Answer, Failure> {
     let alloc = rt.alloc();
-    let request = match request_of(alloc, words) {
-        Ok(request) => request,
-        Err(UsageFault::Memory) => return Err(Failure::Memory),
-        Err(fault) => {
-            return Ok(Answer {
-                status: WRONG_WORDS,
-                text: format!(in alloc; "{fault}")?.into_bytes(),
-            });
-        }
-    };
+    match request_of(alloc, words) {
+        Ok(request) => answered(rt, alloc, request, input),
+        Err(fault) => words_refused(alloc, fault),
+    }
+}
+
+/// What is answered to words that are wrong.
+fn words_refused(alloc: Global, fault: UsageFault) -> Result<Answer, Failure> {
+    match fault {
+        UsageFault::Memory => Err(Failure::Memory),
+        fault => Ok(Answer {
+            status: WRONG_WORDS,
+            text: format!(in alloc; "{fault}")?.into_bytes(),
+        }),
+    }
+}
+
+/// What a request asks of the input, which is read to its end.
+fn answered<R: Threads + Wait + Sync, I: Read + Drop>(
+    rt: &R,
+    alloc: Global,
+    request: Request,
+    mut input: I,
+) -> Result<Answer, Failure> {
     let mut source = Vec::new(alloc);
     input.read_to_end(&mut source)?;
     worked(rt, alloc, request, source.as_slice())

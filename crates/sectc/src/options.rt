@@ -121,7 +121,7 @@ pub fn numeral<'a>(alloc: Global, name: &'a str, help: &'a str) -> Arg<'a>
 }
 
 /// The option `--k N`.
-pub fn k_option<'a>(alloc: Global) -> Arg<'a>
+fn k_option<'a>(alloc: Global) -> Arg<'a>
     ensures { result.global ≡ false }
 {
     numeral(
@@ -152,31 +152,35 @@ fn compile_command<'a>(alloc: Global) -> Result<Command<'a>, AllocError>
     Ok(command)
 }
 
+/// A command that takes `--k N`.
+pub fn k_command<'a>(
+    alloc: Global,
+    name: &'a str,
+    about: &'a str,
+) -> Result<Command<'a>, AllocError>
+    ensures { IfOk result (λ c. (fields_of c).has_globals ≡ false) }
+{
+    Command::new(alloc, name).about(about).arg(k_option(alloc))
+}
+
 /// The commands and what each takes.
 fn grammar<'a>(alloc: Global) -> Result<Command<'a>, AllocError>
     ensures required { IfOk result (λ c. (fields_of c).subcommand_required ≡ true) }
     ensures local { IfOk result (λ c. (fields_of c).has_globals ≡ false) }
 {
-    let locks = Command::new(alloc, "locks")
-        .about("prints the lock set of each section of the source text")
-        .arg(k_option(alloc))?;
-    let explain = Command::new(alloc, "explain")
-        .about("prints why each section of the source text takes each of its locks")
-        .arg(k_option(alloc))?;
-    let check = Command::new(alloc, "check")
-        .about(
-            "tests a certificate: the input is the certificate, and the source text behind its line `end`",
-        )
-        .arg(k_option(alloc))?;
+    let locks = "prints the lock set of each section of the source text";
+    let explain = "prints why each section of the source text takes each of its locks";
+    let check =
+        "tests a certificate: the input is the certificate, and the source text behind its line `end`";
     let sectc = Command::new(alloc, "sectc")
         .about("infers the locks of atomic sections; reads a source text on standard input")
-        .subcommand(locks)?
+        .subcommand(k_command(alloc, "locks", locks)?)?
         .subcommand(compile_command(alloc)?)?
-        .subcommand(explain)?
+        .subcommand(k_command(alloc, "explain", explain)?)?
         .subcommand(serial_command(alloc)?)?
         .subcommand(schedule_command(alloc)?)?
         .subcommand(run_command(alloc)?)?
-        .subcommand(check)?;
+        .subcommand(k_command(alloc, "check", check)?)?;
     Ok(sectc.subcommand_required(true))
 }
 

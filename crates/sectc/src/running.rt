@@ -3,7 +3,7 @@
 ghost use Rattle.std.specs.Prelude.{◌≡◌, ◌≤◌, false, IfOk};
 ghost use Rattle.clap.specs.declared.builder.command.Command.TheViews.{out-Command as fields_of};
 
-use crate::options::{MOST, UsageFault, k_option, number, numeral};
+use crate::options::{MOST, UsageFault, k_command, number, numeral};
 use clap::{Arg, ArgAction, ArgMatches, Command};
 use std::alloc::{AllocError, Global};
 
@@ -49,6 +49,18 @@ pub fn serial_command<'a>(alloc: Global) -> Result<Command<'a>, AllocError>
     Ok(command)
 }
 
+/// A command that runs a compiled program, with the options that each takes.
+fn compiled_command<'a>(
+    alloc: Global,
+    name: &'a str,
+    about: &'a str,
+) -> Result<Command<'a>, AllocError>
+    ensures { IfOk result (λ c. (fields_of c).has_globals ≡ false) }
+{
+    let command = k_command(alloc, name, about)?;
+    command.arg(fuel_option(alloc))
+}
+
 /// The command `schedule` and what it takes.
 pub fn schedule_command<'a>(alloc: Global) -> Result<Command<'a>, AllocError>
     ensures { IfOk result (λ c. (fields_of c).has_globals ≡ false) }
@@ -57,25 +69,17 @@ pub fn schedule_command<'a>(alloc: Global) -> Result<Command<'a>, AllocError>
         alloc,
         "the threads whose turn it is, one turn after another",
     );
-    let command = Command::new(alloc, "schedule")
-        .about(
-            "runs the compiled program of the source text turn by turn, and prints the events and the outcome so far",
-        )
-        .arg(k_option(alloc))?
-        .arg(fuel_option(alloc))?
-        .arg(threads)?;
-    Ok(command)
+    let about =
+        "runs the compiled program of the source text turn by turn, and prints the events and the outcome so far";
+    compiled_command(alloc, "schedule", about)?.arg(threads)
 }
 
 /// The command `run` and what it takes.
 pub fn run_command<'a>(alloc: Global) -> Result<Command<'a>, AllocError>
     ensures { IfOk result (λ c. (fields_of c).has_globals ≡ false) }
 {
-    let command = Command::new(alloc, "run")
-        .about("runs the compiled program of the source text by threads, and prints the outcome")
-        .arg(k_option(alloc))?
-        .arg(fuel_option(alloc))?;
-    Ok(command)
+    let about = "runs the compiled program of the source text by threads, and prints the outcome";
+    compiled_command(alloc, "run", about)
 }
 
 /// The units of fuel that the option gives, or the default.

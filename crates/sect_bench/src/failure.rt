@@ -1,7 +1,6 @@
 //! Why a measurement ends early.
 
 use sect_cert::CertFault;
-use sect_check::CheckFault;
 use sect_front::FrontFault;
 use sect_names::Refusal;
 use sect_table::TableFault;
@@ -17,7 +16,7 @@ use thiserror::Error;
 #[derive(Clone, Copy, Debug, Error)]
 pub enum Failure {
     /// The words of the command line aren't those of a measurement.
-    #[error("wanted: nothing, or sets N, classes N, certified N, turns N, schedule K, table KEYS N, cert LISTS LOCKS")]
+    #[error("wanted: nothing, or sets N, classes N, schedule K, table KEYS N, cert LISTS LOCKS")]
     Usage,
     /// The source text was refused.
     #[error("the text on standard input is no program")]
@@ -63,12 +62,6 @@ impl From<TypeFault> for Failure {
 impl From<Refusal> for Failure {
     fn from(_refusal: Refusal) -> Failure {
         Failure::Source
-    }
-}
-
-impl From<CheckFault> for Failure {
-    fn from(_fault: CheckFault) -> Failure {
-        Failure::Work
     }
 }
 

@@ -4,27 +4,29 @@ use crate::failure::Failure;
 use sect_front::parse;
 use sect_points::{points_to, site_classes};
 use sect_types::{Program, check_types};
-use std::alloc::{AllocError, Global};
+use std::alloc::Global;
 
 /// The program of a source text.
-pub fn program_of(alloc: Global, source: &[u8]) -> Result<Program, Failure> {
+fn program_of(alloc: Global, source: &[u8]) -> Result<Program, Failure> {
     Ok(check_types(alloc, parse(alloc, source)?)?)
 }
 
-/// Finds the points-to sets so many times. It gives how many sites they have.
-pub fn sites_found(alloc: Global, program: &Program, times: u32) -> Result<u16, AllocError> {
+/// Finds the points-to sets of a text's program so many times. It gives how many sites they have.
+pub fn sites_found(alloc: Global, source: &[u8], times: u32) -> Result<u16, Failure> {
+    let program = program_of(alloc, source)?;
     let mut found = 0;
     for _ in 0..times {
-        found = points_to(alloc, program)?.sites();
+        found = points_to(alloc, &program)?.sites();
     }
     Ok(found)
 }
 
-/// Finds the points-to sets and the classes so many times. It gives how many classes there are.
-pub fn classes_found(alloc: Global, program: &Program, times: u32) -> Result<u16, AllocError> {
+/// Finds the points-to sets and the classes of a text's program so many times. It gives how many classes there are.
+pub fn classes_found(alloc: Global, source: &[u8], times: u32) -> Result<u16, Failure> {
+    let program = program_of(alloc, source)?;
     let mut found = 0;
     for _ in 0..times {
-        found = site_classes(alloc, points_to(alloc, program)?)?.class_count();
+        found = site_classes(alloc, points_to(alloc, &program)?)?.class_count();
     }
     Ok(found)
 }

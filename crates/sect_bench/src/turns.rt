@@ -1,9 +1,9 @@
 //! Runs of programs, turn by turn.
 
 use crate::failure::Failure;
-use sect_emit::compile;
-use sect_names::MOST_PATH_FIELDS;
-use sect_store::put_outcome;
+use sect_emit::{Compiled, compile};
+use sect_store::{Outcome, put_outcome};
+use sect_types::Program;
 use sect_world::{Turned, World, WorldFault};
 use std::alloc::Global;
 use std::str;
@@ -11,45 +11,12 @@ use std::str;
 /// How many statements and tests each thread may do.
 const FUEL: u32 = 1_000_000;
 
-/// What a run has come to, in numbers.
-#[derive(Clone, Copy)]
-pub struct Reached {
-    /// Its events.
-    pub events: usize,
-    /// The sections that threads have left.
-    pub sections: usize,
-    /// The numbers that were delivered.
-    pub numbers: usize,
-}
-
 /// A turn of a thread. One that is refused for memory is made again: it has changed nothing.
 fn turn(world: &mut World<'_>, thread: u16) -> Result<Turned, WorldFault> {
     match world.turn(thread) {
         Err(WorldFault::Memory) => world.turn(thread),
         turned => turned,
     }
-}
-
-/// A turn of each thread, in order.
-fn round(world: &mut World<'_>) -> Result<(), Failure> {
-    for thread in 0..world.threads() {
-        turn(world, (thread % 65536) as u16)?;
-    }
-    Ok(())
-}
-
-/// Compiles a source text, and makes so many rounds of turns.
-pub fn run_rounds(alloc: Global, source: &[u8], rounds: u32) -> Result<Reached, Failure> {
-    let compiled = compile(alloc, source, MOST_PATH_FIELDS)?;
-    let mut world = World::start(alloc, &compiled, FUEL)?;
-    for _ in 0..rounds {
-        round(&mut world)?;
-    }
-    Ok(Reached {
-        events: world.trace().len(),
-        sections: world.order().len(),
-        numbers: world.output().len(),
-    })
 }
 
 /// The thread that a word names.
@@ -60,6 +27,28 @@ fn thread_of(word: &str) -> Result<u16, Failure> {
     }
 }
 
+/// Makes the turns of the threads that the words name.
+fn make_turns(world: &mut World<'_>, threads: &str) -> Result<(), Failure> {
+    for word in threads.split_whitespace() {
+        turn(world, thread_of(word)?)?;
+    }
+    Ok(())
+}
+
+/// What is shown of an outcome.
+fn shown(alloc: Global, program: &Program, outcome: &Outcome) -> Result<String, Failure> {
+    let mut text = String::new(alloc);
+    put_outcome(alloc, &mut text, program, outcome)?;
+    Ok(text)
+}
+
+/// Makes the turns of the threads that the words name in a compiled program. It gives the outcome.
+fn outcome_of(alloc: Global, compiled: &Compiled, threads: &str) -> Result<String, Failure> {
+    let mut world = World::start(alloc, compiled, FUEL)?;
+    make_turns(&mut world, threads)?;
+    shown(alloc, compiled.scheme().program(), &world.finish().outcome)
+}
+
 /// Makes the turns of the threads that the first line of the input names, in the program of the text behind it, and
 /// gives the outcome. A turn that is refused for memory is made again.
 pub fn run_turns(alloc: Global, input: &[u8], k: u16) -> Result<String, Failure> {
@@ -67,12 +56,5 @@ pub fn run_turns(alloc: Global, input: &[u8], k: u16) -> Result<String, Failure>
         return Err(Failure::Usage);
     };
     let compiled = compile(alloc, source.as_bytes(), k)?;
-    let mut world = World::start(alloc, &compiled, FUEL)?;
-    for word in threads.split_whitespace() {
-        turn(&mut world, thread_of(word)?)?;
-    }
-    let run = world.finish();
-    let mut text = String::new(alloc);
-    put_outcome(alloc, &mut text, compiled.scheme().program(), &run.outcome)?;
-    Ok(text)
+    outcome_of(alloc, &compiled, threads)
 }

@@ -10,10 +10,6 @@ pub enum Work {
     Sets { times: u32 },
     /// Its points-to sets and the classes of its sites, found so many times.
     Classes { times: u32 },
-    /// The certificate of the program on standard input, made, and checked so many times.
-    Certified { times: u32 },
-    /// The program on standard input, compiled, and so many rounds of turns of its threads.
-    Turns { rounds: u32 },
     /// The program behind the first line of standard input, compiled with paths of at most so many fields, and turns of
     /// the threads that the line names.
     Schedule { k: u16 },
@@ -24,11 +20,9 @@ pub enum Work {
 }
 
 /// What is done where the command line asks for nothing.
-const EACH_IN_TURN: [Work; 6] = [
+const EACH_IN_TURN: [Work; 4] = [
     Work::Sets { times: 2 },
     Work::Classes { times: 2 },
-    Work::Certified { times: 1 },
-    Work::Turns { rounds: 20 },
     Work::Table {
         keys: 10000,
         rounds: 10,
@@ -44,11 +38,7 @@ impl Work {
     pub fn reads(&self) -> bool {
         matches!(
             self,
-            Work::Sets { .. }
-                | Work::Classes { .. }
-                | Work::Certified { .. }
-                | Work::Turns { .. }
-                | Work::Schedule { .. }
+            Work::Sets { .. } | Work::Classes { .. } | Work::Schedule { .. }
         )
     }
 }
@@ -81,8 +71,6 @@ fn repeated(what: &str, times: u32) -> Result<Work, Failure> {
     match what {
         "sets" => Ok(Work::Sets { times }),
         "classes" => Ok(Work::Classes { times }),
-        "certified" => Ok(Work::Certified { times }),
-        "turns" => Ok(Work::Turns { rounds: times }),
         "schedule" => Ok(Work::Schedule {
             k: u16::try_from(times)?,
         }),

@@ -1,7 +1,5 @@
-use Rattle.std.proofs.Common.{◌≡◌, refl, ap, sym, subst, length}
-use Rattle.sect_types.specs.Programs.{ProgramView}
+use Rattle.std.proofs.Common.{subst, length}
 use Rattle.sect_names.proofs.Refusing.{given}
-use Rattle.sectc.specs.declared.refusal.Refusal.TheVariants as refusal
 use Rattle.sectc.specs.Answers.{of_source}
 use Rattle.sectc.specs.Scheduling.{IsScheduleDue, of_world}
 use Rattle.sect_world.specs.Schedules.{IsUnrun}
@@ -18,30 +16,14 @@ returns-in_err-compiled c =
           c.from_residual.ensures.1;
     }
 
-pub returns-in_err-progress : goal.returns-in_err-progress
-returns-in_err-progress c =
-    let why = c.in_err-progress.field-0.0 in
+pub returns-in_err-turns_text : goal.returns-in_err-turns_text
+returns-in_err-turns_text c =
+    let why = c.in_err-turns_text.field-0.0 in
     let unrun = subst (λ ts. IsUnrun why ts (length c.in_ok-compiled.compiled.scheme.program.texts))
-    c.as_slice.ensures.value c.in_err-progress.ensures.refused in
+    c.as_slice.ensures.value c.in_err-turns_text.ensures in
     record {
-      refuses = given c.from_residual-in_err-progress.result
+      refuses = given c.from_residual-in_err-turns_text.result
           (IsScheduleDue c.args.source.now c.args.k c.args.schedule.items) (of_world why)
           (schedule_due c.args.source.now c.args.k c.args.schedule.items c.in_ok-compiled.compiled why
-          c.in_ok-compiled.ensures.compiled.accepted unrun) c.from_residual-in_err-progress.ensures.1;
-    }
-
-pub returns-in_err-put_turns : goal.returns-in_err-put_turns
-returns-in_err-put_turns c =
-    record {
-      refuses = given c.from_residual-in_err-put_turns.result
-          (IsScheduleDue c.args.source.now c.args.k c.args.schedule.items) refusal.Memory tt
-          c.from_residual-in_err-put_turns.ensures.1;
-    }
-
-pub returns-in_err-put_outcome : goal.returns-in_err-put_outcome
-returns-in_err-put_outcome c =
-    record {
-      refuses = given c.from_residual-in_err-put_outcome.result
-          (IsScheduleDue c.args.source.now c.args.k c.args.schedule.items) refusal.Memory tt
-          c.from_residual-in_err-put_outcome.ensures.1;
+          c.in_ok-compiled.ensures.compiled.accepted unrun) c.from_residual-in_err-turns_text.ensures.1;
     }

@@ -71,6 +71,22 @@ fn carries(
     carry_all(rt, &scheme(rt.alloc(), text, k)?, rows)
 }
 
+/// This lock is needed, or none.
+fn is_needed(
+    rt: &(impl Abort + AllocGlobal),
+    found: &Option<Lock>,
+    wanted: Option<Wanted>,
+) -> Result<(), Fail> {
+    match (found, wanted) {
+        (None, None) => Ok(()),
+        (Some(found), Some(wanted)) => {
+            assert!(rt; *found == lock(rt, wanted)?);
+            Ok(())
+        }
+        _ => Err(Fail::from("one lock is needed, or none")),
+    }
+}
+
 /// A node needs this lock of itself.
 fn need(
     rt: &(impl Abort + AllocGlobal),
@@ -80,13 +96,7 @@ fn need(
     wanted: Option<Wanted>,
 ) -> Result<(), Fail> {
     let (thread, label) = step(rt, scheme, section, node);
-    let found = scheme.generate(rt.alloc(), thread, label);
-    let wanted = match wanted {
-        Some(wanted) => Some(lock(rt, wanted)?),
-        None => None,
-    };
-    assert!(rt; found == wanted);
-    Ok(())
+    is_needed(rt, &scheme.generate(rt.alloc(), thread, label), wanted)
 }
 
 /// The nodes need these locks of themselves.

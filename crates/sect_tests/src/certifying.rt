@@ -7,15 +7,21 @@ use crate::programs::{
 };
 use sect_cert::write_cert;
 use sect_check::{CheckFault, check};
-use sect_emit::compile;
-use std::alloc::Global;
+use sect_emit::{Compiled, compile};
+use std::alloc::{AllocError, Global};
 use std::process::Abort;
 use std::test::Fail;
+
+/// The text of a compiled program's certificate.
+fn certificate_text(alloc: Global, compiled: &Compiled) -> Result<Vec<u8>, AllocError> {
+    let cert = compiled.certificate(alloc)?;
+    write_cert(alloc, &cert)
+}
 
 /// The certificate of what is inferred of a text.
 fn certificate(alloc: Global, source: &[u8], k: u16) -> Result<Vec<u8>, Fail> {
     let compiled = compile(alloc, source, k)?;
-    Ok(write_cert(alloc, &compiled.certificate(alloc)?)?)
+    Ok(certificate_text(alloc, &compiled)?)
 }
 
 /// Programs whose sections need locks of all kinds.

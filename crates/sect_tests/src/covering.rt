@@ -89,6 +89,17 @@ fn the_table_of_locks(rt: HostRuntime) -> Result<(), Fail> {
     covers_all(&rt, &scheme(rt.alloc(), SHARED, 2)?, ALONG, TABLE)
 }
 
+/// The locks are these, in this order.
+fn are_in_order(
+    rt: &(impl Abort + AllocGlobal),
+    found: &[Lock],
+    kept: &[Wanted],
+) -> Result<(), Fail> {
+    let expected = locks(rt, kept)?;
+    assert!(rt; found == expected.as_slice());
+    Ok(())
+}
+
 /// Of these locks those are left, in this order.
 fn leaves(
     rt: &(impl Abort + AllocGlobal),
@@ -98,10 +109,7 @@ fn leaves(
 ) -> Result<(), Fail> {
     let given = set(rt, given)?;
     let found = scheme.maximal(rt.alloc(), &given)?;
-    let expected = locks(rt, kept)?;
-    assert_eq!(rt; found.len(), expected.len());
-    assert!(rt; found.as_slice() == expected.as_slice());
-    Ok(())
+    are_in_order(rt, found.as_slice(), kept)
 }
 
 /// The first locks leave the second.

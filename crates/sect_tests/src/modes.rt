@@ -2,6 +2,7 @@
 
 use Mode::{Exclusive, IntentionExclusive, IntentionShared, Shared, SharedIntentionExclusive};
 use sect_modes::{Mode, at_least, compatible, intention, join};
+use std::process::Abort;
 
 /// All modes, in the order of the tables.
 const MODES: [Mode; 5] = [
@@ -28,6 +29,13 @@ fn all_pairs_of_modes(rt: HostRuntime) {
     }
 }
 
+/// The mode is at least as strong as those that the row tells.
+fn is_above(rt: &impl Abort, mode: Mode, row: &[bool]) {
+    for (wanted, want) in MODES.iter().zip(row.iter()) {
+        assert_eq!(rt; at_least(mode, *wanted), *want, "{mode:?} for {wanted:?}");
+    }
+}
+
 #[test]
 fn all_orders_of_modes(rt: HostRuntime) {
     let above = [
@@ -38,9 +46,7 @@ fn all_orders_of_modes(rt: HostRuntime) {
         [true, true, true, true, true],
     ];
     for (mode, row) in MODES.iter().zip(above.iter()) {
-        for (wanted, want) in MODES.iter().zip(row.iter()) {
-            assert_eq!(rt; at_least(*mode, *wanted), *want, "{mode:?} for {wanted:?}");
-        }
+        is_above(&rt, *mode, row);
     }
 }
 

@@ -60,20 +60,6 @@ fn needs_all(
     Ok(())
 }
 
-/// A section of a text has so many nodes beside its exit, takes these locks at its entry, and needs those from some of
-/// its nodes on.
-fn holds(
-    rt: &(impl Abort + AllocGlobal),
-    (text, k, section): (&[u8], u16, u16),
-    count: u16,
-    entry: &[Wanted],
-    nodes: &[(u16, &[Wanted])],
-) -> Result<(), Fail> {
-    let scheme = scheme(rt.alloc(), text, k)?;
-    let found = sets(rt, &scheme, section)?;
-    are_found(rt, &scheme, &found, count, entry, nodes)
-}
-
 /// These are the locks: of so many nodes beside the exit, at the entry, and at some of the nodes.
 fn are_found(
     rt: &(impl Abort + AllocGlobal),
@@ -86,6 +72,32 @@ fn are_found(
     assert_eq!(rt; found.node_count(), usize::from(count) + 1);
     takes(rt, found, entry)?;
     needs_all(rt, scheme, found, nodes)
+}
+
+/// A section of a scheme has so many nodes beside its exit, takes these locks at its entry, and needs those from some of
+/// its nodes on.
+fn has_sets(
+    rt: &(impl Abort + AllocGlobal),
+    scheme: &Scheme,
+    section: u16,
+    count: u16,
+    entry: &[Wanted],
+    nodes: &[(u16, &[Wanted])],
+) -> Result<(), Fail> {
+    let found = sets(rt, scheme, section)?;
+    are_found(rt, scheme, &found, count, entry, nodes)
+}
+
+/// A section of a text has so many nodes, takes these locks and needs those.
+fn holds(
+    rt: &(impl Abort + AllocGlobal),
+    (text, k, section): (&[u8], u16, u16),
+    count: u16,
+    entry: &[Wanted],
+    nodes: &[(u16, &[Wanted])],
+) -> Result<(), Fail> {
+    let scheme = scheme(rt.alloc(), text, k)?;
+    has_sets(rt, &scheme, section, count, entry, nodes)
 }
 
 /// The first global of each program.

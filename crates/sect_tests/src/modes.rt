@@ -13,6 +13,13 @@ const MODES: [Mode; 5] = [
     Exclusive,
 ];
 
+/// The mode is compatible with those that the row tells.
+fn is_shared(rt: &impl Abort, left: Mode, row: &[bool]) {
+    for (right, want) in MODES.iter().zip(row.iter()) {
+        assert_eq!(rt; compatible(left, *right), *want, "{left:?} with {right:?}");
+    }
+}
+
 #[test]
 fn all_pairs_of_modes(rt: HostRuntime) {
     let sharing = [
@@ -23,9 +30,7 @@ fn all_pairs_of_modes(rt: HostRuntime) {
         [false, false, false, false, false],
     ];
     for (left, row) in MODES.iter().zip(sharing.iter()) {
-        for (right, want) in MODES.iter().zip(row.iter()) {
-            assert_eq!(rt; compatible(*left, *right), *want, "{left:?} with {right:?}");
-        }
+        is_shared(&rt, *left, row);
     }
 }
 

@@ -1,7 +1,7 @@
 //! Sections whose locks several workers infer.
 
 use crate::programs::{LIST, TWO_ADDING, scheme};
-use sect_infer::{InferFault, Seen, infer, infer_all};
+use sect_infer::{InferFault, Locks, Seen, infer, infer_all};
 use sect_names::Scheme;
 use std::process::Abort;
 use std::sync::Wait;
@@ -72,6 +72,20 @@ impl Seen for Unseen {
     fn at(&self, _section: u16) {}
 }
 
+/// The locks of a section are those that one call finds.
+fn is_found_alone(
+    rt: &(impl AllocGlobal + Abort),
+    scheme: &Scheme,
+    section: usize,
+    found: &Locks,
+) -> Result<(), Fail> {
+    assert!(rt; section < usize::from(scheme.program().section_count()));
+    let alone = infer(rt.alloc(), scheme, section as u16)?;
+    assert!(rt; found.entry() == alone.entry(), "section {section}");
+    assert_eq!(rt; found.node_count(), alone.node_count());
+    Ok(())
+}
+
 /// So many workers find what one call after another finds.
 fn agree(
     rt: &(impl Threads + Wait + Sync + AllocGlobal + Abort),
@@ -81,13 +95,7 @@ fn agree(
     let all = infer_all(rt, rt.alloc(), scheme, workers, &Unseen)?;
     assert_eq!(rt; all.len(), usize::from(scheme.program().section_count()));
     for (section, found) in all.iter().enumerate() {
-        assert!(rt; section < usize::from(scheme.program().section_count()));
-        let alone = infer(rt.alloc(), scheme, section as u16)?;
-        assert!(rt;
-            found.entry() == alone.entry(),
-            "{workers} workers, section {section}"
-        );
-        assert_eq!(rt; found.node_count(), alone.node_count());
+        is_found_alone(rt, scheme, section, found)?;
     }
     Ok(())
 }

@@ -1,6 +1,6 @@
 //! The tokens of a tree.
 
-ghost use Rattle.std.specs.Prelude.{◌≡◌, ◌∷◌, OnOk, IfOk};
+ghost use Rattle.std.specs.Prelude.{◌≡◌, ◌∷◌, ◌++◌, OnOk, IfOk};
 ghost use Rattle.sect_front.specs.Grammar.{tokens_of as grammar_tokens, operand_token, operator_token};
 ghost use Rattle.sect_front.specs.Grammar.{comparison_token, kind_token};
 ghost use Rattle.sect_front.specs.steps.Tokens.{primitive_tokens, test_tokens, locking_tokens, statement_tokens};
@@ -67,62 +67,74 @@ fn kind(k: Kind) -> Token
     }
 }
 
-/// `x =`
-fn put_assigned(out: &mut Vec<Token>, x: Name) -> Result<(), AllocError>
-    ensures { OnOk result (Writes out.old.items out.new.items (λ w. Token.Name x ∷ Token.Equal ∷ w)) }
+/// Tokens one after another.
+fn put_all(out: &mut Vec<Token>, tokens: &[Token]) -> Result<(), AllocError>
+    ensures { OnOk result (Writes out.old.items out.new.items (λ w. tokens.now ++ w)) }
 {
-    put(out, Token::Name(x))?;
-    put(out, Token::Equal)
+    out.extend_from_slice(tokens)?;
+    Ok(())
 }
 
 fn put_primitive(out: &mut Vec<Token>, p: Primitive) -> Result<(), AllocError>
     ensures { OnOk result (Writes out.old.items out.new.items (primitive_tokens p)) }
 {
+    use Token::{Dot, Equal, New, Print, Semicolon};
     match p {
-        Primitive::Assign(x, v) => {
-            put_assigned(out, x)?;
-            put(out, operand(v))?;
-        }
-        Primitive::Compute(x, v, o, w) => {
-            put_assigned(out, x)?;
-            put(out, operand(v))?;
-            put(out, operator(o))?;
-            put(out, operand(w))?;
-        }
-        Primitive::New(x, r) => {
-            put_assigned(out, x)?;
-            put(out, Token::New)?;
-            put(out, Token::Name(r))?;
-        }
-        Primitive::Load(x, y, f) => {
-            put_assigned(out, x)?;
-            put(out, Token::Name(y))?;
-            put(out, Token::Dot)?;
-            put(out, Token::Name(f))?;
-        }
-        Primitive::Store(y, f, v) => {
-            put(out, Token::Name(y))?;
-            put(out, Token::Dot)?;
-            put(out, Token::Name(f))?;
-            put(out, Token::Equal)?;
-            put(out, operand(v))?;
-        }
-        Primitive::Print(v) => {
-            put(out, Token::Print)?;
-            put(out, operand(v))?;
-        }
+        Primitive::Assign(x, v) => put_all(out, &[Token::Name(x), Equal, operand(v), Semicolon]),
+        Primitive::Compute(x, v, o, w) => put_all(
+            out,
+            &[
+                Token::Name(x),
+                Equal,
+                operand(v),
+                operator(o),
+                operand(w),
+                Semicolon,
+            ],
+        ),
+        Primitive::New(x, r) => put_all(
+            out,
+            &[Token::Name(x), Equal, New, Token::Name(r), Semicolon],
+        ),
+        Primitive::Load(x, y, f) => put_all(
+            out,
+            &[
+                Token::Name(x),
+                Equal,
+                Token::Name(y),
+                Dot,
+                Token::Name(f),
+                Semicolon,
+            ],
+        ),
+        Primitive::Store(y, f, v) => put_all(
+            out,
+            &[
+                Token::Name(y),
+                Dot,
+                Token::Name(f),
+                Equal,
+                operand(v),
+                Semicolon,
+            ],
+        ),
+        Primitive::Print(v) => put_all(out, &[Print, operand(v), Semicolon]),
     }
-    put(out, Token::Semicolon)
 }
 
 fn put_test(out: &mut Vec<Token>, t: Test) -> Result<(), AllocError>
     ensures { OnOk result (Writes out.old.items out.new.items (test_tokens t)) }
 {
-    put(out, Token::OpenParen)?;
-    put(out, operand(t.left))?;
-    put(out, comparison(t.comparison))?;
-    put(out, operand(t.right))?;
-    put(out, Token::CloseParen)
+    put_all(
+        out,
+        &[
+            Token::OpenParen,
+            operand(t.left),
+            comparison(t.comparison),
+            operand(t.right),
+            Token::CloseParen,
+        ],
+    )
 }
 
 fn put_atomic(out: &mut Vec<Token>, locking: Locking) -> Result<(), AllocError>
@@ -140,8 +152,7 @@ fn put_more_operands(out: &mut Vec<Token>, values: &[Operand]) -> Result<(), All
     ensures { OnOk result (Writes out.old.items out.new.items (more_operands values.now)) }
 {
     for value in values {
-        put(out, Token::Comma)?;
-        put(out, operand(*value))?;
+        put_all(out, &[Token::Comma, operand(*value)])?;
     }
     Ok(())
 }
@@ -160,12 +171,9 @@ fn put_operands(out: &mut Vec<Token>, values: &Operands) -> Result<(), AllocErro
 fn put_call(out: &mut Vec<Token>, callee: Name, values: &Operands) -> Result<(), AllocError>
     ensures { OnOk result (Writes out.old.items out.new.items (call_tokens callee values.now)) }
 {
-    put(out, Token::Call)?;
-    put(out, Token::Name(callee))?;
-    put(out, Token::OpenParen)?;
+    put_all(out, &[Token::Call, Token::Name(callee), Token::OpenParen])?;
     put_operands(out, values)?;
-    put(out, Token::CloseParen)?;
-    put(out, Token::Semicolon)
+    put_all(out, &[Token::CloseParen, Token::Semicolon])
 }
 
 #[cycle(put)]
@@ -223,9 +231,14 @@ fn put_declarations(out: &mut Vec<Token>, list: &Declarations) -> Result<(), All
     ensures { OnOk result (Writes out.old.items out.new.items (declarations_tokens list.now)) }
 {
     for declaration in list.as_slice() {
-        put(out, kind(declaration.kind))?;
-        put(out, Token::Name(declaration.name))?;
-        put(out, Token::Semicolon)?;
+        put_all(
+            out,
+            &[
+                kind(declaration.kind),
+                Token::Name(declaration.name),
+                Token::Semicolon,
+            ],
+        )?;
     }
     Ok(())
 }
@@ -234,8 +247,7 @@ fn put_hints(out: &mut Vec<Token>, hints: &Hints) -> Result<(), AllocError>
     ensures { OnOk result (Writes out.old.items out.new.items (hints_tokens hints.now)) }
 {
     for hint in hints.as_slice() {
-        put(out, Token::ProtectedBy)?;
-        put(out, Token::Name(*hint))?;
+        put_all(out, &[Token::ProtectedBy, Token::Name(*hint)])?;
     }
     Ok(())
 }
@@ -243,8 +255,7 @@ fn put_hints(out: &mut Vec<Token>, hints: &Hints) -> Result<(), AllocError>
 fn put_record(out: &mut Vec<Token>, declared: &Record) -> Result<(), AllocError>
     ensures { OnOk result (Writes out.old.items out.new.items (record_tokens declared.now)) }
 {
-    put(out, Token::Record)?;
-    put(out, Token::Name(declared.name))?;
+    put_all(out, &[Token::Record, Token::Name(declared.name)])?;
     put_hints(out, &declared.hints)?;
     put(out, Token::OpenBrace)?;
     put_declarations(out, &declared.fields)?;
@@ -254,10 +265,15 @@ fn put_record(out: &mut Vec<Token>, declared: &Record) -> Result<(), AllocError>
 fn put_global(out: &mut Vec<Token>, global: GlobalObject) -> Result<(), AllocError>
     ensures { OnOk result (Writes out.old.items out.new.items (global_tokens global)) }
 {
-    put(out, Token::Global)?;
-    put(out, Token::Name(global.of))?;
-    put(out, Token::Name(global.name))?;
-    put(out, Token::Semicolon)
+    put_all(
+        out,
+        &[
+            Token::Global,
+            Token::Name(global.of),
+            Token::Name(global.name),
+            Token::Semicolon,
+        ],
+    )
 }
 
 /// Further parameters, each behind a comma.
@@ -265,9 +281,14 @@ fn put_more_parameters(out: &mut Vec<Token>, list: &[Declaration]) -> Result<(),
     ensures { OnOk result (Writes out.old.items out.new.items (more_parameters list.now)) }
 {
     for parameter in list {
-        put(out, Token::Comma)?;
-        put(out, kind(parameter.kind))?;
-        put(out, Token::Name(parameter.name))?;
+        put_all(
+            out,
+            &[
+                Token::Comma,
+                kind(parameter.kind),
+                Token::Name(parameter.name),
+            ],
+        )?;
     }
     Ok(())
 }
@@ -279,20 +300,19 @@ fn put_parameters(out: &mut Vec<Token>, list: &Declarations) -> Result<(), Alloc
     let Some((first, others)) = list.as_slice().split_first() else {
         return Ok(());
     };
-    put(out, kind(first.kind))?;
-    put(out, Token::Name(first.name))?;
+    put_all(out, &[kind(first.kind), Token::Name(first.name)])?;
     put_more_parameters(out, others)
 }
 
 fn put_procedure(out: &mut Vec<Token>, procedure: &Procedure) -> Result<(), AllocError>
     ensures { OnOk result (Writes out.old.items out.new.items (procedure_tokens procedure.now)) }
 {
-    put(out, Token::Proc)?;
-    put(out, Token::Name(procedure.name))?;
-    put(out, Token::OpenParen)?;
+    put_all(
+        out,
+        &[Token::Proc, Token::Name(procedure.name), Token::OpenParen],
+    )?;
     put_parameters(out, &procedure.parameters)?;
-    put(out, Token::CloseParen)?;
-    put(out, Token::OpenBrace)?;
+    put_all(out, &[Token::CloseParen, Token::OpenBrace])?;
     put_declarations(out, &procedure.locals)?;
     put_block(out, &procedure.body)?;
     put(out, Token::CloseBrace)
@@ -301,9 +321,10 @@ fn put_procedure(out: &mut Vec<Token>, procedure: &Procedure) -> Result<(), Allo
 fn put_thread(out: &mut Vec<Token>, thread: &Thread) -> Result<(), AllocError>
     ensures { OnOk result (Writes out.old.items out.new.items (thread_tokens thread.now)) }
 {
-    put(out, Token::Thread)?;
-    put(out, Token::Name(thread.name))?;
-    put(out, Token::OpenBrace)?;
+    put_all(
+        out,
+        &[Token::Thread, Token::Name(thread.name), Token::OpenBrace],
+    )?;
     put_declarations(out, &thread.locals)?;
     put_block(out, &thread.body)?;
     put(out, Token::CloseBrace)

@@ -19,26 +19,26 @@ pub fn line(alloc: Global, work: Work, source: &[u8]) -> Result<String, Failure>
     }
 }
 
-/// Of points-to sets.
+/// The number of sites of the points-to sets.
 fn sets_line(alloc: Global, source: &[u8], times: u32) -> Result<String, Failure> {
     let sites = sites_found(alloc, source, times)?;
     Ok(format!(in alloc; "{sites} sites\n")?)
 }
 
-/// Of classes.
+/// The number of classes of the sites.
 fn classes_line(alloc: Global, source: &[u8], times: u32) -> Result<String, Failure> {
     let classes = classes_found(alloc, source, times)?;
     Ok(format!(in alloc; "{classes} classes\n")?)
 }
 
-/// Of requests to the lock table.
+/// How many requests to the lock table were granted at once.
 fn table_line(alloc: Global, keys: u32, rounds: u32) -> Result<String, Failure> {
     let granted = granted(alloc, keys, rounds)?;
     let asked = u64::from(rounds) * u64::from(THREADS);
     Ok(format!(in alloc; "{granted} of {asked} requests granted at once\n")?)
 }
 
-/// Of a certificate that is written twice.
+/// How long a certificate is, and whether it is read and written back as it was.
 fn certificate_line(alloc: Global, sections: u32, locks: u32) -> Result<String, Failure> {
     let (bytes, same) = written_twice(alloc, sections, locks)?;
     Ok(format!(in alloc; "{bytes} bytes, the same again: {same}\n")?)

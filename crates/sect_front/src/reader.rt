@@ -164,7 +164,7 @@ impl Reader {
         }
     }
 
-    /// The next token stands here.
+    /// Sets where the next token stands.
     fn lead_to(&mut self, stage: Stage)
         ensures { self.new ≡ record { source = self.old.source; stage = stage } }
     {

@@ -62,7 +62,7 @@ fn unless_bad(bytes: &[u8], here: &[u8], fault: ReadFault) -> ReadFault
     fault
 }
 
-/// Has a reader that begins take all tokens of a text, unless there is a fault.
+/// Has a new reader take all tokens of a text, unless there is a fault.
 fn take_all(alloc: Global, bytes: &[u8], reader: &mut Reader) -> Result<(), ReadFault>
     requires { reader.old ≡ reading empty (Outside.Between Part.Records) }
     ensures ends { OnOk result (JudgesText bytes.now (ok_or (finish_of reader.new) Unfinished)) }

@@ -107,7 +107,7 @@ impl Within {
         }
     }
 
-    /// The next token stands here.
+    /// Sets where the next token stands.
     fn lead_to(&mut self, place: Partial)
         ensures { self.new ≡ record { frames = self.old.frames; before = self.old.before; place = place } }
     {

@@ -74,8 +74,8 @@ fn are_found(
     needs_all(rt, scheme, found, nodes)
 }
 
-/// A section of a scheme has so many nodes beside its exit, takes these locks at its entry, and needs those from some of
-/// its nodes on.
+/// A section of a scheme has so many nodes beside its exit, takes these locks at its entry, and needs those from some
+/// of its nodes on.
 fn has_sets(
     rt: &(impl Abort + AllocGlobal),
     scheme: &Scheme,

@@ -14,7 +14,7 @@ const MODES: [Mode; 5] = [
 ];
 
 /// The mode is compatible with those that the row tells.
-fn is_shared(rt: &impl Abort, left: Mode, row: &[bool]) {
+fn is_compatible(rt: &impl Abort, left: Mode, row: &[bool]) {
     for (right, want) in MODES.iter().zip(row.iter()) {
         assert_eq!(rt; compatible(left, *right), *want, "{left:?} with {right:?}");
     }
@@ -30,7 +30,7 @@ fn all_pairs_of_modes(rt: HostRuntime) {
         [false, false, false, false, false],
     ];
     for (left, row) in MODES.iter().zip(sharing.iter()) {
-        is_shared(&rt, *left, row);
+        is_compatible(&rt, *left, row);
     }
 }
 

@@ -140,8 +140,12 @@ fn a_load(rt: HostRuntime) -> Result<(), Fail> {
             (1, At(w, 1, Write), &[]),
             (1, At(y, 1, Read), &[At(y, 1, Read)]),
         ],
-    )?;
-    let class = All(1, Right::Write);
+    )
+}
+
+#[test]
+fn a_load_where_no_path_has_a_field(rt: HostRuntime) -> Result<(), Fail> {
+    let (w, class) = (Local(0, 3), All(1, Right::Write));
     carries(&rt, SHARED, 0, &[(1, At(w, 0, Write), &[class])])
 }
 

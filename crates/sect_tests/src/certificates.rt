@@ -59,11 +59,25 @@ fn reads_back(rt: &(impl Abort + AllocGlobal), text: &[u8]) -> Result<(), Fail> 
     Ok(())
 }
 
+/// Locks on everything, and on paths that begin with locals of calls.
+const ALL_AND_CALLS: &[u8] =
+    b"sect-cert 2\nk 2\nsections 1\nsection 0 nodes 2\nnode 0: W all, R t#3.next\n\
+node 1: W t#0, W t#4294967295.a.b, W all\nentry: W all\nchain 0: 0 W all > 1 R x#10\nend\n";
+
+/// Texts that are read, and written as they were.
+const WRITTEN_BACK: &[&[u8]] = &[
+    ADDS_ONE,
+    ALL_FORMS,
+    ALL_AND_CALLS,
+    b"sect-cert 2\nk 0\nsections 0\nend\n",
+];
+
 #[test]
 fn certificates_are_written_back(rt: HostRuntime) -> Result<(), Fail> {
-    reads_back(&rt, ADDS_ONE)?;
-    reads_back(&rt, ALL_FORMS)?;
-    reads_back(&rt, b"sect-cert 2\nk 0\nsections 0\nend\n")
+    for text in WRITTEN_BACK {
+        reads_back(&rt, text)?;
+    }
+    Ok(())
 }
 
 /// What stands at a place.
@@ -132,11 +146,17 @@ fn of_one<T: Drop>(alloc: Global, item: T) -> Result<Items<T>, AllocError> {
     Ok(items)
 }
 
+/// A path of one field.
+fn made_path(alloc: Global) -> Result<CertPath, Fail> {
+    Ok(CertPath {
+        base: CertBase::Name(name(b"head")?),
+        fields: of_one(alloc, name(b"next")?)?,
+    })
+}
+
 /// The lists of two nodes: a path and a class, and nothing.
 fn made_nodes(alloc: Global) -> Result<Items<Items<CertLock>>, Fail> {
-    let fields = of_one(alloc, name(b"next")?)?;
-    let base = CertBase::Name(name(b"head")?);
-    let mut list = of_one(alloc, CertLock::ReadPath(CertPath { base, fields }))?;
+    let mut list = of_one(alloc, CertLock::ReadPath(made_path(alloc)?))?;
     list.push(CertLock::MakeClass(3))?;
     let mut nodes = of_one(alloc, list)?;
     nodes.push(Items::new(alloc))?;
@@ -153,15 +173,24 @@ fn made_chains(alloc: Global) -> Result<Items<Chain>, AllocError> {
     of_one(alloc, Chain { lock: 2, steps })
 }
 
+/// A section of two nodes and a chain.
+fn made_section(alloc: Global) -> Result<CertSection, Fail> {
+    Ok(CertSection {
+        nodes: made_nodes(alloc)?,
+        entry: of_one(alloc, CertLock::WriteClass(10))?,
+        chains: made_chains(alloc)?,
+    })
+}
+
+/// The text of a certificate of one section.
+fn written(alloc: Global, section: CertSection) -> Result<Vec<u8>, Fail> {
+    let sections = of_one(alloc, section)?;
+    Ok(write_cert(alloc, &Cert { k: 1, sections })?)
+}
+
 #[test]
 fn a_certificate_that_is_made_is_written(rt: HostRuntime) -> Result<(), Fail> {
-    let mut sections = Items::new(rt.alloc());
-    sections.push(CertSection {
-        nodes: made_nodes(rt.alloc())?,
-        entry: of_one(rt.alloc(), CertLock::WriteClass(10))?,
-        chains: made_chains(rt.alloc())?,
-    })?;
-    let text = write_cert(rt.alloc(), &Cert { k: 1, sections })?;
+    let text = written(rt.alloc(), made_section(rt.alloc())?)?;
     let wanted =
         b"sect-cert 2\nk 1\nsections 1\nsection 0 nodes 2\nnode 0: R head.next, M class 3\nnode 1: none\n\
 entry: W class 10\nchain 2: 0 R class 7\nend\n";
@@ -186,10 +215,11 @@ fn each_beginning_ends_early(rt: HostRuntime) -> Result<(), Fail> {
 
 #[test]
 fn nothing_follows_the_end(rt: HostRuntime) -> Result<(), Fail> {
-    refused_after(&rt, ADDS_ONE, b"x", "32 NotCanonical line 12")?;
-    refused_after(&rt, ADDS_ONE, b"\n", "32 NotCanonical line 12")?;
-    refused_after(&rt, ADDS_ONE, b"end\n", "32 NotCanonical line 12")?;
-    refused_after(&rt, ADDS_ONE, b"\xff", "32 NotCanonical line 12")
+    let rests: [&[u8]; 4] = [b"x", b"\n", b"end\n", b"\xff"];
+    for rest in rests {
+        refused_after(&rt, ADDS_ONE, rest, "32 NotCanonical line 12")?;
+    }
+    Ok(())
 }
 
 /// Texts that are refused at one of their first lines, or behind it.
@@ -284,6 +314,13 @@ const NODE_LINES: &[(&[u8], &str)] = &[
     (b"node 0: R none\n", "31 CertEnd line 6"),
     (b"entry: none\n", "30 BadCertLine line 5"),
     (b"section 1 nodes 2\n", "30 BadCertLine line 5"),
+    (b"node 0: R class 00\n", "32 NotCanonical line 5"),
+    (b"node 0: W a, R class 01\n", "32 NotCanonical line 5"),
+    // A name as long as it may be.
+    (
+        b"node 0: R a1234567890123456789012345678901\n",
+        "31 CertEnd line 6",
+    ),
     (b"node 0: none\nnode 0: none\n", "32 NotCanonical line 6"),
     (
         b"node 0: none\nnode 1: none\nnode 2: none\n",
@@ -340,20 +377,7 @@ fn lists_that_are_no_lists_are_refused(rt: HostRuntime) -> Result<(), Fail> {
     for text in NO_LISTS {
         refused_after(&rt, BEFORE_NODES, text, "30 BadCertLine line 5")?;
     }
-    refused_after(
-        &rt,
-        BEFORE_NODES,
-        b"node 0: R class 00\n",
-        "32 NotCanonical line 5",
-    )?;
-    refused_after(
-        &rt,
-        BEFORE_NODES,
-        b"node 0: W a, R class 01\n",
-        "32 NotCanonical line 5",
-    )?;
-    let longest = b"node 0: R a1234567890123456789012345678901\n";
-    refused_after(&rt, BEFORE_NODES, longest, "31 CertEnd line 6")
+    Ok(())
 }
 
 /// The lines before a section's chains.
@@ -426,19 +450,16 @@ fn version_one_is_refused(rt: HostRuntime) -> Result<(), Fail> {
     for (text, wanted) in table {
         answers(&rt, text, wanted)?;
     }
-    let mut old = Vec::new(rt.alloc());
-    old.extend_from_slice(b"sect-cert 1")?;
-    old.extend_from_slice(&ADDS_ONE[11..])?;
-    answers(&rt, old.as_slice(), "33 OldVersion line 1")
+    Ok(())
+}
+
+#[test]
+fn a_whole_certificate_of_version_one_is_refused(rt: HostRuntime) -> Result<(), Fail> {
+    refused_after(&rt, b"sect-cert 1", &ADDS_ONE[11..], "33 OldVersion line 1")
 }
 
 #[test]
 fn locks_of_everything_and_of_calls_are_read(rt: HostRuntime) -> Result<(), Fail> {
-    reads_back(
-        &rt,
-        b"sect-cert 2\nk 2\nsections 1\nsection 0 nodes 2\nnode 0: W all, R t#3.next\n\
-node 1: W t#0, W t#4294967295.a.b, W all\nentry: W all\nchain 0: 0 W all > 1 R x#10\nend\n",
-    )?;
     let table: [(&[u8], &str); 16] = [
         (b"node 0: W all, R t#3.next\n", "31 CertEnd line 6"),
         (b"node 0: R all\n", "30 BadCertLine line 5"),

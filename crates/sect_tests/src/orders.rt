@@ -2,7 +2,7 @@
 
 use crate::programs::{LIST, program_of};
 use sect_serial::{SerialEnd, serial};
-use sect_store::{Outcome, put_outcome};
+use sect_store::{Outcome, Store, put_outcome};
 use sect_types::{Datum, End, ObjectName, Program};
 use std::alloc::Global;
 use std::process::Abort;
@@ -110,13 +110,17 @@ fn the_end_shows_its_parts(rt: HostRuntime) -> Result<(), Fail> {
     is_pushed(&rt, &serial(rt.alloc(), &program, 10000, &[1, 0])?)
 }
 
+/// The outcome of two threads of which the first still runs.
+fn half_run(alloc: Global, program: &Program) -> Result<Outcome, Fail> {
+    let store = Store::first(alloc, program)?;
+    let ends = vec![in alloc; None, Some(End::Done)]?;
+    Ok(Outcome::new(ends, Vec::new(alloc), Vec::new(alloc), store))
+}
+
 #[test]
 fn a_thread_that_runs_is_shown_so(rt: HostRuntime) -> Result<(), Fail> {
     let program = program_of(rt.alloc(), b"thread t { } thread u { }")?;
-    let store = sect_store::Store::first(rt.alloc(), &program)?;
-    let ends = vec![in rt.alloc(); None, Some(End::Done)]?;
-    let outcome = Outcome::new(ends, Vec::new(rt.alloc()), Vec::new(rt.alloc()), store);
-    let text = outcome_text(rt.alloc(), &program, &outcome)?;
+    let text = outcome_text(rt.alloc(), &program, &half_run(rt.alloc(), &program)?)?;
     assert_eq!(rt;
         text.as_str(),
         "thread 0 running\nthread 1 done\norder none\n"

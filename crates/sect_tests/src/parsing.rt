@@ -227,17 +227,32 @@ fn prints_what_reads_back(rt: HostRuntime) -> Result<(), Fail> {
     Ok(())
 }
 
+/// Texts, and each as it is printed.
+const PRINTED: &[(&[u8], &[u8])] = &[
+    (b"// nothing", b""),
+    (
+        b"thread f { int x; x = 1; x = 2; }",
+        b"thread f {\nint x ;\nx = 1 ;\nx = 2 ;\n}\n",
+    ),
+    (
+        b"proc f(int n, R x) { call f(1, null); }",
+        b"proc f ( int n , R x ) {\ncall f ( 1 , null ) ;\n}\n",
+    ),
+];
+
 #[test]
 fn prints_line_by_line(rt: HostRuntime) -> Result<(), Fail> {
-    let text = b"thread f { int x; x = 1; x = 2; }";
-    assert!(rt; token_count(rt.alloc(), text)? == 15);
-    let found = printed(rt.alloc(), text)?;
-    assert!(rt; found.as_slice() == b"thread f {\nint x ;\nx = 1 ;\nx = 2 ;\n}\n".as_slice());
-    assert!(rt; printed(rt.alloc(), b"// nothing")?.is_empty());
-    let text = b"proc f(int n, R x) { call f(1, null); }";
-    let found = printed(rt.alloc(), text)?;
-    let wanted = b"proc f ( int n , R x ) {\ncall f ( 1 , null ) ;\n}\n";
-    assert!(rt; found.as_slice() == wanted.as_slice());
+    for (text, wanted) in PRINTED {
+        let found = printed(rt.alloc(), text)?;
+        assert!(rt; found.as_slice() == *wanted);
+    }
+    Ok(())
+}
+
+#[test]
+fn a_text_has_its_tokens(rt: HostRuntime) -> Result<(), Fail> {
+    let count = token_count(rt.alloc(), b"thread f { int x; x = 1; x = 2; }")?;
+    assert_eq!(rt; count, 15);
     Ok(())
 }
 

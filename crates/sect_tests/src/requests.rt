@@ -102,18 +102,21 @@ fn done(rt: &impl Abort, table: &mut Table, grants: &mut Grants, call: Call<'_>)
 }
 
 /// Does these calls in turn.
-fn all_done(rt: &impl Abort, table: &mut Table, grants: &mut Grants, calls: &[Call<'_>]) {
+fn goes_on(
+    rt: &(impl Abort + AllocGlobal),
+    table: &mut Table,
+    calls: &[Call<'_>],
+) -> Result<(), Fail> {
+    let mut grants = Grants::with_threads(rt.alloc(), table.threads())?;
     for call in calls {
-        done(rt, table, grants, *call);
+        done(rt, table, &mut grants, *call);
     }
+    Ok(())
 }
 
 /// Does these calls in turn, on an empty table for so many threads.
 fn runs(rt: &(impl Abort + AllocGlobal), threads: usize, calls: &[Call<'_>]) -> Result<(), Fail> {
-    let mut table = Table::with_threads(rt.alloc(), threads)?;
-    let mut grants = Grants::with_threads(rt.alloc(), threads)?;
-    all_done(rt, &mut table, &mut grants, calls);
-    Ok(())
+    goes_on(rt, &mut Table::with_threads(rt.alloc(), threads)?, calls)
 }
 
 /// A waiter that could be let in waits behind one that could not.
@@ -208,10 +211,8 @@ const FRESH: &[Call<'static>] = &[
 #[test]
 fn a_fresh_key(rt: HostRuntime) -> Result<(), Fail> {
     let mut table = Table::with_threads(rt.alloc(), 1)?;
-    let mut grants = Grants::with_threads(rt.alloc(), 1)?;
     table.give_fresh(0, A)?;
-    all_done(&rt, &mut table, &mut grants, FRESH);
-    Ok(())
+    goes_on(&rt, &mut table, FRESH)
 }
 
 #[test]

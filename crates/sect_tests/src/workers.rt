@@ -48,17 +48,25 @@ impl<'a> Seen for Keeper<'a> {
     }
 }
 
+/// Two workers that this keeper is told of infer the two sections of a program.
+fn are_inferred(
+    rt: &(impl Threads + Wait + Sync + AllocGlobal + Abort),
+    keeper: &Keeper<'_>,
+) -> Result<(), Fail> {
+    let scheme = scheme(rt.alloc(), TWO_ADDING, 2)?;
+    assert_eq!(rt; infer_all(rt, rt.alloc(), &scheme, 2, keeper)?.len(), 2);
+    Ok(())
+}
+
 #[test]
 fn two_workers_were_seen(rt: HostRuntime) -> Result<(), Fail> {
-    let scheme = scheme(rt.alloc(), TWO_ADDING, 2)?;
     let keeper = Keeper {
         clock: &rt,
         first: AtomicBool::new(false),
         second: AtomicBool::new(false),
         gave_up: AtomicBool::new(false),
     };
-    let all = infer_all(&rt, rt.alloc(), &scheme, 2, &keeper)?;
-    assert_eq!(rt; all.len(), 2);
+    are_inferred(&rt, &keeper)?;
     assert!(rt; keeper.first.load(Ordering::SeqCst) && keeper.second.load(Ordering::SeqCst));
     assert!(rt; !keeper.gave_up.load(Ordering::SeqCst));
     Ok(())

@@ -82,8 +82,9 @@ impl Model for Within {
 
 impl Within {
     ghost use Rattle.sect_front.specs.steps.Step.{Steps, start_step, close_step, call_step, argument_step};
-    ghost use Rattle.sect_front.specs.steps.Step.{after_then, after_else, moved, step_of};
+    ghost use Rattle.sect_front.specs.steps.Step.{after_then, after_else, moved, stays, step_of};
     ghost use Rattle.sect_front.specs.steps.Advance.{operand_of};
+    ghost use Rattle.sect_front.specs.Trees.{append, statement_of};
 
     /// No statements.
     pub fn new(alloc: Global) -> Within
@@ -177,12 +178,29 @@ impl Within {
         match token {
             Token::OpenBrace => {
                 let before = mem::replace(&mut self.before, Block::new(alloc));
-                self.frames.push(Frame::Else(before, test, then))?;
-                self.lead_to(Partial::Start);
-                Ok(None)
+                self.open(Frame::Else(before, test, then))
             }
             _ => Err(StepError::Unexpected),
         }
+    }
+
+    /// Adds a statement that has been read whole.
+    fn add(&mut self, statement: Statement) -> Result<Option<Block>, StepError>
+        ensures { Steps result self.new
+            (stays self.old.frames (append self.old.before (statement_of statement)) Partial.Start) }
+    {
+        self.before.push(statement)?;
+        self.lead_to(Partial::Start);
+        Ok(None)
+    }
+
+    /// Opens a block, whose statement stands in this frame.
+    fn open(&mut self, frame: Frame) -> Result<Option<Block>, StepError>
+        ensures { Steps result self.new (stays (frame ∷ self.old.frames) self.old.before Partial.Start) }
+    {
+        self.frames.push(frame)?;
+        self.lead_to(Partial::Start);
+        Ok(None)
     }
 
     /// A token where a statement may start.
@@ -293,11 +311,7 @@ impl Within {
             (call_step self.old.frames self.old.before (PartialCall.AfterClose callee values) token.now) }
     {
         match token {
-            Token::Semicolon => {
-                self.before.push(Statement::Call(callee, values))?;
-                self.lead_to(Partial::Start);
-                Ok(None)
-            }
+            Token::Semicolon => self.add(Statement::Call(callee, values)),
             _ => Err(StepError::Unexpected),
         }
     }
@@ -312,15 +326,11 @@ impl Within {
         match frame {
             Frame::Atomic(before, locking) => {
                 let block = mem::replace(&mut self.before, before);
-                self.before.push(Statement::Atomic(locking, block))?;
-                self.lead_to(Partial::Start);
-                Ok(None)
+                self.add(Statement::Atomic(locking, block))
             }
             Frame::While(before, test) => {
                 let block = mem::replace(&mut self.before, before);
-                self.before.push(Statement::While(test, block))?;
-                self.lead_to(Partial::Start);
-                Ok(None)
+                self.add(Statement::While(test, block))
             }
             Frame::Then(before, test) => {
                 let block = mem::replace(&mut self.before, before);
@@ -329,9 +339,7 @@ impl Within {
             }
             Frame::Else(before, test, then) => {
                 let block = mem::replace(&mut self.before, before);
-                self.before.push(Statement::IfElse(test, then, block))?;
-                self.lead_to(Partial::Start);
-                Ok(None)
+                self.add(Statement::IfElse(test, then, block))
             }
         }
     }
@@ -345,28 +353,18 @@ impl Within {
                 self.lead_to(Partial::Inside(line));
                 Ok(None)
             }
-            Move::Whole(primitive) => {
-                self.before.push(Statement::Primitive(primitive))?;
-                self.lead_to(Partial::Start);
-                Ok(None)
-            }
+            Move::Whole(primitive) => self.add(Statement::Primitive(primitive)),
             Move::OpensThen(test) => {
                 let before = mem::replace(&mut self.before, Block::new(alloc));
-                self.frames.push(Frame::Then(before, test))?;
-                self.lead_to(Partial::Start);
-                Ok(None)
+                self.open(Frame::Then(before, test))
             }
             Move::OpensWhile(test) => {
                 let before = mem::replace(&mut self.before, Block::new(alloc));
-                self.frames.push(Frame::While(before, test))?;
-                self.lead_to(Partial::Start);
-                Ok(None)
+                self.open(Frame::While(before, test))
             }
             Move::OpensAtomic(locking) => {
                 let before = mem::replace(&mut self.before, Block::new(alloc));
-                self.frames.push(Frame::Atomic(before, locking))?;
-                self.lead_to(Partial::Start);
-                Ok(None)
+                self.open(Frame::Atomic(before, locking))
             }
         }
     }

@@ -1,10 +1,10 @@
 //! Names, keywords and the bytes that they are made of.
 
-ghost use Rattle.std.specs.Prelude.{◌≡◌, ◌&&◌, length, take_while};
+ghost use Rattle.std.specs.Prelude.{◌≡◌, ◌&&◌, drop, length, take_while};
 ghost use Rattle.std.specs.List.{list_all};
 ghost use Rattle.sect_front.specs.Words.{is_letter as letter_of, is_digit as digit_of, is_name_byte as name_byte};
 ghost use Rattle.sect_front.specs.Words.{is_name as name_of, begins};
-ghost use Rattle.sect_front.specs.steps.Recognition.{keyword_of};
+ghost use Rattle.sect_front.specs.steps.Recognition.{keyword_of, keyword_table, token_beside};
 
 use crate::limits::MOST_NAME_BYTES;
 use crate::token::Token;
@@ -57,7 +57,16 @@ pub fn keyword(word: &[u8]) -> Option<Token>
         Some(Token::Thread)
     } else if word == b"int".as_slice() {
         Some(Token::Int)
-    } else if word == b"null".as_slice() {
+    } else {
+        statement_keyword(word)
+    }
+}
+
+/// The keyword that these bytes are, if it is one of a statement, or `class`.
+fn statement_keyword(word: &[u8]) -> Option<Token>
+    ensures { result ≡ token_beside word.now (drop 6 keyword_table) }
+{
+    if word == b"null".as_slice() {
         Some(Token::Null)
     } else if word == b"new".as_slice() {
         Some(Token::New)

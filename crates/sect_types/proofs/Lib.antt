@@ -9,6 +9,7 @@ pub mod LocalRows
 pub mod LocalFacts
 pub mod ThreadLemmas
 pub mod Records
+pub mod Listed
 pub mod SoundLemmas
 pub mod FindLemmas
 pub mod SectionLemmas

@@ -1,6 +1,7 @@
 -- One record more.
 use Rattle.std.proofs.Common.{◌≡◌, ℕ, ◌+◌, ◌<◌, ◌≤◌, List, [], ◌∷◌, ◌++◌, drop, get_or, length, Err, sym, ap, ◌∙◌}
-use Rattle.std.proofs.Common.{append_assoc, length-append, arith, Bool, true, ◌&&◌, nat_le}
+use Rattle.std.proofs.Common.{append_assoc, length-append, arith, Bool, true, ◌&&◌, nat_le, subst}
+use Rattle.std.proofs.lemmas.List.{drop_all}
 use Rattle.std.proofs.lemmas.Bool.Decides.{nat_tests}
 use Rattle.sect_types.proofs.Lists.{drop_next}
 use Rattle.sect_front.specs.declared.tree.Record.{Record}
@@ -74,3 +75,10 @@ pub fault_next : (d : Declared) (all rs : List Record) (i : ℕ) (r : Record) (n
     field_items [] r.fields (record_items (names ++ r.name ∷ []) (drop (i + 1) rs) w))
 fault_next d all rs i r names fields old now h e so_far w =
     so_far.walks w ∙ ap (λ l. judge d now (record_items names l w)) (drop_next rs i r h e)
+
+-- none is left
+pub records_done : (d : Declared) (all rs : List Record) (i : ℕ) (names : List (List ℕ))
+    (fields : List (List (List ℕ))) (old now : Counts) → length rs ≤ i
+    → AreRecords d all (drop i rs) names fields old now → AreRecords d all [] names fields old now
+records_done d all rs i names fields old now h so_far =
+    subst (λ l. AreRecords d all l names fields old now) (drop_all i rs h) so_far

@@ -20,11 +20,12 @@ use Rattle.sect_types.specs.Items.{Item, AProcedure, AThread, variables, local_i
 use Rattle.sect_types.specs.Items.{thread_items}
 use Rattle.sect_types.specs.Rules.{Declared, declared_in, Counts, judge, sight}
 use Rattle.sect_types.specs.steps.Walks.{Walks}
-use Rattle.sect_types.specs.steps.Standing.{StandingView, declared_by}
+use Rattle.sect_types.specs.steps.Standing.{declared_by}
 use Rattle.sect_types.specs.steps.Threads.{VariablesView, variables_shown, variables_fine, local_names, AreProcedures}
 use Rattle.sect_types.specs.steps.Threads.{AreThreads}
 use Rattle.sect_types.specs.steps.Listing.{all_known, locals_fine}
 use Rattle.std.proofs.lemmas.Bool.Decides.{nat_tests}
+use Rattle.std.proofs.lemmas.List.{drop_all}
 use Rattle.sect_types.specs.steps.Capped.{HaveFewVariables}
 use Rattle.sect_types.proofs.SoundLemmas.{both}
 use Rattle.sect_types.proofs.Records.{both_true, at_most}
@@ -48,34 +49,48 @@ handed_on {A} d all old new e (Err x) is walks =
     go fault.Memory k = tt
     go (fault.Broken n q) k = k
 
--- the body of what has these locals, in this place
-pub walks_body : {A : Type 0} (t : TreeView) (head : Item) (ls list : List Declaration) (at : Place) (b : BlockView)
-    (s : Sight) (st : StandingView) (c0 c1 c2 c3 : Counts) (r : Result A Fault)
-    → list ≡ ls → s ≡ sight t.records t.globals list → st ≡ record { procedures = t.procedures; at = at }
-    → ((w : List Item) → judge (declared_in t) c0 (head ∷ w) ≡ judge (declared_in t) c1 w)
-    → ((w : List Item) → judge (declared_in t) c1 (local_items [] list w) ≡ judge (declared_in t) c2 w)
-    → Walks (declared_by s st.procedures) (block_items s.locals st.at b) c2 c3 r
-    → Walks (declared_in t) (λ w. head ∷ local_items [] ls (block_items ls at b w)) c0 c3 r
-walks_body t head ls list at b s st c0 c1 c2 c3 r e f g named listed walked =
-    subst (λ l. Walks (declared_in t) (λ w. head ∷ local_items [] l (block_items l at b w)) c0 c3 r) e
-    (walks_then (declared_in t) (λ w. head ∷ local_items [] list (block_items list at b w)) (block_items list at b)
-    c0 c2 c3 r (λ w. named (local_items [] list (block_items list at b w)) ∙ listed (block_items list at b w))
-    (subst (λ (x : StandingView). Walks (declared_by (sight t.records t.globals list) x.procedures)
-    (block_items list x.at b) c2 c3 r) g
-    (subst (λ (x : Sight). Walks (declared_by x st.procedures) (block_items x.locals st.at b) c2 c3 r) f walked)))
+-- what is walked in this sight is walked in the text
+pub walks_in : {A : Type 0} (t : TreeView) (list : List Declaration) (at : Place) (b : BlockView) (s : Sight)
+    (ps : List Procedure) (old new : Counts) (r : Result A Fault)
+    → s ≡ sight t.records t.globals list → ps ≡ t.procedures
+    → Walks (declared_by s ps) (block_items s.locals at b) old new r
+    → Walks (declared_in t) (block_items list at b) old new r
+walks_in t list at b s ps old new r e f walked =
+    subst (λ (x : List Procedure). Walks (declared_by (sight t.records t.globals list) x) (block_items list at b)
+    old new r) f
+    (subst (λ (x : Sight). Walks (declared_by x ps) (block_items x.locals at b) old new r) e walked)
+
+-- the same locals, in the same place
+pub walks_at : {A : Type 0} (d : Declared) (ls list : List Declaration) (at there : Place) (b : BlockView)
+    (old new : Counts) (r : Result A Fault) → list ≡ ls → there ≡ at
+    → Walks d (block_items list there b) old new r → Walks d (block_items ls at b) old new r
+walks_at d ls list at there b old new r e f walked =
+    subst (λ l. Walks d (block_items l at b) old new r) e
+    (subst (λ x. Walks d (block_items list x b) old new r) f walked)
+
+-- the body of what has these locals
+pub walks_body : {A : Type 0} (d : Declared) (head : Item) (ls : List Declaration) (at : Place) (b : BlockView)
+    (c0 c1 c2 c3 : Counts) (r : Result A Fault)
+    → ((w : List Item) → judge d c0 (head ∷ w) ≡ judge d c1 w)
+    → ((w : List Item) → judge d c1 (local_items [] ls w) ≡ judge d c2 w)
+    → Walks d (block_items ls at b) c2 c3 r
+    → Walks d (λ w. head ∷ local_items [] ls (block_items ls at b w)) c0 c3 r
+walks_body d head ls at b c0 c1 c2 c3 r named listed walked =
+    walks_then d (λ w. head ∷ local_items [] ls (block_items ls at b w)) (block_items ls at b) c0 c2 c3 r
+    (λ w. named (local_items [] ls (block_items ls at b w)) ∙ listed (block_items ls at b w)) walked
 
 -- a procedure more
 pub procedure_more : (d : Declared) (all ps : List Procedure) (i : ℕ) (p : Procedure) (names new : List (List ℕ))
-    (scopes more : List VariablesView) (v : VariablesView) (old now then : Counts)
+    (scopes more : List VariablesView) (old now then : Counts)
     → i < length ps → p ≡ get_or ps i p
     → AreProcedures d all (drop i ps) names scopes old now
     → ((w : List Item) → judge d now (AProcedure p.name names ∷ local_items [] (variables p)
     (block_items (variables p) (InProcedure (length names)) p.body w)) ≡ judge d then w)
-    → new ≡ names ++ p.name ∷ [] → more ≡ scopes ++ v ∷ [] → v ≡ variables_shown p
+    → new ≡ names ++ p.name ∷ [] → more ≡ scopes ++ variables_shown p ∷ []
     → length names < MOST_PROCEDURES → length (variables p) ≤ MOST_LOCALS
     → all_known (names_of_records d.records) (variables p) ≡ true
     → AreProcedures d all (drop (i + 1) ps) new more old then
-procedure_more d all ps i p names new scopes more v old now then h e so_far step named pushed is few few_own known =
+procedure_more d all ps i p names new scopes more old now then h e so_far step named pushed few few_own known =
     record {
       walks = λ w.
           so_far.walks w
@@ -85,9 +100,8 @@ procedure_more d all ps i p names new scopes more v old now then h e so_far step
           ∙ ap (λ n. judge d then (procedure_items (length n) n rest w)) (sym named))));
       shown =
           ap (λ x. x ++ map variables_shown rest) pushed
-          ∙ (append_assoc scopes (v ∷ []) (map variables_shown rest)
-          ∙ (ap (λ x. scopes ++ x ∷ map variables_shown rest) is
-          ∙ (ap (λ l. scopes ++ map variables_shown l) (sym at) ∙ so_far.shown)));
+          ∙ (append_assoc scopes (variables_shown p ∷ []) (map variables_shown rest)
+          ∙ (ap (λ l. scopes ++ map variables_shown l) (sym at) ∙ so_far.shown));
       few = omega (arith, ap length named, long);
       long = omega (arith, ap length named, long, ap length at, so_far.long);
       fine =
@@ -119,16 +133,16 @@ procedure_fails d all ps i p names scopes old now h e so_far w =
 
 -- a thread more
 pub thread_more : (d : Declared) (all ts : List Thread) (i : ℕ) (t : Thread) (names new : List (List ℕ))
-    (locals more : List (List (List ℕ))) (own : List (List ℕ)) (old now then : Counts)
+    (locals more : List (List (List ℕ))) (old now then : Counts)
     → i < length ts → t ≡ get_or ts i t
     → AreThreads d all (drop i ts) names locals old now
     → ((w : List Item) → judge d now (AThread t.name names ∷ local_items [] t.locals
     (block_items t.locals (InThread false 1) t.body w)) ≡ judge d then w)
-    → new ≡ names ++ t.name ∷ [] → more ≡ locals ++ own ∷ [] → own ≡ names_of_declared t.locals
+    → new ≡ names ++ t.name ∷ [] → more ≡ locals ++ names_of_declared t.locals ∷ []
     → length names < MOST_THREADS → length t.locals ≤ MOST_LOCALS
     → all_known (names_of_records d.records) t.locals ≡ true
     → AreThreads d all (drop (i + 1) ts) new more old then
-thread_more d all ts i t names new locals more own old now then h e so_far step named pushed is few few_own known =
+thread_more d all ts i t names new locals more old now then h e so_far step named pushed few few_own known =
     record {
       walks = λ w.
           so_far.walks w
@@ -137,9 +151,8 @@ thread_more d all ts i t names new locals more own old now then h e so_far step 
           ∙ ap (λ n. judge d then (thread_items n rest w)) (sym named)));
       named =
           ap (λ x. x ++ local_names rest) pushed
-          ∙ (append_assoc locals (own ∷ []) (local_names rest)
-          ∙ (ap (λ x. locals ++ x ∷ local_names rest) is
-          ∙ (ap (λ l. locals ++ local_names l) (sym at) ∙ so_far.named)));
+          ∙ (append_assoc locals (names_of_declared t.locals ∷ []) (local_names rest)
+          ∙ (ap (λ l. locals ++ local_names l) (sym at) ∙ so_far.named));
       few = omega (arith, ap length named, length-append names (t.name ∷ []));
       long = omega (arith, ap length named, length-append names (t.name ∷ []), ap length at, so_far.long);
       fine =
@@ -164,6 +177,13 @@ pub thread_fails : (d : Declared) (all ts : List Thread) (i : ℕ) (t : Thread) 
     (thread_items (names ++ t.name ∷ []) (drop (i + 1) ts) w)))
 thread_fails d all ts i t names locals old now h e so_far w =
     so_far.walks w ∙ ap (λ l. judge d now (thread_items names l w)) (drop_next ts i t h e)
+
+-- none is left
+pub threads_done : (d : Declared) (all ts : List Thread) (i : ℕ) (names : List (List ℕ))
+    (locals : List (List (List ℕ))) (old now : Counts) → length ts ≤ i
+    → AreThreads d all (drop i ts) names locals old now → AreThreads d all [] names locals old now
+threads_done d all ts i names locals old now h so_far =
+    subst (λ l. AreThreads d all l names locals old now) (drop_all i ts h) so_far
 
 -- no procedure or thread is deeper than all
 pub procedure_depth : (ps : List Procedure) (i : ℕ) (p : Procedure) → i < length ps

@@ -10,7 +10,7 @@ ghost use Rattle.sect_types.specs.Sight.{names_of_records, names_of_globals, nam
 ghost use Rattle.sect_types.specs.Items.{AProcedure, AThread, variables as variables_by, record_items, global_items};
 ghost use Rattle.sect_types.specs.Items.{local_items, block_items, procedure_items, thread_items};
 ghost use Rattle.sect_types.specs.declared.place.Place.TheVariants.{InThread, InProcedure};
-ghost use Rattle.sect_types.specs.Rules.{declared_in, sight};
+ghost use Rattle.sect_types.specs.Rules.{declared_in, depth_at, sight};
 ghost use Rattle.sect_types.specs.steps.Walks.{Walks};
 ghost use Rattle.sect_types.specs.steps.Listing.{all_known, fields_fine, globals_known, locals_fine};
 ghost use Rattle.sect_types.specs.steps.Shown.{Shows};
@@ -43,7 +43,7 @@ use crate::text::Text;
 use crate::types::{Types, field_types, global_records, local_types};
 use crate::variables::{Variables, all_of};
 use crate::walk::walk_block;
-use sect_front::{Declaration, Locking, Procedure, Thread, Tree, is_same};
+use sect_front::{Block, Declaration, Locking, Procedure, Thread, Tree, is_same};
 use std::alloc::{AllocError, Global};
 use std::marker::Model;
 
@@ -97,32 +97,43 @@ fn declarations(alloc: Global, tree: &Tree, spot: &mut Spot) -> Result<Shown, Fa
     })
 }
 
-/// Judges a procedure, and gives its variables with their names.
-fn pass_whole_procedure(
+/// Passes the body of a procedure or thread with these locals, whose names are given beside them.
+fn walk_body(
+    tree: &Tree,
+    shown: &Shown,
+    standing: &Standing<'_>,
+    list: &[Declaration],
+    names: &Names,
+    spot: &mut Spot,
+    body: &Block,
+) -> Result<(), Fault>
+    requires shown { Shows shown.now tree.now }
+    requires procedures { standing.now.procedures ≡ tree.now.procedures }
+    requires names { names.now ≡ names_of_declared list.now }
+    requires shallow { depth_at standing.now.at + block_depth body.now ≤ MOST_DEPTH }
+    ensures { Walks (declared_in tree.now) (block_items list.now standing.now.at body.now)
+        spot.old spot.new result }
+{
+    let scope = shown.scope(tree, list, names);
+    walk_block(&scope, spot, standing, body)
+}
+
+/// Judges the variables of a procedure, and gives them with their names.
+fn pass_variables(
     alloc: Global,
     tree: &Tree,
     shown: &Shown,
-    called: &Called<'_>,
-    names: &mut Names,
     spot: &mut Spot,
     procedure: &Procedure,
 ) -> Result<Variables, Fault>
-    requires shown { Shows shown.now tree.now }
-    requires procedures { called.now ≡ tree.now.procedures }
-    requires there { length names.old < length tree.now.procedures }
-    requires shallow { block_depth procedure.now.body ≤ MOST_DEPTH }
-    ensures walks { Walks (declared_in tree.now) (λ w. AProcedure procedure.now.name names.old
-        ∷ local_items [] (variables_by procedure.now) (block_items (variables_by procedure.now)
-        (InProcedure (length names.old)) procedure.now.body w)) spot.old spot.new result }
-    ensures names { OnOk result (names.new ≡ names.old ++ procedure.now.name ∷ []) }
+    requires { Shows shown.now tree.now }
+    ensures walks { Walks (declared_in tree.now) (local_items [] (variables_by procedure.now))
+        spot.old spot.new result }
     ensures shown { IfOk result (λ v. v ≡ variables_shown procedure.now) }
-    ensures few { OnOk result (length names.old < MOST_PROCEDURES) }
-    ensures few_variables { OnOk result (length (variables_by procedure.now) ≤ MOST_LOCALS) }
-    ensures known_variables { OnOk result (all_known (names_of_records tree.now.records)
+    ensures few { OnOk result (length (variables_by procedure.now) ≤ MOST_LOCALS) }
+    ensures known { OnOk result (all_known (names_of_records tree.now.records)
         (variables_by procedure.now) ≡ true) }
 {
-    let number = names.len();
-    pass_procedure(tree, names, spot, procedure)?;
     let list = all_of(alloc, procedure)?;
     let names = locals(
         alloc,
@@ -132,11 +143,75 @@ fn pass_whole_procedure(
         spot,
         list.as_slice(),
     )?;
-    let scope = shown.scope(tree, list.as_slice(), &names);
+    Ok(Variables::new(list, names))
+}
+
+/// Passes the body of the procedure of this number, which has these variables.
+fn walk_procedure(
+    alloc: Global,
+    tree: &Tree,
+    shown: &Shown,
+    called: &Called<'_>,
+    number: usize,
+    variables: &Variables,
+    spot: &mut Spot,
+    procedure: &Procedure,
+) -> Result<(), Fault>
+    requires shown { Shows shown.now tree.now }
+    requires procedures { called.now ≡ tree.now.procedures }
+    requires there { number < length tree.now.procedures }
+    requires variables { variables.now ≡ variables_shown procedure.now }
+    requires shallow { block_depth procedure.now.body ≤ MOST_DEPTH }
+    ensures { Walks (declared_in tree.now) (block_items (variables_by procedure.now)
+        (InProcedure number) procedure.now.body) spot.old spot.new result }
+{
     let returning = called.returning(alloc, number)?;
     let standing = Standing::in_procedure(called, number, returning.as_slice());
-    walk_block(&scope, spot, &standing, &procedure.body)?;
-    Ok(Variables::new(list, names))
+    let list = variables.as_slice();
+    walk_body(
+        tree,
+        shown,
+        &standing,
+        list,
+        variables.names(),
+        spot,
+        &procedure.body,
+    )
+}
+
+/// Judges a procedure, and adds its variables with their names.
+fn pass_whole_procedure(
+    alloc: Global,
+    tree: &Tree,
+    shown: &Shown,
+    called: &Called<'_>,
+    names: &mut Names,
+    all: &mut Vec<Variables>,
+    spot: &mut Spot,
+    procedure: &Procedure,
+) -> Result<(), Fault>
+    requires shown { Shows shown.now tree.now }
+    requires procedures { called.now ≡ tree.now.procedures }
+    requires there { length names.old < length tree.now.procedures }
+    requires shallow { block_depth procedure.now.body ≤ MOST_DEPTH }
+    ensures walks { Walks (declared_in tree.now) (λ w. AProcedure procedure.now.name names.old
+        ∷ local_items [] (variables_by procedure.now) (block_items (variables_by procedure.now)
+        (InProcedure (length names.old)) procedure.now.body w)) spot.old spot.new result }
+    ensures names { OnOk result (names.new ≡ names.old ++ procedure.now.name ∷ []) }
+    ensures shown { OnOk result (all.new.items ≡ all.old.items ++ variables_shown procedure.now ∷ []) }
+    ensures few { OnOk result (length names.old < MOST_PROCEDURES) }
+    ensures few_variables { OnOk result (length (variables_by procedure.now) ≤ MOST_LOCALS) }
+    ensures known_variables { OnOk result (all_known (names_of_records tree.now.records)
+        (variables_by procedure.now) ≡ true) }
+{
+    let number = names.len();
+    pass_procedure(tree, names, spot, procedure)?;
+    let variables = pass_variables(alloc, tree, shown, spot, procedure)?;
+    walk_procedure(
+        alloc, tree, shown, called, number, &variables, spot, procedure,
+    )?;
+    all.push(variables)?;
+    Ok(())
 }
 
 /// Judges all procedures, and gives the variables of each with their names.
@@ -160,24 +235,24 @@ fn procedures(
     let mut names = Names::new(alloc);
     let mut all = Vec::new(alloc);
     for procedure in tree.procedures() {
-        match pass_whole_procedure(alloc, tree, shown, called, &mut names, spot, procedure) {
-            Ok(variables) => all.push(variables)?,
-            Err(fault) => return Err(fault),
-        }
+        pass_whole_procedure(
+            alloc, tree, shown, called, &mut names, &mut all, spot, procedure,
+        )?;
     }
     Ok(all)
 }
 
-/// Judges a thread, and gives the names of its locals.
+/// Judges a thread, and adds the names of its locals.
 fn whole_thread(
     alloc: Global,
     tree: &Tree,
     shown: &Shown,
     standing: &Standing<'_>,
     names: &mut Names,
+    all: &mut Vec<Names>,
     spot: &mut Spot,
     thread: &Thread,
-) -> Result<Names, Fault>
+) -> Result<(), Fault>
     requires shown { Shows shown.now tree.now }
     requires standing { standing.now ≡ record { procedures = tree.now.procedures; at = InThread false 1 } }
     requires shallow { block_depth thread.now.body + 1 ≤ MOST_DEPTH }
@@ -185,7 +260,7 @@ fn whole_thread(
         ∷ local_items [] thread.now.locals (block_items thread.now.locals (InThread false 1)
         thread.now.body w)) spot.old spot.new result }
     ensures names { OnOk result (names.new ≡ names.old ++ thread.now.name ∷ []) }
-    ensures locals { IfOk result (λ own. own ≡ names_of_declared thread.now.locals) }
+    ensures locals { OnOk result (all.new.items ≡ all.old.items ++ names_of_declared thread.now.locals ∷ []) }
     ensures few { OnOk result (length names.old < MOST_THREADS) }
     ensures few_locals { OnOk result (length thread.now.locals ≤ MOST_LOCALS) }
     ensures known_locals { OnOk result (all_known (names_of_records tree.now.records)
@@ -194,9 +269,17 @@ fn whole_thread(
     pass_thread(tree, names, spot, thread)?;
     let list = thread.locals.as_slice();
     let local_names = locals(alloc, tree, &shown.known, &shown.global_names, spot, list)?;
-    let scope = shown.scope(tree, list, &local_names);
-    walk_block(&scope, spot, standing, &thread.body)?;
-    Ok(local_names)
+    walk_body(
+        tree,
+        shown,
+        standing,
+        list,
+        &local_names,
+        spot,
+        &thread.body,
+    )?;
+    all.push(local_names)?;
+    Ok(())
 }
 
 /// Judges all threads, and gives the names of the locals of each.
@@ -220,10 +303,9 @@ fn threads(
     let mut names = Names::new(alloc);
     let mut all = Vec::new(alloc);
     for thread in tree.threads() {
-        match whole_thread(alloc, tree, shown, standing, &mut names, spot, thread) {
-            Ok(locals) => all.push(locals)?,
-            Err(fault) => return Err(fault),
-        }
+        whole_thread(
+            alloc, tree, shown, standing, &mut names, &mut all, spot, thread,
+        )?;
     }
     Ok(all)
 }
@@ -355,6 +437,30 @@ fn rest_of_tree(
     )?)
 }
 
+/// Judges all items of a tree with these procedures and numbers its names.
+fn judge_items(
+    alloc: Global,
+    tree: &Tree,
+    called: &Called<'_>,
+    spot: &mut Spot,
+) -> Result<Parts, Fault>
+    requires start { spot.old ≡ none_yet }
+    requires procedures { called.now ≡ tree.now.procedures }
+    requires shallow_procedures { procedures_depth tree.now.procedures ≤ MOST_DEPTH }
+    requires shallow_threads { threads_depth tree.now.threads ≤ MOST_DEPTH }
+    ensures walks { Walks (declared_in tree.now)
+        (λ w. record_items [] tree.now.records (global_items [] tree.now.globals
+        (procedure_items 0 [] tree.now.procedures (thread_items [] tree.now.threads w))))
+        spot.old spot.new result }
+    ensures parts { IfOk result (λ p. IsWellNumbered (numbered_by tree.now
+        p.records.items p.globals.items p.locals.items p.texts.items p.lockings.items)
+        p.section_count p.site_count p.statement_count) }
+    ensures fresh { IfOk result (λ p. p.fresh.items ≡ map (fresh_in tree.now) tree.now.threads) }
+{
+    let shown = declarations(alloc, tree, spot)?;
+    rest_of_tree(alloc, tree, &shown, called, spot)
+}
+
 /// Judges all items of a tree and numbers its names.
 fn judge_tree(alloc: Global, tree: &Tree, spot: &mut Spot) -> Result<Parts, Fault>
     requires { spot.old ≡ none_yet }
@@ -369,8 +475,7 @@ fn judge_tree(alloc: Global, tree: &Tree, spot: &mut Spot) -> Result<Parts, Faul
 {
     let _ = tree.is_empty();
     let called = Called::new(alloc, tree.procedures())?;
-    let shown = declarations(alloc, tree, spot)?;
-    rest_of_tree(alloc, tree, &shown, &called, spot)
+    judge_items(alloc, tree, &called, spot)
 }
 
 /// A typed program: a tree whose items break no rule, with its declarations and its statements by number. Records,

@@ -5,7 +5,7 @@ use Rattle.sect_types.specs.Rules.{declared_in}
 use Rattle.sect_types.specs.declared.place.Place.TheVariants.{InProcedure}
 use Rattle.sect_types.specs.Items.{AProcedure, variables, local_items, block_items, procedure_items}
 use Rattle.sect_types.proofs.Records.{fault_after}
-use Rattle.sect_types.proofs.ThreadLemmas.{procedure_more, procedure_fails, procedure_depth}
+use Rattle.sect_types.proofs.ThreadLemmas.{handed_on, procedure_more, procedure_fails, procedure_depth}
 use Rattle.sect_types.proofs.program.procedures.Goals as goal
 
 pub pass_whole_procedure-requires-clause-shallow : goal.pass_whole_procedure-requires-clause-shallow
@@ -19,28 +19,31 @@ pass_whole_procedure-requires-clause-shallow c =
       c.requires.shallow,
     )
 
-pub returns-in-Err-clause-walks : goal.returns-in-Err-clause-walks
-returns-in-Err-clause-walks c =
-    fault_after (declared_in c.args.tree.now) (procedure_items 0 [] c.args.tree.now.procedures)
-    (λ w. AProcedure c.procedure-item.result.name c.loop-procedure.names ∷ local_items []
-    (variables c.procedure-item.result)
-    (block_items (variables c.procedure-item.result) (InProcedure (length c.loop-procedure.names))
-    c.procedure-item.result.body w))
-    (procedure_items (length c.loop-procedure.names + 1) (c.loop-procedure.names ++ c.procedure-item.result.name ∷ [])
+pub returns-in_err-pass_whole_procedure-clause-walks : goal.returns-in_err-pass_whole_procedure-clause-walks
+returns-in_err-pass_whole_procedure-clause-walks c =
+    let d = declared_in c.args.tree.now in
+    let p = c.procedure-item.result in
+    let names = c.loop-procedure.names in
+    let e = c.in_err-pass_whole_procedure.field-0.0 in
+    handed_on d (procedure_items 0 [] c.args.tree.now.procedures) c.args.spot.now c.pass_whole_procedure.new.spot e
+    c.from_residual.result c.from_residual.ensures.1
+    (fault_after d (procedure_items 0 [] c.args.tree.now.procedures)
+    (λ w. AProcedure p.name names ∷ local_items [] (variables p)
+    (block_items (variables p) (InProcedure (length names)) p.body w))
+    (procedure_items (length names + 1) (names ++ p.name ∷ [])
     (drop (c.loop-procedure.procedure-index + 1) c.procedures-procedure-items.result.now))
-    c.args.spot.now c.loop-procedure.spot c.pass_whole_procedure.new.spot c.in-Err.fault
-    (procedure_fails (declared_in c.args.tree.now) c.args.tree.now.procedures c.procedures-procedure-items.result.now
-    c.loop-procedure.procedure-index c.procedure-item.result c.loop-procedure.names c.loop-procedure.all.items
-    c.args.spot.now
-    c.loop-procedure.spot (omega arith) c.procedure-item.is c.loop-procedure.invariant)
-    c.in-Err.ensures.walks
+    c.args.spot.now c.loop-procedure.spot c.pass_whole_procedure.new.spot e
+    (procedure_fails d c.args.tree.now.procedures c.procedures-procedure-items.result.now
+    c.loop-procedure.procedure-index p names c.loop-procedure.all.items c.args.spot.now c.loop-procedure.spot
+    (omega arith) c.procedure-item.is c.loop-procedure.invariant)
+    c.in_err-pass_whole_procedure.ensures.walks)
 
 pub loop-procedure-preserved : goal.loop-procedure-preserved
 loop-procedure-preserved c =
+    let after = c.in_ok-pass_whole_procedure.ensures in
     procedure_more (declared_in c.args.tree.now) c.args.tree.now.procedures c.procedures-procedure-items.result.now
     c.loop-procedure.procedure-index c.procedure-item.result c.loop-procedure.names c.pass_whole_procedure.new.names
-    c.loop-procedure.all.items
-    c.push.new.self.items c.in-Ok.variables c.args.spot.now c.loop-procedure.spot c.pass_whole_procedure.new.spot
-    (omega arith) c.procedure-item.is c.loop-procedure.invariant c.in-Ok.ensures.walks c.in-Ok.ensures.names
-    c.in_ok-push-in-Ok.ensures.items c.in-Ok.ensures.shown c.in-Ok.ensures.few c.in-Ok.ensures.few_variables
-    c.in-Ok.ensures.known_variables
+    c.loop-procedure.all.items c.pass_whole_procedure.new.all.items c.args.spot.now c.loop-procedure.spot
+    c.pass_whole_procedure.new.spot
+    (omega arith) c.procedure-item.is c.loop-procedure.invariant after.walks after.names
+    after.shown after.few after.few_variables after.known_variables

@@ -1,11 +1,11 @@
-use Rattle.std.proofs.Common.{[], ◌∷◌, ◌++◌, ◌+◌, drop, arith, false, ap}
+use Rattle.std.proofs.Common.{[], ◌∷◌, ◌++◌, ◌+◌, drop, arith, false, ap, sym, ◌∙◌, append-nil}
 use Rattle.sect_front.specs.declared.tree.Thread.{Thread}
 use Rattle.sect_front.specs.Depth.{block_depth, threads_depth}
 use Rattle.sect_types.specs.Rules.{declared_in}
 use Rattle.sect_types.specs.declared.place.Place.TheVariants.{InThread}
 use Rattle.sect_types.specs.Items.{AThread, local_items, block_items, thread_items}
 use Rattle.sect_types.proofs.Records.{fault_after}
-use Rattle.sect_types.proofs.ThreadLemmas.{thread_more, thread_fails, thread_depth}
+use Rattle.sect_types.proofs.ThreadLemmas.{handed_on, thread_more, thread_fails, thread_depth, threads_done}
 use Rattle.sect_types.proofs.program.threads.Goals as goal
 
 pub whole_thread-requires-clause-shallow : goal.whole_thread-requires-clause-shallow
@@ -18,24 +18,47 @@ whole_thread-requires-clause-shallow c =
       c.requires.shallow,
     )
 
-pub returns-in-Err-clause-walks : goal.returns-in-Err-clause-walks
-returns-in-Err-clause-walks c =
-    fault_after (declared_in c.args.tree.now) (thread_items [] c.args.tree.now.threads)
-    (λ w. AThread c.thread-item.result.name c.loop-thread.names ∷ local_items [] c.thread-item.result.locals
-    (block_items c.thread-item.result.locals (InThread false 1) c.thread-item.result.body w))
-    (thread_items (c.loop-thread.names ++ c.thread-item.result.name ∷ [])
-    (drop (c.loop-thread.thread-index + 1) c.threads-thread-items.result.now))
-    c.args.spot.now c.loop-thread.spot c.whole_thread.new.spot c.in-Err.fault
-    (thread_fails (declared_in c.args.tree.now) c.args.tree.now.threads c.threads-thread-items.result.now
-    c.loop-thread.thread-index c.thread-item.result c.loop-thread.names c.loop-thread.all.items c.args.spot.now
-    c.loop-thread.spot (omega arith) c.thread-item.is c.loop-thread.invariant)
-    c.in-Err.ensures.walks
+pub returns-in_err-whole_thread-clause-walks : goal.returns-in_err-whole_thread-clause-walks
+returns-in_err-whole_thread-clause-walks c =
+    let d = declared_in c.args.tree.now in
+    let t = c.thread-item.result in
+    let names = c.loop-thread.names in
+    let e = c.in_err-whole_thread.field-0.0 in
+    handed_on d (thread_items [] c.args.tree.now.threads) c.args.spot.now c.whole_thread.new.spot e
+    c.from_residual.result c.from_residual.ensures.1
+    (fault_after d (thread_items [] c.args.tree.now.threads)
+    (λ w. AThread t.name names ∷ local_items [] t.locals (block_items t.locals (InThread false 1) t.body w))
+    (thread_items (names ++ t.name ∷ []) (drop (c.loop-thread.thread-index + 1) c.threads-thread-items.result.now))
+    c.args.spot.now c.loop-thread.spot c.whole_thread.new.spot e
+    (thread_fails d c.args.tree.now.threads c.threads-thread-items.result.now
+    c.loop-thread.thread-index t names c.loop-thread.all.items c.args.spot.now c.loop-thread.spot (omega arith)
+    c.thread-item.is c.loop-thread.invariant)
+    c.in_err-whole_thread.ensures.walks)
 
 pub loop-thread-preserved : goal.loop-thread-preserved
 loop-thread-preserved c =
+    let after = c.in_ok-whole_thread.ensures in
     thread_more (declared_in c.args.tree.now) c.args.tree.now.threads c.threads-thread-items.result.now
     c.loop-thread.thread-index c.thread-item.result c.loop-thread.names c.whole_thread.new.names c.loop-thread.all.items
-    c.push.new.self.items c.in-Ok.locals c.args.spot.now c.loop-thread.spot c.whole_thread.new.spot
-    (omega arith) c.thread-item.is c.loop-thread.invariant c.in-Ok.ensures.walks c.in-Ok.ensures.names
-    c.in_ok-push-in-Ok.ensures.items c.in-Ok.ensures.locals c.in-Ok.ensures.few c.in-Ok.ensures.few_locals
-    c.in-Ok.ensures.known_locals
+    c.whole_thread.new.all.items c.args.spot.now c.loop-thread.spot c.whole_thread.new.spot
+    (omega arith) c.thread-item.is c.loop-thread.invariant after.walks after.names after.locals after.few
+    after.few_locals after.known_locals
+
+pub returns-clause-walks : goal.returns-clause-walks
+returns-clause-walks c =
+    (threads_done (declared_in c.args.tree.now) c.args.tree.now.threads c.threads-thread-items.result.now
+    c.loop-thread.thread-index c.loop-thread.names c.loop-thread.all.items c.args.spot.now c.loop-thread.spot
+    c.loop-thread-test.false c.loop-thread.invariant).walks
+
+pub returns-clause-locals : goal.returns-clause-locals
+returns-clause-locals c =
+    sym (append-nil c.loop-thread.all.items)
+    ∙ (threads_done (declared_in c.args.tree.now) c.args.tree.now.threads c.threads-thread-items.result.now
+    c.loop-thread.thread-index c.loop-thread.names c.loop-thread.all.items c.args.spot.now c.loop-thread.spot
+    c.loop-thread-test.false c.loop-thread.invariant).named
+
+pub returns-clause-fine : goal.returns-clause-fine
+returns-clause-fine c =
+    (threads_done (declared_in c.args.tree.now) c.args.tree.now.threads c.threads-thread-items.result.now
+    c.loop-thread.thread-index c.loop-thread.names c.loop-thread.all.items c.args.spot.now c.loop-thread.spot
+    c.loop-thread-test.false c.loop-thread.invariant).fine

@@ -2,7 +2,7 @@ use Rattle.std.proofs.Common.{List, []}
 use Rattle.sect_types.specs.Items.{Item, record_items, global_items, procedure_items, thread_items}
 use Rattle.sect_types.specs.Rules.{declared_in}
 use Rattle.sect_types.proofs.ThreadLemmas.{walks_then}
-use Rattle.sect_types.proofs.program.judge_tree.Goals as goal
+use Rattle.sect_types.proofs.program.judge_items.Goals as goal
 
 pub returns-clause-walks : goal.returns-clause-walks
 returns-clause-walks c =

@@ -1,21 +1,10 @@
 //! `sectc COMMAND [OPTIONS]`: reads a source text on standard input and answers on standard output.
 #![tactic(auto)]
 
-mod check;
-mod command;
-mod compile;
-mod explain;
-mod locks;
-mod options;
-mod refusal;
-mod run;
-mod running;
-mod schedule;
-mod serial;
-mod splitting;
-mod turns;
+#[cfg(test)]
+mod tests;
 
-use command::{FAILED, OUT_OF_MEMORY, WRONG_WORDS, command, told};
+use sect_command::{FAILED, OUT_OF_MEMORY, WRONG_WORDS, command, told};
 use std::process::ExitCode;
 use std::{env, io};
 

@@ -1,0 +1,181 @@
+//! One run of the program, over any reader and writer.
+
+use crate::check::verdict;
+use crate::compile::{program_certificate, program_listing};
+use crate::explain::program_explanation;
+use crate::lock_sets::locks;
+use crate::options::{Form, Request, UsageFault, request_of};
+use crate::refusal::Refusal;
+use crate::run::run_outcome;
+use crate::schedule::schedule_outcome;
+use crate::serial::serial_outcome;
+use sect_run::OpenGate;
+use std::alloc::{AllocError, Global};
+use std::io;
+use std::io::{ErrorKind, Read, Write};
+use std::sync::Wait;
+use std::thread::Threads;
+use thiserror::Error;
+
+/// The status of a run that did what was asked.
+pub const DONE: u8 = 0;
+
+/// The status of a run whose input was refused.
+pub const REFUSED: u8 = 1;
+
+/// The status of a run whose command line is wrong.
+pub const WRONG_WORDS: u8 = 2;
+
+/// The status of a run that lacked memory, or whose input or output failed.
+pub const FAILED: u8 = 3;
+
+/// What a run writes that lacked memory.
+pub const OUT_OF_MEMORY: &[u8] = b"out of memory\n";
+
+/// What a run writes, and its exit status.
+#[derive(Debug, Drop)]
+struct Answer {
+    status: u8,
+    text: Vec<u8>,
+}
+
+/// Why a run has no answer.
+#[derive(Clone, Copy, Debug, Error)]
+enum Failure {
+    #[error("out of memory")]
+    Memory,
+    #[error("input or output failed")]
+    Streams,
+}
+
+impl From<AllocError> for Failure {
+    fn from(_refused: AllocError) -> Failure {
+        Failure::Memory
+    }
+}
+
+impl From<io::Error> for Failure {
+    fn from(failed: io::Error) -> Failure {
+        if failed.kind() == ErrorKind::OutOfMemory {
+            Failure::Memory
+        } else {
+            Failure::Streams
+        }
+    }
+}
+
+/// Judges the words (the program's name first), reads the whole input, works, and writes the answer. It gives the
+/// exit status: 0 done, 1 refused, 2 the words are wrong, 3 want of memory, or the input or the output failed.
+pub fn command<R: Threads + Wait + Sync + AllocGlobal, I: Read, O: Write>(
+    rt: &R,
+    words: &[String],
+    input: I,
+    output: O,
+) -> u8
+where
+    I: Drop,
+    O: Drop,
+{
+    match answer_to(rt, words, input) {
+        Ok(answer) => told(output, answer.status, answer.text.as_slice()),
+        Err(Failure::Memory) => told(output, FAILED, OUT_OF_MEMORY),
+        Err(Failure::Streams) => told(output, FAILED, b"input or output failed\n"),
+    }
+}
+
+/// Writes a text, and gives the status, or `FAILED` where the writer failed.
+pub fn told<O: Write + Drop>(mut output: O, status: u8, text: &[u8]) -> u8 {
+    match output.write_all(text) {
+        Ok(()) => match output.flush() {
+            Ok(()) => status,
+            Err(_) => FAILED,
+        },
+        Err(_) => FAILED,
+    }
+}
+
+/// What the words ask of the input. Words that are wrong are answered before the input is read.
+fn answer_to<R: Threads + Wait + Sync + AllocGlobal, I: Read + Drop>(
+    rt: &R,
+    words: &[String],
+    input: I,
+) -> Result<Answer, Failure> {
+    let alloc = rt.alloc();
+    match request_of(alloc, words) {
+        Ok(request) => answered(rt, alloc, request, input),
+        Err(fault) => words_refused(alloc, fault),
+    }
+}
+
+/// What is answered to words that are wrong.
+fn words_refused(alloc: Global, fault: UsageFault) -> Result<Answer, Failure> {
+    match fault {
+        UsageFault::Memory => Err(Failure::Memory),
+        fault => Ok(Answer {
+            status: WRONG_WORDS,
+            text: format!(in alloc; "{fault}")?.into_bytes(),
+        }),
+    }
+}
+
+/// What a request asks of the input, which is read to its end.
+fn answered<R: Threads + Wait + Sync, I: Read + Drop>(
+    rt: &R,
+    alloc: Global,
+    request: Request,
+    mut input: I,
+) -> Result<Answer, Failure> {
+    let mut source = Vec::new(alloc);
+    input.read_to_end(&mut source)?;
+    worked(rt, alloc, request, source.as_slice())
+}
+
+/// What a command answers to its input.
+fn worked<R: Threads + Wait + Sync>(
+    rt: &R,
+    alloc: Global,
+    request: Request,
+    source: &[u8],
+) -> Result<Answer, Failure> {
+    match printed(rt, alloc, request, source) {
+        Ok(text) => Ok(Answer { status: DONE, text }),
+        Err(Refusal::Memory) => Err(Failure::Memory),
+        Err(refusal) => Ok(Answer {
+            status: REFUSED,
+            text: format!(in alloc; "{refusal}\n")?.into_bytes(),
+        }),
+    }
+}
+
+/// What is printed for a request that is not refused.
+fn printed<R: Threads + Wait + Sync>(
+    rt: &R,
+    alloc: Global,
+    request: Request,
+    source: &[u8],
+) -> Result<Vec<u8>, Refusal> {
+    match request {
+        Request::Locks { k } => Ok(locks(alloc, source, k)?.into_bytes()),
+        Request::Compile {
+            k,
+            workers,
+            form: Form::Listing,
+        } => program_listing(rt, alloc, source, k, workers),
+        Request::Compile {
+            k,
+            workers,
+            form: Form::Certificate,
+        } => program_certificate(rt, alloc, source, k, workers),
+        Request::Explain { k } => program_explanation(alloc, source, k),
+        Request::Serial { fuel, order } => {
+            Ok(serial_outcome(alloc, source, fuel, order)?.into_bytes())
+        }
+        Request::Schedule { k, fuel, schedule } => {
+            Ok(schedule_outcome(alloc, source, k, fuel, schedule)?.into_bytes())
+        }
+        Request::Run { k, fuel } => {
+            Ok(run_outcome(rt, alloc, source, k, fuel, &OpenGate)?.into_bytes())
+        }
+        Request::Check { k } => Ok(verdict(alloc, source, k)?.into_bytes()),
+    }
+}

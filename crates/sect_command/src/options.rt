@@ -1,0 +1,268 @@
+//! What the words of a command line ask for.
+
+ghost use Rattle.std.specs.Prelude.{◌≡◌, ◌≤◌, true, false, IfOk, IfSome};
+ghost use Rattle.clap.specs.declared.builder.command.Command.TheViews.{out-Command as fields_of};
+
+use crate::running::{fuel_of, run_command, schedule_command, serial_command, threads_of};
+use clap::error::ErrorKind;
+use clap::{Arg, ArgAction, ArgMatches, Command};
+use std::alloc::{AllocError, AllocFailed, Global};
+use thiserror::Error;
+
+/// The greatest number that the command line takes.
+pub const MOST: u32 = 65535;
+
+/// The most fields of a path where the command line doesn't say.
+pub const DEFAULT_K: u16 = 2;
+
+/// The workers that infer locks where the command line doesn't say.
+pub const DEFAULT_WORKERS: u16 = 1;
+
+/// What a command line asks for.
+#[derive(Debug, Drop)]
+pub enum Request {
+    /// The lock set of each section, whose paths have at most k fields.
+    Locks {
+        k: u16,
+    },
+    /// The compiled program, in this form, with paths of at most k fields, by so many workers.
+    Compile {
+        k: u16,
+        workers: u16,
+        form: Form,
+    },
+    /// Why each section takes its locks, whose paths have at most k fields.
+    Explain {
+        k: u16,
+    },
+    /// The outcome of a run by whole sections of these threads, each thread with this much fuel.
+    Serial {
+        fuel: u32,
+        order: Vec<u16>,
+    },
+    /// A run by the turns of these threads, each thread with this much fuel, of the program that is compiled with paths
+    /// of at most k fields.
+    Schedule {
+        k: u16,
+        fuel: u32,
+        schedule: Vec<u16>,
+    },
+    /// A run by threads, each with this much fuel, of the program that is compiled with paths of at most k fields.
+    Run {
+        k: u16,
+        fuel: u32,
+    },
+    /// Whether a certificate is valid for the source behind it, with paths of at most k fields.
+    Check {
+        k: u16,
+    },
+}
+
+/// How a compiled program is printed.
+#[derive(Clone, Copy, Debug)]
+pub enum Form {
+    Listing,
+    Certificate,
+}
+
+/// Why a command line is wrong. `Display` is what the program prints of it.
+#[derive(Debug, Drop, Error)]
+pub enum UsageFault {
+    /// What `clap` refuses: an unknown command or option, an option given twice, a call for help.
+    #[error("{0}\nThe source text is read on standard input, as in: sectc locks < FILE\n")]
+    Words(clap::Error),
+    /// A value that isn't decimal digits alone or lies outside `least` to `most`, and its option.
+    #[error("error: invalid value '{value}' for '--{option}': a number from {least} to {most} is wanted\n")]
+    Number {
+        value: String,
+        option: &'static str,
+        least: u32,
+        most: u32,
+    },
+    /// A word in the place of a thread's number that isn't decimal digits alone or is too great.
+    #[error("error: invalid thread '{0}': a number from 0 to 65535 is wanted\n")]
+    Thread(String),
+    /// A growth was refused.
+    #[error("out of memory\n")]
+    Memory,
+}
+
+impl From<AllocError> for UsageFault {
+    fn from(_refused: AllocError) -> UsageFault {
+        UsageFault::Memory
+    }
+}
+
+impl<T: Drop> From<AllocFailed<T>> for UsageFault {
+    fn from(_refused: AllocFailed<T>) -> UsageFault {
+        UsageFault::Memory
+    }
+}
+
+impl From<clap::Error> for UsageFault {
+    fn from(refused: clap::Error) -> UsageFault {
+        if refused.kind() == ErrorKind::OutOfMemory {
+            UsageFault::Memory
+        } else {
+            UsageFault::Words(refused)
+        }
+    }
+}
+
+/// The option `--name N`.
+pub fn numeral<'a>(alloc: Global, name: &'a str, help: &'a str) -> Arg<'a>
+    ensures { result.global ≡ false }
+{
+    Arg::new(alloc, name)
+        .long(name)
+        .value_name("N")
+        .help(help)
+        .action(ArgAction::Set)
+}
+
+/// The option `--k N`.
+fn k_option<'a>(alloc: Global) -> Arg<'a>
+    ensures { result.global ≡ false }
+{
+    numeral(
+        alloc,
+        "k",
+        "the most fields of a path in a lock, 0 to 3 (default 2)",
+    )
+}
+
+/// The command `compile` and what it takes.
+fn compile_command<'a>(alloc: Global) -> Result<Command<'a>, AllocError>
+    ensures { IfOk result (λ c. (fields_of c).has_globals ≡ false) }
+{
+    let workers = numeral(
+        alloc,
+        "workers",
+        "the workers that infer locks side by side, 1 to 16 (default 1)",
+    );
+    let cert = Arg::new(alloc, "cert")
+        .long("cert")
+        .help("prints the certificate of the program in place of its listing")
+        .action(ArgAction::SetTrue);
+    let command = Command::new(alloc, "compile")
+        .about("prints the compiled program of the source text")
+        .arg(k_option(alloc))?
+        .arg(workers)?
+        .arg(cert)?;
+    Ok(command)
+}
+
+/// A command that takes `--k N`.
+pub fn k_command<'a>(
+    alloc: Global,
+    name: &'a str,
+    about: &'a str,
+) -> Result<Command<'a>, AllocError>
+    ensures { IfOk result (λ c. (fields_of c).has_globals ≡ false) }
+{
+    Command::new(alloc, name).about(about).arg(k_option(alloc))
+}
+
+/// The commands and what each takes.
+fn grammar<'a>(alloc: Global) -> Result<Command<'a>, AllocError>
+    ensures required { IfOk result (λ c. (fields_of c).subcommand_required ≡ true) }
+    ensures local { IfOk result (λ c. (fields_of c).has_globals ≡ false) }
+{
+    let locks = "prints the lock set of each section of the source text";
+    let explain = "prints why each section of the source text takes each of its locks";
+    let check =
+        "tests a certificate: the input is the certificate, and the source text behind its line `end`";
+    let sectc = Command::new(alloc, "sectc")
+        .about("infers the locks of atomic sections; reads a source text on standard input")
+        .subcommand(k_command(alloc, "locks", locks)?)?
+        .subcommand(compile_command(alloc)?)?
+        .subcommand(k_command(alloc, "explain", explain)?)?
+        .subcommand(serial_command(alloc)?)?
+        .subcommand(schedule_command(alloc)?)?
+        .subcommand(run_command(alloc)?)?
+        .subcommand(k_command(alloc, "check", check)?)?;
+    Ok(sectc.subcommand_required(true))
+}
+
+/// The number that a text spells, where it is decimal digits alone and at most `most`.
+pub fn number(text: &str, most: u32) -> Option<u32>
+    ensures { IfSome result (λ n. n ≤ most) }
+{
+    if !text.bytes().all(|byte| byte.is_ascii_digit()) {
+        return None;
+    }
+    let n = text.parse::<u32>().ok()?;
+    if n <= most { Some(n) } else { None }
+}
+
+/// The number that an option gives, or the default.
+fn number_of(
+    alloc: Global,
+    matches: &ArgMatches<'_>,
+    name: &'static str,
+    default: u16,
+) -> Result<u16, UsageFault> {
+    let Some(text) = matches.get_str(name) else {
+        return Ok(default);
+    };
+    match number(text, MOST) {
+        Some(n) => Ok(n as u16),
+        None => Err(UsageFault::Number {
+            value: String::from_str(alloc, text)?,
+            option: name,
+            least: 0,
+            most: MOST,
+        }),
+    }
+}
+
+/// How the words of `compile` want the program printed.
+fn form_of(options: &ArgMatches<'_>) -> Form {
+    if options.get_flag("cert") {
+        Form::Certificate
+    } else {
+        Form::Listing
+    }
+}
+
+/// What the words ask for, the program's name first.
+pub fn request_of(alloc: Global, words: &[String]) -> Result<Request, UsageFault> {
+    let matches = grammar(alloc)?.try_get_matches_from(words)?;
+    match matches.subcommand() {
+        Some((name, options)) => requested(alloc, name, options),
+        None => unreachable!(),
+    }
+}
+
+/// What the command of this name asks for by its options.
+fn requested(alloc: Global, name: &str, options: &ArgMatches<'_>) -> Result<Request, UsageFault> {
+    match name {
+        "serial" => Ok(Request::Serial {
+            fuel: fuel_of(alloc, options)?,
+            order: threads_of(alloc, options)?,
+        }),
+        "schedule" => Ok(Request::Schedule {
+            k: number_of(alloc, options, "k", DEFAULT_K)?,
+            fuel: fuel_of(alloc, options)?,
+            schedule: threads_of(alloc, options)?,
+        }),
+        "run" => Ok(Request::Run {
+            k: number_of(alloc, options, "k", DEFAULT_K)?,
+            fuel: fuel_of(alloc, options)?,
+        }),
+        "compile" => Ok(Request::Compile {
+            k: number_of(alloc, options, "k", DEFAULT_K)?,
+            workers: number_of(alloc, options, "workers", DEFAULT_WORKERS)?,
+            form: form_of(options),
+        }),
+        "explain" => Ok(Request::Explain {
+            k: number_of(alloc, options, "k", DEFAULT_K)?,
+        }),
+        "check" => Ok(Request::Check {
+            k: number_of(alloc, options, "k", DEFAULT_K)?,
+        }),
+        _locks => Ok(Request::Locks {
+            k: number_of(alloc, options, "k", DEFAULT_K)?,
+        }),
+    }
+}

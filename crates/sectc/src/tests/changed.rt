@@ -1,0 +1,93 @@
+//! Texts whose bytes are swapped, dropped or doubled: each is answered or refused by name.
+
+use super::answer_of;
+use super::examples::EXAMPLES;
+use super::hostile::{expect_any, expect_verdict};
+use std::alloc::{AllocError, Global};
+use std::process::Abort;
+use std::sync::Wait;
+use std::test::Fail;
+use std::thread::Threads;
+
+/// Numbers that look like chance, the same ones each time.
+#[derive(Drop)]
+struct Chance {
+    state: u32,
+}
+
+impl Chance {
+    /// The next number below a bound; 0 where the bound is 0.
+    fn below(&mut self, bound: usize) -> usize {
+        self.state = self.state.wrapping_mul(1664525).wrapping_add(1013904223);
+        let number = (self.state >> 8) as usize;
+        if bound == 0 { 0 } else { number % bound }
+    }
+}
+
+/// Swaps two bytes of a text, drops one or doubles one, wherever chance will have it.
+fn change(text: &mut Vec<u8>, chance: &mut Chance) -> Result<(), AllocError> {
+    let (one, other) = (chance.below(text.len()), chance.below(text.len()));
+    if one >= text.len() || other >= text.len() {
+        return Ok(());
+    }
+    match chance.below(3) {
+        0 => text.swap(one, other),
+        1 => {
+            text.remove(one);
+        }
+        _ => {
+            let byte = text[one];
+            text.insert(one, byte)?;
+        }
+    }
+    Ok(())
+}
+
+/// The text with one to three changes.
+fn changed(alloc: Global, text: &[u8], chance: &mut Chance) -> Result<Vec<u8>, AllocError> {
+    let mut bytes = Vec::from_slice(alloc, text)?;
+    change(&mut bytes, chance)?;
+    for _ in 0..chance.below(3) {
+        change(&mut bytes, chance)?;
+    }
+    Ok(bytes)
+}
+
+/// How many texts are made of each example, and as many of its certificate.
+const TEXTS: u16 = 360;
+
+#[test]
+fn changed_programs(rt: HostRuntime) -> Result<(), Fail> {
+    let mut chance = Chance { state: 1 };
+    for (source, _) in EXAMPLES {
+        for _ in 0..TEXTS {
+            let bytes = changed(rt.alloc(), source.as_bytes(), &mut chance)?;
+            expect_any(&rt, bytes.as_slice())?;
+        }
+    }
+    Ok(())
+}
+
+/// A certificate with some changes, and the source text behind it, is judged.
+fn expect_judged(
+    rt: &(impl Threads + Wait + Sync + AllocGlobal + Abort),
+    certificate: &[u8],
+    source: &[u8],
+    chance: &mut Chance,
+) -> Result<(), Fail> {
+    let mut input = changed(rt.alloc(), certificate, chance)?;
+    input.extend_from_slice(source)?;
+    expect_verdict(rt, input.as_slice())
+}
+
+#[test]
+fn changed_certificates(rt: HostRuntime) -> Result<(), Fail> {
+    let mut chance = Chance { state: 2 };
+    for (source, _) in EXAMPLES {
+        let (_, certificate) = answer_of(&rt, "compile --cert", source.as_bytes())?;
+        for _ in 0..TEXTS {
+            expect_judged(&rt, certificate.as_bytes(), source.as_bytes(), &mut chance)?;
+        }
+    }
+    Ok(())
+}

@@ -1,5 +1,5 @@
-//! The commands of `sectc`: what each answers to a source text, and `command`, which goes by the words of a command line,
-//! a reader and a writer.
+//! The commands of `sectc`: what each answers to a source text, and `command`, which goes by the words of a command
+//! line, a reader and a writer.
 #![tactic(auto)]
 
 mod check;

@@ -10,6 +10,7 @@ pub mod LocalFacts
 pub mod ThreadLemmas
 pub mod Records
 pub mod Listed
+mod Passed
 pub mod SoundLemmas
 pub mod FindLemmas
 pub mod SectionLemmas

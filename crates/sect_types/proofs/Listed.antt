@@ -1,8 +1,8 @@
 -- One field, global or local more.
-use Rattle.std.proofs.Common.{◌≡◌, ℕ, ◌+◌, ◌<◌, ◌≤◌, List, [], ◌∷◌, ◌++◌, drop, get_or, length, sym, ap, ◌∙◌, subst}
-use Rattle.std.proofs.Common.{append_assoc, length-append, arith, true, ◌&&◌}
-use Rattle.std.proofs.lemmas.List.{drop_all}
+use Rattle.std.proofs.Common.{◌≡◌, ℕ, ◌+◌, ◌<◌, List, [], ◌∷◌, ◌++◌, drop, get_or, length, refl, ◌∙◌, true, arith}
+use Rattle.std.proofs.Common.{length-append, ap}
 use Rattle.sect_types.proofs.Lists.{drop_next}
+use Rattle.sect_types.proofs.Passed.{judged_on, joined_on, tested_on}
 use Rattle.sect_front.specs.declared.tree.Declaration.{Declaration}
 use Rattle.sect_front.specs.declared.tree.GlobalObject.{GlobalObject}
 use Rattle.sect_types.specs.declared.limits.TheConstants.{MOST_FIELDS, MOST_GLOBALS, MOST_LOCALS}
@@ -20,20 +20,15 @@ pub field_more : (d : Declared) (all ds : List Declaration) (i : ℕ) (x : Decla
     → IsListed d all (drop (i + 1) ds) new old then
 field_more d all ds i x names new old now then h e so_far step named sites few known =
     record {
-      walks = λ w.
-          so_far.walks w
-          ∙ (ap (λ l. judge d now (field_items names l w)) at
-          ∙ (step (field_items (names ++ x.name ∷ []) rest w)
-          ∙ ap (λ n. judge d then (field_items n rest w)) (sym named)));
-      named = ap (λ n. n ++ names_of_declared rest) named
-          ∙ (append_assoc names (x.name ∷ []) (names_of_declared rest)
-          ∙ (ap (λ l. names ++ names_of_declared l) (sym at) ∙ so_far.named));
+      walks =
+          judged_on d field_items (field_items [] all) x rest (drop i ds) names (names ++ x.name ∷ []) new old now then
+          so_far.walks (λ w. step (field_items (names ++ x.name ∷ []) rest w)) at named;
+      named = joined_on names_of_declared x rest (drop i ds) all x.name names new named refl at so_far.named;
       sites = sites ∙ so_far.sites;
       few = omega (arith, ap length named, length-append names (x.name ∷ []));
       known =
-          so_far.known
-          ∙ (ap (all_known (names_of_records d.records)) at
-          ∙ ap (λ b. b && all_known (names_of_records d.records) rest) known);
+          tested_on (all_known (names_of_records d.records)) x rest (drop i ds) all
+          (knows_kind (names_of_records d.records) x.kind) refl known at so_far.known;
     }
   where
     rest : List Declaration
@@ -51,20 +46,15 @@ pub global_more : (d : Declared) (all gs : List GlobalObject) (i : ℕ) (x : Glo
     → AreGlobals d all (drop (i + 1) gs) new old then
 global_more d all gs i x names new old now then h e so_far step named sites few known =
     record {
-      walks = λ w.
-          so_far.walks w
-          ∙ (ap (λ l. judge d now (global_items names l w)) at
-          ∙ (step (global_items (names ++ x.name ∷ []) rest w)
-          ∙ ap (λ n. judge d then (global_items n rest w)) (sym named)));
-      named = ap (λ n. n ++ names_of_globals rest) named
-          ∙ (append_assoc names (x.name ∷ []) (names_of_globals rest)
-          ∙ (ap (λ l. names ++ names_of_globals l) (sym at) ∙ so_far.named));
+      walks =
+          judged_on d global_items (global_items [] all) x rest (drop i gs) names (names ++ x.name ∷ []) new old now then
+          so_far.walks (λ w. step (global_items (names ++ x.name ∷ []) rest w)) at named;
+      named = joined_on names_of_globals x rest (drop i gs) all x.name names new named refl at so_far.named;
       sites = omega (arith, sites, so_far.sites, ap length named, length-append names (x.name ∷ []));
       few = omega (arith, ap length named, length-append names (x.name ∷ []));
       known =
-          so_far.known
-          ∙ (ap (globals_known (names_of_records d.records)) at
-          ∙ ap (λ b. b && globals_known (names_of_records d.records) rest) known);
+          tested_on (globals_known (names_of_records d.records)) x rest (drop i gs) all
+          (has_name x.of (names_of_records d.records)) refl known at so_far.known;
     }
   where
     rest : List GlobalObject
@@ -82,19 +72,14 @@ pub local_more : (d : Declared) (all ds : List Declaration) (i : ℕ) (x : Decla
     → AreLocals d all (drop (i + 1) ds) new old then
 local_more d all ds i x names new old now then h e so_far step named few known =
     record {
-      walks = λ w.
-          so_far.walks w
-          ∙ (ap (λ l. judge d now (local_items names l w)) at
-          ∙ (step (local_items (names ++ x.name ∷ []) rest w)
-          ∙ ap (λ n. judge d then (local_items n rest w)) (sym named)));
-      named = ap (λ n. n ++ names_of_declared rest) named
-          ∙ (append_assoc names (x.name ∷ []) (names_of_declared rest)
-          ∙ (ap (λ l. names ++ names_of_declared l) (sym at) ∙ so_far.named));
+      walks =
+          judged_on d local_items (local_items [] all) x rest (drop i ds) names (names ++ x.name ∷ []) new old now then
+          so_far.walks (λ w. step (local_items (names ++ x.name ∷ []) rest w)) at named;
+      named = joined_on names_of_declared x rest (drop i ds) all x.name names new named refl at so_far.named;
       few = omega (arith, ap length named, length-append names (x.name ∷ []));
       known =
-          so_far.known
-          ∙ (ap (all_known (names_of_records d.records)) at
-          ∙ ap (λ b. b && all_known (names_of_records d.records) rest) known);
+          tested_on (all_known (names_of_records d.records)) x rest (drop i ds) all
+          (knows_kind (names_of_records d.records) x.kind) refl known at so_far.known;
     }
   where
     rest : List Declaration
@@ -102,16 +87,3 @@ local_more d all ds i x names new old now then h e so_far step named few known =
 
     at : drop i ds ≡ x ∷ drop (i + 1) ds
     at = drop_next ds i x h e
-
--- none is left
-pub fields_done : (d : Declared) (all ds : List Declaration) (i : ℕ) (names : List (List ℕ)) (old now : Counts)
-    → length ds ≤ i → IsListed d all (drop i ds) names old now → IsListed d all [] names old now
-fields_done d all ds i names old now h so_far = subst (λ l. IsListed d all l names old now) (drop_all i ds h) so_far
-
-pub globals_done : (d : Declared) (all gs : List GlobalObject) (i : ℕ) (names : List (List ℕ)) (old now : Counts)
-    → length gs ≤ i → AreGlobals d all (drop i gs) names old now → AreGlobals d all [] names old now
-globals_done d all gs i names old now h so_far = subst (λ l. AreGlobals d all l names old now) (drop_all i gs h) so_far
-
-pub locals_done : (d : Declared) (all ds : List Declaration) (i : ℕ) (names : List (List ℕ)) (old now : Counts)
-    → length ds ≤ i → AreLocals d all (drop i ds) names old now → AreLocals d all [] names old now
-locals_done d all ds i names old now h so_far = subst (λ l. AreLocals d all l names old now) (drop_all i ds h) so_far

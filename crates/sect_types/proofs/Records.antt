@@ -1,9 +1,10 @@
 -- One record more.
-use Rattle.std.proofs.Common.{◌≡◌, ℕ, ◌+◌, ◌<◌, ◌≤◌, List, [], ◌∷◌, ◌++◌, drop, get_or, length, Err, sym, ap, ◌∙◌}
-use Rattle.std.proofs.Common.{append_assoc, length-append, arith, Bool, true, ◌&&◌, nat_le, subst}
+use Rattle.std.proofs.Common.{◌≡◌, ℕ, ◌+◌, ◌<◌, ◌≤◌, List, [], ◌∷◌, ◌++◌, drop, get_or, length, Err, refl, ap, ◌∙◌}
+use Rattle.std.proofs.Common.{length-append, arith, Bool, true, ◌&&◌, nat_le, subst}
 use Rattle.std.proofs.lemmas.List.{drop_all}
 use Rattle.std.proofs.lemmas.Bool.Decides.{nat_tests}
 use Rattle.sect_types.proofs.Lists.{drop_next}
+use Rattle.sect_types.proofs.Passed.{judged_on, joined_on, tested_on}
 use Rattle.sect_front.specs.declared.tree.Record.{Record}
 use Rattle.sect_types.specs.declared.limits.TheConstants.{MOST_FIELDS, MOST_RECORDS}
 use Rattle.sect_types.specs.declared.rule.Fault.{Fault}
@@ -33,25 +34,20 @@ pub go_on : (d : Declared) (all rs : List Record) (i : ℕ) (r : Record) (names 
     → AreRecords d all (drop (i + 1) rs) new more old then
 go_on d all rs i r names new fields more old now then h e so_far step named with_fields sites few few_fields known =
     record {
-      walks = λ w.
-          so_far.walks w
-          ∙ (ap (λ l. judge d now (record_items names l w)) at
-          ∙ (step (record_items (names ++ r.name ∷ []) rest w)
-          ∙ ap (λ n. judge d then (record_items n rest w)) (sym named)));
-      named = ap (λ n. n ++ names_of_records rest) named
-          ∙ (append_assoc names (r.name ∷ []) (names_of_records rest)
-          ∙ (ap (λ l. names ++ names_of_records l) (sym at) ∙ so_far.named));
-      with_fields = ap (λ n. n ++ all_fields rest) with_fields
-          ∙ (append_assoc fields (names_of_declared r.fields ∷ []) (all_fields rest)
-          ∙ (ap (λ l. fields ++ all_fields l) (sym at) ∙ so_far.with_fields));
+      walks =
+          judged_on d record_items (record_items [] all) r rest (drop i rs) names (names ++ r.name ∷ []) new old now then
+          so_far.walks (λ w. step (record_items (names ++ r.name ∷ []) rest w)) at named;
+      named = joined_on names_of_records r rest (drop i rs) all r.name names new named refl at so_far.named;
+      with_fields =
+          joined_on all_fields r rest (drop i rs) all (names_of_declared r.fields) fields more with_fields refl at
+          so_far.with_fields;
       sites = sites ∙ so_far.sites;
       few = omega (arith, ap length named, length-append names (r.name ∷ []));
       fine =
-          so_far.fine
-          ∙ (ap (fields_fine (names_of_records d.records)) at
-          ∙ ap (λ b. b && fields_fine (names_of_records d.records) rest)
+          tested_on (fields_fine (names_of_records d.records)) r rest (drop i rs) all
+          (all_known (names_of_records d.records) r.fields && nat_le (length r.fields) MOST_FIELDS) refl
           (both_true (all_known (names_of_records d.records) r.fields) (nat_le (length r.fields) MOST_FIELDS) known
-          (at_most (length r.fields) MOST_FIELDS few_fields)));
+          (at_most (length r.fields) MOST_FIELDS few_fields)) at so_far.fine;
     }
   where
     rest : List Record

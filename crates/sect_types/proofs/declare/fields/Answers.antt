@@ -4,7 +4,8 @@ use Rattle.sect_types.specs.Rules.{declared_in, judge}
 use Rattle.sect_types.specs.steps.Listing.{IsListed}
 use Rattle.sect_types.proofs.Lists.{drop_next}
 use Rattle.sect_types.proofs.Records.{fault_after}
-use Rattle.sect_types.proofs.Listed.{field_more, fields_done}
+use Rattle.sect_types.proofs.Listed.{field_more}
+use Rattle.sect_types.proofs.Passed.{none_left}
 use Rattle.sect_types.proofs.ThreadLemmas.{handed_on}
 use Rattle.sect_types.proofs.declare.fields.Goals as goal
 
@@ -34,9 +35,9 @@ returns-in_err-pass_field-clause-walks c =
 done : (c : goal.After-loop-field) → IsListed (declared_in c.args.tree.now) c.args.list.now [] c.loop-field.names
     c.args.spot.now c.loop-field.spot
 done c =
-    fields_done (declared_in c.args.tree.now) c.args.list.now c.args.list.now c.loop-field.field-index
-    c.loop-field.names
-    c.args.spot.now c.loop-field.spot c.loop-field-test.false c.loop-field.invariant
+    none_left
+    (λ l. IsListed (declared_in c.args.tree.now) c.args.list.now l c.loop-field.names c.args.spot.now c.loop-field.spot)
+    c.args.list.now c.loop-field.field-index c.loop-field-test.false c.loop-field.invariant
 
 pub returns-clause-walks : goal.returns-clause-walks
 returns-clause-walks c = (done c).walks

@@ -4,7 +4,8 @@ use Rattle.sect_types.specs.Rules.{declared_in, judge}
 use Rattle.sect_types.specs.steps.Listing.{AreGlobals}
 use Rattle.sect_types.proofs.Lists.{drop_next}
 use Rattle.sect_types.proofs.Records.{fault_after}
-use Rattle.sect_types.proofs.Listed.{global_more, globals_done}
+use Rattle.sect_types.proofs.Listed.{global_more}
+use Rattle.sect_types.proofs.Passed.{none_left}
 use Rattle.sect_types.proofs.ThreadLemmas.{handed_on}
 use Rattle.sect_types.proofs.declare.globals.Goals as goal
 
@@ -36,9 +37,10 @@ done : (c : goal.After-loop-global) → AreGlobals (declared_in c.args.tree.now)
     c.loop-global.names
     c.args.spot.now c.loop-global.spot
 done c =
-    globals_done (declared_in c.args.tree.now) c.args.tree.now.globals c.globals-global-items.result.now
-    c.loop-global.global-index c.loop-global.names
-    c.args.spot.now c.loop-global.spot c.loop-global-test.false c.loop-global.invariant
+    none_left
+    (λ l. AreGlobals (declared_in c.args.tree.now) c.args.tree.now.globals l c.loop-global.names c.args.spot.now
+    c.loop-global.spot)
+    c.globals-global-items.result.now c.loop-global.global-index c.loop-global-test.false c.loop-global.invariant
 
 pub returns-clause-walks : goal.returns-clause-walks
 returns-clause-walks c = (done c).walks

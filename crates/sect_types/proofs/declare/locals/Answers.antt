@@ -4,7 +4,8 @@ use Rattle.sect_types.specs.Rules.{declared_in, judge}
 use Rattle.sect_types.specs.steps.Listing.{AreLocals}
 use Rattle.sect_types.proofs.Lists.{drop_next}
 use Rattle.sect_types.proofs.Records.{fault_after}
-use Rattle.sect_types.proofs.Listed.{local_more, locals_done}
+use Rattle.sect_types.proofs.Listed.{local_more}
+use Rattle.sect_types.proofs.Passed.{none_left}
 use Rattle.sect_types.proofs.ThreadLemmas.{handed_on}
 use Rattle.sect_types.proofs.declare.locals.Goals as goal
 
@@ -34,9 +35,9 @@ returns-in_err-pass_local-clause-walks c =
 done : (c : goal.After-loop-local) → AreLocals (declared_in c.args.tree.now) c.args.list.now [] c.loop-local.names
     c.args.spot.now c.loop-local.spot
 done c =
-    locals_done (declared_in c.args.tree.now) c.args.list.now c.args.list.now c.loop-local.local-index
-    c.loop-local.names
-    c.args.spot.now c.loop-local.spot c.loop-local-test.false c.loop-local.invariant
+    none_left
+    (λ l. AreLocals (declared_in c.args.tree.now) c.args.list.now l c.loop-local.names c.args.spot.now c.loop-local.spot)
+    c.args.list.now c.loop-local.local-index c.loop-local-test.false c.loop-local.invariant
 
 pub returns-clause-walks : goal.returns-clause-walks
 returns-clause-walks c = (done c).walks

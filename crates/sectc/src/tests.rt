@@ -23,6 +23,24 @@ use std::sync::Wait;
 use std::test::Fail;
 use std::thread::Threads;
 
+/// Two threads that add to one object.
+const TWO_ADD: &str = "record Acct { int bal; }
+global Acct a;
+thread p { int t; atomic { t = a.bal; t = t + 1; a.bal = t; } }
+thread q { int t; atomic { t = a.bal; t = t + 1; a.bal = t; } }
+";
+
+/// A thread that sums up a list, and one that puts a node at its front.
+const LIST: &str = "record Node { int val; Node next; }
+global Node head;
+thread sum { Node p; int v; int s;
+  atomic { p = head.next;
+    while (p != null) { v = p.val; s = s + v; p = p.next; }
+    print s; } }
+thread push { Node n; Node p; int v; v = 5;
+  atomic { n = new Node; n.val = v; p = head.next; n.next = p; head.next = n; } }
+";
+
 /// Adds a word.
 fn put_word(alloc: Global, words: &mut Vec<String>, word: &str) -> Result<(), AllocError> {
     words.push(String::from_str(alloc, word)?)?;

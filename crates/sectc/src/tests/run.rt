@@ -1,6 +1,6 @@
 //! The command `run` over memory, and runs whose threads are kept at a gate.
 
-use super::{answer_of, expect_rows, expect_run_in_order};
+use super::{LIST, TWO_ADD, answer_of, expect_rows, expect_run_in_order};
 use sect_command::run_outcome;
 use sect_run::Gate;
 use sect_world::Kind;
@@ -10,22 +10,6 @@ use std::sync::atomic::{AtomicBool, Ordering};
 use std::test::Fail;
 use std::thread;
 use std::time::Duration;
-
-const TWO_ADD: &str = "record Acct { int bal; }
-global Acct a;
-thread p { int t; atomic { t = a.bal; t = t + 1; a.bal = t; } }
-thread q { int t; atomic { t = a.bal; t = t + 1; a.bal = t; } }
-";
-
-const LIST: &str = "record Node { int val; Node next; }
-global Node head;
-thread sum { Node p; int v; int s;
-  atomic { p = head.next;
-    while (p != null) { v = p.val; s = s + v; p = p.next; }
-    print s; } }
-thread push { Node n; Node p; int v; v = 5;
-  atomic { n = new Node; n.val = v; p = head.next; n.next = p; head.next = n; } }
-";
 
 const APART: &str = "record Acct { int bal; }
 global Acct a; global Acct b;

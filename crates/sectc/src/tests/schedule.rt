@@ -1,18 +1,12 @@
 //! The command `schedule` over memory.
 
-use super::{answer_of, expect_rows};
+use super::{LIST, TWO_ADD, answer_of, expect_rows};
 use std::process::Abort;
 use std::sync::Wait;
 use std::test::Fail;
 use std::thread::Threads;
 
 const NOTHING: &str = "thread e { atomic { } }
-";
-
-const TWO_ADD: &str = "record Acct { int bal; }
-global Acct a;
-thread p { int t; atomic { t = a.bal; t = t + 1; a.bal = t; } }
-thread q { int t; atomic { t = a.bal; t = t + 1; a.bal = t; } }
 ";
 
 const ALIASED: &str = "record Cell { int val; }
@@ -40,16 +34,6 @@ const NULL_LOADED: &str = "record Node { int val; Node next; }
 global Node head; global Node b;
 thread s { Node p; int v; atomic { b.val = 4; p = head.next; v = p.val; } }
 thread r { int v; atomic { v = b.val; print v; } }
-";
-
-const LIST: &str = "record Node { int val; Node next; }
-global Node head;
-thread sum { Node p; int v; int s;
-  atomic { p = head.next;
-    while (p != null) { v = p.val; s = s + v; p = p.next; }
-    print s; } }
-thread push { Node n; Node p; int v; v = 5;
-  atomic { n = new Node; n.val = v; p = head.next; n.next = p; head.next = n; } }
 ";
 
 const ON_ALL: &str =

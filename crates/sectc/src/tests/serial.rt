@@ -1,23 +1,7 @@
 //! The command `serial` over memory.
 
-use super::expect_rows;
+use super::{LIST, TWO_ADD, expect_rows};
 use std::test::Fail;
-
-const TWO_ADD: &str = "record Acct { int bal; }
-global Acct a;
-thread p { int t; atomic { t = a.bal; t = t + 1; a.bal = t; } }
-thread q { int t; atomic { t = a.bal; t = t + 1; a.bal = t; } }
-";
-
-const LIST: &str = "record Node { int val; Node next; }
-global Node head;
-thread sum { Node p; int v; int s;
-  atomic { p = head.next;
-    while (p != null) { v = p.val; s = s + v; p = p.next; }
-    print s; } }
-thread push { Node n; Node p; int v; v = 5;
-  atomic { n = new Node; n.val = v; p = head.next; n.next = p; head.next = n; } }
-";
 
 const NULL_LOADED: &str = "record Node { int val; Node next; }
 global Node head; global Node b;

@@ -47,8 +47,8 @@ pub global_more : (d : Declared) (all gs : List GlobalObject) (i : ℕ) (x : Glo
 global_more d all gs i x names new old now then h e so_far step named sites few known =
     record {
       walks =
-          judged_on d global_items (global_items [] all) x rest (drop i gs) names (names ++ x.name ∷ []) new old now then
-          so_far.walks (λ w. step (global_items (names ++ x.name ∷ []) rest w)) at named;
+          judged_on d global_items (global_items [] all) x rest (drop i gs) names (names ++ x.name ∷ []) new old now
+          then so_far.walks (λ w. step (global_items (names ++ x.name ∷ []) rest w)) at named;
       named = joined_on names_of_globals x rest (drop i gs) all x.name names new named refl at so_far.named;
       sites = omega (arith, sites, so_far.sites, ap length named, length-append names (x.name ∷ []));
       few = omega (arith, ap length named, length-append names (x.name ∷ []));

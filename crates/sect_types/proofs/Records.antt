@@ -35,8 +35,8 @@ pub go_on : (d : Declared) (all rs : List Record) (i : ℕ) (r : Record) (names 
 go_on d all rs i r names new fields more old now then h e so_far step named with_fields sites few few_fields known =
     record {
       walks =
-          judged_on d record_items (record_items [] all) r rest (drop i rs) names (names ++ r.name ∷ []) new old now then
-          so_far.walks (λ w. step (record_items (names ++ r.name ∷ []) rest w)) at named;
+          judged_on d record_items (record_items [] all) r rest (drop i rs) names (names ++ r.name ∷ []) new old now
+          then so_far.walks (λ w. step (record_items (names ++ r.name ∷ []) rest w)) at named;
       named = joined_on names_of_records r rest (drop i rs) all r.name names new named refl at so_far.named;
       with_fields =
           joined_on all_fields r rest (drop i rs) all (names_of_declared r.fields) fields more with_fields refl at

@@ -36,7 +36,8 @@ done : (c : goal.After-loop-local) → AreLocals (declared_in c.args.tree.now) c
     c.args.spot.now c.loop-local.spot
 done c =
     none_left
-    (λ l. AreLocals (declared_in c.args.tree.now) c.args.list.now l c.loop-local.names c.args.spot.now c.loop-local.spot)
+    (λ l. AreLocals (declared_in c.args.tree.now) c.args.list.now l c.loop-local.names c.args.spot.now
+    c.loop-local.spot)
     c.args.list.now c.loop-local.local-index c.loop-local-test.false c.loop-local.invariant
 
 pub returns-clause-walks : goal.returns-clause-walks

@@ -1,4 +1,4 @@
--- An outcome as it is printed. `put_outcome` cites it.
+-- An outcome as it is printed. `put_outcome` and `put_object_name` cite it.
 use Rattle.std.specs.Prelude.{ℕ, ℤ, ◌+◌, List, [], ◌∷◌, ◌++◌, Option, Some, None, slice_index_or, codes}
 use Rattle.std.specs.List.{flat_map}
 use Rattle.std.specs.Fmt.{decimal, signed_decimal}

@@ -12,7 +12,7 @@ mod work;
 
 pub use crate::object::Object;
 pub use crate::outcome::Outcome;
-pub use crate::printing::put_outcome;
+pub use crate::printing::{put_object_name, put_outcome};
 pub use crate::statement::{act, finish_new};
 pub use crate::store::Store;
 pub use crate::work::Work;

@@ -7,6 +7,7 @@ ghost use Rattle.sect_types.specs.Programs.{sites_of};
 ghost use Rattle.sect_types.specs.Sight.{names_of_globals, names_of_declared};
 ghost use Rattle.sect_store.specs.Printing.{by_place, thread_line, order_line, out_line, datum_text};
 ghost use Rattle.sect_store.specs.Printing.{fields_at, field_text, fields_text, made_lines, store_lines, outcome_text};
+ghost use Rattle.sect_store.specs.Printing.{object_name};
 
 use crate::object::Object;
 use crate::outcome::Outcome;
@@ -167,10 +168,23 @@ fn put_datum(text: &mut String, program: &Program, datum: Datum) -> Result<(), A
     match datum {
         Datum::Number(number) => write!(text, "{number}")?,
         Datum::Null => text.push_str("null")?,
-        Datum::Refers(ObjectName::Global(number)) => put_global(text, program, number as usize)?,
-        Datum::Refers(ObjectName::Made { thread, number }) => write!(text, "{thread}#{number}")?,
+        Datum::Refers(name) => put_object_name(text, program, name)?,
     }
     Ok(())
+}
+
+/// Adds what an object is called: a global's has its name, one that a thread made the numbers of both.
+pub fn put_object_name(
+    text: &mut String,
+    program: &Program,
+    name: ObjectName,
+) -> Result<(), AllocError>
+    ensures { OnOk result (string_bytes text.new ≡ string_bytes text.old ++ object_name program.now name) }
+{
+    match name {
+        ObjectName::Global(number) => put_global(text, program, number as usize),
+        ObjectName::Made { thread, number } => Ok(write!(text, "{thread}#{number}")?),
+    }
 }
 
 /// Adds the name of a global.

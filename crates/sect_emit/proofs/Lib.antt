@@ -19,3 +19,7 @@ pub mod Denoting
 pub mod Certifying
 pub mod Checked
 pub mod Working
+pub mod Labelled
+pub mod Numbered
+pub mod Graphed
+pub mod Explained

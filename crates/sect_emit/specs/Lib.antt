@@ -1,8 +1,11 @@
 pub mod Certificates
 pub mod Claimed
 pub mod Compiled
+pub mod Explaining
 pub mod Faults
 pub mod GoesOn
+pub mod Labels
+pub mod Listing
 pub mod ModeTests
 pub mod NeededAccesses
 pub mod Plan

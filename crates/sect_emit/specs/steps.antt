@@ -2,3 +2,4 @@
 pub mod Inferred
 pub mod Wishes
 pub mod Spelled
+pub mod Naming

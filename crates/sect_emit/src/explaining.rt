@@ -1,14 +1,20 @@
 //! Why the sections of a compiled program take their locks, as it is printed.
 
-ghost use Rattle.std.specs.Prelude.{◌<◌, List, length};
+ghost use Rattle.std.specs.Prelude.{◌≡◌, ◌<◌, ◌++◌, List, length, replicate, IfOk, OnOk};
+ghost use Rattle.std.specs.String.{string_bytes};
 ghost use Rattle.sect_types.specs.Lists.{Has};
 ghost use Rattle.sect_types.specs.Sections.{sections_of};
 ghost use Rattle.sect_names.specs.declared.link.Link.{Link};
 ghost use Rattle.sect_names.specs.Printing.{IsNamed};
 ghost use Rattle.sect_emit.specs.Words.{IsChainNamed};
+ghost use Rattle.sect_emit.specs.Explaining.{node_text, widest, step_line, lock_line, chain_lines, chains_lines};
+ghost use Rattle.sect_emit.specs.Explaining.{explained_lines, section_explained, IsChained};
+ghost use Rattle.sect_emit.specs.Explaining.{IsExplanation};
+ghost use Rattle.sect_emit.specs.steps.Naming.{AreNodesOf};
 
 use crate::compiled::Compiled;
-use crate::statements::{Names, put_label, put_name};
+use crate::printing::put_thread_name;
+use crate::statements::put_label;
 use sect_chains::Chain;
 use sect_graph::Flow;
 use sect_names::{Link, put_lock};
@@ -18,7 +24,9 @@ use std::fmt::Write;
 
 /// Why each section takes its locks. For each lock of a section, in order, its chain, a line a step: the node and what
 /// it does, and the lock that is needed from there on, as it is called there.
-pub fn explanation(alloc: Global, compiled: &Compiled) -> Result<Vec<u8>, AllocError> {
+pub fn explanation(alloc: Global, compiled: &Compiled) -> Result<Vec<u8>, AllocError>
+    ensures { IfOk result (λ text. IsExplanation compiled.now text.items) }
+{
     let mut text = String::new(alloc);
     for section in 0..compiled.scheme().program().section_count() {
         put_section(alloc, &mut text, compiled, section)?;
@@ -26,15 +34,16 @@ pub fn explanation(alloc: Global, compiled: &Compiled) -> Result<Vec<u8>, AllocE
     Ok(text.into_bytes())
 }
 
-/// A section that is explained.
+/// A section that is explained: its number, its thread and its graph.
 #[derive(Clone, Copy)]
 struct Explained<'a> {
     program: &'a Program,
-    names: Names<'a>,
+    number: u16,
+    thread: u16,
     flow: &'a Flow,
 }
 
-/// Adds the lines of a section.
+/// Adds the lines of a section of a compiled program.
 fn put_section(
     alloc: Global,
     text: &mut String,
@@ -42,25 +51,57 @@ fn put_section(
     section: u16,
 ) -> Result<(), AllocError>
     requires { section < length (sections_of compiled.now.scheme.program.texts) }
+    ensures { OnOk result ((chains : List (List Link)) × IsChained compiled.now section chains
+        × (string_bytes text.new ≡ string_bytes text.old ++ section_explained compiled.now section chains)) }
 {
     compiled.rules();
-    let scheme = compiled.scheme();
-    let program = scheme.program();
-    let names = Names::of(program, program.section(section).thread);
-    write!(text, "section {section} in thread ")?;
-    put_name(text, names.thread())?;
-    text.push_str("\n")?;
+    let program = compiled.scheme().program();
+    let explained = Explained {
+        program,
+        number: section,
+        thread: program.section(section).thread,
+        flow: compiled.scheme().graph().section(section),
+    };
     let chains = compiled.chains(alloc, section)?;
+    put_explained(alloc, text, explained, chains.as_slice())
+}
+
+/// Adds the lines of a section: its thread and its chains.
+fn put_explained(
+    alloc: Global,
+    text: &mut String,
+    section: Explained<'_>,
+    chains: &[Chain],
+) -> Result<(), AllocError>
+    requires within { section.thread < length section.program.now.texts }
+    requires nodes { AreNodesOf section.program.now section.thread section.flow.now }
+    requires named { (links : List Link) → Has chains.now links → IsChainNamed section.program.now links }
+    ensures { OnOk result (string_bytes text.new ≡ string_bytes text.old ++ explained_lines
+        section.entry.program.now.source section.entry.number section.entry.thread section.entry.flow.now chains.now) }
+{
+    write!(text, "section {} in thread ", section.number)?;
+    put_thread_name(text, section.program, section.thread)?;
+    text.push_str("\n")?;
+    put_chains(alloc, text, section, chains)
+}
+
+/// Adds the lines of chains.
+fn put_chains(
+    alloc: Global,
+    text: &mut String,
+    section: Explained<'_>,
+    chains: &[Chain],
+) -> Result<(), AllocError>
+    requires nodes { AreNodesOf section.program.now section.thread section.flow.now }
+    requires named { (links : List Link) → Has chains.now links → IsChainNamed section.program.now links }
+    ensures { OnOk result (string_bytes text.new ≡ string_bytes text.old
+        ++ chains_lines section.entry.program.now.source section.entry.thread section.entry.flow.now chains.now) }
+{
     if chains.is_empty() {
         return text.push_str("no lock is needed\n");
     }
-    let explained = Explained {
-        program,
-        names,
-        flow: scheme.graph().section(section),
-    };
-    for chain in chains.as_slice() {
-        put_chain(alloc, text, explained, chain)?;
+    for chain in chains {
+        put_chain(alloc, text, section, chain)?;
     }
     Ok(())
 }
@@ -72,14 +113,12 @@ fn put_chain(
     section: Explained<'_>,
     chain: &Chain,
 ) -> Result<(), AllocError>
-    requires { IsChainNamed section.program.now chain.now }
+    requires nodes { AreNodesOf section.program.now section.thread section.flow.now }
+    requires named { IsChainNamed section.program.now chain.now }
+    ensures { OnOk result (string_bytes text.new ≡ string_bytes text.old
+        ++ chain_lines section.entry.program.now.source section.entry.thread section.entry.flow.now chain.now) }
 {
-    let Some(first) = chain.links().first() else {
-        return Ok(());
-    };
-    text.push_str("lock ")?;
-    put_lock(text, section.program, &first.lock)?;
-    text.push_str("\n")?;
+    put_first(text, section.program, chain)?;
     let width = greatest_width(alloc, section, chain)?;
     for link in chain.links() {
         put_step(alloc, text, section, width, link)?;
@@ -87,12 +126,23 @@ fn put_chain(
     Ok(())
 }
 
+/// Adds the line of the lock that a chain begins with.
+fn put_first(text: &mut String, program: &Program, chain: &Chain) -> Result<(), AllocError>
+    requires { IsChainNamed program.now chain.now }
+    ensures { OnOk result (string_bytes text.new ≡ string_bytes text.old ++ lock_line program.now.source chain.now) }
+{
+    let first = &chain.links()[0];
+    text.push_str("lock ")?;
+    put_lock(text, program, &first.lock)?;
+    text.push_str("\n")
+}
+
 /// The width of the widest text of a node of a chain.
-fn greatest_width(
-    alloc: Global,
-    section: Explained<'_>,
-    chain: &Chain,
-) -> Result<usize, AllocError> {
+fn greatest_width(alloc: Global, section: Explained<'_>, chain: &Chain) -> Result<usize, AllocError>
+    requires { AreNodesOf section.program.now section.thread section.flow.now }
+    ensures { IfOk result (λ width.
+        width ≡ widest section.entry.program.now.source section.entry.thread section.entry.flow.now chain.now) }
+{
     let mut width = 0;
     for link in chain.links() {
         width = width.max(node_text(alloc, section, link.node)?.len());
@@ -101,10 +151,15 @@ fn greatest_width(
 }
 
 /// A node and what it does.
-fn node_text(alloc: Global, section: Explained<'_>, node: u32) -> Result<String, AllocError> {
+fn node_text(alloc: Global, section: Explained<'_>, node: u32) -> Result<String, AllocError>
+    requires { AreNodesOf section.program.now section.thread section.flow.now }
+    ensures { IfOk result (λ text. string_bytes text
+        ≡ node_text section.entry.program.now.source section.entry.thread section.entry.flow.now node) }
+{
     let mut text = format!(in alloc; "node {node}: ")?;
     if node < section.flow.exit() as u32 {
-        put_label(&mut text, section.names, section.flow.action(node as u16))?;
+        let label = section.flow.action(node as u16);
+        put_label(&mut text, section.program, section.thread, label)?;
     } else {
         text.push_str("exit")?;
     }
@@ -119,10 +174,25 @@ fn put_step(
     width: usize,
     link: &Link,
 ) -> Result<(), AllocError>
-    requires { IsNamed section.program.now link.now.lock }
+    requires nodes { AreNodesOf section.program.now section.thread section.flow.now }
+    requires named { IsNamed section.program.now link.now.lock }
+    ensures { OnOk result (string_bytes text.new ≡ string_bytes text.old
+        ++ step_line section.entry.program.now.source section.entry.thread section.entry.flow.now width link.now) }
 {
     let node = node_text(alloc, section, link.node)?;
-    write!(text, "  {node:width$}  ")?;
+    write!(text, "  {node}")?;
+    put_blanks(text, width.saturating_sub(node.len()))?;
+    text.push_str("  ")?;
     put_lock(text, section.program, &link.lock)?;
     text.push_str("\n")
+}
+
+/// Adds blanks.
+fn put_blanks(text: &mut String, count: usize) -> Result<(), AllocError>
+    ensures { OnOk result (string_bytes text.new ≡ string_bytes text.old ++ replicate count 32) }
+{
+    for _blank in 0..count {
+        text.push_str(" ")?;
+    }
+    Ok(())
 }

@@ -1,113 +1,77 @@
 //! Statements and tests as they are printed.
 
-use sect_front::{Comparison, Name, Operator};
-use sect_types::{Action, Base, Condition, Field, Label, LocalName, Program, Value};
+ghost use Rattle.std.specs.Prelude.{◌≡◌, ◌<◌, ◌++◌, length, codes, OnOk};
+ghost use Rattle.std.specs.String.{string_bytes};
+ghost use Rattle.sect_names.specs.Locks.{IsField};
+ghost use Rattle.sect_names.specs.Printing.{variable_text};
+ghost use Rattle.sect_points.specs.declared.holders.Variable.TheVariants as variable;
+ghost use Rattle.sect_emit.specs.Labels.{record_name, operator_text, comparison_text, value_text, access_text};
+ghost use Rattle.sect_emit.specs.Labels.{target_text, action_text, condition_text, label_text};
+ghost use Rattle.sect_emit.specs.steps.Naming.{IsLocalOf, IsValueOf, IsBaseOf, IsActionOf, IsConditionOf, IsLabelOf};
+
+use sect_front::{Comparison, Operator};
+use sect_names::field_name;
+use sect_types::{Action, Base, Condition, Field, Label, Program, Value};
 use std::alloc::AllocError;
 use std::fmt::Write;
 
-/// The names that a thread sees. What isn't there has none.
-#[derive(Clone, Copy)]
-pub struct Names<'a> {
-    program: &'a Program,
+/// Adds what a node of a graph of this thread does: a statement without its `;`, a test without its brackets, or a
+/// section by its number.
+pub fn put_label(
+    text: &mut String,
+    program: &Program,
     thread: u16,
-}
-
-impl<'a> Names<'a> {
-    /// The names that the thread of this number sees.
-    pub fn of(program: &'a Program, thread: u16) -> Names<'a> {
-        Names { program, thread }
-    }
-
-    /// The name of the thread.
-    pub fn thread(self) -> Option<&'a Name> {
-        let thread = self.program.tree().threads().get(self.thread as usize)?;
-        Some(&thread.name)
-    }
-
-    /// What a local is called.
-    fn local(self, number: u16) -> Option<LocalName> {
-        let types = self.program.locals().get(self.thread as usize)?;
-        if number as usize >= types.as_slice().len() {
-            return None;
-        }
-        Some(self.program.local_name(self.thread, number))
-    }
-
-    /// The name of a global.
-    fn global(self, number: u16) -> Option<&'a Name> {
-        let global = self.program.tree().globals().get(number as usize)?;
-        Some(&global.name)
-    }
-
-    /// The name of a record.
-    fn record(self, number: u16) -> Option<&'a Name> {
-        let record = self.program.tree().records().get(number as usize)?;
-        Some(&record.name)
-    }
-
-    /// The name of a field.
-    fn field(self, field: Field) -> Option<&'a Name> {
-        let record = self.program.tree().records().get(field.of as usize)?;
-        let field = record.fields.as_slice().get(field.number as usize)?;
-        Some(&field.name)
-    }
-}
-
-/// Adds a name, if there is one.
-pub fn put_name(text: &mut String, name: Option<&Name>) -> Result<(), AllocError> {
-    match name {
-        None => Ok(()),
-        Some(name) => Ok(write!(text, "{name}")?),
-    }
-}
-
-/// Adds what a local is called, if there is one.
-fn put_local(text: &mut String, name: Option<LocalName>) -> Result<(), AllocError> {
-    match name {
-        None => Ok(()),
-        Some(name) => Ok(write!(text, "{name}")?),
-    }
-}
-
-/// Adds what a node does: a statement without its `;`, a test without its brackets, or a section by its number.
-pub fn put_label(text: &mut String, names: Names<'_>, label: Label) -> Result<(), AllocError> {
+    label: Label,
+) -> Result<(), AllocError>
+    requires { IsLabelOf program.now thread label }
+    ensures { OnOk result (string_bytes text.new
+        ≡ string_bytes text.old ++ label_text program.now.source thread label) }
+{
     match label {
-        Label::Act(action) => put_action(text, names, action),
-        Label::Test(condition) => put_condition(text, names, condition),
+        Label::Act(action) => put_action(text, program, thread, action),
+        Label::Test(condition) => put_condition(text, program, thread, condition),
         Label::Section(number) => Ok(write!(text, "section {number}")?),
     }
 }
 
 /// Adds a statement.
-fn put_action(text: &mut String, names: Names<'_>, action: Action) -> Result<(), AllocError> {
+fn put_action(
+    text: &mut String,
+    program: &Program,
+    thread: u16,
+    action: Action,
+) -> Result<(), AllocError>
+    requires { IsActionOf program.now thread action }
+    ensures { OnOk result (string_bytes text.new
+        ≡ string_bytes text.old ++ action_text program.now.source thread action) }
+{
     match action {
         Action::Assign(target, value) => {
-            put_target(text, names, target)?;
-            put_value(text, names, value)
+            put_target(text, program, thread, target)?;
+            put_value(text, program, thread, value)
         }
         Action::Compute(target, left, operator, right) => {
-            put_target(text, names, target)?;
-            put_value(text, names, left)?;
+            put_target(text, program, thread, target)?;
+            put_value(text, program, thread, left)?;
             write!(text, " {} ", operator_sign(operator))?;
-            put_value(text, names, right)
+            put_value(text, program, thread, right)
         }
         Action::New(target, record, _site) => {
-            put_target(text, names, target)?;
-            text.push_str("new ")?;
-            put_name(text, names.record(record))
+            put_target(text, program, thread, target)?;
+            put_new(text, program, record)
         }
         Action::Load(target, base, field) => {
-            put_target(text, names, target)?;
-            put_access(text, names, base, field)
+            put_target(text, program, thread, target)?;
+            put_access(text, program, thread, base, field)
         }
         Action::Store(base, field, value) => {
-            put_access(text, names, base, field)?;
+            put_access(text, program, thread, base, field)?;
             text.push_str(" = ")?;
-            put_value(text, names, value)
+            put_value(text, program, thread, value)
         }
         Action::Print(value) => {
             text.push_str("print ")?;
-            put_value(text, names, value)
+            put_value(text, program, thread, value)
         }
     }
 }
@@ -115,47 +79,110 @@ fn put_action(text: &mut String, names: Names<'_>, action: Action) -> Result<(),
 /// Adds a test.
 fn put_condition(
     text: &mut String,
-    names: Names<'_>,
+    program: &Program,
+    thread: u16,
     condition: Condition,
-) -> Result<(), AllocError> {
-    put_value(text, names, condition.left)?;
+) -> Result<(), AllocError>
+    requires { IsConditionOf program.now thread condition }
+    ensures { OnOk result (string_bytes text.new
+        ≡ string_bytes text.old ++ condition_text program.now.source thread condition) }
+{
+    put_value(text, program, thread, condition.left)?;
     write!(text, " {} ", comparison_sign(condition.comparison))?;
-    put_value(text, names, condition.right)
+    put_value(text, program, thread, condition.right)
 }
 
 /// Adds the local that is assigned to, and the sign behind it.
-fn put_target(text: &mut String, names: Names<'_>, target: u16) -> Result<(), AllocError> {
-    put_local(text, names.local(target))?;
+fn put_target(
+    text: &mut String,
+    program: &Program,
+    thread: u16,
+    target: u16,
+) -> Result<(), AllocError>
+    requires { IsLocalOf program.now thread target }
+    ensures { OnOk result (string_bytes text.new
+        ≡ string_bytes text.old ++ target_text program.now.source thread target) }
+{
+    put_local(text, program, thread, target)?;
     text.push_str(" = ")
 }
 
+/// Adds what is made of a record.
+fn put_new(text: &mut String, program: &Program, kind: u16) -> Result<(), AllocError>
+    requires { kind < length program.now.records }
+    ensures { OnOk result (string_bytes text.new
+        ≡ string_bytes text.old ++ codes "new " ++ record_name program.now.source kind) }
+{
+    let made = &program.tree().records()[kind as usize];
+    Ok(write!(text, "new {}", made.name)?)
+}
+
 /// Adds a value.
-fn put_value(text: &mut String, names: Names<'_>, value: Value) -> Result<(), AllocError> {
+fn put_value(
+    text: &mut String,
+    program: &Program,
+    thread: u16,
+    value: Value,
+) -> Result<(), AllocError>
+    requires { IsValueOf program.now thread value }
+    ensures { OnOk result (string_bytes text.new
+        ≡ string_bytes text.old ++ value_text program.now.source thread value) }
+{
     match value {
         Value::Number(number) => Ok(write!(text, "{}", number.value())?),
         Value::Null => text.push_str("null"),
-        Value::Local(number) => put_local(text, names.local(number)),
-        Value::Global(number) => put_name(text, names.global(number)),
+        Value::Local(number) => put_local(text, program, thread, number),
+        Value::Global(number) => put_global(text, program, number),
     }
 }
 
 /// Adds the field of an object that is loaded or stored.
 fn put_access(
     text: &mut String,
-    names: Names<'_>,
+    program: &Program,
+    thread: u16,
     base: Base,
     field: Field,
-) -> Result<(), AllocError> {
+) -> Result<(), AllocError>
+    requires base { IsBaseOf program.now thread base }
+    requires field { IsField program.now field }
+    ensures { OnOk result (string_bytes text.new
+        ≡ string_bytes text.old ++ access_text program.now.source thread base field) }
+{
     match base {
-        Base::Global(number) => put_name(text, names.global(number))?,
-        Base::Local(number) => put_local(text, names.local(number))?,
+        Base::Global(number) => put_global(text, program, number)?,
+        Base::Local(number) => put_local(text, program, thread, number)?,
     }
-    text.push_str(".")?;
-    put_name(text, names.field(field))
+    Ok(write!(text, ".{}", field_name(program, field))?)
+}
+
+/// Adds what a local of a thread is called.
+fn put_local(
+    text: &mut String,
+    program: &Program,
+    thread: u16,
+    number: u16,
+) -> Result<(), AllocError>
+    requires { IsLocalOf program.now thread number }
+    ensures { OnOk result (string_bytes text.new
+        ≡ string_bytes text.old ++ variable_text program.now.source (variable.Local thread number)) }
+{
+    Ok(write!(text, "{}", program.local_name(thread, number))?)
+}
+
+/// Adds the name of a global.
+fn put_global(text: &mut String, program: &Program, number: u16) -> Result<(), AllocError>
+    requires { number < length program.now.globals }
+    ensures { OnOk result (string_bytes text.new
+        ≡ string_bytes text.old ++ variable_text program.now.source (variable.Global number)) }
+{
+    Ok(write!(text, "{}", program.tree().globals()[number as usize].name)?)
 }
 
 /// How an operator is written.
-fn operator_sign(operator: Operator) -> &'static str {
+fn operator_sign(operator: Operator) -> &'static str
+    ensures { result.now ≡ operator_text operator }
+{
     match operator {
         Operator::Add => "+",
         Operator::Subtract => "-",
@@ -164,7 +191,9 @@ fn operator_sign(operator: Operator) -> &'static str {
 }
 
 /// How a comparison is written.
-fn comparison_sign(comparison: Comparison) -> &'static str {
+fn comparison_sign(comparison: Comparison) -> &'static str
+    ensures { result.now ≡ comparison_text comparison }
+{
     match comparison {
         Comparison::Equal => "==",
         Comparison::NotEqual => "!=",

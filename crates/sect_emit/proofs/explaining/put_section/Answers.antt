@@ -1,19 +1,38 @@
-use Rattle.std.proofs.Common.{List, sym, ap, ◌∙◌, subst}
-use Rattle.sect_types.specs.Lists.{Has}
+use Rattle.std.proofs.Common.{◌≡◌, Some, ap, ◌∙◌, subst}
+use Rattle.std.specs.Prelude.{slice_get}
+use Rattle.std.specs.String.{string_bytes}
 use Rattle.sect_types.specs.Programs.{ProgramView}
-use Rattle.sect_types.proofs.Membership.{Has-get_or}
-use Rattle.sect_names.specs.declared.link.Link.{Link}
+use Rattle.sect_types.specs.Sections.{sections_of}
+use Rattle.sect_types.specs.steps.Found.{section_shown}
+use Rattle.sect_graph.specs.Graphs.{GraphView}
 use Rattle.sect_names.specs.Schemes.{SchemeView}
-use Rattle.sect_emit.specs.Words.{IsChainNamed}
+use Rattle.sect_emit.proofs.Explained.{explained}
+use Rattle.sect_emit.proofs.Graphed.{section_graph, section_named}
+use Rattle.sect_emit.proofs.Numbered.{on_ok}
 use Rattle.sect_emit.proofs.explaining.put_section.Goals as goal
 
-pub put_chain-requires : goal.put_chain-requires
-put_chain-requires c =
-    let chains = c.as_slice-chain-items.result.now in
-    let links = c.chain-item.result in
-    let has = subst (Has chains) (sym c.chain-item.is)
-    (Has-get_or chains c.loop-chain.chain-index links c.loop-chain-test.true) in
-    let named = c.in_ok-chains.ensures.named links
-    (subst (λ (xs : List (List Link)). Has xs links) c.as_slice-chain-items.ensures.value has) in
-    let program = c.program-program.ensures ∙ ap (λ (s : SchemeView). s.program) c.scheme-scheme.ensures in
-    subst (λ (p : ProgramView). IsChainNamed p links) (sym program) named
+pub put_explained-requires-clause-nodes : goal.put_explained-requires-clause-nodes
+put_explained-requires-clause-nodes c =
+    section_named c.args.compiled.now c.rules.ensures.compiled c.graph.result.now
+    (c.graph.ensures ∙ ap (λ (s : SchemeView). s.graphs) c.scheme-2.ensures) c.program-program.result.now
+    (c.program-program.ensures ∙ ap (λ (s : SchemeView). s.program) c.scheme.ensures) c.args.section
+    (section_shown c.section.result) c.section-2.result.now c.section.ensures.section c.section-2.ensures
+    c.section.ensures.sound
+
+pub returns : goal.returns
+returns c =
+    let v = c.args.compiled.now in
+    let i = c.args.section in
+    let flow = c.section-2.result.now in
+    let s = section_shown c.section.result in
+    let program = c.program-program.ensures ∙ ap (λ (s : SchemeView). s.program) c.scheme.ensures in
+    let graphs = c.graph.ensures ∙ ap (λ (s : SchemeView). s.graphs) c.scheme-2.ensures in
+    let here = subst (λ (p : ProgramView). slice_get (sections_of p.texts) i ≡ Some s) program
+    c.section.ensures.section in
+    let there = subst (λ (g : GraphView). slice_get g.sections i ≡ Some flow) graphs c.section-2.ensures in
+    on_ok c.put_explained.result c.put_explained.ensures (λ put.
+    explained v c.rules.ensures.compiled c.program-program.result.now program i s flow here
+    (section_graph v c.rules.ensures.compiled c.graph.result.now graphs i s flow here c.section-2.ensures)
+    (string_bytes c.args.text.now) (string_bytes c.put_explained.new.text) c.as_slice.result.now
+    c.in_ok-chains.chains.items c.as_slice.ensures.value put
+    (λ set at. c.in_ok-chains.ensures.chains s flow set here there at))

@@ -1,0 +1,63 @@
+-- The lines of sections, each with the chains of its locks.
+use Rattle.std.proofs.Common.{◌≡◌, ℕ, ◌+◌, List, [], ◌∷◌, ◌++◌, Some, length, length-append, sym, ap, ◌∙◌, subst, arith}
+use Rattle.std.proofs.Common.{inl, inr}
+use Rattle.std.specs.Prelude.{slice_get, slice_index_or}
+use Rattle.std.proofs.lemmas.Option.{slice_get_within, slice_get-get_or, get_or_from_slice_get}
+use Rattle.sect_types.proofs.Places.{pushed_at}
+use Rattle.sect_types.specs.Programs.{ProgramView}
+use Rattle.sect_types.specs.Sections.{SectionView, sections_of}
+use Rattle.sect_types.specs.Statements.{Stop}
+use Rattle.sect_graph.specs.declared.flow.Node.{Node}
+use Rattle.sect_graph.specs.Layout.{flow_nodes}
+use Rattle.sect_names.specs.declared.link.Link.{Link}
+use Rattle.sect_names.specs.declared.lock.Lock.{Lock}
+use Rattle.sect_names.specs.Needed.{end_of}
+use Rattle.sect_chains.specs.Chains.{AreChains}
+use Rattle.sect_emit.specs.Compiled.{CompiledView, IsCompiled}
+use Rattle.sect_emit.specs.Explaining.{explained_lines, section_at, section_explained, IsChained, IsExplained}
+use Rattle.sect_emit.specs.Listing.{by_number}
+use Rattle.sect_emit.proofs.Numbered.{one_behind}
+
+-- a section with the chains that were found for its locks
+pub explained : (v : CompiledView) → IsCompiled v → (p : ProgramView) → p ≡ v.scheme.program
+    → (i : ℕ) (s : SectionView) (g : List Node) → slice_get (sections_of v.scheme.program.texts) i ≡ Some s
+    → g ≡ flow_nodes s.body
+    → (old new : List ℕ) (given chains : List (List Link)) → given ≡ chains
+    → new ≡ old ++ explained_lines p.source i s.thread g given
+    → ((set : List Lock) → slice_get v.sets i ≡ Some set
+    → AreChains v.scheme s.thread (end_of v.scheme i) g set chains)
+    → (x : List (List Link)) × IsChained v i x × (new ≡ old ++ section_explained v i x)
+explained v compiled p program i s g at graph old new given chains same put found =
+    let within = slice_get_within (sections_of v.scheme.program.texts) i s at in
+    let set = slice_index_or v.sets i [] in
+    let here : section_at v i ≡ s = get_or_from_slice_get (sections_of v.scheme.program.texts) i s
+    (record { thread = 0; body = Stop }) at in
+    let chained : AreChains v.scheme s.thread (end_of v.scheme i) g set chains = found set
+    (slice_get-get_or v.sets i [] (omega (arith, within, compiled.set_count))) in (
+      chains,
+      subst (λ (x : SectionView). AreChains v.scheme x.thread (end_of v.scheme i) (flow_nodes x.body) set chains)
+          (sym here) (subst (λ h. AreChains v.scheme s.thread (end_of v.scheme i) h set chains) graph chained),
+      put ∙ (ap (λ (q : ProgramView). old ++ explained_lines q.source i s.thread g given) program
+          ∙ (ap (λ cs. old ++ explained_lines v.scheme.program.source i s.thread g cs) same
+          ∙ (ap (λ h. old ++ explained_lines v.scheme.program.source i s.thread h chains) graph
+          ∙ ap (λ (x : SectionView). old
+          ++ explained_lines v.scheme.program.source i x.thread (flow_nodes x.body) chains) (sym here)))),
+    )
+
+-- those of the first sections, and those of the next
+pub one_explained : (v : CompiledView) (n : ℕ) (old new : List ℕ) → IsExplained v n old → (x : List (List Link))
+    → IsChained v n x → new ≡ old ++ section_explained v n x → IsExplained v (n + 1) new
+one_explained v n old new had x chained put = record {
+  all = had.all ++ x ∷ [];
+  chained = λ i chains at. elim (pushed_at had.all x chains i at) [
+    | inl is ↦ subst (IsChained v i) is.1 (subst (λ m. IsChained v m x) (sym (is.0 ∙ had.counted)) chained)
+    | inr before ↦ had.chained i chains before
+  ];
+  counted = omega (arith, length-append had.all (x ∷ []), had.counted);
+  lines = put ∙ (ap (λ o. o ++ section_explained v n x) had.lines
+      ∙ (ap (λ m. by_number (section_explained v) 0 had.all ++ section_explained v m x) count
+      ∙ sym (one_behind (section_explained v) 0 had.all x)));
+}
+  where
+    count : n ≡ 0 + length had.all
+    count = omega (arith, had.counted)

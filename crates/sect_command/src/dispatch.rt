@@ -1,14 +1,10 @@
 //! One run of the program, over any reader and writer.
 
-use crate::check::verdict;
-use crate::compile::{program_certificate, program_listing};
-use crate::explain::program_explanation;
-use crate::lock_sets::locks;
 use crate::options::{Form, Request, UsageFault, request_of};
-use crate::refusal::Refusal;
-use crate::run::run_outcome;
-use crate::schedule::schedule_outcome;
-use crate::serial::serial_outcome;
+use sect_answers::{
+    Refusal, locks, program_certificate, program_explanation, program_listing, run_outcome,
+    schedule_outcome, serial_outcome, verdict,
+};
 use sect_run::OpenGate;
 use std::alloc::{AllocError, Global};
 use std::io;

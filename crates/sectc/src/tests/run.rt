@@ -1,7 +1,7 @@
 //! The command `run` over memory, and runs whose threads are kept at a gate.
 
 use super::{LIST, TWO_ADD, answer_of, expect_rows, expect_run_in_order};
-use sect_command::run_outcome;
+use sect_answers::run_outcome;
 use sect_run::Gate;
 use sect_world::Kind;
 use std::alloc::{AllocError, Global};

@@ -1,0 +1,5 @@
+mod Blocks
+mod Cutting
+mod Lines
+mod Refusing
+mod Scheduled

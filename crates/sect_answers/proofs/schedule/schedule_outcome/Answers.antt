@@ -1,0 +1,24 @@
+use Rattle.std.proofs.Common.{subst, length}
+use Rattle.sect_names.proofs.Refusing.{given}
+use Rattle.sect_answers.specs.Answers.{of_source}
+use Rattle.sect_answers.specs.Scheduling.{IsScheduleDue, of_world}
+use Rattle.sect_world.specs.Schedules.{IsUnrun}
+use Rattle.sect_answers.proofs.Refusing.{schedule_source_due, schedule_due}
+use Rattle.sect_answers.proofs.schedule.schedule_outcome.Goals as goal
+
+pub returns-in_err-compiled-clause-refuses : goal.returns-in_err-compiled-clause-refuses
+returns-in_err-compiled-clause-refuses c =
+    let why = c.in_err-compiled.field-0.0 in
+    given c.from_residual.result (IsScheduleDue c.args.source.now c.args.k c.args.schedule.items) (of_source why)
+    (schedule_source_due c.args.source.now c.args.k c.args.schedule.items why c.in_err-compiled.ensures.refuses)
+    c.from_residual.ensures.1
+
+pub returns-in_err-turns_text-clause-refuses : goal.returns-in_err-turns_text-clause-refuses
+returns-in_err-turns_text-clause-refuses c =
+    let why = c.in_err-turns_text.field-0.0 in
+    let unrun = subst (λ ts. IsUnrun why ts (length c.in_ok-compiled.compiled.scheme.program.texts))
+    c.as_slice.ensures.value c.in_err-turns_text.ensures.refuses in
+    given c.from_residual-in_err-turns_text.result (IsScheduleDue c.args.source.now c.args.k c.args.schedule.items)
+    (of_world why)
+    (schedule_due c.args.source.now c.args.k c.args.schedule.items c.in_ok-compiled.compiled why
+    c.in_ok-compiled.ensures.compiled.accepted unrun) c.from_residual-in_err-turns_text.ensures.1

@@ -1,0 +1,11 @@
+pub mod Listing
+pub mod Running
+pub mod Answers
+pub mod Serial
+pub mod Splitting
+pub mod Checking
+pub mod Compiling
+pub mod Explaining
+pub mod Scheduling
+pub mod Turns
+pub mod steps

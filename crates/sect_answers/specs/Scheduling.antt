@@ -1,0 +1,54 @@
+-- What the command `schedule` answers to a source text. `schedule_outcome` cites it.
+use Rattle.std.specs.Prelude.{◌≡◌, ◌≢◌, ◌≤◌, ⊤, ℕ, List, ◌++◌, length}
+use Rattle.sect_types.specs.Lists.{Has}
+use Rattle.sect_names.specs.Schemes.{SchemeView}
+use Rattle.sect_names.specs.Sources as sources
+use Rattle.sect_names.specs.Sources.{IsAccepted}
+use Rattle.sect_names.specs.declared.refusal.Refusal.TheVariants as source_refusal
+use Rattle.sect_store.specs.Printing.{outcome_text}
+use Rattle.sect_emit.specs.Compiled.{CompiledView, IsCompiledFrom, program_of}
+use Rattle.sect_emit.specs.State.{State, start}
+use Rattle.sect_world.specs.Runs.{order_of}
+use Rattle.sect_world.specs.Schedules.{TakeTurns, all_events}
+use Rattle.sect_world.specs.Worlds.{outcome_at}
+use Rattle.sect_world.specs.declared.event.Event.{Event}
+use Rattle.sect_world.specs.declared.turned.WorldFault.{WorldFault}
+use Rattle.sect_world.specs.declared.turned.WorldFault.TheVariants as fault
+use Rattle.sect_answers.specs.declared.refusal.Refusal.{Refusal}
+use Rattle.sect_answers.specs.declared.refusal.Refusal.TheVariants as refusal
+use Rattle.sect_answers.specs.Turns.{turn_lines}
+
+-- these threads have a turn each from the start of the compiled program, and the bytes are a line for each turn, with
+-- its events, and the outcome of the state that they lead to
+pub record AreTurnsOf (c : CompiledView) (fuel : ℕ) (schedule bytes : List ℕ) : Type 0 where
+  pub state : State
+  pub blocks : List (List Event)
+  pub turns : TakeTurns c (start c fuel) schedule blocks state
+  pub printed : bytes ≡ turn_lines (program_of c) blocks
+      ++ outcome_text (program_of c) (outcome_at state (order_of (all_events blocks)))
+
+-- the source is accepted, and the bytes are the turns of its compiled program
+pub record IsScheduled (source : List ℕ) (k fuel : ℕ) (schedule bytes : List ℕ) : Type 0 where
+  pub compiled : CompiledView
+  pub from : IsCompiledFrom source k compiled
+  pub turns : AreTurnsOf compiled fuel schedule bytes
+
+-- a refusal of the schedule is the program's; want of memory is never inside another
+abbrev pub of_world : WorldFault → Refusal
+of_world fault.Memory = refusal.Memory
+of_world why = refusal.Schedule why
+
+-- this number of the schedule is no thread's
+abbrev pub IsNoThread : List ℕ → ℕ → List ℕ → WorldFault → Type 0
+IsNoThread bytes k schedule (fault.NoSuchThread t) =
+    (s : SchemeView) × IsAccepted bytes k s × Has schedule t × (length s.program.texts ≤ t)
+IsNoThread bytes k schedule fault.Memory = ⊥
+
+-- the refusal is due: the text is judged first, and then the schedule
+abbrev pub IsScheduleDue : List ℕ → ℕ → List ℕ → Refusal → Type 0
+IsScheduleDue bytes k schedule refusal.Memory = ⊤
+IsScheduleDue bytes k schedule (refusal.Source why) = (why ≢ source_refusal.Memory) × sources.IsDue bytes k why
+IsScheduleDue bytes k schedule (refusal.Schedule why) = IsNoThread bytes k schedule why
+IsScheduleDue bytes k schedule (refusal.Workers why) = ⊥
+IsScheduleDue bytes k schedule (refusal.Serial why) = ⊥
+IsScheduleDue bytes k schedule (refusal.Check why) = ⊥

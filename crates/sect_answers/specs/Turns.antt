@@ -1,0 +1,49 @@
+-- The turns of a schedule as they are printed. `schedule_outcome` cites it.
+use Rattle.std.specs.Prelude.{ℕ, List, [], ◌∷◌, ◌++◌, codes}
+use Rattle.std.specs.List.{flat_map}
+use Rattle.std.specs.Fmt.{decimal}
+use Rattle.sect_types.specs.Programs.{ProgramView}
+use Rattle.sect_types.specs.declared.store.ObjectName.TheVariants as object
+use Rattle.sect_store.specs.Printing.{by_place, object_name}
+use Rattle.sect_modes.specs.Mode.{mode_text}
+use Rattle.sect_modes.specs.declared.key.Key.{Key}
+use Rattle.sect_modes.specs.declared.key.Key.TheVariants as key
+use Rattle.sect_world.specs.declared.event.Deed.{Deed}
+use Rattle.sect_world.specs.declared.event.Deed.TheVariants.{Local, Enter, Take, Begin, Again, Act, Leave}
+use Rattle.sect_world.specs.declared.event.Event.{Event}
+
+-- all, a class by its number, an object by its name
+abbrev pub key_text : ProgramView → Key → List ℕ
+key_text p key.All = codes "all"
+key_text p (key.Class c) = codes "class " ++ decimal c
+key_text p (key.Global g) = object_name p (object.Global g)
+key_text p (key.Made t n) = object_name p (object.Made t n)
+
+abbrev pub deed_text : ProgramView → Deed → List ℕ
+deed_text p Local = codes "local"
+deed_text p Enter = codes "enter"
+deed_text p (Take k m) = codes "take " ++ key_text p k ++ codes " " ++ mode_text m
+deed_text p Begin = codes "begin"
+deed_text p Again = codes "again"
+deed_text p Act = codes "act"
+deed_text p Leave = codes "leave"
+
+-- its thread, and what that does
+abbrev pub event_text : ProgramView → Event → List ℕ
+event_text p e = decimal e.thread ++ codes " " ++ deed_text p e.deed
+
+-- the events behind the first
+abbrev pub more_text : ProgramView → List Event → List ℕ
+more_text p es = flat_map (λ e. codes ", " ++ event_text p e) es
+
+-- the events of a turn, to the end of its line
+abbrev pub block_text : ProgramView → List Event → List ℕ
+block_text p [] = codes "none\n"
+block_text p (e ∷ es) = event_text p e ++ more_text p es ++ codes "\n"
+
+abbrev pub turn_line : ProgramView → ℕ → List Event → List ℕ
+turn_line p n es = codes "turn " ++ decimal n ++ codes ": " ++ block_text p es
+
+-- a line for each turn
+abbrev pub turn_lines : ProgramView → List (List Event) → List ℕ
+turn_lines p turns = by_place (turn_line p) 0 turns

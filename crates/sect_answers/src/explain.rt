@@ -1,0 +1,25 @@
+//! The command `explain`.
+
+ghost use Rattle.std.specs.Prelude.{IfOk, IfErr, IsOkUnless};
+ghost use Rattle.sect_names.specs.Schemes.{SchemeView};
+ghost use Rattle.sect_names.specs.Sources.{IsAccepted};
+ghost use Rattle.sect_answers.specs.declared.refusal.Refusal.TheVariants.{Memory};
+ghost use Rattle.sect_answers.specs.Answers.{IsDue};
+ghost use Rattle.sect_answers.specs.Explaining.{IsProgramExplanation};
+
+use crate::refusal::Refusal;
+use sect_emit::{compile, explanation};
+use std::alloc::Global;
+
+/// Why each section of a source text takes each of its locks.
+pub fn program_explanation(alloc: Global, source: &[u8], k: u16) -> Result<Vec<u8>, Refusal>
+    // The text is accepted, and each section has a chain of steps for each of its locks.
+    ensures answers { IfOk result (λ text. IsProgramExplanation source.now k text.items) }
+    // A text that is accepted is answered, unless memory runs out.
+    ensures only { (s : SchemeView) → IsAccepted source.now k s → IsOkUnless result Memory }
+    // A refusal is due, and it is the first that is.
+    ensures refuses { IfErr result (IsDue source.now k) }
+{
+    let compiled = compile(alloc, source, k)?;
+    Ok(explanation(alloc, &compiled)?)
+}

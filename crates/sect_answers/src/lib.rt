@@ -1,0 +1,23 @@
+//! What each command of `sectc` answers to a source text.
+#![tactic(auto)]
+
+mod check;
+mod compile;
+mod explain;
+mod lock_sets;
+mod outcome;
+mod refusal;
+mod run;
+mod schedule;
+mod serial;
+mod splitting;
+mod turns;
+
+pub use check::verdict;
+pub use compile::{program_certificate, program_listing};
+pub use explain::program_explanation;
+pub use lock_sets::locks;
+pub use refusal::Refusal;
+pub use run::run_outcome;
+pub use schedule::schedule_outcome;
+pub use serial::serial_outcome;

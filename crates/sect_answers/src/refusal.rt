@@ -1,0 +1,116 @@
+//! The refusals of all commands.
+
+ghost use Rattle.std.specs.Prelude.{◌≡◌};
+ghost use Rattle.sect_answers.specs.declared.refusal.Refusal.TheVariants.{Memory};
+ghost use Rattle.sect_answers.specs.Answers.{of_source};
+ghost use Rattle.sect_answers.specs.Serial.{of_serial};
+ghost use Rattle.sect_answers.specs.Compiling.{of_compile};
+ghost use Rattle.sect_answers.specs.Checking.{of_check};
+ghost use Rattle.sect_answers.specs.Scheduling.{of_world};
+
+use sect_check::CheckFault;
+use sect_emit::CompileFault;
+use sect_infer::InferFault;
+use sect_names::Refusal as SourceRefusal;
+use sect_run::RunFault;
+use sect_serial::SerialFault;
+use sect_world::WorldFault;
+use std::alloc::AllocError;
+use thiserror::Error;
+
+/// Why a command doesn't do what was asked. `Display` is the line that the program prints.
+#[derive(Debug, Drop, Error)]
+pub enum Refusal {
+    /// Want of memory.
+    #[error("out of memory")]
+    Memory,
+    /// The source text is refused.
+    #[error("refused {0}")]
+    Source(SourceRefusal),
+    /// The number of workers is refused.
+    #[error("refused {0}")]
+    Workers(InferFault),
+    /// The order of the threads is refused.
+    #[error("refused {0}")]
+    Serial(SerialFault),
+    /// The certificate is refused, or the source behind it.
+    #[error("refused {0}")]
+    Check(CheckFault),
+    /// The schedule is refused.
+    #[error("refused {0}")]
+    Schedule(WorldFault),
+}
+
+impl From<AllocError> for Refusal {
+    ghost from_gives = { λ _ r. r ≡ Memory };
+
+    fn from(_refused: AllocError) -> Refusal {
+        Refusal::Memory
+    }
+}
+
+impl From<RunFault> for Refusal {
+    ghost from_gives = { λ _ r. r ≡ Memory };
+
+    fn from(fault: RunFault) -> Refusal {
+        match fault {
+            RunFault::Memory => Refusal::Memory,
+        }
+    }
+}
+
+impl From<SourceRefusal> for Refusal {
+    ghost from_gives = { λ why r. r ≡ of_source why };
+
+    fn from(why: SourceRefusal) -> Refusal {
+        match why {
+            SourceRefusal::Memory => Refusal::Memory,
+            other => Refusal::Source(other),
+        }
+    }
+}
+
+impl From<CompileFault> for Refusal {
+    ghost from_gives = { λ fault r. r ≡ of_compile fault };
+
+    fn from(fault: CompileFault) -> Refusal {
+        match fault {
+            CompileFault::Memory => Refusal::Memory,
+            CompileFault::Workers(why) => Refusal::Workers(why),
+            CompileFault::Source(why) => Refusal::from(why),
+        }
+    }
+}
+
+impl From<SerialFault> for Refusal {
+    ghost from_gives = { λ fault r. r ≡ of_serial fault };
+
+    fn from(fault: SerialFault) -> Refusal {
+        match fault {
+            SerialFault::Memory => Refusal::Memory,
+            other => Refusal::Serial(other),
+        }
+    }
+}
+
+impl From<CheckFault> for Refusal {
+    ghost from_gives = { λ fault r. r ≡ of_check fault };
+
+    fn from(fault: CheckFault) -> Refusal {
+        match fault {
+            CheckFault::Memory => Refusal::Memory,
+            other => Refusal::Check(other),
+        }
+    }
+}
+
+impl From<WorldFault> for Refusal {
+    ghost from_gives = { λ fault r. r ≡ of_world fault };
+
+    fn from(fault: WorldFault) -> Refusal {
+        match fault {
+            WorldFault::Memory => Refusal::Memory,
+            other => Refusal::Schedule(other),
+        }
+    }
+}

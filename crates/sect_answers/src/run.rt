@@ -1,0 +1,51 @@
+//! The command `run`.
+
+ghost use Rattle.std.specs.Prelude.{◌≡◌, IfOk, IfErr};
+ghost use Rattle.std.specs.String.{string_bytes};
+ghost use Rattle.sect_store.specs.Printing.{outcome_text as printed};
+ghost use Rattle.sect_emit.specs.Compiled.{program_of};
+ghost use Rattle.sect_world.specs.declared.world.Run.{Run};
+ghost use Rattle.sect_run.specs.Ends.{IsWholeRun};
+ghost use Rattle.sect_answers.specs.Answers.{IsDue};
+ghost use Rattle.sect_answers.specs.Running.{IsOutcomeOfRun};
+
+use crate::outcome::outcome_text;
+use crate::refusal::Refusal;
+use sect_emit::{Compiled, compile};
+use sect_run::{Gate, RunFault, run_threads};
+use std::alloc::Global;
+use std::sync::Wait;
+use std::thread::Threads;
+
+/// The outcome of a source text's compiled program, run by threads that pass this gate.
+pub fn run_outcome<R: Threads + Wait + Sync, G: Gate>(
+    rt: &R,
+    alloc: Global,
+    source: &[u8],
+    k: u16,
+    fuel: u32,
+    gate: &G,
+) -> Result<String, Refusal>
+    // The program comes to the same by whole sections in some order, and this is the outcome with that order.
+    ensures answers { IfOk result (λ text. IsOutcomeOfRun source.now fuel (string_bytes text)) }
+    // A refusal is due, and it is the first that is.
+    ensures refuses { IfErr result (IsDue source.now k) }
+{
+    let compiled = compile(alloc, source, k)?;
+    Ok(outcome_of(rt, alloc, &compiled, fuel, gate)?)
+}
+
+/// The outcome of a compiled program, run by threads that pass this gate.
+fn outcome_of<R: Threads + Wait + Sync, G: Gate>(
+    rt: &R,
+    alloc: Global,
+    compiled: &Compiled,
+    fuel: u32,
+    gate: &G,
+) -> Result<String, RunFault>
+    ensures { IfOk result (λ text. (run : Run) × IsWholeRun compiled.now fuel run
+        × (string_bytes text ≡ printed (program_of compiled.now) run.outcome)) }
+{
+    let run = run_threads(rt, alloc, compiled, fuel, gate)?;
+    Ok(outcome_text(alloc, compiled.scheme().program(), &run.outcome)?)
+}

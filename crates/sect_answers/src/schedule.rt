@@ -1,0 +1,72 @@
+//! The command `schedule`.
+
+ghost use Rattle.std.specs.Prelude.{◌≡◌, ◌++◌, IfOk, IfErr, length};
+ghost use Rattle.std.specs.String.{string_bytes};
+ghost use Rattle.sect_store.specs.Printing.{outcome_text as printed};
+ghost use Rattle.sect_world.specs.Schedules.{IsUnrun};
+ghost use Rattle.sect_answers.specs.Scheduling.{AreTurnsOf, IsScheduled, IsScheduleDue};
+ghost use Rattle.sect_answers.specs.Turns.{turn_lines};
+ghost use Rattle.sect_answers.specs.steps.Blocks.{AreEnough, blocks_of};
+
+use crate::refusal::Refusal;
+use crate::turns::put_turns;
+use sect_emit::{Compiled, compile};
+use sect_store::put_outcome;
+use sect_types::Program;
+use sect_world::{Progress, WorldFault, run_schedule};
+use std::alloc::{AllocError, Global};
+
+/// The turns of these threads from the start of a source text's compiled program, a line each with the events that it
+/// made, and what the run has come to.
+pub fn schedule_outcome(
+    alloc: Global,
+    source: &[u8],
+    k: u16,
+    fuel: u32,
+    schedule: Vec<u16>,
+) -> Result<String, Refusal>
+    // The source is accepted, and these are the turns of its compiled program.
+    ensures answers { IfOk result (λ text. IsScheduled source.now k fuel schedule.items (string_bytes text)) }
+    // A refusal is due: the text is judged first, and then the schedule.
+    ensures refuses { IfErr result (IsScheduleDue source.now k schedule.items) }
+{
+    let compiled = compile(alloc, source, k)?;
+    Ok(turns_text(alloc, &compiled, fuel, schedule.as_slice())?)
+}
+
+/// The turns of these threads from the start of a compiled program, as they are printed.
+fn turns_text(
+    alloc: Global,
+    compiled: &Compiled,
+    fuel: u32,
+    schedule: &[u16],
+) -> Result<String, WorldFault>
+    ensures answers { IfOk result (λ text. AreTurnsOf compiled.now fuel schedule.now (string_bytes text)) }
+    ensures refuses { IfErr result (λ why. IsUnrun why schedule.now (length compiled.now.scheme.program.texts)) }
+{
+    let progress = run_schedule(alloc, compiled, fuel, schedule)?;
+    Ok(progress_text(alloc, compiled.scheme().program(), &progress)?)
+}
+
+/// A line for each turn of a run, and what it has come to.
+fn progress_text(
+    alloc: Global,
+    program: &Program,
+    progress: &Progress,
+) -> Result<String, AllocError>
+    requires { AreEnough progress.now.made.items progress.now.run.events.items }
+    ensures { IfOk result (λ text. string_bytes text
+        ≡ turn_lines program.now (blocks_of progress.now.made.items progress.now.run.events.items)
+        ++ printed program.now progress.now.run.outcome) }
+{
+    let mut text = String::new(alloc);
+    let run = &progress.run;
+    put_turns(
+        &mut text,
+        program,
+        progress.made.as_slice(),
+        run.events.as_slice(),
+    )?;
+    put_outcome(alloc, &mut text, program, &run.outcome)?;
+    Ok(text)
+}

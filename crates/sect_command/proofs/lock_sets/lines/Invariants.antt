@@ -1,6 +1,0 @@
-use Rattle.std.specs.String.{string_bytes}
-use Rattle.sect_command.specs.Listing.{IsListing}
-use Rattle.sect_command.proofs.lock_sets.lines.Given as goal
-
-abbrev pub invariant-loop-section : goal.invariant-loop-section
-invariant-loop-section l = IsListing l.compiled.scheme l.section (string_bytes l.text)

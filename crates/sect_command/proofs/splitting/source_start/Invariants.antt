@@ -1,5 +1,0 @@
-use Rattle.sect_command.proofs.Cutting.{IsCutSo}
-use Rattle.sect_command.proofs.splitting.source_start.Given as goal
-
-abbrev pub invariant-loop-at : goal.invariant-loop-at
-invariant-loop-at l = IsCutSo l.input l.start l.at

@@ -172,16 +172,29 @@ fn grammar<'a>(alloc: Global) -> Result<Command<'a>, AllocError>
     let explain = "prints why each section of the source text takes each of its locks";
     let check =
         "tests a certificate: the input is the certificate, and the source text behind its line `end`";
-    let sectc = Command::new(alloc, "sectc")
-        .about("infers the locks of atomic sections; reads a source text on standard input")
-        .subcommand(k_command(alloc, "locks", locks)?)?
-        .subcommand(compile_command(alloc)?)?
-        .subcommand(k_command(alloc, "explain", explain)?)?
-        .subcommand(serial_command(alloc)?)?
-        .subcommand(schedule_command(alloc)?)?
-        .subcommand(run_command(alloc)?)?
-        .subcommand(k_command(alloc, "check", check)?)?;
+    let sectc = Command::new(alloc, "sectc").about(
+        "infers the locks of atomic sections; reads a source text on standard input",
+    );
+    let sectc = with(sectc, k_command(alloc, "locks", locks))?;
+    let sectc = with(sectc, compile_command(alloc))?;
+    let sectc = with(sectc, k_command(alloc, "explain", explain))?;
+    let sectc = with(sectc, serial_command(alloc))?;
+    let sectc = with(sectc, schedule_command(alloc))?;
+    let sectc = with(sectc, run_command(alloc))?;
+    let sectc = with(sectc, k_command(alloc, "check", check))?;
     Ok(sectc.subcommand_required(true))
+}
+
+/// A grammar with one command more, if that could be made.
+fn with<'a>(
+    grammar: Command<'a>,
+    command: Result<Command<'a>, AllocError>,
+) -> Result<Command<'a>, AllocError>
+    requires grammar { (fields_of grammar).has_globals ≡ false }
+    requires command { IfOk command (λ c. (fields_of c).has_globals ≡ false) }
+    ensures { IfOk result (λ c. (fields_of c).has_globals ≡ false) }
+{
+    grammar.subcommand(command?)
 }
 
 /// The number that a text spells, where it is decimal digits alone and at most `most`.

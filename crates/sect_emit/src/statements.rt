@@ -107,13 +107,13 @@ fn put_target(
     text.push_str(" = ")
 }
 
-/// Adds what is made of a record.
-fn put_new(text: &mut String, program: &Program, kind: u16) -> Result<(), AllocError>
-    requires { kind < length program.now.records }
+/// Adds `new` and the name of the record of this number.
+fn put_new(text: &mut String, program: &Program, of: u16) -> Result<(), AllocError>
+    requires { of < length program.now.records }
     ensures { OnOk result (string_bytes text.new
-        ≡ string_bytes text.old ++ codes "new " ++ record_name program.now.source kind) }
+        ≡ string_bytes text.old ++ codes "new " ++ record_name program.now.source of) }
 {
-    let made = &program.tree().records()[kind as usize];
+    let made = &program.tree().records()[of as usize];
     Ok(write!(text, "new {}", made.name)?)
 }
 

@@ -16,7 +16,7 @@ use Rattle.sect_names.specs.Schemes.{SchemeView}
 use Rattle.sect_names.specs.Carrying.{Generated, CarriedBack}
 use Rattle.sect_names.specs.Chains.{link, IsGeneratedAt, LinksTo}
 use Rattle.sect_names.proofs.Making.{last_of}
-use Rattle.sect_infer.specs.Tables.{TableView, HasLock, IsNumbered, Finds}
+use Rattle.sect_infer.specs.Numberings.{NumberingView, HasLock, IsNumbered, Finds}
 use Rattle.sect_infer.specs.steps.Listing.{lock_at}
 use Rattle.sect_infer.proofs.Bounding.{named}
 use Rattle.sect_chains.specs.steps.Keeping.{KeptView, step_of, keep_one, keep_each}
@@ -27,18 +27,20 @@ use Rattle.sect_chains.proofs.Growing.{grows_each, same_link}
 
 module _ (s : SchemeView) (t : ℕ) (last : List Lock) (g : List Node) where
   -- a lock that is generated is kept
-  pub put_one : (a : TableView) (w : KeptView) (b : TableView) (j : ℕ) (l : Lock) (n : ℕ) → IsKept s t last g a w
+  pub put_one : (a : NumberingView) (w : KeptView) (b : NumberingView) (j : ℕ) (l : Lock) (n : ℕ)
+      → IsKept s t last g a w
       → IsNumbered s a b l n → IsGeneratedAt s t last g (link j l) → j < length w.found
       → Grows s t last g a w b (keep_one b.above w (step_of j None n)) (λ x. x ≡ link j l)
   put_one a w b j l n k numbered generated within =
-      let longer = grows_extended s t last g a w b k numbered.longer numbered.table in
+      let longer = grows_extended s t last g a w b k numbered.longer numbered.numbering in
       let v = keep_one b.above w (step_of j None n) in
       grows_as s t last g a w b v (λ x. ⊥ ⊎ (x ≡ link j l)) (λ x. x ≡ link j l) (λ x e. inr e)
       (grows_then s t last g a w b w b v (λ x. ⊥) (λ x. x ≡ link j l) longer
       (grows_one s t last g b w longer.kept (step_of j None n) l numbered.there within generated))
 
   -- where a step is kept there is a node or the exit
-  pub generated_within : (a : TableView) (w : KeptView) (x : Link) → IsKept s t last g a w → IsGeneratedAt s t last g x
+  pub generated_within : (a : NumberingView) (w : KeptView) (x : Link) → IsKept s t last g a w
+      → IsGeneratedAt s t last g x
       → x.node < length w.found
   generated_within a w x k h = elim h [
     | inl y ↦ (let within = slice_get_within g x.node y.0 y.1 in omega (arith, within, k.count))
@@ -55,13 +57,13 @@ module _ (s : SchemeView) (t : ℕ) (last : List Lock) (g : List Node) where
         (tells x.lock).1 (subst (λ w. Generated s t w.label x.lock) (one_at g j z y here at) h.1.2)
 
     -- nothing
-    pub by_node_none : (a : TableView) (w : KeptView) → IsKept s t last g a w → o ≡ None
+    pub by_node_none : (a : NumberingView) (w : KeptView) → IsKept s t last g a w → o ≡ None
         → Grows s t last g a w a w (IsGeneratedBy s t g j)
     by_node_none a w k none = grows_none s t last g a w (IsGeneratedBy s t g j) k (λ x h. let q = at_node x h in
         absurd cc)
 
     -- a lock
-    pub by_node_one : (a : TableView) (w : KeptView) (b : TableView) (v : KeptView) (l : Lock) → o ≡ Some l
+    pub by_node_one : (a : NumberingView) (w : KeptView) (b : NumberingView) (v : KeptView) (l : Lock) → o ≡ Some l
         → Grows s t last g a w b v (λ x. x ≡ link j l) → Grows s t last g a w b v (IsGeneratedBy s t g j)
     by_node_one a w b v l is f = grows_as s t last g a w b v (λ x. x ≡ link j l) (IsGeneratedBy s t g j)
         (λ x h. (let same : x.lock ≡ l = (let q = at_node x h in cc) in same_link x j l h.0 same)) f
@@ -70,7 +72,8 @@ module _ (s : SchemeView) (t : ℕ) (last : List Lock) (g : List Node) where
     generated_here l is = inl (y, at, (tells l).0 is)
 
   -- what one node more generates
-  pub generated_next : (a : TableView) (w : KeptView) (b : TableView) (v : KeptView) (c : TableView) (u : KeptView)
+  pub generated_next : (a : NumberingView) (w : KeptView) (b : NumberingView) (v : KeptView) (c : NumberingView)
+      (u : KeptView)
       (j : ℕ)
       → Grows s t last g a w b v (IsGeneratedBelow s t g j) → Grows s t last g b v c u (IsGeneratedBy s t g j)
       → Grows s t last g a w c u (IsGeneratedBelow s t g (j + 1))
@@ -81,7 +84,7 @@ module _ (s : SchemeView) (t : ℕ) (last : List Lock) (g : List Node) where
       (grows_then s t last g a w b v c u (IsGeneratedBelow s t g j) (IsGeneratedBy s t g j) f h)
 
   -- no node is below the first
-  pub generated_none : (a : TableView) (w : KeptView) → IsKept s t last g a w
+  pub generated_none : (a : NumberingView) (w : KeptView) → IsKept s t last g a w
       → Grows s t last g a w a w (IsGeneratedBelow s t g 0)
   generated_none a w k = grows_none s t last g a w (IsGeneratedBelow s t g 0) k (λ x h. omega (arith, h.0))
 
@@ -89,10 +92,11 @@ module _ (s : SchemeView) (t : ℕ) (last : List Lock) (g : List Node) where
   abbrev pub IsOfEnd : List Lock → Link → Type 0
   IsOfEnd locks x = (x.node ≡ length g) × Has locks x.lock
 
-  pub end_none : (a : TableView) (w : KeptView) → IsKept s t last g a w → Grows s t last g a w a w (IsOfEnd [])
+  pub end_none : (a : NumberingView) (w : KeptView) → IsKept s t last g a w → Grows s t last g a w a w (IsOfEnd [])
   end_none a w k = grows_none s t last g a w (IsOfEnd []) k (λ x h. h.1)
 
-  pub end_next : (a : TableView) (w : KeptView) (b : TableView) (v : KeptView) (c : TableView) (u : KeptView)
+  pub end_next : (a : NumberingView) (w : KeptView) (b : NumberingView) (v : KeptView) (c : NumberingView)
+      (u : KeptView)
       (i j : ℕ) (l : Lock)
       → i < length last → l ≡ get_or last i l → j ≡ length g → Grows s t last g a w b v (IsOfEnd (take i last))
       → Grows s t last g b v c u (λ x. x ≡ link j l) → Grows s t last g a w c u (IsOfEnd (take (i + 1) last))
@@ -105,7 +109,7 @@ module _ (s : SchemeView) (t : ℕ) (last : List Lock) (g : List Node) where
       (grows_then s t last g a w b v c u (IsOfEnd (take i last)) (λ x. x ≡ link j l) f h)
 
   -- what the nodes generate, and then what the end does, is all
-  pub generated_all : (a : TableView) (w : KeptView) (b : TableView) (v : KeptView)
+  pub generated_all : (a : NumberingView) (w : KeptView) (b : NumberingView) (v : KeptView)
       → ((x : Link) → IsGeneratedBelow s t g (length g) x → IsFoundAt a.keys w.found x)
       → ((x : Link) → IsFoundAt a.keys w.found x → IsFoundAt b.keys v.found x)
       → Grows s t last g a w b v (IsOfEnd last) → (x : Link) → IsGeneratedAt s t last g x → IsFoundAt b.keys v.found x
@@ -115,14 +119,14 @@ module _ (s : SchemeView) (t : ℕ) (last : List Lock) (g : List Node) where
   ]
 
   -- what is carried back over a node of the lock of a kept step
-  pub carried_to : (a : TableView) (w : KeptView) (b : TableView) (j i : ℕ) (y : Node) (x : Link) (ns : List ℕ)
+  pub carried_to : (a : NumberingView) (w : KeptView) (b : NumberingView) (j i : ℕ) (y : Node) (x : Link) (ns : List ℕ)
       → IsKept s t last g a w
       → slice_get g j ≡ Some y → LeadsTo y x.node → slice_get (links_of a.keys w.steps) i ≡ Some x
       → Finds s a [] b ns (CarriedBack s t y.label x.lock)
       → Grows s t last g a w b (keep_each b.above w j (Some i) ns) (λ z. (z.node ≡ j)
       × CarriedBack s t y.label x.lock z.lock)
   carried_to a w b j i y x ns k at leads kept finds =
-      let longer = grows_extended s t last g a w b k finds.longer finds.finding.table in
+      let longer = grows_extended s t last g a w b k finds.longer finds.finding.numbering in
       let stays = grows_at s t last g a w b w (λ z. ⊥) k longer i x kept in
       let v = keep_each b.above w j (Some i) ns in
       let within = slice_get_within g j y at in
@@ -148,12 +152,13 @@ module _ (s : SchemeView) (t : ℕ) (last : List Lock) (g : List Node) where
     node_leads i within = (before (get_or nodes i 0)).0 (Has-get_or nodes i 0 within)
 
     -- no node is among the first none
-    pub carry_none : (a : TableView) (w : KeptView) → IsKept s t last g a w
+    pub carry_none : (a : NumberingView) (w : KeptView) → IsKept s t last g a w
         → Grows s t last g a w a w (LinksFromFirst 0)
     carry_none a w k = grows_none s t last g a w (LinksFromFirst 0) k (λ x h. h.0)
 
     -- those at one node more
-    pub carry_next : (a : TableView) (w : KeptView) (c : TableView) (v : KeptView) (d : TableView) (u : KeptView)
+    pub carry_next : (a : NumberingView) (w : KeptView) (c : NumberingView) (v : KeptView) (d : NumberingView)
+        (u : KeptView)
         (i j : ℕ)
         → i < length nodes → j ≡ get_or nodes i j → Grows s t last g a w c v (LinksFromFirst i)
         → ((y : Node) → slice_get g j ≡ Some y → Grows s t last g c v d u (λ x. (x.node ≡ j)
@@ -174,7 +179,7 @@ module _ (s : SchemeView) (t : ℕ) (last : List Lock) (g : List Node) where
         f (k y found.1))
 
     -- those at all of them
-    pub carry_done : (a : TableView) (w : KeptView) (c : TableView) (v : KeptView) (i : ℕ) → length nodes ≤ i
+    pub carry_done : (a : NumberingView) (w : KeptView) (c : NumberingView) (v : KeptView) (i : ℕ) → length nodes ≤ i
         → Grows s t last g a w c v (LinksFromFirst i) → Grows s t last g a w c v (λ x. LinksTo s t g x b)
     carry_done a w c v i past f = grows_as s t last g a w c v (LinksFromFirst i) (λ x. LinksTo s t g x b)
         (λ x h. (subst (λ l. Has l x.node) (sym (take_all i nodes past)) ((before x.node).1 (h.0, h.1, h.2)), h)) f

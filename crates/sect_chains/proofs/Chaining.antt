@@ -11,7 +11,7 @@ use Rattle.sect_names.specs.Chains.{link}
 use Rattle.sect_infer.specs.Numbers.{AreApart}
 use Rattle.sect_infer.proofs.Apart.{apart_one}
 use Rattle.sect_infer.proofs.Bounding.{named}
-use Rattle.sect_chains.specs.declared.keep.Step.{Step}
+use Rattle.sect_chains.specs.declared.keep.KeptLink.{KeptLink}
 use Rattle.sect_chains.specs.steps.Starting.{AreStarts}
 use Rattle.sect_chains.specs.steps.Working.{link_of, links_of}
 use Rattle.sect_chains.proofs.Growing.{link_is}
@@ -24,10 +24,11 @@ some_found A (Some n) Q m a = refl
 pub found_is : (A : Type 0) (o : Option ℕ) (n : ℕ) (Q : ℕ → Type 0) → o ≡ Some n → MatchOption o (A → ⊥) Q → Q n
 found_is A o n Q is m = (let h = subst (λ p. MatchOption p (A → ⊥) Q) is m in h)
 
-module _ (keys : List Lock) (steps : List Step) (l : Lock) (numbers : (x : Step) → Has steps x → x.number < length keys)
+module _ (keys : List Lock) (steps : List KeptLink) (l : Lock)
+    (numbers : (x : KeptLink) → Has steps x → x.number < length keys)
     (there : Has (links_of keys steps) (link 0 l)) where
   -- the step of the lock at the first node
-  first : (x : Step) × Has steps x × (x.node ≡ 0) × (slice_get keys x.number ≡ Some l)
+  first : (x : KeptLink) × Has steps x × (x.node ≡ 0) × (slice_get keys x.number ≡ Some l)
   first =
       let x = Has-unmap (link_of keys) steps (link 0 l) there in
       (x.0, x.1, ap (λ b. b.node) x.2, named keys x.0.number (numbers x.0 x.1) ∙ ap (λ b. Some b.lock) x.2)

@@ -16,13 +16,13 @@ use Rattle.sect_names.specs.Schemes.{SchemeView}
 use Rattle.sect_names.specs.Chains.{link}
 use Rattle.sect_names.proofs.Covering.{covers_refl, covers_trans}
 use Rattle.sect_infer.specs.Numbers.{AreApart, has_number, with_number}
-use Rattle.sect_infer.specs.Tables.{TableView, HasLock, AreNumbers, IsTable, Extends, is_under}
+use Rattle.sect_infer.specs.Numberings.{NumberingView, HasLock, AreNumbers, IsNumbering, Extends, is_under}
 use Rattle.sect_infer.specs.steps.Listing.{lock_at}
 use Rattle.sect_infer.proofs.Apart.{apart_push, apart_one, number_tells, number_absent}
 use Rattle.sect_infer.proofs.Bounding.{named}
-use Rattle.sect_infer.proofs.Tabling.{extends_none, extends_then, extends_at, extends_back, extends_numbers}
+use Rattle.sect_infer.proofs.Extending.{extends_none, extends_then, extends_at, extends_back, extends_numbers}
 use Rattle.sect_infer.proofs.Undone.{under_is}
-use Rattle.sect_chains.specs.declared.keep.Step.{Step}
+use Rattle.sect_chains.specs.declared.keep.KeptLink.{KeptLink}
 use Rattle.sect_chains.specs.steps.Keeping.{KeptView, kept, step_of, is_new, keep_one, keep_each}
 use Rattle.sect_chains.specs.steps.Trails.{HasTrail, LeadOn}
 use Rattle.sect_chains.specs.steps.Working.{link_of, links_of, nexts_of, IsFoundAt, IsCoveredAt, IsKept, IsReason}
@@ -35,9 +35,9 @@ use Rattle.sect_chains.proofs.Trails.{leads_push}
 pub same_link : (x : Link) (j : ℕ) (l : Lock) → x.node ≡ j → x.lock ≡ l → x ≡ link j l
 same_link x j l e f = ap (λ n. link n x.lock) e ∙ ap (link j) f
 
--- steps stand for the same where the table is extended
-links_same : (a b : TableView) → Extends a b → (steps : List Step)
-    → ((x : Step) → Has steps x → x.number < length a.keys) → links_of b.keys steps ≡ links_of a.keys steps
+-- steps stand for the same where the numbering is extended
+links_same : (a b : NumberingView) → Extends a b → (steps : List KeptLink)
+    → ((x : KeptLink) → Has steps x → x.number < length a.keys) → links_of b.keys steps ≡ links_of a.keys steps
 links_same a b e [] within = refl
 links_same a b e (x ∷ xs) within =
     let l = lock_at a.keys x.number in
@@ -46,14 +46,14 @@ links_same a b e (x ∷ xs) within =
     ∙ ap (λ ls. link_of a.keys x ∷ ls) (links_same a b e xs (λ y h. within y (inr h)))
 
 -- what the step at an index stands for, and to which it links
-pub link_is : (keys : List Lock) (steps : List Step) (i : ℕ) (x : Step) (l : Lock) → slice_get steps i ≡ Some x
+pub link_is : (keys : List Lock) (steps : List KeptLink) (i : ℕ) (x : KeptLink) (l : Lock) → slice_get steps i ≡ Some x
     → slice_get keys x.number ≡ Some l → slice_get (links_of keys steps) i ≡ Some (link x.node l)
 link_is keys steps i x l at got =
     slice_get-map (link_of keys) steps i ∙ ap (option_map (link_of keys)) at
     ∙ ap (λ m. Some (link x.node m)) (get_or_from_slice_get keys x.number l lock.All got)
 
 -- there is a link at each index
-pub link_at : (keys : List Lock) (steps : List Step) (i : ℕ) (x : Step) → slice_get steps i ≡ Some x
+pub link_at : (keys : List Lock) (steps : List KeptLink) (i : ℕ) (x : KeptLink) → slice_get steps i ≡ Some x
     → (b : Link) × (slice_get (links_of keys steps) i ≡ Some b) × (b.node ≡ x.node)
 link_at keys steps i x at = (
   link_of keys x,
@@ -62,12 +62,12 @@ link_at keys steps i x at = (
   refl,
 )
 
-pub next_is : (steps : List Step) (i : ℕ) (x : Step) → slice_get steps i ≡ Some x
+pub next_is : (steps : List KeptLink) (i : ℕ) (x : KeptLink) → slice_get steps i ≡ Some x
     → slice_get (nexts_of steps) i ≡ Some x.next
-next_is steps i x at = slice_get-map (λ (y : Step). y.next) steps i ∙ ap (option_map (λ (y : Step). y.next)) at
+next_is steps i x at = slice_get-map (λ (y : KeptLink). y.next) steps i ∙ ap (option_map (λ (y : KeptLink). y.next)) at
 
 -- the lock of a step that stands for this link
-pub lock_is : (keys : List Lock) (steps : List Step) (i : ℕ) (x : Step) (b : Link) → x.number < length keys
+pub lock_is : (keys : List Lock) (steps : List KeptLink) (i : ℕ) (x : KeptLink) (b : Link) → x.number < length keys
     → slice_get steps i ≡ Some x
     → slice_get (links_of keys steps) i ≡ Some b → (x.node ≡ b.node) × (slice_get keys x.number ≡ Some b.lock)
 lock_is keys steps i x b within at is =
@@ -77,13 +77,14 @@ lock_is keys steps i x b within at is =
     (ap (λ z. z.node) same, named keys x.number within ∙ ap (λ z. Some z.lock) same)
 
 module _ (s : SchemeView) (t : ℕ) (last : List Lock) (g : List Node) where
-  -- the locks of kept steps are in the table
-  pub kept_numbers : (a : TableView) (w : KeptView) → IsKept s t last g a w → (x : Step) → Has w.steps x
+  -- the locks of kept steps are in the numbering
+  pub kept_numbers : (a : NumberingView) (w : KeptView) → IsKept s t last g a w → (x : KeptLink) → Has w.steps x
       → x.number < length a.keys
   kept_numbers a w k x h = k.numbers x.node x.number (k.there x h)
 
   -- nothing more
-  pub grows_none : (a : TableView) (w : KeptView) (P : Link → Type 0) → IsKept s t last g a w → ((x : Link) → P x → ⊥)
+  pub grows_none : (a : NumberingView) (w : KeptView) (P : Link → Type 0) → IsKept s t last g a w
+      → ((x : Link) → P x → ⊥)
       → Grows s t last g a w a w P
   grows_none a w P k nothing = record {
     kept = k;
@@ -94,7 +95,7 @@ module _ (s : SchemeView) (t : ℕ) (last : List Lock) (g : List Node) where
   }
 
   -- the same with another property, that less has
-  pub grows_as : (a : TableView) (w : KeptView) (b : TableView) (v : KeptView) (P Q : Link → Type 0)
+  pub grows_as : (a : NumberingView) (w : KeptView) (b : NumberingView) (v : KeptView) (P Q : Link → Type 0)
       → ((x : Link) → Q x → P x) → Grows s t last g a w b v P → Grows s t last g a w b v Q
   grows_as a w b v P Q to f = record {
     kept = f.kept;
@@ -105,12 +106,13 @@ module _ (s : SchemeView) (t : ℕ) (last : List Lock) (g : List Node) where
   }
 
   -- what was found stays
-  pub grows_found : (a : TableView) (w : KeptView) (b : TableView) (v : KeptView) (P : Link → Type 0)
+  pub grows_found : (a : NumberingView) (w : KeptView) (b : NumberingView) (v : KeptView) (P : Link → Type 0)
       → Grows s t last g a w b v P → (x : Link) → IsFoundAt a.keys w.found x → IsFoundAt b.keys v.found x
   grows_found a w b v P f x h = (h.0, f.found x.node h.0 h.1, extends_at a b f.longer h.0 x.lock h.2)
 
   -- first some and then others
-  pub grows_then : (a : TableView) (w : KeptView) (b : TableView) (v : KeptView) (c : TableView) (u : KeptView)
+  pub grows_then : (a : NumberingView) (w : KeptView) (b : NumberingView) (v : KeptView) (c : NumberingView)
+      (u : KeptView)
       (P Q : Link → Type 0) → Grows s t last g a w b v P → Grows s t last g b v c u Q
       → Grows s t last g a w c u (λ x. P x ⊎ Q x)
   grows_then a w b v c u P Q f h = record {
@@ -126,7 +128,7 @@ module _ (s : SchemeView) (t : ℕ) (last : List Lock) (g : List Node) where
   }
 
   -- a step that was kept stays at its index
-  pub grows_at : (a : TableView) (w : KeptView) (b : TableView) (v : KeptView) (P : Link → Type 0)
+  pub grows_at : (a : NumberingView) (w : KeptView) (b : NumberingView) (v : KeptView) (P : Link → Type 0)
       → IsKept s t last g a w → Grows s t last g a w b v P → (i : ℕ) (x : Link)
       → slice_get (links_of a.keys w.steps) i ≡ Some x → slice_get (links_of b.keys v.steps) i ≡ Some x
   grows_at a w b v P k f i x at =
@@ -136,9 +138,9 @@ module _ (s : SchemeView) (t : ℕ) (last : List Lock) (g : List Node) where
       subst (λ ls. slice_get ls i ≡ Some x) (sym links) (in_front (links_of a.keys w.steps)
       (links_of b.keys f.steps.0) i x at)
 
-  -- the table is extended
-  pub grows_extended : (a : TableView) (w : KeptView) (b : TableView) → IsKept s t last g a w → Extends a b
-      → IsTable s b
+  -- the numbering is extended
+  pub grows_extended : (a : NumberingView) (w : KeptView) (b : NumberingView) → IsKept s t last g a w → Extends a b
+      → IsNumbering s b
       → Grows s t last g a w b w (λ x. ⊥)
   grows_extended a w b k e is =
       let same = links_same a b e w.steps (kept_numbers a w k) in
@@ -146,7 +148,7 @@ module _ (s : SchemeView) (t : ℕ) (last : List Lock) (g : List Node) where
       = λ x h. extends_back a b e (slice_index_or w.found x.node []) (k.numbers x.node) x.lock h in
       record {
         kept = record {
-          table = is;
+          numbering = is;
           count = k.count;
           numbers = λ j. extends_numbers a b e (slice_index_or w.found j []) (k.numbers j);
           trails = λ x h. k.trails x (back x h);
@@ -162,12 +164,13 @@ module _ (s : SchemeView) (t : ℕ) (last : List Lock) (g : List Node) where
       }
 
   -- the lock of a kept step was found at its node
-  pub step_found : (a : TableView) (w : KeptView) → IsKept s t last g a w → (x : Step) (l : Lock) → Has w.steps x
+  pub step_found : (a : NumberingView) (w : KeptView) → IsKept s t last g a w → (x : KeptLink) (l : Lock)
+      → Has w.steps x
       → slice_get a.keys x.number ≡ Some l → IsFoundAt a.keys w.found (link x.node l)
   step_found a w k x l h at = (x.number, k.there x h, at)
 
   -- steps lead on from each that is kept
-  pub kept_trail : (a : TableView) (w : KeptView) → IsKept s t last g a w → (x : Link)
+  pub kept_trail : (a : NumberingView) (w : KeptView) → IsKept s t last g a w → (x : Link)
       → Has (links_of a.keys w.steps) x → HasTrail s t last g x
   kept_trail a w k x h =
       let y = Has-unmap (link_of a.keys) w.steps x h in
@@ -175,7 +178,7 @@ module _ (s : SchemeView) (t : ℕ) (last : List Lock) (g : List Node) where
       subst (HasTrail s t last g) y.2
       (k.trails (link_of a.keys y.0) (y.0.number, there, named a.keys y.0.number (k.numbers y.0.node y.0.number there)))
 
-  reason_trail : (a : TableView) (w : KeptView) → IsKept s t last g a w → (x : Link) (o : Option ℕ)
+  reason_trail : (a : NumberingView) (w : KeptView) → IsKept s t last g a w → (x : Link) (o : Option ℕ)
       → IsReason s t last g (links_of a.keys w.steps) x o → HasTrail s t last g x
   reason_trail a w k x None why = ([], why)
   reason_trail a w k x (Some j) why =
@@ -183,7 +186,7 @@ module _ (s : SchemeView) (t : ℕ) (last : List Lock) (g : List Node) where
       (why.0 ∷ r.0, (why.2, r.1))
 
   -- a reason stays one where more is kept
-  reason_more : (a : TableView) (old new : List Step) → ((more : List Step) × (new ≡ old ++ more))
+  reason_more : (a : NumberingView) (old new : List KeptLink) → ((more : List KeptLink) × (new ≡ old ++ more))
       → (x : Link) (o : Option ℕ)
       → IsReason s t last g (links_of a.keys old) x o → IsReason s t last g (links_of a.keys new) x o
   reason_more a old new grown x None why = why
@@ -196,7 +199,7 @@ module _ (s : SchemeView) (t : ℕ) (last : List Lock) (g : List Node) where
         why.2,
       )
 
-  module _ (a : TableView) (w : KeptView) (k : IsKept s t last g a w) (x : Step) (l : Lock)
+  module _ (a : NumberingView) (w : KeptView) (k : IsKept s t last g a w) (x : KeptLink) (l : Lock)
       (at : slice_get a.keys x.number ≡ Some l)
       (within : x.node < length w.found) (why : IsReason s t last g (links_of a.keys w.steps) (link x.node l) x.next)
     where
@@ -246,7 +249,7 @@ module _ (s : SchemeView) (t : ℕ) (last : List Lock) (g : List Node) where
           let node : y.0.node ≡ x.node = ap (λ b. b.node) y.2 in
           let got : slice_get a.keys y.0.number ≡ Some l
           = named a.keys y.0.number (k.numbers y.0.node y.0.number there) ∙ ap (λ b. Some b.lock) y.2 in
-          let number : y.0.number ≡ x.number = apart_one a.keys y.0.number x.number l k.table.apart got at in
+          let number : y.0.number ≡ x.number = apart_one a.keys y.0.number x.number l k.numbering.apart got at in
           number_absent before x.number off
           (subst (Has before) number (subst (λ j. Has (slice_index_or w.found j []) y.0.number) node there))
 
@@ -255,7 +258,7 @@ module _ (s : SchemeView) (t : ℕ) (last : List Lock) (g : List Node) where
       by_another e = elim (old_told (has_number before x.number) (is_under a.above before x.number) e) [
         | inl has ↦ k.covered (link x.node l) (x.number, (number_tells before x.number).0 has, at)
         | inr under ↦
-            let out = under_is s a k.table before x.number l at under in
+            let out = under_is s a k.numbering before x.number l at under in
             let top = k.covered (link x.node out.0) out.1 in
             (top.0, top.1, covers_trans s top.0 out.0 l top.2 out.2)
       ]
@@ -265,19 +268,19 @@ module _ (s : SchemeView) (t : ℕ) (last : List Lock) (g : List Node) where
           ∙ ap (λ m. links ++ link x.node m ∷ []) (get_or_from_slice_get a.keys x.number l lock.All at)
 
       nexts_more : nexts_of (w.steps ++ x ∷ []) ≡ nexts_of w.steps ++ x.next ∷ []
-      nexts_more = map-append (λ (y : Step). y.next) w.steps (x ∷ [])
+      nexts_more = map-append (λ (y : KeptLink). y.next) w.steps (x ∷ [])
 
       kept_so : (b : Bool) → is_new a.above before x.number ≡ b
           → IsKept s t last g a (kept now (if b then w.steps ++ x ∷ [] else w.steps))
       kept_so true e = record {
-        table = k.table;
+        numbering = k.numbering;
         count = length-set w.found x.node (with_number before x.number) ∙ k.count;
         numbers = numbers;
         trails = trails;
         there = λ y h. elim (Has-cases w.steps (x ∷ []) y h) [
           | inl old ↦ still y.node y.number (k.there y old)
           | inr one ↦ elim one [
-            | inl is ↦ subst (λ (z : Step). Has (slice_index_or now z.node []) z.number) is put_there
+            | inl is ↦ subst (λ (z : KeptLink). Has (slice_index_or now z.node []) z.number) is put_there
             | inr none ↦ absurd none
           ]
         ];
@@ -293,7 +296,7 @@ module _ (s : SchemeView) (t : ℕ) (last : List Lock) (g : List Node) where
             (fresh (new_told (has_number before x.number) (is_under a.above before x.number) e)));
       }
       kept_so false e = record {
-        table = k.table;
+        numbering = k.numbering;
         count = length-set w.found x.node (with_number before x.number) ∙ k.count;
         numbers = numbers;
         trails = trails;
@@ -306,7 +309,7 @@ module _ (s : SchemeView) (t : ℕ) (last : List Lock) (g : List Node) where
         apart = k.apart;
       }
 
-      steps_so : (b : Bool) → (more : List Step) × ((if b then w.steps ++ x ∷ [] else w.steps) ≡ w.steps ++ more)
+      steps_so : (b : Bool) → (more : List KeptLink) × ((if b then w.steps ++ x ∷ [] else w.steps) ≡ w.steps ++ more)
       steps_so true = (x ∷ [], refl)
       steps_so false = ([], sym (append-nil w.steps))
 
@@ -321,7 +324,7 @@ module _ (s : SchemeView) (t : ℕ) (last : List Lock) (g : List Node) where
       }
 
   -- several locks at one node
-  pub grows_each : (a : TableView) (w : KeptView) → IsKept s t last g a w → (j : ℕ) (o : Option ℕ)
+  pub grows_each : (a : NumberingView) (w : KeptView) → IsKept s t last g a w → (j : ℕ) (o : Option ℕ)
       → j < length w.found → (ns : List ℕ)
       → ((n : ℕ) → Has ns n → (l : Lock) × (slice_get a.keys n ≡ Some l)
       × IsReason s t last g (links_of a.keys w.steps) (link j l) o)

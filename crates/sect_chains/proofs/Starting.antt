@@ -7,7 +7,7 @@ use Rattle.std.proofs.lemmas.List.{length-set}
 use Rattle.sect_types.specs.Lists.{Has}
 use Rattle.sect_types.proofs.Membership.{Has-slice_get}
 use Rattle.sect_types.proofs.Places.{one_at}
-use Rattle.sect_chains.specs.declared.keep.Step.{Step}
+use Rattle.sect_chains.specs.declared.keep.KeptLink.{KeptLink}
 use Rattle.sect_chains.specs.steps.Starting.{AreStarts}
 
 -- what stands in a list of which one element was set
@@ -35,7 +35,7 @@ set_there (z ∷ zs) (suc n) x zero other = refl
 set_there (z ∷ zs) (suc n) x (suc i) other = set_there zs n x i (λ e. other (ap suc e))
 
 -- no step is below the first
-pub starts_none : (count : ℕ) (steps : List Step) (starts : List (Option ℕ)) → length starts ≡ count
+pub starts_none : (count : ℕ) (steps : List KeptLink) (starts : List (Option ℕ)) → length starts ≡ count
     → ((o : Option ℕ) → Has starts o → o ≡ None) → AreStarts count steps 0 starts
 starts_none count steps starts long none = record {
   counted = long;
@@ -43,7 +43,8 @@ starts_none count steps starts long none = record {
   all = λ i x lt. absurd (omega (arith, lt));
 }
 
-module _ (count : ℕ) (steps : List Step) (i : ℕ) (starts : List (Option ℕ)) (x : Step) (at : slice_get steps i ≡ Some x)
+module _ (count : ℕ) (steps : List KeptLink) (i : ℕ) (starts : List (Option ℕ)) (x : KeptLink)
+    (at : slice_get steps i ≡ Some x)
     (before : AreStarts count steps i starts) where
   -- the next step is at the first node
   pub starts_put : x.node ≡ 0 → x.number < count → AreStarts count steps (i + 1) (set starts x.number (Some i))
@@ -65,7 +66,7 @@ module _ (count : ℕ) (steps : List Step) (i : ℕ) (starts : List (Option ℕ)
             (r.0, set_there starts x.number (Some i) y.number other ∙ r.1))
         | inr past ↦ (let e : k ≡ i = omega (arith, lt, past) in
             let same : y ≡ x = one_at steps i y x (subst (λ n. slice_get steps n ≡ Some y) e there) at in
-            absurd (other (ap (λ (z : Step). z.number) same)))
+            absurd (other (ap (λ (z : KeptLink). z.number) same)))
       ]
     ];
   }
@@ -79,6 +80,6 @@ module _ (count : ℕ) (steps : List Step) (i : ℕ) (starts : List (Option ℕ)
       | inl less ↦ before.all k y less there node
       | inr past ↦ (let e : k ≡ i = omega (arith, lt, past) in
           let same : y ≡ x = one_at steps i y x (subst (λ n. slice_get steps n ≡ Some y) e there) at in
-          absurd (other (subst (λ (z : Step). z.node ≡ 0) same node)))
+          absurd (other (subst (λ (z : KeptLink). z.node ≡ 0) same node)))
     ];
   }

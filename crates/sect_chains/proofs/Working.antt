@@ -17,7 +17,7 @@ use Rattle.sect_names.specs.Chains.{link, IsGeneratedAt, LinksTo, AreLinked}
 use Rattle.sect_names.proofs.Covering.{covers_trans}
 use Rattle.sect_names.proofs.Finiteness.{Has-map, Has-flat_map, below, Has-below, all_locks, finite_locks}
 use Rattle.sect_names.proofs.Telling.{link_tells}
-use Rattle.sect_infer.specs.Tables.{TableView}
+use Rattle.sect_infer.specs.Numberings.{NumberingView}
 use Rattle.sect_infer.proofs.Apart.{apart_short}
 use Rattle.sect_chains.specs.steps.Keeping.{KeptView}
 use Rattle.sect_chains.specs.steps.Trails.{AreLawful, RespectCover}
@@ -30,7 +30,7 @@ all_steps s g = flat_map (λ j. map (link j) (all_locks s)) (below (length g + 1
 
 module _ (s : SchemeView) (t : ℕ) (last : List Lock) (g : List Node) where
   -- what is found and kept, where those locks are found that link to one of the first `done` steps
-  pub record IsWorklist (a : TableView) (w : KeptView) (done : ℕ) : Type 0 where
+  pub record IsWorklist (a : NumberingView) (w : KeptView) (done : ℕ) : Type 0 where
     pub kept : IsKept s t last g a w
     pub generated : (x : Link) → IsGeneratedAt s t last g x → IsFoundAt a.keys w.found x
     pub closed : (i : ℕ) (b x : Link) → i < done → slice_get (links_of a.keys w.steps) i ≡ Some b → LinksTo s t g x b
@@ -38,7 +38,8 @@ module _ (s : SchemeView) (t : ℕ) (last : List Lock) (g : List Node) where
     pub within : done ≤ length w.steps
 
   -- the locks that link to one step more are found
-  pub work_next : (a : TableView) (w : KeptView) (b : TableView) (v : KeptView) (done : ℕ) → done < length w.steps
+  pub work_next : (a : NumberingView) (w : KeptView) (b : NumberingView) (v : KeptView) (done : ℕ)
+      → done < length w.steps
       → IsWorklist a w done
       → ((x : Link) → slice_get (links_of a.keys w.steps) done ≡ Some x
       → Grows s t last g a w b v (λ y. LinksTo s t g y x))
@@ -64,7 +65,7 @@ module _ (s : SchemeView) (t : ℕ) (last : List Lock) (g : List Node) where
       }
 
   -- where all is done, each step with a trail is covered at its node
-  pub work_ends : RespectCover s t g → (a : TableView) (w : KeptView) (done : ℕ) → length w.steps ≤ done
+  pub work_ends : RespectCover s t g → (a : NumberingView) (w : KeptView) (done : ℕ) → length w.steps ≤ done
       → IsWorklist a w done → (x : Link) (links : List Link) → AreLinked s t last g x links
       → IsCoveredAt s (links_of a.keys w.steps) x
   work_ends respects a w done past work x [] h = work.kept.covered x (work.generated x h)
@@ -98,7 +99,7 @@ module _ (s : SchemeView) (t : ℕ) (last : List Lock) (g : List Node) where
         )
 
     -- so the steps that are kept are few
-    pub few : (a : TableView) (w : KeptView) → IsKept s t last g a w → length w.steps ≤ length (all_steps s g)
+    pub few : (a : NumberingView) (w : KeptView) → IsKept s t last g a w → length w.steps ≤ length (all_steps s g)
     unfolding all_steps
     few a w k =
         let short = apart_short the_link_laws link_tells (links_of a.keys w.steps) (all_steps s g) k.apart (λ x h.

@@ -14,7 +14,7 @@ ghost use Rattle.sect_graph.specs.Predecessors.{StaysWithin};
 ghost use Rattle.sect_chains.specs.steps.Trails.{GoBack, AreFromEntry};
 ghost use Rattle.sect_chains.specs.steps.Starting.{AreStarts};
 ghost use Rattle.sect_chains.specs.steps.Working.{links_of, nexts_of};
-ghost use Rattle.sect_chains.specs.declared.keep.Step.{Step};
+ghost use Rattle.sect_chains.specs.declared.keep.KeptLink.{KeptLink};
 ghost use Rattle.sect_infer.specs.Numbers.{AreApart};
 
 use crate::chain::Chain;
@@ -137,16 +137,16 @@ fn chain_of(
     starts: &Vec<Option<usize>>,
     lock: &Lock,
 ) -> Result<Chain, AllocError>
-    requires back { GoBack (links_of trail.now.table.keys trail.now.steps.items) (nexts_of trail.now.steps.items) }
-    requires numbers { (x : Step) → Has trail.now.steps.items x → x.number < length trail.now.table.keys }
-    requires apart { AreApart trail.now.table.keys }
-    requires starts { AreStarts (length trail.now.table.keys) trail.now.steps.items (length trail.now.steps.items)
+    requires back { GoBack (links_of trail.now.numbering.keys trail.now.steps.items) (nexts_of trail.now.steps.items) }
+    requires numbers { (x : KeptLink) → Has trail.now.steps.items x → x.number < length trail.now.numbering.keys }
+    requires apart { AreApart trail.now.numbering.keys }
+    requires starts { AreStarts (length trail.now.numbering.keys) trail.now.steps.items (length trail.now.steps.items)
         starts.now.items }
-    requires there { Has (links_of trail.now.table.keys trail.now.steps.items) (link 0 lock.now) }
-    ensures { IfOk result (AreFromEntry (links_of trail.now.table.keys trail.now.steps.items)
+    requires there { Has (links_of trail.now.numbering.keys trail.now.steps.items) (link 0 lock.now) }
+    ensures { IfOk result (AreFromEntry (links_of trail.now.numbering.keys trail.now.steps.items)
         (nexts_of trail.now.steps.items) lock.now) }
 {
-    let number = trail.table.find(lock).unwrap();
+    let number = trail.numbering.find(lock).unwrap();
     let start = starts[number].unwrap();
     let links = links_from(alloc, trail, start)?;
     Ok(Chain::of(links))

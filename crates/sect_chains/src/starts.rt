@@ -2,7 +2,7 @@
 
 ghost use Rattle.std.specs.Prelude.{◌≡◌, ◌<◌, ℕ, Option, None, length, IfOk};
 ghost use Rattle.sect_types.specs.Lists.{Has};
-ghost use Rattle.sect_chains.specs.declared.keep.Step.{Step};
+ghost use Rattle.sect_chains.specs.declared.keep.KeptLink.{KeptLink};
 ghost use Rattle.sect_chains.specs.steps.Starting.{AreStarts};
 
 use crate::work::Trail;
@@ -22,11 +22,11 @@ fn no_starts(alloc: Global, count: usize) -> Result<Vec<Option<usize>>, AllocErr
 
 /// For the number of each lock the index of its step at the first node, none where there is no such step.
 pub fn starts_of(alloc: Global, trail: &Trail) -> Result<Vec<Option<usize>>, AllocError>
-    requires { (x : Step) → Has trail.now.steps.items x → x.number < length trail.now.table.keys }
-    ensures { IfOk result (λ starts. AreStarts (length trail.now.table.keys) trail.now.steps.items
+    requires { (x : KeptLink) → Has trail.now.steps.items x → x.number < length trail.now.numbering.keys }
+    ensures { IfOk result (λ starts. AreStarts (length trail.now.numbering.keys) trail.now.steps.items
         (length trail.now.steps.items) starts.items) }
 {
-    let mut starts = no_starts(alloc, trail.table.len())?;
+    let mut starts = no_starts(alloc, trail.numbering.len())?;
     for index in 0..trail.steps.len() {
         let step = trail.steps[index];
         if step.node == 0 {

@@ -2,7 +2,7 @@
 
 ghost use Rattle.std.specs.Prelude.{◌≡◌, ◌<◌, length, slice_get, Some, IfOk};
 ghost use Rattle.sect_types.specs.Lists.{Has};
-ghost use Rattle.sect_chains.specs.declared.keep.Step.{Step};
+ghost use Rattle.sect_chains.specs.declared.keep.KeptLink.{KeptLink};
 ghost use Rattle.sect_chains.specs.steps.Trails.{AreLawful, RespectCover, GoBack, AreFrom};
 ghost use Rattle.sect_graph.specs.Predecessors.{StaysWithin};
 ghost use Rattle.sect_chains.specs.steps.Working.{links_of, nexts_of, IsSearched};
@@ -37,23 +37,23 @@ pub fn trail_of(alloc: Global, section: Searched<'_>) -> Result<Trail, AllocErro
 /// The step at an index.
 fn link_at(trail: &Trail, index: usize) -> Result<Link, AllocError>
     requires index { index < length trail.now.steps.items }
-    requires numbers { (x : Step) → Has trail.now.steps.items x → x.number < length trail.now.table.keys }
+    requires numbers { (x : KeptLink) → Has trail.now.steps.items x → x.number < length trail.now.numbering.keys }
     ensures { IfOk result (λ link.
-        slice_get (links_of trail.now.table.keys trail.now.steps.items) index ≡ Some link) }
+        slice_get (links_of trail.now.numbering.keys trail.now.steps.items) index ≡ Some link) }
 {
     let step = trail.steps[index];
     Ok(Link {
         node: u32::from(step.node),
-        lock: trail.table.lock(step.number).try_clone()?,
+        lock: trail.numbering.lock(step.number).try_clone()?,
     })
 }
 
 /// The steps from the one at an index on, to where a lock is generated.
 pub fn links_from(alloc: Global, trail: &Trail, start: usize) -> Result<Vec<Link>, AllocError>
-    requires back { GoBack (links_of trail.now.table.keys trail.now.steps.items) (nexts_of trail.now.steps.items) }
-    requires numbers { (x : Step) → Has trail.now.steps.items x → x.number < length trail.now.table.keys }
+    requires back { GoBack (links_of trail.now.numbering.keys trail.now.steps.items) (nexts_of trail.now.steps.items) }
+    requires numbers { (x : KeptLink) → Has trail.now.steps.items x → x.number < length trail.now.numbering.keys }
     requires there { start < length trail.now.steps.items }
-    ensures { IfOk result (λ links. AreFrom (links_of trail.now.table.keys trail.now.steps.items)
+    ensures { IfOk result (λ links. AreFrom (links_of trail.now.numbering.keys trail.now.steps.items)
         (nexts_of trail.now.steps.items) start links.items) }
 {
     let mut links = Vec::new(alloc);

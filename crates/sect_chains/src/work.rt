@@ -8,15 +8,15 @@ ghost use Rattle.sect_names.specs.declared.link.Link.{Link};
 ghost use Rattle.sect_names.specs.declared.lock.Lock.{Lock};
 ghost use Rattle.sect_names.specs.Carrying.{CarriedBack};
 ghost use Rattle.sect_names.specs.Chains.{link, IsGeneratedAt, LinksTo};
-ghost use Rattle.sect_chains.specs.declared.keep.Step.{Step};
+ghost use Rattle.sect_chains.specs.declared.keep.KeptLink.{KeptLink};
 ghost use Rattle.sect_chains.specs.steps.Trails.{AreLawful};
 ghost use Rattle.sect_graph.specs.Predecessors.{AreBefore};
 ghost use Rattle.sect_chains.specs.steps.Working.{links_of, IsWork, GoesOn, IsGeneratedBy};
 ghost use Rattle.sect_chains.specs.steps.Working.{IsGeneratedBelow, HasAllGenerated};
 
-use crate::keep::{Step, keep, keep_all};
+use crate::keep::{KeptLink, keep, keep_all};
 use sect_graph::Flow;
-use sect_infer::{Numbers, Table, carry_one};
+use sect_infer::{Numbering, Numbers, carry_one};
 use sect_names::{Link, Lock, Scheme};
 use std::alloc::{AllocError, Global};
 
@@ -30,13 +30,13 @@ pub struct Searched<'a> {
     pub last: &'a [Lock],
 }
 
-/// Steps, each once, in the order in which they came; the table of their locks; and for each node of a graph, the exit
-/// too, the numbers of all locks that were found there.
+/// Steps, each once, in the order in which they came; the numbering of their locks; and for each node of a graph, the
+/// exit too, the numbers of all locks that were found there.
 #[derive(Drop)]
 pub struct Trail {
-    pub table: Table,
+    pub numbering: Numbering,
     pub found: Vec<Numbers>,
-    pub steps: Vec<Step>,
+    pub steps: Vec<KeptLink>,
 }
 
 /// No numbers, for so many nodes.
@@ -66,13 +66,13 @@ fn put(
         section.entry.flow.now trail.old trail.new
         (λ a. a ≡ link node lock.now)) }
 {
-    let number = trail.table.number(alloc, section.scheme, lock)?;
-    let step = Step {
+    let number = trail.numbering.number(alloc, section.scheme, lock)?;
+    let step = KeptLink {
         node,
         number,
         next: None,
     };
-    keep(&trail.table, &mut trail.found, &mut trail.steps, step)
+    keep(&trail.numbering, &mut trail.found, &mut trail.steps, step)
 }
 
 /// Keeps the step of what a node generates.
@@ -130,7 +130,7 @@ pub fn generated(alloc: Global, section: Searched<'_>) -> Result<Trail, AllocErr
         section.entry.last.now section.entry.flow.now trail) }
 {
     let mut trail = Trail {
-        table: Table::new(alloc),
+        numbering: Numbering::new(alloc),
         found: none_found(alloc, section.flow.exit() as usize + 1)?,
         steps: Vec::new(alloc),
     };
@@ -150,12 +150,12 @@ fn carry_to(
 ) -> Result<(), AllocError>
     requires node { node < length section.flow.now }
     requires index { index < length trail.old.steps.items }
-    requires leads { (y : Node) (x : Step) → slice_get section.flow.now node ≡ Some y
+    requires leads { (y : Node) (x : KeptLink) → slice_get section.flow.now node ≡ Some y
         → slice_get trail.old.steps.items index ≡ Some x → LeadsTo y x.node }
     requires lawful { AreLawful section.scheme.now section.thread section.last.now section.flow.now }
     requires work { IsWork section.scheme.now section.thread section.last.now section.flow.now trail.old }
     ensures { OnOk result ((y : Node) (b : Link) → slice_get section.entry.flow.now node ≡ Some y
-        → slice_get (links_of trail.old.table.keys trail.old.steps.items) index ≡ Some b
+        → slice_get (links_of trail.old.numbering.keys trail.old.steps.items) index ≡ Some b
         → GoesOn section.entry.scheme.now section.entry.thread section.entry.last.now
         section.entry.flow.now trail.old trail.new
         (λ a. (a.node ≡ node) × CarriedBack section.entry.scheme.now section.entry.thread y.label b.lock a.lock)) }
@@ -168,12 +168,12 @@ fn carry_to(
         section.scheme,
         section.thread,
         &label,
-        &mut trail.table,
+        &mut trail.numbering,
         fresh,
         number,
     )?;
     keep_all(
-        &trail.table,
+        &trail.numbering,
         &mut trail.found,
         &mut trail.steps,
         node,
@@ -192,12 +192,12 @@ pub fn carry(
     index: usize,
 ) -> Result<(), AllocError>
     requires index { index < length trail.old.steps.items }
-    requires before { (x : Step) → slice_get trail.old.steps.items index ≡ Some x
+    requires before { (x : KeptLink) → slice_get trail.old.steps.items index ≡ Some x
         → AreBefore section.flow.now x.node predecessors.now }
     requires lawful { AreLawful section.scheme.now section.thread section.last.now section.flow.now }
     requires work { IsWork section.scheme.now section.thread section.last.now section.flow.now trail.old }
     ensures { OnOk result ((b : Link)
-        → slice_get (links_of trail.old.table.keys trail.old.steps.items) index ≡ Some b
+        → slice_get (links_of trail.old.numbering.keys trail.old.steps.items) index ≡ Some b
         → GoesOn section.entry.scheme.now section.entry.thread section.entry.last.now
         section.entry.flow.now trail.old trail.new
         (λ a. LinksTo section.entry.scheme.now section.entry.thread section.entry.flow.now a b)) }

@@ -4,7 +4,7 @@ use Rattle.std.proofs.Common.{ap, ◌∙◌, append_assoc, length-append, arith}
 use Rattle.std.specs.Prelude.{slice_index_or, cond}
 use Rattle.std.proofs.lemmas.List.{append-nil, get_or-set_same, set-get_or, set-set}
 use Rattle.std.proofs.lemmas.List.Elements.{filter_more}
-use Rattle.sect_infer.specs.Tables.{is_under, fresh_from}
+use Rattle.sect_infer.specs.Numberings.{is_under, fresh_from}
 
 module _ (above : List (List ℕ)) (found numbers : List ℕ) (i n : ℕ) (within : i < length numbers)
     (is : n ≡ get_or numbers i n) where

@@ -21,7 +21,7 @@ use Rattle.sect_names.proofs.Finiteness.{all_locks, finite_locks}
 use Rattle.sect_names.proofs.Telling.{lock_tells}
 use Rattle.sect_infer.specs.Numbers.{AreApart}
 use Rattle.sect_infer.specs.steps.Needs.{AreLawful}
-use Rattle.sect_infer.specs.Tables.{TableView, AreNumbers}
+use Rattle.sect_infer.specs.Numberings.{NumberingView, AreNumbers}
 use Rattle.sect_infer.specs.steps.Listing.{lock_at}
 use Rattle.sect_infer.specs.steps.Working.{IsVisit, IsWorking}
 use Rattle.sect_infer.proofs.Apart.{apart_one, apart_short}
@@ -75,13 +75,13 @@ named_apart keys (n ∷ ns) apart there a = (
 
 module _ (s : SchemeView) (t : ℕ) (g : List Node) (lawful : AreLawful s t g) where
   -- a node has at most all locks of the program
-  few : (a : TableView) (lists : List (List ℕ)) (waiting : List ℕ) → IsWorking s t g a lists waiting → (j : ℕ)
+  few : (a : NumberingView) (lists : List (List ℕ)) (waiting : List ℕ) → IsWorking s t g a lists waiting → (j : ℕ)
       → length (slice_index_or lists j []) ≤ length (all_locks s)
   few a lists waiting w j =
       let ns : List ℕ = slice_index_or lists j [] in
       let there = w.numbered.numbers j in
       let short = apart_short the_lock_laws lock_tells (map (lock_at a.keys) ns) (all_locks s)
-      (named_apart a.keys ns w.numbered.table.apart there (w.numbered.apart j))
+      (named_apart a.keys ns w.numbered.numbering.apart there (w.numbered.apart j))
       (λ l h. let n = Has-unmap (lock_at a.keys) ns l h in
       finite_locks s t l (lawful_at s t g lawful a lists w.derived j l
       (n.0, n.1, named a.keys n.0 (there n.0 n.1) ∙ ap (λ x. Some x) n.2))) in
@@ -101,7 +101,7 @@ less : (m x y v w : ℕ) → y + 1 ≤ x → v < m → m * y + v < m * x + w
 less m x y v w h k = let p = mul-le-mul_left m h in omega (arith, p, k)
 
 -- each visit takes a node out, or finds more
-module _ (s : SchemeView) (t : ℕ) (g : List Node) (lawful : AreLawful s t g) (a d : TableView)
+module _ (s : SchemeView) (t : ℕ) (g : List Node) (lawful : AreLawful s t g) (a d : NumberingView)
     (before after : List (List ℕ)) (rest later : List ℕ) (j : ℕ) (any : Bool) (within : j < length g)
     (w : IsWorking s t g a before (rest ++ j ∷ [])) (v : IsVisit s t g a before d after j any)
     (new : IsWorking s t g d after later) where

@@ -13,14 +13,14 @@ use Rattle.sect_names.specs.Schemes.{SchemeView}
 use Rattle.sect_names.specs.Carrying.{CarriedBack}
 use Rattle.sect_names.proofs.Making.{last_of, so_far}
 use Rattle.sect_infer.specs.Numbers.{with_number}
-use Rattle.sect_infer.specs.Tables.{TableView, HasLock, AreNumbers, IsNumbered, IsFinding, Finds}
+use Rattle.sect_infer.specs.Numberings.{NumberingView, HasLock, AreNumbers, IsNumbered, IsFinding, Finds}
 use Rattle.sect_infer.proofs.Apart.{with_has, with_apart, with_behind}
-use Rattle.sect_infer.proofs.Tabling.{extends_none, extends_then, extends_at, extends_lock, extends_back}
-use Rattle.sect_infer.proofs.Tabling.{extends_numbers}
+use Rattle.sect_infer.proofs.Extending.{extends_none, extends_then, extends_at, extends_lock, extends_back}
+use Rattle.sect_infer.proofs.Extending.{extends_numbers}
 
 module _ (s : SchemeView) where
   -- nothing is found
-  pub finds_none : (a : TableView) (ns : List ℕ) (P : Lock → Type 0) → IsFinding s a ns → ((l : Lock) → P l → ⊥)
+  pub finds_none : (a : NumberingView) (ns : List ℕ) (P : Lock → Type 0) → IsFinding s a ns → ((l : Lock) → P l → ⊥)
       → Finds s a ns a ns P
   finds_none a ns P f nothing = record {
     finding = f;
@@ -31,7 +31,7 @@ module _ (s : SchemeView) where
   }
 
   -- the same, said of another property that holds of the same locks
-  pub finds_as : (a b : TableView) (ns ms : List ℕ) (P Q : Lock → Type 0) → ((l : Lock) → Q l ↔ P l)
+  pub finds_as : (a b : NumberingView) (ns ms : List ℕ) (P Q : Lock → Type 0) → ((l : Lock) → Q l ↔ P l)
       → Finds s a ns b ms P → Finds s a ns b ms Q
   finds_as a b ns ms P Q same f = record {
     finding = f.finding;
@@ -42,7 +42,7 @@ module _ (s : SchemeView) where
   }
 
   -- first some and then others
-  pub finds_then : (a b c : TableView) (ns ms os : List ℕ) (P Q : Lock → Type 0) → Finds s a ns b ms P
+  pub finds_then : (a b c : NumberingView) (ns ms os : List ℕ) (P Q : Lock → Type 0) → Finds s a ns b ms P
       → Finds s b ms c os Q → Finds s a ns c os (λ l. P l ⊎ Q l)
   finds_then a b c ns ms os P Q f g = record {
     finding = g.finding;
@@ -65,11 +65,11 @@ module _ (s : SchemeView) where
           (k.0, subst (λ xs. Has xs k.0) (sym g.behind.1) (Has-left ms g.behind.0 k.0 k.1), k.2)
 
   -- one lock
-  pub finds_one : (a b : TableView) (ns : List ℕ) (l : Lock) (n : ℕ) → IsFinding s a ns → IsNumbered s a b l n
+  pub finds_one : (a b : NumberingView) (ns : List ℕ) (l : Lock) (n : ℕ) → IsFinding s a ns → IsNumbered s a b l n
       → Finds s a ns b (with_number ns n) (λ x. x ≡ l)
   finds_one a b ns l n f k = record {
     finding = record {
-      table = k.table;
+      numbering = k.numbering;
       numbers = λ m h. elim ((with_has ns n m).0 h) [
         | inl old ↦ extends_numbers a b k.longer ns f.numbers m old
         | inr e ↦ (let w = slice_get_within b.keys n l k.there in omega (arith, w, e))
@@ -86,7 +86,7 @@ module _ (s : SchemeView) where
   }
 
   -- the next of these locks
-  pub finds_next : (a b c : TableView) (ns ms os : List ℕ) (locks : List Lock) (i : ℕ) (l : Lock) → i < length locks
+  pub finds_next : (a b c : NumberingView) (ns ms os : List ℕ) (locks : List Lock) (i : ℕ) (l : Lock) → i < length locks
       → l ≡ get_or locks i l
       → Finds s a ns b ms (Has (take i locks)) → Finds s b ms c os (λ x. x ≡ l)
       → Finds s a ns c os (Has (take (i + 1) locks))
@@ -96,7 +96,7 @@ module _ (s : SchemeView) where
       (finds_then a b c ns ms os (Has (take i locks)) (λ x. x ≡ l) f g)
 
   -- all of these locks
-  pub finds_done : (a b : TableView) (ns ms : List ℕ) (locks : List Lock) (i : ℕ) → length locks ≤ i
+  pub finds_done : (a b : NumberingView) (ns ms : List ℕ) (locks : List Lock) (i : ℕ) → length locks ≤ i
       → Finds s a ns b ms (Has (take i locks)) → Finds s a ns b ms (Has locks)
   finds_done a b ns ms locks i past f = subst (λ ls. Finds s a ns b ms (Has ls)) (take_all i locks past) f
 
@@ -106,7 +106,7 @@ module _ (s : SchemeView) where
     CarriedOf keys numbers r = (l : Lock) × HasLock keys numbers l × CarriedBack s t label l r
 
     -- the next number, and all of them
-    pub carried_next : (a b c : TableView) (ns ms os numbers : List ℕ) (i n : ℕ) → i < length numbers
+    pub carried_next : (a b c : NumberingView) (ns ms os numbers : List ℕ) (i n : ℕ) → i < length numbers
         → n ≡ get_or numbers i n → AreNumbers a.keys numbers
         → Finds s a ns b ms (CarriedOf a.keys (take i numbers))
         → ((l : Lock) → slice_get b.keys n ≡ Some l → Finds s b ms c os (CarriedBack s t label l))
@@ -129,7 +129,7 @@ module _ (s : SchemeView) where
         (finds_then a b c ns ms os (CarriedOf a.keys (take i numbers)) (CarriedBack s t label l.0) f
         (g l.0 (extends_at a b f.longer n l.0 l.1)))
 
-    pub carried_done : (a b : TableView) (ns ms numbers : List ℕ) (i : ℕ) → length numbers ≤ i
+    pub carried_done : (a b : NumberingView) (ns ms numbers : List ℕ) (i : ℕ) → length numbers ≤ i
         → Finds s a ns b ms (CarriedOf a.keys (take i numbers)) → Finds s a ns b ms (CarriedOf a.keys numbers)
     carried_done a b ns ms numbers i past f =
         subst (λ xs. Finds s a ns b ms (CarriedOf a.keys xs)) (take_all i numbers past) f

@@ -20,7 +20,7 @@ use Rattle.sect_names.specs.Needed.{CarriedOver, IsNeededOn, IsNeeded, IsNeededF
 use Rattle.sect_names.specs.Order.{AreMaximal}
 use Rattle.sect_names.proofs.Maximals.{maximal_as, maximal_least}
 use Rattle.sect_infer.specs.steps.Needs.{need, IsDerived, AreLawful}
-use Rattle.sect_infer.specs.Tables.{TableView, HasLock, AreNumbers, IsTable}
+use Rattle.sect_infer.specs.Numberings.{NumberingView, HasLock, AreNumbers, IsNumbering}
 use Rattle.sect_infer.specs.steps.Working.{IsSettled}
 use Rattle.sect_infer.specs.steps.Listing.{IsOrder, listed}
 use Rattle.sect_infer.specs.steps.Found.{AreFound, AreAllOnAll, IsFound, IsOnAll}
@@ -38,7 +38,7 @@ mapped_at f (x ∷ xs) (suc j) y at = mapped_at f xs j y at
 
 module _ (s : SchemeView) (t : ℕ) (g : List Node) where
   -- where the work has settled, each node's list has the maximal locks of those that are derived there
-  pub are_found : (a : TableView) (lists : List (List ℕ)) (order : List ℕ) → IsSettled s t g a lists
+  pub are_found : (a : NumberingView) (lists : List (List ℕ)) (order : List ℕ) → IsSettled s t g a lists
       → IsOrder a.keys order → AreFound s t g (map (listed a order) lists)
   are_found a lists order settled o = record {
     count = length-map lists (listed a order) ∙ settled.numbered.count;
@@ -51,7 +51,7 @@ module _ (s : SchemeView) (t : ℕ) (g : List Node) where
         (λ l h. settled.derived j l (subst (λ ms. HasLock a.keys ms l) (sym here) h))
         (λ l d. let over = settled.covered j l d in
         (over.0, subst (λ ms. HasLock a.keys ms over.0) here over.1, over.2))
-        (listed_maximal s a settled.numbered.table order o ns.0 there));
+        (listed_maximal s a settled.numbered.numbering order o ns.0 there));
   }
 
   -- the locks at each node are the program's
@@ -146,7 +146,8 @@ pub all_lawful : (s : SchemeView) (t n : ℕ) (lists : List (List Lock)) → Are
 all_lawful s t n lists all j locks at l h = subst (IsLockOf s t) (sym (((all.each j locks at).kept_are l).0 h).0) tt
 
 -- lists that each have the number of the lock on all
-pub are_on_all : (s : SchemeView) (a : TableView) (lists : List (List ℕ)) (order : List ℕ) (count n : ℕ) → IsTable s a
+pub are_on_all : (s : SchemeView) (a : NumberingView) (lists : List (List ℕ)) (order : List ℕ) (count n : ℕ)
+    → IsNumbering s a
     → slice_get a.keys n ≡ Some lock.All → IsOrder a.keys order → length lists ≡ count
     → ((j : ℕ) → j < count → slice_index_or lists j [] ≡ n ∷ []) → AreAllOnAll s count (map (listed a order) lists)
 are_on_all s a lists order count n is at o long each = record {

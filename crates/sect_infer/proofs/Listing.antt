@@ -18,7 +18,7 @@ use Rattle.sect_names.proofs.Finiteness.{Has-map}
 use Rattle.sect_names.proofs.Maximals.{covered}
 use Rattle.sect_names.proofs.Telling.{lock_cases}
 use Rattle.sect_infer.specs.Numbers.{AreApart, has_number, with_numbers}
-use Rattle.sect_infer.specs.Tables.{TableView, HasLock, AreNumbers, IsTable, is_under}
+use Rattle.sect_infer.specs.Numberings.{NumberingView, HasLock, AreNumbers, IsNumbering, is_under}
 use Rattle.sect_infer.specs.steps.Listing.{lock_at, IsOrder, is_kept, listed}
 use Rattle.sect_infer.proofs.Apart.{Has-filter, number_tells, with_all_has, apart_one}
 use Rattle.sect_infer.proofs.Undone.{told_by, under_is, is_under_is}
@@ -78,7 +78,8 @@ negated : (b : Bool) → not b ≡ true → b ≡ true → ⊥
 negated true e f = true≢false (sym e)
 negated false e f = true≢false (sym f)
 
-module _ (s : SchemeView) (t : TableView) (is : IsTable s t) (order : List ℕ) (o : IsOrder t.keys order) (ns : List ℕ)
+module _ (s : SchemeView) (t : NumberingView) (is : IsNumbering s t) (order : List ℕ) (o : IsOrder t.keys order)
+    (ns : List ℕ)
     (there : AreNumbers t.keys ns) where
   -- the numbers, once each
   abbrev once : List ℕ

@@ -17,10 +17,10 @@ use Rattle.sect_names.proofs.Inserting.{behind}
 use Rattle.sect_infer.specs.Numbers.{AreApart}
 use Rattle.sect_infer.specs.steps.Needs.{Need, need, Derived, IsDerived, AreLawful}
 use Rattle.sect_graph.specs.Predecessors.{AreBefore}
-use Rattle.sect_infer.specs.Tables.{TableView, HasLock}
+use Rattle.sect_infer.specs.Numberings.{NumberingView, HasLock}
 use Rattle.sect_infer.specs.steps.Working.{IsFoundAt, IsCoveredAt, IsDue, AreLawfulAt, IsVisit, IsWorking, IsBegun}
 use Rattle.sect_infer.specs.steps.Working.{IsSettled}
-use Rattle.sect_infer.proofs.Tabling.{extends_lock, extends_back}
+use Rattle.sect_infer.proofs.Extending.{extends_lock, extends_back}
 
 -- whether a number is there
 is_there : (xs : List ℕ) (i : ℕ) → Has xs i ⊎ (Has xs i → ⊥)
@@ -32,11 +32,11 @@ is_there (x ∷ xs) i = elim (cases_eq x i) [
 
 module _ (s : SchemeView) (t : ℕ) (g : List Node) where
   -- nothing has been found, and all nodes wait
-  pub work_begins : (a : TableView) (lists : List (List ℕ)) (waiting : List ℕ) → IsBegun g a lists
+  pub work_begins : (a : NumberingView) (lists : List (List ℕ)) (waiting : List ℕ) → IsBegun g a lists
       → ((i : ℕ) → Has waiting i ↔ (i < length g)) → IsWorking s t g a lists waiting
   work_begins a lists waiting b all = record {
     numbered = record {
-      table = record {
+      numbering = record {
         count = ap length b.above ∙ sym (ap length b.keys);
         apart = subst AreApart (sym b.keys) tt;
         told = λ n l at. absurd (let w = slice_get_within a.keys n l at in omega (arith, w, ap length b.keys));
@@ -63,7 +63,7 @@ module _ (s : SchemeView) (t : ℕ) (g : List Node) where
   ]
 
   -- node j was taken out and gone over; where there is more, the nodes before it wait
-  module _ (a d : TableView) (before after : List (List ℕ)) (waiting later : List ℕ) (j : ℕ) (any : Bool)
+  module _ (a d : NumberingView) (before after : List (List ℕ)) (waiting later : List ℕ) (j : ℕ) (any : Bool)
       (w : IsWorking s t g a before waiting) (v : IsVisit s t g a before d after j any)
       (waits : (i : ℕ) → Has waiting i → (i ≡ j) ⊎ Has later i)
       (woken : any ≡ true → (i : ℕ) (y : Node) → slice_get g i ≡ Some y → LeadsTo y j → Has later i) where
@@ -130,12 +130,12 @@ module _ (s : SchemeView) (t : ℕ) (g : List Node) where
     }
 
   -- the last node that waits is a node of the graph
-  pub last_within : (a : TableView) (lists : List (List ℕ)) (rest : List ℕ) (j : ℕ)
+  pub last_within : (a : NumberingView) (lists : List (List ℕ)) (rest : List ℕ) (j : ℕ)
       → IsWorking s t g a lists (rest ++ j ∷ []) → j < length g
   last_within a lists rest j w = w.nodes j (Has-right rest (j ∷ []) j (inl refl))
 
   -- it is gone over
-  module _ (a d : TableView) (before after : List (List ℕ)) (rest : List ℕ) (j : ℕ) (any : Bool)
+  module _ (a d : NumberingView) (before after : List (List ℕ)) (rest : List ℕ) (j : ℕ) (any : Bool)
       (w : IsWorking s t g a before (rest ++ j ∷ [])) (v : IsVisit s t g a before d after j any) where
     -- there is no more than was known: it is done
     pub work_quiet : any ≡ false → IsWorking s t g d after rest
@@ -165,12 +165,12 @@ module _ (s : SchemeView) (t : ℕ) (g : List Node) where
         (slice_get_within g x.node c.0 c.1, lawful.carried x.node c.0 c.1 h.0.lock x.lock before.1 c.3)
 
     -- so is what was found
-    pub lawful_at : (a : TableView) (lists : List (List ℕ))
+    pub lawful_at : (a : NumberingView) (lists : List (List ℕ))
         → ((j : ℕ) (l : Lock) → IsFoundAt a.keys lists j l → IsDerived s t g (need j l)) → AreLawfulAt s t a.keys lists
     lawful_at a lists derived j l h = let d = derived j l h in (derived_lock d.0 (need j l) d.1).1
 
     -- where no node waits, each lock that is derived is covered
-    settled_covers : (a : TableView) (lists : List (List ℕ))
+    settled_covers : (a : NumberingView) (lists : List (List ℕ))
         → ((j : ℕ) → j < length g → (l : Lock) → IsDue s t g a.keys lists j l → IsCoveredAt s a.keys lists j l)
         → (k : ℕ) (x : Need) → Derived s t g k x → IsCoveredAt s a.keys lists x.node x.lock
     settled_covers a lists closed zero x h = closed x.node (slice_get_within g x.node h.0 h.1) x.lock (inl h)
@@ -182,7 +182,7 @@ module _ (s : SchemeView) (t : ℕ) (g : List Node) where
         (top.0, top.1, covers_trans s top.0 over.0 x.lock top.2 over.2)
 
     -- so the work has settled
-    pub work_ends : (a : TableView) (lists : List (List ℕ)) (waiting : List ℕ) → waiting ≡ []
+    pub work_ends : (a : NumberingView) (lists : List (List ℕ)) (waiting : List ℕ) → waiting ≡ []
         → IsWorking s t g a lists waiting → IsSettled s t g a lists
     work_ends a lists waiting none w = record {
       numbered = w.numbered;

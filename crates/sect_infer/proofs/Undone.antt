@@ -8,7 +8,7 @@ use Rattle.sect_names.specs.declared.lock.Lock.{Lock}
 use Rattle.sect_names.specs.Schemes.{SchemeView}
 use Rattle.sect_names.specs.Locks.{IsOutdone}
 use Rattle.sect_infer.specs.Numbers.{has_number}
-use Rattle.sect_infer.specs.Tables.{TableView, HasLock, IsTable, is_under}
+use Rattle.sect_infer.specs.Numberings.{NumberingView, HasLock, IsNumbering, is_under}
 use Rattle.sect_infer.proofs.Apart.{apart_one, number_tells}
 
 -- a test tells one of two
@@ -38,7 +38,7 @@ any_is {X} p (y ∷ ys) x h e = elim h [
     go true rest = refl
     go false rest = rest
 
-module _ (s : SchemeView) (t : TableView) (is : IsTable s t) (ns : List ℕ) (n : ℕ) (l : Lock)
+module _ (s : SchemeView) (t : NumberingView) (is : IsNumbering s t) (ns : List ℕ) (n : ℕ) (l : Lock)
     (at : slice_get t.keys n ≡ Some l) where
   -- a number that is above that of a lock is that of one that outdoes it
   pub under_is : is_under t.above ns n ≡ true → IsOutdone s (HasLock t.keys ns) l

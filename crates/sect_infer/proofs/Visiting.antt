@@ -17,17 +17,17 @@ use Rattle.sect_names.specs.Locks.{IsOutdone}
 use Rattle.sect_names.specs.Carrying.{Generated, CarriedBack}
 use Rattle.sect_names.proofs.Maximals.{covered}
 use Rattle.sect_infer.specs.Numbers.{with_numbers, AreApart}
-use Rattle.sect_infer.specs.Tables.{TableView, HasLock, AreNumbers, IsFinding, Finds, is_under, fresh_from}
+use Rattle.sect_infer.specs.Numberings.{NumberingView, HasLock, AreNumbers, IsFinding, Finds, is_under, fresh_from}
 use Rattle.sect_infer.specs.steps.Needs.{need, IsSeed}
 use Rattle.sect_infer.specs.steps.Working.{IsCarried, AreNumbered, IsVisit}
-use Rattle.sect_infer.proofs.Tabling.{extends_lock, extends_back, extends_numbers}
+use Rattle.sect_infer.proofs.Extending.{extends_lock, extends_back, extends_numbers}
 use Rattle.sect_infer.proofs.Apart.{with_all_has, with_all_apart, apart_join, apart_back, apart_across, apart_filter}
 use Rattle.sect_infer.proofs.Apart.{Has-filter}
 use Rattle.sect_infer.proofs.Undone.{told_by, under_is}
 use Rattle.sect_infer.proofs.Carrying.{CarriedOf, finds_none, finds_as, finds_then}
 
 module _ (s : SchemeView) (t : ℕ) (g : List Node) (j : ℕ) (y : Node) (at : slice_get g j ≡ Some y) where
-  module _ (lists : List (List ℕ)) (a : TableView) where
+  module _ (lists : List (List ℕ)) (a : NumberingView) where
     -- what is carried back to node j is carried back from a successor
     carried_tells : (keys : List Lock) (r : Lock)
         → IsCarried s t g keys lists j r
@@ -39,7 +39,7 @@ module _ (s : SchemeView) (t : ℕ) (g : List Node) (j : ℕ) (y : Node) (at : s
     )
 
     -- where control goes on to one node, or to one of two
-    pub carried_next_node : (b : TableView) (ns ms : List ℕ) (next : ℕ) → y.next ≡ Next next
+    pub carried_next_node : (b : NumberingView) (ns ms : List ℕ) (next : ℕ) → y.next ≡ Next next
         → Finds s a ns b ms (CarriedOf s t y.label a.keys (slice_index_or lists next []))
         → Finds s a ns b ms (IsCarried s t g a.keys lists j)
     carried_next_node b ns ms next goes f =
@@ -52,7 +52,7 @@ module _ (s : SchemeView) (t : ℕ) (g : List Node) (j : ℕ) (y : Node) (at : s
           λ h. (carried_tells a.keys r).1 (next, subst (λ o. IsSuccessor o next) (sym goes) refl, h),
         )) f
 
-    pub carried_branch : (b c : TableView) (ns ms os : List ℕ) (holds fails : ℕ) → y.next ≡ Branch holds fails
+    pub carried_branch : (b c : NumberingView) (ns ms os : List ℕ) (holds fails : ℕ) → y.next ≡ Branch holds fails
         → AreNumbers a.keys (slice_index_or lists fails [])
         → Finds s a ns b ms (CarriedOf s t y.label a.keys (slice_index_or lists holds []))
         → Finds s b ms c os (CarriedOf s t y.label b.keys (slice_index_or lists fails []))
@@ -93,12 +93,12 @@ module _ (s : SchemeView) (t : ℕ) (g : List Node) (j : ℕ) (y : Node) (at : s
     )
 
     -- it generates nothing, or this lock
-    pub own_none : (a : TableView) (ns : List ℕ) → o ≡ None → IsFinding s a ns
+    pub own_none : (a : NumberingView) (ns : List ℕ) → o ≡ None → IsFinding s a ns
         → Finds s a ns a ns (λ l. IsSeed s t g (need j l))
     own_none a ns is f = finds_none s a ns (λ l. IsSeed s t g (need j l)) f
         (λ l h. let e = (seed_is l).0 h in absurd cc)
 
-    pub own_some : (a b : TableView) (ns ms : List ℕ) (l : Lock) → o ≡ Some l → Finds s a ns b ms (λ x. x ≡ l)
+    pub own_some : (a b : NumberingView) (ns ms : List ℕ) (l : Lock) → o ≡ Some l → Finds s a ns b ms (λ x. x ≡ l)
         → Finds s a ns b ms (λ x. IsSeed s t g (need j x))
     own_some a b ns ms l is f = finds_as s a b ns ms (λ x. x ≡ l) (λ x. IsSeed s t g (need j x))
         (λ x. (λ h. (let e = (seed_is x).0 h in cc), λ e. (seed_is x).1 (is ∙ ap (λ z. Some z) (sym e)))) f
@@ -111,7 +111,8 @@ drop_front (x ∷ xs) ys zero e = absurd (omega (arith, e))
 drop_front (x ∷ xs) ys (suc k) e = drop_front xs ys k (omega (arith, e))
 
 -- node j has been gone over: these numbers were found, first those that it had
-module _ (s : SchemeView) (t : ℕ) (g : List Node) (j : ℕ) (a b d : TableView) (lists : List (List ℕ)) (ms os : List ℕ)
+module _ (s : SchemeView) (t : ℕ) (g : List Node) (j : ℕ) (a b d : NumberingView) (lists : List (List ℕ))
+    (ms os : List ℕ)
     (known : AreNumbered s g a lists) where
   abbrev pub had : List ℕ
   had = slice_index_or lists j []
@@ -123,7 +124,7 @@ module _ (s : SchemeView) (t : ℕ) (g : List Node) (j : ℕ) (a b d : TableView
   -- they are what a search begins with
   pub begun_finding : IsFinding s a begun
   begun_finding = record {
-    table = known.table;
+    numbering = known.numbering;
     numbers = λ n h. elim ((with_all_has [] had n).0 h) [ inl none ↦ absurd none | inr k ↦ known.numbers j n k ];
     apart = with_all_apart [] had tt;
   }
@@ -154,12 +155,12 @@ module _ (s : SchemeView) (t : ℕ) (g : List Node) (j : ℕ) (a b d : TableView
         (omega (arith, ap length behind, length-drop (length before) found)) in
         all.behind.1 ∙ ap (λ xs. begun ++ xs) (sym same)
 
-    -- the table tells of them
+    -- the numbering tells of them
     new_there : (n : ℕ) → Has new n → n < length d.keys
     new_there n h = all.finding.numbers n (subst (λ xs. Has xs n) (sym os_is) (Has-right begun new n h))
 
     pub new_within : (n : ℕ) → Has new n → n < length d.above
-    new_within n h = let w = new_there n h in omega (arith, w, all.finding.table.count)
+    new_within n h = let w = new_there n h in omega (arith, w, all.finding.numbering.count)
 
     -- they were found
     fresh_there : (n : ℕ) → Has fresh n → Has os n
@@ -172,7 +173,7 @@ module _ (s : SchemeView) (t : ℕ) (g : List Node) (j : ℕ) (a b d : TableView
       | inl old ↦ elim ((with_all_has [] had h.0).0 old)
           [ inl none ↦ absurd none | inr k ↦ inl (h.0, Has-left had fresh h.0 k, h.2) ]
       | inr more ↦ elim (told_by (is_under d.above os h.0)) [
-        | inl under ↦ inr (under_is s d all.finding.table os h.0 x h.2 under)
+        | inl under ↦ inr (under_is s d all.finding.numbering os h.0 x h.2 under)
         | inr free ↦ inl (
           h.0,
           Has-right had fresh h.0
@@ -200,7 +201,7 @@ module _ (s : SchemeView) (t : ℕ) (g : List Node) (j : ℕ) (a b d : TableView
         | inr n ↦ subst P (sym (other i n)) (at_other i)
       ]
 
-      -- the table tells of each of its numbers, and none is there twice
+      -- the numbering tells of each of its numbers, and none is there twice
       numbers : AreNumbers d.keys (had ++ fresh)
       numbers n h = elim (Has-cases had fresh n h) [
         | inl k ↦ extends_numbers a d all.longer had (known.numbers j) n k
@@ -219,7 +220,7 @@ module _ (s : SchemeView) (t : ℕ) (g : List Node) (j : ℕ) (a b d : TableView
       pub visit_is : IsVisit s t g a lists d after j any
       visit_is = record {
         numbered = record {
-          table = all.finding.table;
+          numbering = all.finding.numbering;
           count = ap length is ∙ length-set lists j (had ++ fresh) ∙ known.count;
           numbers = each (AreNumbers d.keys) numbers
               (λ i. extends_numbers a d all.longer (slice_index_or lists i []) (known.numbers i));

@@ -1,5 +1,5 @@
 pub mod Sets
 pub mod Numbers
-pub mod Tables
+pub mod Numberings
 pub mod Workers
 pub mod steps

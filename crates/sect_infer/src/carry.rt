@@ -5,10 +5,10 @@ ghost use Rattle.sect_names.specs.declared.lock.Lock.{Lock};
 ghost use Rattle.sect_names.specs.Locks.{IsLockOf};
 ghost use Rattle.sect_names.specs.Carrying.{CarriedBack};
 ghost use Rattle.sect_types.specs.Lists.{Has};
-ghost use Rattle.sect_infer.specs.Tables.{HasLock, AreNumbers, IsFinding, Finds};
+ghost use Rattle.sect_infer.specs.Numberings.{HasLock, AreNumbers, IsFinding, Finds};
 
+use crate::numbering::Numbering;
 use crate::numbers::Numbers;
-use crate::table::Table;
 use sect_names::{Lock, Scheme, stays};
 use sect_types::Label;
 use std::alloc::{AllocError, Global};
@@ -17,14 +17,14 @@ use std::alloc::{AllocError, Global};
 pub fn find(
     alloc: Global,
     scheme: &Scheme,
-    table: &mut Table,
+    numbering: &mut Numbering,
     found: &mut Numbers,
     lock: &Lock,
 ) -> Result<(), AllocError>
-    requires { IsFinding scheme.now table.old found.old }
-    ensures { OnOk result (Finds scheme.now table.old found.old table.new found.new (λ l. l ≡ lock.now)) }
+    requires { IsFinding scheme.now numbering.old found.old }
+    ensures { OnOk result (Finds scheme.now numbering.old found.old numbering.new found.new (λ l. l ≡ lock.now)) }
 {
-    let number = table.number(alloc, scheme, lock)?;
+    let number = numbering.number(alloc, scheme, lock)?;
     found.insert(number)?;
     Ok(())
 }
@@ -33,15 +33,15 @@ pub fn find(
 fn find_all(
     alloc: Global,
     scheme: &Scheme,
-    table: &mut Table,
+    numbering: &mut Numbering,
     found: &mut Numbers,
     locks: &[Lock],
 ) -> Result<(), AllocError>
-    requires { IsFinding scheme.now table.old found.old }
-    ensures { OnOk result (Finds scheme.now table.old found.old table.new found.new (Has locks.now)) }
+    requires { IsFinding scheme.now numbering.old found.old }
+    ensures { OnOk result (Finds scheme.now numbering.old found.old numbering.new found.new (Has locks.now)) }
 {
     for lock in locks {
-        find(alloc, scheme, table, found, lock)?;
+        find(alloc, scheme, numbering, found, lock)?;
     }
     Ok(())
 }
@@ -52,17 +52,18 @@ fn carry_over(
     scheme: &Scheme,
     thread: u16,
     label: &Label,
-    table: &mut Table,
+    numbering: &mut Numbering,
     found: &mut Numbers,
     number: usize,
 ) -> Result<(), AllocError>
-    requires finding { IsFinding scheme.now table.old found.old }
-    requires number { number < length table.old.keys }
-    ensures { OnOk result ((l : Lock) → slice_get table.old.keys number ≡ Some l
-        → Finds scheme.now table.old found.old table.new found.new (CarriedBack scheme.now thread label.now l)) }
+    requires finding { IsFinding scheme.now numbering.old found.old }
+    requires number { number < length numbering.old.keys }
+    ensures { OnOk result ((l : Lock) → slice_get numbering.old.keys number ≡ Some l
+        → Finds scheme.now numbering.old found.old numbering.new found.new
+            (CarriedBack scheme.now thread label.now l)) }
 {
-    let locks = scheme.rewrite(alloc, thread, *label, table.lock(number))?;
-    find_all(alloc, scheme, table, found, locks.as_slice())
+    let locks = scheme.rewrite(alloc, thread, *label, numbering.lock(number))?;
+    find_all(alloc, scheme, numbering, found, locks.as_slice())
 }
 
 /// Finds what is needed before a node for one lock that is needed after it, which has this number.
@@ -71,21 +72,22 @@ pub fn carry_one(
     scheme: &Scheme,
     thread: u16,
     label: &Label,
-    table: &mut Table,
+    numbering: &mut Numbering,
     found: &mut Numbers,
     number: usize,
 ) -> Result<(), AllocError>
-    requires finding { IsFinding scheme.now table.old found.old }
-    requires number { number < length table.old.keys }
-    requires lawful { (l : Lock) → slice_get table.old.keys number ≡ Some l → IsLockOf scheme.now thread l }
-    ensures { OnOk result ((l : Lock) → slice_get table.old.keys number ≡ Some l
-        → Finds scheme.now table.old found.old table.new found.new (CarriedBack scheme.now thread label.now l)) }
+    requires finding { IsFinding scheme.now numbering.old found.old }
+    requires number { number < length numbering.old.keys }
+    requires lawful { (l : Lock) → slice_get numbering.old.keys number ≡ Some l → IsLockOf scheme.now thread l }
+    ensures { OnOk result ((l : Lock) → slice_get numbering.old.keys number ≡ Some l
+        → Finds scheme.now numbering.old found.old numbering.new found.new
+            (CarriedBack scheme.now thread label.now l)) }
 {
-    if stays(thread, label, table.lock(number)) {
+    if stays(thread, label, numbering.lock(number)) {
         found.insert(number)?;
         Ok(())
     } else {
-        carry_over(alloc, scheme, thread, label, table, found, number)
+        carry_over(alloc, scheme, thread, label, numbering, found, number)
     }
 }
 
@@ -95,18 +97,18 @@ pub fn carry(
     scheme: &Scheme,
     thread: u16,
     label: &Label,
-    table: &mut Table,
+    numbering: &mut Numbering,
     found: &mut Numbers,
     numbers: &[usize],
 ) -> Result<(), AllocError>
-    requires finding { IsFinding scheme.now table.old found.old }
-    requires numbers { AreNumbers table.old.keys numbers.now }
-    requires lawful { (l : Lock) → HasLock table.old.keys numbers.now l → IsLockOf scheme.now thread l }
-    ensures { OnOk result (Finds scheme.now table.old found.old table.new found.new
-        (λ r. (l : Lock) × HasLock table.old.keys numbers.now l × CarriedBack scheme.now thread label.now l r)) }
+    requires finding { IsFinding scheme.now numbering.old found.old }
+    requires numbers { AreNumbers numbering.old.keys numbers.now }
+    requires lawful { (l : Lock) → HasLock numbering.old.keys numbers.now l → IsLockOf scheme.now thread l }
+    ensures { OnOk result (Finds scheme.now numbering.old found.old numbering.new found.new
+        (λ r. (l : Lock) × HasLock numbering.old.keys numbers.now l × CarriedBack scheme.now thread label.now l r)) }
 {
     for number in numbers {
-        carry_one(alloc, scheme, thread, label, table, found, *number)?;
+        carry_one(alloc, scheme, thread, label, numbering, found, *number)?;
     }
     Ok(())
 }

@@ -4,15 +4,15 @@
 mod carry;
 mod lists;
 mod locks;
+mod numbering;
 mod numbers;
 mod section;
-mod table;
 mod work;
 mod workers;
 
 pub use carry::carry_one;
 pub use locks::Locks;
+pub use numbering::Numbering;
 pub use numbers::Numbers;
 pub use section::infer;
-pub use table::Table;
 pub use workers::{InferFault, MOST_WORKERS, Seen, check_workers, infer_all};

@@ -8,8 +8,8 @@ ghost use Rattle.sect_infer.specs.Numbers.{AreApart};
 ghost use Rattle.sect_infer.specs.steps.Listing.{IsOrder, IsListable, is_kept, listed};
 
 use crate::lists::Lists;
+use crate::numbering::Numbering;
 use crate::numbers::Numbers;
-use crate::table::Table;
 use sect_names::Lock;
 use std::alloc::{AllocError, Global};
 use std::collections::BTreeSet;
@@ -19,7 +19,7 @@ use std::marker::Model;
 /// there on, in canonical order. Those of the first node are taken at the section's entry.
 #[derive(Drop)]
 pub struct Locks {
-    table: Table,
+    numbering: Numbering,
     order: Vec<usize>,
     lists: Lists,
     entry: Vec<Lock>,
@@ -37,34 +37,34 @@ impl Model for Locks {
     ghost coded = { Prim.hlevel (codes, path_code) };
 
     ghost view = { λ l. record {
-      at = map (listed l.table l.order.items) l.lists;
+      at = map (listed l.numbering l.order.items) l.lists;
       entry = l.entry.items;
     } };
 
-    ghost invariant = { λ l. IsListable l.table l.order.items };
+    ghost invariant = { λ l. IsListable l.numbering l.order.items };
 }
 
-/// The locks of a table, in canonical order.
-fn sorted(alloc: Global, table: &Table) -> Result<Vec<Lock>, AllocError>
-    ensures all { IfOk result (λ locks. (l : Lock) → Has locks.items l ↔ Has table.now.keys l) }
+/// The locks of a numbering, in canonical order.
+fn sorted(alloc: Global, numbering: &Numbering) -> Result<Vec<Lock>, AllocError>
+    ensures all { IfOk result (λ locks. (l : Lock) → Has locks.items l ↔ Has numbering.now.keys l) }
     ensures in_order { IfOk result (λ locks. AreInOrder locks.items) }
 {
     let mut locks = BTreeSet::new(alloc);
-    for number in 0..table.len() {
-        locks.insert(table.lock(number).try_clone()?)?;
+    for number in 0..numbering.len() {
+        locks.insert(numbering.lock(number).try_clone()?)?;
     }
     Ok(locks.into_iter().collect(alloc)?)
 }
 
-/// The numbers of the locks of a table, in the canonical order of these.
-fn in_order(alloc: Global, table: &Table) -> Result<Vec<usize>, AllocError>
-    requires { AreApart table.now.keys }
-    ensures { IfOk result (λ order. IsOrder table.now.keys order.items) }
+/// The numbers of the locks of a numbering, in the canonical order of these.
+fn in_order(alloc: Global, numbering: &Numbering) -> Result<Vec<usize>, AllocError>
+    requires { AreApart numbering.now.keys }
+    ensures { IfOk result (λ order. IsOrder numbering.now.keys order.items) }
 {
-    let locks = sorted(alloc, table)?;
+    let locks = sorted(alloc, numbering)?;
     let mut order = Vec::new(alloc);
     for lock in locks.as_slice() {
-        if let Some(number) = table.find(lock) {
+        if let Some(number) = numbering.find(lock) {
             order.push(number)?;
         }
     }
@@ -72,29 +72,29 @@ fn in_order(alloc: Global, table: &Table) -> Result<Vec<usize>, AllocError>
 }
 
 /// Whether a number is among these, and none of them is that of another lock that covers its lock.
-fn is_kept(table: &Table, numbers: &Numbers, number: usize) -> bool
-    requires { number < length table.now.above }
-    ensures { result ≡ is_kept table.now.above numbers.now number }
+fn is_kept(numbering: &Numbering, numbers: &Numbers, number: usize) -> bool
+    requires { number < length numbering.now.above }
+    ensures { result ≡ is_kept numbering.now.above numbers.now number }
 {
-    numbers.has(number) && !table.is_under(numbers, number)
+    numbers.has(number) && !numbering.is_under(numbers, number)
 }
 
 /// Those of the locks with these numbers that no other of them covers, in canonical order.
 fn list(
     alloc: Global,
-    table: &Table,
+    numbering: &Numbering,
     order: &[usize],
     numbers: &[usize],
 ) -> Result<Vec<Lock>, AllocError>
-    requires { IsListable table.now order.now }
-    ensures { IfOk result (λ locks. locks.items ≡ listed table.now order.now numbers.now) }
+    requires { IsListable numbering.now order.now }
+    ensures { IfOk result (λ locks. locks.items ≡ listed numbering.now order.now numbers.now) }
 {
     let mut found = Numbers::new(alloc);
     found.insert_all(numbers)?;
     let mut locks = Vec::new(alloc);
     for number in order {
-        if is_kept(table, &found, *number) {
-            locks.push(table.lock(*number).try_clone()?)?;
+        if is_kept(numbering, &found, *number) {
+            locks.push(numbering.lock(*number).try_clone()?)?;
         }
     }
     Ok(locks)
@@ -102,17 +102,17 @@ fn list(
 
 impl Locks {
     /// The locks of which each node has those with its numbers.
-    pub(crate) fn of(alloc: Global, table: Table, lists: Lists) -> Result<Locks, AllocError>
+    pub(crate) fn of(alloc: Global, numbering: Numbering, lists: Lists) -> Result<Locks, AllocError>
         requires some { 0 < length lists }
-        requires apart { AreApart table.keys }
-        requires count { length table.above ≡ length table.keys }
-        ensures { IfOk result (λ locks. (order : List ℕ) × IsOrder table.keys order
-            × (locks.at ≡ map (listed table order) lists) × (slice_get locks.at 0 ≡ Some locks.entry)) }
+        requires apart { AreApart numbering.keys }
+        requires count { length numbering.above ≡ length numbering.keys }
+        ensures { IfOk result (λ locks. (order : List ℕ) × IsOrder numbering.keys order
+            × (locks.at ≡ map (listed numbering order) lists) × (slice_get locks.at 0 ≡ Some locks.entry)) }
     {
-        let order = in_order(alloc, &table)?;
-        let entry = list(alloc, &table, order.as_slice(), lists.of(0))?;
+        let order = in_order(alloc, &numbering)?;
+        let entry = list(alloc, &numbering, order.as_slice(), lists.of(0))?;
         Ok(Locks {
-            table,
+            numbering,
             order,
             lists,
             entry,
@@ -133,7 +133,7 @@ impl Locks {
     {
         list(
             alloc,
-            &self.table,
+            &self.numbering,
             self.order.as_slice(),
             self.lists.of(node),
         )

@@ -13,7 +13,7 @@ ghost use Rattle.sect_infer.specs.Sets.{AreLocksOf};
 
 use crate::lists::Lists;
 use crate::locks::Locks;
-use crate::table::Table;
+use crate::numbering::Numbering;
 use crate::work::settle;
 use sect_front::Locking;
 use sect_graph::Flow;
@@ -65,21 +65,21 @@ fn found(alloc: Global, scheme: &Scheme, thread: u16, flow: &Flow) -> Result<Loc
     requires { AreLawful scheme.now thread flow.now }
     ensures { IfOk result (IsFound scheme.now thread flow.now) }
 {
-    let mut table = Table::new(alloc);
+    let mut numbering = Numbering::new(alloc);
     let mut lists = Lists::new(alloc, flow.exit() as usize + 1)?;
-    settle(alloc, scheme, thread, flow, &mut table, &mut lists)?;
-    Locks::of(alloc, table, lists)
+    settle(alloc, scheme, thread, flow, &mut numbering, &mut lists)?;
+    Locks::of(alloc, numbering, lists)
 }
 
 /// The lock on all at each node of a graph, and at its exit.
 fn on_all_of(alloc: Global, scheme: &Scheme, flow: &Flow) -> Result<Locks, AllocError>
     ensures { IfOk result (IsOnAll scheme.now (length flow.now + 1)) }
 {
-    let mut table = Table::new(alloc);
-    let number = table.number(alloc, scheme, &Lock::All)?;
+    let mut numbering = Numbering::new(alloc);
+    let number = numbering.number(alloc, scheme, &Lock::All)?;
     let mut lists = Lists::new(alloc, flow.exit() as usize + 1)?;
     for node in 0..flow.exit() + 1 {
         lists.push(node, number)?;
     }
-    Locks::of(alloc, table, lists)
+    Locks::of(alloc, numbering, lists)
 }

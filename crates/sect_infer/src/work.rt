@@ -6,13 +6,13 @@ ghost use Rattle.std.specs.List.Sorted.{IsStrictlySortedBy};
 ghost use Rattle.std.specs.Ordering.{nat_cmp};
 ghost use Rattle.sect_types.specs.Lists.{Has};
 ghost use Rattle.sect_infer.specs.steps.Needs.{need, IsSeed, AreLawful};
-ghost use Rattle.sect_infer.specs.Tables.{IsFinding, Finds, fresh_from};
+ghost use Rattle.sect_infer.specs.Numberings.{IsFinding, Finds, fresh_from};
 ghost use Rattle.sect_infer.specs.steps.Working.{AreNumbered, AreLawfulAt, IsCarried, IsVisit, IsBegun, IsSettled};
 
 use crate::carry::{carry, find};
 use crate::lists::Lists;
+use crate::numbering::Numbering;
 use crate::numbers::Numbers;
-use crate::table::Table;
 use sect_graph::{Flow, Successors, predecessors_of};
 use sect_names::Scheme;
 use std::alloc::{AllocError, Global};
@@ -24,26 +24,50 @@ fn find_after(
     scheme: &Scheme,
     thread: u16,
     flow: &Flow,
-    table: &mut Table,
+    numbering: &mut Numbering,
     found: &mut Numbers,
     lists: &Lists,
     node: u16,
 ) -> Result<(), AllocError>
     requires node { node < length flow.now }
-    requires finding { IsFinding scheme.now table.old found.old }
-    requires numbered { AreNumbered scheme.now flow.now table.old lists.now }
-    requires lawful { AreLawfulAt scheme.now thread table.old.keys lists.now }
-    ensures { OnOk result (Finds scheme.now table.old found.old table.new found.new
-        (IsCarried scheme.now thread flow.now table.old.keys lists.now node)) }
+    requires finding { IsFinding scheme.now numbering.old found.old }
+    requires numbered { AreNumbered scheme.now flow.now numbering.old lists.now }
+    requires lawful { AreLawfulAt scheme.now thread numbering.old.keys lists.now }
+    ensures { OnOk result (Finds scheme.now numbering.old found.old numbering.new found.new
+        (IsCarried scheme.now thread flow.now numbering.old.keys lists.now node)) }
 {
     let label = flow.action(node);
     match flow.succ(node) {
         Successors::Next(next) => {
-            carry(alloc, scheme, thread, &label, table, found, lists.of(next))
+            carry(
+                alloc,
+                scheme,
+                thread,
+                &label,
+                numbering,
+                found,
+                lists.of(next),
+            )
         }
         Successors::Branch(holds, fails) => {
-            carry(alloc, scheme, thread, &label, table, found, lists.of(holds))?;
-            carry(alloc, scheme, thread, &label, table, found, lists.of(fails))
+            carry(
+                alloc,
+                scheme,
+                thread,
+                &label,
+                numbering,
+                found,
+                lists.of(holds),
+            )?;
+            carry(
+                alloc,
+                scheme,
+                thread,
+                &label,
+                numbering,
+                found,
+                lists.of(fails),
+            )
         }
     }
 }
@@ -54,39 +78,39 @@ fn find_own(
     scheme: &Scheme,
     thread: u16,
     flow: &Flow,
-    table: &mut Table,
+    numbering: &mut Numbering,
     found: &mut Numbers,
     node: u16,
 ) -> Result<(), AllocError>
     requires node { node < length flow.now }
-    requires finding { IsFinding scheme.now table.old found.old }
-    ensures { OnOk result (Finds scheme.now table.old found.old table.new found.new
+    requires finding { IsFinding scheme.now numbering.old found.old }
+    ensures { OnOk result (Finds scheme.now numbering.old found.old numbering.new found.new
         (λ l. IsSeed scheme.now thread flow.now (need node l))) }
 {
     match scheme.generate(alloc, thread, flow.action(node)) {
         None => Ok(()),
-        Some(lock) => find(alloc, scheme, table, found, &lock),
+        Some(lock) => find(alloc, scheme, numbering, found, &lock),
     }
 }
 
 /// Puts those of the numbers behind a node's that no other that was found is above. Whether there are any.
 fn append(
-    table: &Table,
+    numbering: &Numbering,
     found: &Numbers,
     numbers: &[usize],
     lists: &mut Lists,
     node: u16,
 ) -> Result<bool, AllocError>
     requires node { node < length lists.old }
-    requires numbers { (n : ℕ) → Has numbers.now n → n < length table.now.above }
+    requires numbers { (n : ℕ) → Has numbers.now n → n < length numbering.now.above }
     ensures lists { OnOk result (lists.new ≡ slice_set lists.old node
-        (slice_index_or lists.old node [] ++ fresh_from table.now.above found.now numbers.now)) }
-    ensures none { IfOk result (λ any. any ≡ false → fresh_from table.now.above found.now numbers.now ≡ []) }
-    ensures some { IfOk result (λ any. any ≡ true → 0 < length (fresh_from table.now.above found.now numbers.now)) }
+        (slice_index_or lists.old node [] ++ fresh_from numbering.now.above found.now numbers.now)) }
+    ensures none { IfOk result (λ any. any ≡ false → fresh_from numbering.now.above found.now numbers.now ≡ []) }
+    ensures some { IfOk result (λ any. any ≡ true → 0 < length (fresh_from numbering.now.above found.now numbers.now)) }
 {
     let mut any = false;
     for number in numbers {
-        if !table.is_under(found, *number) {
+        if !numbering.is_under(found, *number) {
             lists.push(node, *number)?;
             any = true;
         }
@@ -100,22 +124,22 @@ fn visit(
     scheme: &Scheme,
     thread: u16,
     flow: &Flow,
-    table: &mut Table,
+    numbering: &mut Numbering,
     found: &mut Numbers,
     lists: &mut Lists,
     node: u16,
 ) -> Result<bool, AllocError>
     requires node { node < length flow.now }
-    requires numbered { AreNumbered scheme.now flow.now table.old lists.old }
-    requires lawful { AreLawfulAt scheme.now thread table.old.keys lists.old }
-    ensures { IfOk result (IsVisit scheme.now thread flow.now table.old lists.old table.new lists.new node) }
+    requires numbered { AreNumbered scheme.now flow.now numbering.old lists.old }
+    requires lawful { AreLawfulAt scheme.now thread numbering.old.keys lists.old }
+    ensures { IfOk result (IsVisit scheme.now thread flow.now numbering.old lists.old numbering.new lists.new node) }
 {
     found.clear();
     found.insert_all(lists.of(node))?;
     let known = found.members().len();
-    find_after(alloc, scheme, thread, flow, table, found, lists, node)?;
-    find_own(alloc, scheme, thread, flow, table, found, node)?;
-    let more = append(table, found, &found.members()[known..], lists, node)?;
+    find_after(alloc, scheme, thread, flow, numbering, found, lists, node)?;
+    find_own(alloc, scheme, thread, flow, numbering, found, node)?;
+    let more = append(numbering, found, &found.members()[known..], lists, node)?;
     Ok(more)
 }
 
@@ -150,18 +174,20 @@ pub fn settle(
     scheme: &Scheme,
     thread: u16,
     flow: &Flow,
-    table: &mut Table,
+    numbering: &mut Numbering,
     lists: &mut Lists,
 ) -> Result<(), AllocError>
     requires lawful { AreLawful scheme.now thread flow.now }
-    requires begun { IsBegun flow.now table.old lists.old }
-    ensures { OnOk result (IsSettled scheme.now thread flow.now table.new lists.new) }
+    requires begun { IsBegun flow.now numbering.old lists.old }
+    ensures { OnOk result (IsSettled scheme.now thread flow.now numbering.new lists.new) }
 {
     let predecessors = predecessors_of(alloc, flow)?;
     let mut found = Numbers::new(alloc);
     let mut waiting = all_nodes(alloc, flow.exit())?;
     while let Some(node) = waiting.pop_last() {
-        let any = visit(alloc, scheme, thread, flow, table, &mut found, lists, node)?;
+        let any = visit(
+            alloc, scheme, thread, flow, numbering, &mut found, lists, node,
+        )?;
         if any {
             wait(&mut waiting, predecessors.of(node))?;
         }

@@ -2,18 +2,18 @@
 use Rattle.std.specs.Prelude.{ℕ, Bool, not, ◌&&◌, List, [], ◌∷◌, ◌++◌, Option, if◌then◌else◌, slice_set}
 use Rattle.std.specs.Prelude.{slice_index_or}
 use Rattle.sect_infer.specs.Numbers.{has_number, with_number}
-use Rattle.sect_infer.specs.Tables.{is_under}
-use Rattle.sect_chains.specs.declared.keep.Step.{Step}
+use Rattle.sect_infer.specs.Numberings.{is_under}
+use Rattle.sect_chains.specs.declared.keep.KeptLink.{KeptLink}
 
 -- the numbers of the locks that were found at each node, and the steps that are kept
 pub record KeptView : Type 0 where
   pub found : List (List ℕ)
-  pub steps : List Step
+  pub steps : List KeptLink
 
-abbrev pub kept : List (List ℕ) → List Step → KeptView
+abbrev pub kept : List (List ℕ) → List KeptLink → KeptView
 kept found steps = record { found = found; steps = steps }
 
-abbrev pub step_of : ℕ → Option ℕ → ℕ → Step
+abbrev pub step_of : ℕ → Option ℕ → ℕ → KeptLink
 step_of j o n = record { node = j; number = n; next = o }
 
 -- whether the number is none of these, and none of them is above it
@@ -21,7 +21,7 @@ abbrev pub is_new : List (List ℕ) → List ℕ → ℕ → Bool
 is_new above ns n = not (has_number ns n) && not (is_under above ns n)
 
 -- the number of the step's lock is found at its node, and the step is kept where it is new there
-abbrev pub keep_one : List (List ℕ) → KeptView → Step → KeptView
+abbrev pub keep_one : List (List ℕ) → KeptView → KeptLink → KeptView
 keep_one above w x = kept
     (slice_set w.found x.node (with_number (slice_index_or w.found x.node []) x.number))
     (if is_new above (slice_index_or w.found x.node []) x.number then w.steps ++ x ∷ [] else w.steps)

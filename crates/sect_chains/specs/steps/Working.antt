@@ -10,22 +10,22 @@ use Rattle.sect_names.specs.Locks.{Covers}
 use Rattle.sect_names.specs.Carrying.{Generated}
 use Rattle.sect_names.specs.Chains.{link, IsGeneratedAt, LinksTo}
 use Rattle.sect_infer.specs.Numbers.{AreApart}
-use Rattle.sect_infer.specs.Tables.{TableView, HasLock, AreNumbers, IsTable, Extends}
+use Rattle.sect_infer.specs.Numberings.{NumberingView, HasLock, AreNumbers, IsNumbering, Extends}
 use Rattle.sect_infer.specs.steps.Listing.{lock_at}
-use Rattle.sect_chains.specs.declared.keep.Step.{Step}
+use Rattle.sect_chains.specs.declared.keep.KeptLink.{KeptLink}
 use Rattle.sect_chains.specs.declared.work.Trail.{Trail}
 use Rattle.sect_chains.specs.steps.Keeping.{KeptView, kept}
 use Rattle.sect_chains.specs.steps.Trails.{HasTrail, LeadOn}
 
 -- what a step stands for
-abbrev pub link_of : List Lock → Step → Link
+abbrev pub link_of : List Lock → KeptLink → Link
 link_of keys x = link x.node (lock_at keys x.number)
 
-abbrev pub links_of : List Lock → List Step → List Link
+abbrev pub links_of : List Lock → List KeptLink → List Link
 links_of keys steps = map (link_of keys) steps
 
 -- the indices of the steps to which these link
-abbrev pub nexts_of : List Step → List (Option ℕ)
+abbrev pub nexts_of : List KeptLink → List (Option ℕ)
 nexts_of steps = map (λ x. x.next) steps
 
 -- the lock was found at the node
@@ -37,13 +37,14 @@ abbrev pub IsCoveredAt : SchemeView → List Link → Link → Type 0
 IsCoveredAt s links a = (big : Lock) × Has links (link a.node big) × Covers s big a.lock
 
 -- from each lock that was found steps lead on; one that covers it is kept at its node; no step is kept twice
-pub record IsKept (s : SchemeView) (t : ℕ) (last : List Lock) (g : List Node) (a : TableView) (w : KeptView) : Type 0
+pub record IsKept (s : SchemeView) (t : ℕ) (last : List Lock) (g : List Node) (a : NumberingView)
+  (w : KeptView) : Type 0
   where
-    pub table : IsTable s a
+    pub numbering : IsNumbering s a
     pub count : length w.found ≡ length g + 1
     pub numbers : (j : ℕ) → AreNumbers a.keys (slice_index_or w.found j [])
     pub trails : (x : Link) → IsFoundAt a.keys w.found x → HasTrail s t last g x
-    pub there : (x : Step) → Has w.steps x → Has (slice_index_or w.found x.node []) x.number
+    pub there : (x : KeptLink) → Has w.steps x → Has (slice_index_or w.found x.node []) x.number
     pub leads : LeadOn s t last g (links_of a.keys w.steps) (nexts_of w.steps)
     pub covered : (x : Link) → IsFoundAt a.keys w.found x → IsCoveredAt s (links_of a.keys w.steps) x
     pub apart : AreApart (links_of a.keys w.steps)
@@ -54,22 +55,22 @@ IsReason s t last g links a None = IsGeneratedAt s t last g a
 IsReason s t last g links a (Some j) = (b : Link) × (slice_get links j ≡ Some b) × LinksTo s t g a b
 
 -- more was found and kept, and with it all that has this property
-pub record Grows (s : SchemeView) (t : ℕ) (last : List Lock) (g : List Node) (a : TableView) (w : KeptView)
-    (b : TableView) (v : KeptView) (P : Link → Type 0) : Type 0 where
+pub record Grows (s : SchemeView) (t : ℕ) (last : List Lock) (g : List Node) (a : NumberingView) (w : KeptView)
+    (b : NumberingView) (v : KeptView) (P : Link → Type 0) : Type 0 where
   pub kept : IsKept s t last g b v
   pub longer : Extends a b
   pub found : (j n : ℕ) → Has (slice_index_or w.found j []) n → Has (slice_index_or v.found j []) n
-  pub steps : (more : List Step) × (v.steps ≡ w.steps ++ more)
+  pub steps : (more : List KeptLink) × (v.steps ≡ w.steps ++ more)
   pub each : (x : Link) → P x → IsFoundAt b.keys v.found x
 
 abbrev pub kept_of : Trail → KeptView
 kept_of r = kept r.found.items r.steps.items
 
 abbrev pub IsWork : SchemeView → ℕ → List Lock → List Node → Trail → Type 0
-IsWork s t last g r = IsKept s t last g r.table (kept_of r)
+IsWork s t last g r = IsKept s t last g r.numbering (kept_of r)
 
 abbrev pub GoesOn : SchemeView → ℕ → List Lock → List Node → Trail → Trail → (Link → Type 0) → Type 0
-GoesOn s t last g r q P = Grows s t last g r.table (kept_of r) q.table (kept_of q) P
+GoesOn s t last g r q P = Grows s t last g r.numbering (kept_of r) q.numbering (kept_of q) P
 
 -- a node generates the step's lock
 abbrev pub IsGeneratedThere : SchemeView → ℕ → List Node → Link → Type 0
@@ -84,9 +85,9 @@ IsGeneratedBelow s t g j a = (a.node < j) × IsGeneratedThere s t g a
 
 -- what the nodes generate, and the section's end, was found
 abbrev pub HasAllGenerated : SchemeView → ℕ → List Lock → List Node → Trail → Type 0
-HasAllGenerated s t last g r = (a : Link) → IsGeneratedAt s t last g a → IsFoundAt r.table.keys r.found.items a
+HasAllGenerated s t last g r = (a : Link) → IsGeneratedAt s t last g a → IsFoundAt r.numbering.keys r.found.items a
 
 -- steps that lead on are kept, and at each node from which steps lead on from a lock one that covers it
 pub record IsSearched (s : SchemeView) (t : ℕ) (last : List Lock) (g : List Node) (r : Trail) : Type 0 where
   pub work : IsWork s t last g r
-  pub all : (a : Link) → HasTrail s t last g a → IsCoveredAt s (links_of r.table.keys r.steps.items) a
+  pub all : (a : Link) → HasTrail s t last g a → IsCoveredAt s (links_of r.numbering.keys r.steps.items) a

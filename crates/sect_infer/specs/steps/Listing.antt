@@ -5,7 +5,7 @@ use Rattle.sect_names.specs.declared.lock.Lock.{Lock}
 use Rattle.sect_names.specs.declared.lock.Lock.TheVariants as lock
 use Rattle.sect_names.specs.Order.{AreInOrder}
 use Rattle.sect_infer.specs.Numbers.{has_number, with_numbers}
-use Rattle.sect_infer.specs.Tables.{TableView, is_under}
+use Rattle.sect_infer.specs.Numberings.{NumberingView, is_under}
 
 -- the lock with a number
 abbrev pub lock_at : List Lock → ℕ → Lock
@@ -22,10 +22,10 @@ abbrev pub is_kept : List (List ℕ) → List ℕ → ℕ → Bool
 is_kept above ns n = has_number ns n && not (is_under above ns n)
 
 -- those of the locks with these numbers that no other of them is above, in this order
-abbrev pub listed : TableView → List ℕ → List ℕ → List Lock
+abbrev pub listed : NumberingView → List ℕ → List ℕ → List Lock
 listed t order ns = map (lock_at t.keys) (filter (is_kept t.above (with_numbers [] ns)) order)
 
 -- the numbers in the order are those of locks
-pub record IsListable (t : TableView) (order : List ℕ) : Type 0 where
+pub record IsListable (t : NumberingView) (order : List ℕ) : Type 0 where
   pub numbers : (n : ℕ) → Has order n → n < length t.keys
   pub count : length t.above ≡ length t.keys

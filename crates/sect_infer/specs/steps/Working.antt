@@ -9,7 +9,7 @@ use Rattle.sect_names.specs.Schemes.{SchemeView}
 use Rattle.sect_names.specs.Locks.{Covers, IsLockOf}
 use Rattle.sect_names.specs.Carrying.{CarriedBack}
 use Rattle.sect_infer.specs.Numbers.{AreApart}
-use Rattle.sect_infer.specs.Tables.{TableView, HasLock, AreNumbers, IsTable, Extends}
+use Rattle.sect_infer.specs.Numberings.{NumberingView, HasLock, AreNumbers, IsNumbering, Extends}
 use Rattle.sect_infer.specs.steps.Needs.{need, IsSeed, IsDerived}
 
 -- the lock was found at the node
@@ -30,9 +30,9 @@ IsCarried s t g keys lists j r =
 abbrev pub IsDue : SchemeView → ℕ → List Node → List Lock → List (List ℕ) → ℕ → Lock → Type 0
 IsDue s t g keys lists j l = IsSeed s t g (need j l) ⊎ IsCarried s t g keys lists j l
 
--- the locks of a section's nodes, the exit too, by their numbers in a table
-pub record AreNumbered (s : SchemeView) (g : List Node) (a : TableView) (lists : List (List ℕ)) : Type 0 where
-  pub table : IsTable s a
+-- the locks of a section's nodes, the exit too, by their numbers in a numbering
+pub record AreNumbered (s : SchemeView) (g : List Node) (a : NumberingView) (lists : List (List ℕ)) : Type 0 where
+  pub numbering : IsNumbering s a
   pub count : length lists ≡ length g + 1
   pub numbers : (j : ℕ) → AreNumbers a.keys (slice_index_or lists j [])
   pub apart : (j : ℕ) → AreApart (slice_index_or lists j [])
@@ -42,7 +42,8 @@ abbrev pub AreLawfulAt : SchemeView → ℕ → List Lock → List (List ℕ) �
 AreLawfulAt s t keys lists = (j : ℕ) (l : Lock) → IsFoundAt keys lists j l → IsLockOf s t l
 
 -- node j was gone over: behind its list stands more, if there was more, and that covers what was due there
-pub record IsVisit (s : SchemeView) (t : ℕ) (g : List Node) (old : TableView) (before : List (List ℕ)) (new : TableView)
+pub record IsVisit (s : SchemeView) (t : ℕ) (g : List Node) (old : NumberingView) (before : List (List ℕ))
+    (new : NumberingView)
     (after : List (List ℕ)) (j : ℕ) (any : Bool) : Type 0 where
   pub numbered : AreNumbered s g new after
   pub longer : Extends old new
@@ -56,23 +57,24 @@ pub record IsVisit (s : SchemeView) (t : ℕ) (g : List Node) (old : TableView) 
   pub put : (l : Lock) → IsDue s t g old.keys before j l → IsCoveredAt s new.keys after j l
 
 -- what was found is derived, and covers what is due at each node that doesn't wait
-pub record IsWorking (s : SchemeView) (t : ℕ) (g : List Node) (table : TableView) (lists : List (List ℕ))
+pub record IsWorking (s : SchemeView) (t : ℕ) (g : List Node) (numbering : NumberingView) (lists : List (List ℕ))
     (waiting : List ℕ) : Type 0 where
-  pub numbered : AreNumbered s g table lists
-  pub derived : (j : ℕ) (l : Lock) → IsFoundAt table.keys lists j l → IsDerived s t g (need j l)
+  pub numbered : AreNumbered s g numbering lists
+  pub derived : (j : ℕ) (l : Lock) → IsFoundAt numbering.keys lists j l → IsDerived s t g (need j l)
   pub closed : (j : ℕ) → j < length g
-      → Has waiting j ⊎ ((l : Lock) → IsDue s t g table.keys lists j l → IsCoveredAt s table.keys lists j l)
+      → Has waiting j ⊎ ((l : Lock) → IsDue s t g numbering.keys lists j l → IsCoveredAt s numbering.keys lists j l)
   pub nodes : (j : ℕ) → Has waiting j → j < length g
 
 -- nothing has been found
-pub record IsBegun (g : List Node) (table : TableView) (lists : List (List ℕ)) : Type 0 where
-  pub keys : table.keys ≡ []
-  pub above : table.above ≡ []
+pub record IsBegun (g : List Node) (numbering : NumberingView) (lists : List (List ℕ)) : Type 0 where
+  pub keys : numbering.keys ≡ []
+  pub above : numbering.above ≡ []
   pub count : length lists ≡ length g + 1
   pub none : (j : ℕ) → slice_index_or lists j [] ≡ []
 
 -- what was found is derived, and covers what is derived
-pub record IsSettled (s : SchemeView) (t : ℕ) (g : List Node) (table : TableView) (lists : List (List ℕ)) : Type 0 where
-  pub numbered : AreNumbered s g table lists
-  pub derived : (j : ℕ) (l : Lock) → IsFoundAt table.keys lists j l → IsDerived s t g (need j l)
-  pub covered : (j : ℕ) (l : Lock) → IsDerived s t g (need j l) → IsCoveredAt s table.keys lists j l
+pub record IsSettled (s : SchemeView) (t : ℕ) (g : List Node) (numbering : NumberingView)
+  (lists : List (List ℕ)) : Type 0 where
+  pub numbered : AreNumbered s g numbering lists
+  pub derived : (j : ℕ) (l : Lock) → IsFoundAt numbering.keys lists j l → IsDerived s t g (need j l)
+  pub covered : (j : ℕ) (l : Lock) → IsDerived s t g (need j l) → IsCoveredAt s numbering.keys lists j l

@@ -13,12 +13,13 @@ pub unwrap-number-requires : goal.unwrap-number-requires
 unwrap-number-requires c =
     let trail = c.args.trail.now in
     let l = c.args.lock.now in
-    some_found (Has trail.table.keys l) c.find.result (λ n. slice_get trail.table.keys n ≡ Some l) c.find.ensures
-    (lock_there trail.table.keys trail.steps.items l c.requires.numbers c.requires.there)
+    some_found (Has trail.numbering.keys l) c.find.result (λ n. slice_get trail.numbering.keys n ≡ Some l)
+      c.find.ensures
+    (lock_there trail.numbering.keys trail.steps.items l c.requires.numbers c.requires.there)
 
 pub index-requires : goal.index-requires
 index-requires c =
-    let keys = c.args.trail.now.table.keys in
+    let keys = c.args.trail.now.numbering.keys in
     let at = found_is (Has keys c.args.lock.now) c.find.result c.unwrap-number.result
     (λ n. slice_get keys n ≡ Some c.args.lock.now) c.unwrap-number.ensures c.find.ensures in
     let within = slice_get_within keys c.unwrap-number.result c.args.lock.now at in
@@ -27,7 +28,7 @@ index-requires c =
 pub unwrap-start-requires : goal.unwrap-start-requires
 unwrap-start-requires c =
     let trail = c.args.trail.now in
-    let keys = trail.table.keys in
+    let keys = trail.numbering.keys in
     let l = c.args.lock.now in
     let n = c.unwrap-number.result in
     let starts = c.args.starts.now.items in
@@ -40,7 +41,7 @@ unwrap-start-requires c =
 pub links_from-requires-clause-there : goal.links_from-requires-clause-there
 links_from-requires-clause-there c =
     let trail = c.args.trail.now in
-    let keys = trail.table.keys in
+    let keys = trail.numbering.keys in
     let l = c.args.lock.now in
     let n = c.unwrap-number.result in
     let starts = c.args.starts.now.items in
@@ -55,7 +56,7 @@ links_from-requires-clause-there c =
 pub returns : goal.returns
 returns c =
     let trail = c.args.trail.now in
-    let keys = trail.table.keys in
+    let keys = trail.numbering.keys in
     let l = c.args.lock.now in
     let n = c.unwrap-number.result in
     let i = c.unwrap-start.result in

@@ -12,13 +12,13 @@ pub starts_of-requires : goal.starts_of-requires
 starts_of-requires c =
     let a = c.args.section in
     let trail = c.in_ok-trail.trail in
-    kept_numbers a.scheme.now a.thread a.last.now a.flow.now trail.table (kept_of trail) c.in_ok-trail.ensures.work
+    kept_numbers a.scheme.now a.thread a.last.now a.flow.now trail.numbering (kept_of trail) c.in_ok-trail.ensures.work
 
 pub chain_of-requires-clause-back : goal.chain_of-requires-clause-back
 chain_of-requires-clause-back c =
     let a = c.args.section in
     let trail = c.in_ok-trail.trail in
-    go_back a.scheme.now a.thread a.last.now a.flow.now (links_of trail.table.keys trail.steps.items)
+    go_back a.scheme.now a.thread a.last.now a.flow.now (links_of trail.numbering.keys trail.steps.items)
     (nexts_of trail.steps.items)
     c.in_ok-trail.ensures.work.leads
 
@@ -26,10 +26,10 @@ pub chain_of-requires-clause-numbers : goal.chain_of-requires-clause-numbers
 chain_of-requires-clause-numbers c =
     let a = c.args.section in
     let trail = c.in_ok-trail.trail in
-    kept_numbers a.scheme.now a.thread a.last.now a.flow.now trail.table (kept_of trail) c.in_ok-trail.ensures.work
+    kept_numbers a.scheme.now a.thread a.last.now a.flow.now trail.numbering (kept_of trail) c.in_ok-trail.ensures.work
 
 pub chain_of-requires-clause-apart : goal.chain_of-requires-clause-apart
-chain_of-requires-clause-apart c = c.in_ok-trail.ensures.work.table.apart
+chain_of-requires-clause-apart c = c.in_ok-trail.ensures.work.numbering.apart
 
 pub chain_of-requires-clause-there : goal.chain_of-requires-clause-there
 chain_of-requires-clause-there c =
@@ -40,9 +40,9 @@ chain_of-requires-clause-there c =
     let within : c.loop-lock.lock-index < length locks = omega arith in
     let has = subst (Has locks) (sym c.lock-item.is) (Has-get_or locks c.loop-lock.lock-index l within) in
     let top = c.in_ok-trail.ensures.all (link 0 l) (c.requires.tops.trails l has) in
-    let needed = kept_trail a.scheme.now a.thread a.last.now a.flow.now trail.table
+    let needed = kept_trail a.scheme.now a.thread a.last.now a.flow.now trail.numbering
     (kept_of trail) c.in_ok-trail.ensures.work (link 0 top.0) top.1 in
-    subst (λ big. Has (links_of trail.table.keys trail.steps.items) (link 0 big))
+    subst (λ big. Has (links_of trail.numbering.keys trail.steps.items) (link 0 big))
     (c.requires.tops.alone l top.0 has needed top.2) top.1
 
 pub loop-lock-preserved : goal.loop-lock-preserved
@@ -54,7 +54,7 @@ loop-lock-preserved c =
     let l = c.lock-item.result in
     let trail = c.in_ok-trail.trail in
     let within : c.loop-lock.lock-index < length locks = omega arith in
-    let chain = entry_chain s a.thread a.last.now g (links_of trail.table.keys trail.steps.items)
+    let chain = entry_chain s a.thread a.last.now g (links_of trail.numbering.keys trail.steps.items)
     (nexts_of trail.steps.items)
     c.in_ok-trail.ensures.work.leads l c.in_ok-chain_of.field-0 c.in_ok-chain_of.ensures in
     rw c.in_ok-push.ensures.items (zip_more (IsChain s a.thread a.last.now g) locks c.loop-lock.lock-index l

@@ -19,12 +19,12 @@ index_mut-requires c =
 
 pub loop-index-init : goal.loop-index-init
 loop-index-init c =
-    starts_none (length c.args.trail.now.table.keys) c.args.trail.now.steps.items c.in_ok-starts.starts.items
+    starts_none (length c.args.trail.now.numbering.keys) c.args.trail.now.steps.items c.in_ok-starts.starts.items
     (c.in_ok-starts.ensures.count ∙ c.len.ensures) c.in_ok-starts.ensures.none
 
 pub loop-index-preserved : goal.loop-index-preserved
 loop-index-preserved c =
-    let count = length c.args.trail.now.table.keys in
+    let count = length c.args.trail.now.numbering.keys in
     let steps = c.args.trail.now.steps.items in
     let x = c.index-step.result.now in
     let i = c.loop-index.index in

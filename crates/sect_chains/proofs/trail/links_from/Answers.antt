@@ -10,7 +10,7 @@ use Rattle.sect_chains.proofs.trail.links_from.Goals as goal
 pub loop-next-preserved : goal.loop-next-preserved
 loop-next-preserved c =
     let steps = c.args.trail.now.steps.items in
-    let links = links_of c.args.trail.now.table.keys steps in
+    let links = links_of c.args.trail.now.numbering.keys steps in
     let nexts = nexts_of steps in
     let i = c.loop-next.at in
     let x = c.index.result.now in
@@ -28,7 +28,7 @@ loop-next-preserved c =
 pub returns : goal.returns
 returns c =
     let steps = c.args.trail.now.steps.items in
-    let links = links_of c.args.trail.now.table.keys steps in
+    let links = links_of c.args.trail.now.numbering.keys steps in
     let nexts = nexts_of steps in
     let i = c.loop-next.at in
     let x = c.index.result.now in

@@ -6,7 +6,7 @@ use Rattle.sect_chains.proofs.trail.links_from.Given as goal
 abbrev pub invariant-loop-next : goal.invariant-loop-next
 invariant-loop-next l = record {
   there : l.at < length l.trail.steps.items;
-  so_far : LeadTo (links_of l.trail.table.keys l.trail.steps.items) (nexts_of l.trail.steps.items) l.start
+  so_far : LeadTo (links_of l.trail.numbering.keys l.trail.steps.items) (nexts_of l.trail.steps.items) l.start
       l.links.items l.at;
 }
 

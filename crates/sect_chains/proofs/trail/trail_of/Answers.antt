@@ -2,7 +2,7 @@ use Rattle.std.proofs.Common.{◌≡◌, ◌<◌, ◌≤◌, [], Some, length, s
 use Rattle.std.specs.Prelude.{slice_get, slice_index_or}
 use Rattle.std.proofs.lemmas.Option.{slice_get-get_or, get_or_from_slice_get}
 use Rattle.sect_types.proofs.Membership.{Has-slice_get}
-use Rattle.sect_chains.specs.declared.keep.Step.{Step}
+use Rattle.sect_chains.specs.declared.keep.KeptLink.{KeptLink}
 use Rattle.sect_graph.specs.Predecessors.{AreBefore}
 use Rattle.sect_chains.specs.steps.Working.{links_of, kept_of}
 use Rattle.sect_chains.proofs.Growing.{kept_trail, link_at}
@@ -18,9 +18,10 @@ of-nodes-requires c =
     let within : i < length old.steps.items = omega (arith, c.len.ensures, c.loop-done-test.true) in
     let at : slice_get old.steps.items i ≡ Some x = slice_get-get_or old.steps.items i x within
     ∙ ap (λ z. Some z) (sym c.index.ensures) in
-    let b = link_at old.table.keys old.steps.items i x at in
-    let d = kept_trail a.scheme.now a.thread a.last.now a.flow.now old.table (kept_of old) c.loop-done.invariant.kept
-    b.0 (Has-slice_get (links_of old.table.keys old.steps.items) i b.0 b.1) in
+    let b = link_at old.numbering.keys old.steps.items i x at in
+    let d = kept_trail a.scheme.now a.thread a.last.now a.flow.now old.numbering (kept_of old)
+      c.loop-done.invariant.kept
+    b.0 (Has-slice_get (links_of old.numbering.keys old.steps.items) i b.0 b.1) in
     let there = (trail_lock a.scheme.now a.thread a.last.now a.flow.now c.requires.lawful b.0 d.0 d.1).0 in
     omega (arith, there, b.2, c.in_ok-predecessors.ensures.count)
 
@@ -30,20 +31,20 @@ carry-requires-clause-before c = λ x at_x.
     let g = a.flow.now in
     let old = c.loop-done.trail in
     let i = c.loop-done.done in
-    let b = link_at old.table.keys old.steps.items i x at_x in
-    let d = kept_trail a.scheme.now a.thread a.last.now g old.table (kept_of old) c.loop-done.invariant.kept b.0
-    (Has-slice_get (links_of old.table.keys old.steps.items) i b.0 b.1) in
+    let b = link_at old.numbering.keys old.steps.items i x at_x in
+    let d = kept_trail a.scheme.now a.thread a.last.now g old.numbering (kept_of old) c.loop-done.invariant.kept b.0
+    (Has-slice_get (links_of old.numbering.keys old.steps.items) i b.0 b.1) in
     let there = (trail_lock a.scheme.now a.thread a.last.now g c.requires.lawful b.0 d.0 d.1).0 in
     let z = c.index.result.now in
     let same : z ≡ x = c.index.ensures ∙ get_or_from_slice_get old.steps.items i x z at_x in
     let are = c.in_ok-predecessors.ensures.each x.node (omega (arith, there, b.2)) in
-    subst (AreBefore g x.node) (ap (λ (y : Step). slice_index_or c.in_ok-predecessors.predecessors y.node [])
+    subst (AreBefore g x.node) (ap (λ (y : KeptLink). slice_index_or c.in_ok-predecessors.predecessors y.node [])
     (sym same) ∙ sym c.of-nodes.ensures) are
 
 pub loop-done-smaller : goal.loop-done-smaller
 loop-done-smaller c =
     let a = c.args.section in
-    let bound = few a.scheme.now a.thread a.last.now a.flow.now c.requires.lawful c.loop-done.trail.table
+    let bound = few a.scheme.now a.thread a.last.now a.flow.now c.requires.lawful c.loop-done.trail.numbering
     (kept_of c.loop-done.trail) c.loop-done.invariant.kept in
     omega (arith, bound, c.len.ensures, c.loop-done-test.true)
 
@@ -52,7 +53,7 @@ loop-done-preserved c =
     let a = c.args.section in
     let old = c.loop-done.trail in
     let new = c.carry.new.trail in
-    work_next a.scheme.now a.thread a.last.now a.flow.now old.table (kept_of old) new.table
+    work_next a.scheme.now a.thread a.last.now a.flow.now old.numbering (kept_of old) new.numbering
     (kept_of new) c.loop-done.done (omega (arith, c.len.ensures, c.loop-done-test.true))
     c.loop-done.invariant c.in_ok-carry.ensures
 
@@ -63,6 +64,6 @@ returns c =
     let past : length old.steps.items ≤ c.loop-done.done = omega (arith, c.len.ensures, c.loop-done-test.false) in
     record {
       work = c.loop-done.invariant.kept;
-      all = λ x h. work_ends a.scheme.now a.thread a.last.now a.flow.now c.requires.respects old.table
+      all = λ x h. work_ends a.scheme.now a.thread a.last.now a.flow.now c.requires.respects old.numbering
           (kept_of old) c.loop-done.done past c.loop-done.invariant x h.0 h.1;
     }

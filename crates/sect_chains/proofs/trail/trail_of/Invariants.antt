@@ -5,7 +5,7 @@ use Rattle.sect_chains.proofs.trail.trail_of.Given as goal
 
 abbrev pub invariant-loop-done : goal.invariant-loop-done
 invariant-loop-done l = IsWorklist l.section.scheme.now l.section.thread l.section.last.now l.section.flow.now
-    l.trail.table (kept_of l.trail) l.done
+    l.trail.numbering (kept_of l.trail) l.done
 
 abbrev pub decreases-loop-done : goal.decreases-loop-done
 decreases-loop-done l = length (all_steps l.section.scheme.now l.section.flow.now) - l.done

@@ -7,7 +7,7 @@ use Rattle.sect_types.proofs.Places.{at_of, one_at}
 use Rattle.sect_types.specs.Lists.{Has}
 use Rattle.sect_graph.specs.Paths.{LeadsTo}
 use Rattle.sect_names.specs.Chains.{LinksTo}
-use Rattle.sect_chains.specs.declared.keep.Step.{Step}
+use Rattle.sect_chains.specs.declared.keep.KeptLink.{KeptLink}
 use Rattle.sect_graph.specs.Predecessors.{AreBefore}
 use Rattle.sect_chains.specs.steps.Working.{kept_of}
 use Rattle.sect_chains.proofs.Growing.{kept_numbers, link_at, lock_is, grows_at}
@@ -29,7 +29,7 @@ pub carry_to-requires-clause-index : goal.carry_to-requires-clause-index
 carry_to-requires-clause-index c =
     let old = c.args.trail.now in
     let x = at_of old.steps.items c.args.index c.requires.index in
-    let b = link_at old.table.keys old.steps.items c.args.index x.0 x.1 in
+    let b = link_at old.numbering.keys old.steps.items c.args.index x.0 x.1 in
     let grown = (c.loop-node.invariant b.0 b.1).steps in
     omega (arith, c.requires.index, ap length grown.1, length-append old.steps.items grown.0)
 
@@ -39,7 +39,7 @@ carry_to-requires-clause-leads c = λ y x at_y at_x.
     let nodes = c.args.predecessors.now in
     let i = c.loop-node.node-index in
     let z = at_of old.steps.items c.args.index c.requires.index in
-    let b = link_at old.table.keys old.steps.items c.args.index z.0 z.1 in
+    let b = link_at old.numbering.keys old.steps.items c.args.index z.0 z.1 in
     let grown = (c.loop-node.invariant b.0 b.1).steps in
     let still : slice_get c.loop-node.trail.steps.items c.args.index ≡ Some z.0
     = subst (λ ls. slice_get ls c.args.index ≡ Some z.0) (sym grown.1)
@@ -48,13 +48,13 @@ carry_to-requires-clause-leads c = λ y x at_y at_x.
     let found = (c.requires.before z.0 z.1 (get_or nodes i 0)).0
     (Has-get_or nodes i 0 (omega (arith, c.loop-node-test.true))) in
     let here : found.0 ≡ y = one_at c.args.section.flow.now (get_or nodes i 0) found.0 y found.1 at_y in
-    subst (λ n. LeadsTo n x.node) here (subst (λ (s : Step). LeadsTo found.0 s.node) same found.2)
+    subst (λ n. LeadsTo n x.node) here (subst (λ (s : KeptLink). LeadsTo found.0 s.node) same found.2)
 
 pub carry_to-requires-clause-work : goal.carry_to-requires-clause-work
 carry_to-requires-clause-work c =
     let old = c.args.trail.now in
     let x = at_of old.steps.items c.args.index c.requires.index in
-    let b = link_at old.table.keys old.steps.items c.args.index x.0 x.1 in
+    let b = link_at old.numbering.keys old.steps.items c.args.index x.0 x.1 in
     (c.loop-node.invariant b.0 b.1).kept
 
 pub loop-node-preserved : goal.loop-node-preserved
@@ -69,14 +69,14 @@ loop-node-preserved c = λ b at.
     let i = c.loop-node.node-index in
     let within : i < length nodes = omega (arith, c.loop-node-test.true) in
     let x = at_of old.steps.items c.args.index c.requires.index in
-    let numbers = kept_numbers s a.thread a.last.now g old.table (kept_of old) c.requires.work x.0
+    let numbers = kept_numbers s a.thread a.last.now g old.numbering (kept_of old) c.requires.work x.0
     (Has-slice_get old.steps.items c.args.index x.0 x.1) in
-    let told = lock_is old.table.keys old.steps.items c.args.index x.0 b numbers x.1 at in
+    let told = lock_is old.numbering.keys old.steps.items c.args.index x.0 b numbers x.1 at in
     let are = subst (λ n. AreBefore g n nodes) told.0 (c.requires.before x.0 x.1) in
     let before = c.loop-node.invariant b at in
-    let now = grows_at s a.thread a.last.now g old.table (kept_of old) mid.table (kept_of mid)
+    let now = grows_at s a.thread a.last.now g old.numbering (kept_of old) mid.numbering (kept_of mid)
     (λ z. Has (take i nodes) z.node × LinksTo s a.thread g z b) c.requires.work before c.args.index b at in
-    carry_next s a.thread a.last.now g b nodes are old.table (kept_of old) mid.table (kept_of mid) new.table
+    carry_next s a.thread a.last.now g b nodes are old.numbering (kept_of old) mid.numbering (kept_of mid) new.numbering
     (kept_of new) i (get_or nodes i 0)
     within (get_or_default nodes i 0 (get_or nodes i 0) within) before (λ y at_y. c.in_ok-carry_to.ensures y b at_y now)
 
@@ -89,10 +89,10 @@ returns c = λ b at.
     let new = c.loop-node.trail in
     let nodes = c.args.predecessors.now in
     let x = at_of old.steps.items c.args.index c.requires.index in
-    let numbers = kept_numbers s a.thread a.last.now g old.table (kept_of old) c.requires.work x.0
+    let numbers = kept_numbers s a.thread a.last.now g old.numbering (kept_of old) c.requires.work x.0
     (Has-slice_get old.steps.items c.args.index x.0 x.1) in
-    let told = lock_is old.table.keys old.steps.items c.args.index x.0 b numbers x.1 at in
+    let told = lock_is old.numbering.keys old.steps.items c.args.index x.0 b numbers x.1 at in
     let are = subst (λ n. AreBefore g n nodes) told.0 (c.requires.before x.0 x.1) in
     let past : length nodes ≤ c.loop-node.node-index = omega (arith, c.loop-node-test.false) in
-    carry_done s a.thread a.last.now g b nodes are old.table (kept_of old) new.table
+    carry_done s a.thread a.last.now g b nodes are old.numbering (kept_of old) new.numbering
     (kept_of new) c.loop-node.node-index past (c.loop-node.invariant b at)

@@ -7,7 +7,8 @@ use Rattle.sect_chains.specs.steps.Working.{links_of, GoesOn}
 use Rattle.sect_chains.proofs.work.carry.Given as goal
 
 abbrev pub invariant-loop-node : goal.invariant-loop-node
-invariant-loop-node l = (b : Link) → slice_get (links_of l.fn.trail.table.keys l.fn.trail.steps.items) l.index ≡ Some b
+invariant-loop-node l = (b : Link) → slice_get (links_of l.fn.trail.numbering.keys l.fn.trail.steps.items) l.index
+    ≡ Some b
     → GoesOn l.section.scheme.now l.section.thread l.section.last.now l.section.flow.now l.fn.trail l.trail
     (λ a. Has (take l.node-index l.predecessors) a.node
     × LinksTo l.section.scheme.now l.section.thread l.section.flow.now a b)

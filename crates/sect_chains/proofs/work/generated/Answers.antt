@@ -15,7 +15,7 @@ returns-clause-all c =
     let g = a.flow.now in
     let mid = c.put_by_nodes.new.trail in
     let new = c.put_at_end.new.trail in
-    generated_all s t last g mid.table (kept_of mid) new.table (kept_of new) c.in_ok-put_by_nodes.ensures.each
-    (grows_found s t last g mid.table (kept_of mid) new.table (kept_of new) (λ (x : Link). (x.node ≡ length g)
+    generated_all s t last g mid.numbering (kept_of mid) new.numbering (kept_of new) c.in_ok-put_by_nodes.ensures.each
+    (grows_found s t last g mid.numbering (kept_of mid) new.numbering (kept_of new) (λ (x : Link). (x.node ≡ length g)
     × Has last x.lock) c.in_ok-put_at_end.ensures)
     c.in_ok-put_at_end.ensures

@@ -10,14 +10,14 @@ pub keep-requires-clause-node : goal.keep-requires-clause-node
 keep-requires-clause-node c =
     let a = c.args.section in
     let old = c.args.trail.now in
-    generated_within a.scheme.now a.thread a.last.now a.flow.now old.table (kept_of old)
+    generated_within a.scheme.now a.thread a.last.now a.flow.now old.numbering (kept_of old)
     (link c.args.node c.args.lock.now) c.requires.work c.requires.generated
 
 pub keep-requires-clause-number : goal.keep-requires-clause-number
 keep-requires-clause-number c =
     let t = c.number.new.self in
     let within = slice_get_within t.keys c.in_ok-number.number c.args.lock.now c.in_ok-number.ensures.there in
-    omega (arith, within, c.in_ok-number.ensures.table.count)
+    omega (arith, within, c.in_ok-number.ensures.numbering.count)
 
 pub returns : goal.returns
 returns c =
@@ -29,9 +29,10 @@ returns c =
     let j = c.args.node in
     let l = c.args.lock.now in
     let n = c.in_ok-number.number in
-    let grown = put_one s a.thread a.last.now g old.table (kept_of old) t j l n c.requires.work c.in_ok-number.ensures
+    let grown = put_one s a.thread a.last.now g old.numbering (kept_of old)
+      t j l n c.requires.work c.in_ok-number.ensures
     c.requires.generated
-    (generated_within s a.thread a.last.now g old.table (kept_of old) (link j l) c.requires.work
+    (generated_within s a.thread a.last.now g old.numbering (kept_of old) (link j l) c.requires.work
     c.requires.generated) in
-    on_ok_weaker c.keep.result (λ is. subst (λ v. Grows s a.thread a.last.now g old.table (kept_of old) t v
+    on_ok_weaker c.keep.result (λ is. subst (λ v. Grows s a.thread a.last.now g old.numbering (kept_of old) t v
     (λ x. x ≡ link j l)) (sym is) grown) c.keep.ensures

@@ -21,6 +21,6 @@ loop-lock-preserved c =
     let mid = c.loop-lock.trail in
     let new = c.put.new.trail in
     let within : i < length last = omega (arith, c.loop-lock-test.true) in
-    end_next a.scheme.now a.thread last a.flow.now old.table (kept_of old) mid.table (kept_of mid) new.table
+    end_next a.scheme.now a.thread last a.flow.now old.numbering (kept_of old) mid.numbering (kept_of mid) new.numbering
     (kept_of new) i c.exit.result c.lock-item.result
     within c.lock-item.is c.exit.ensures.number c.loop-lock.invariant c.in_ok-put.ensures

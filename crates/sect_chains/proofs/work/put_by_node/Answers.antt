@@ -17,7 +17,7 @@ returns-in-None c =
     let node = told_at (λ (y : Node). y.label) g c.args.node c.action-label.result c.action-label.ensures in
     let tells = subst (λ z. (l : Lock) → (c.generate.result ≡ Some l) ↔ Generated s a.thread z l)
     (sym node.2) c.generate.ensures in
-    by_node_none s a.thread a.last.now g c.args.node node.0 node.1 c.generate.result tells old.table
+    by_node_none s a.thread a.last.now g c.args.node node.0 node.1 c.generate.result tells old.numbering
     (kept_of old) c.requires.work c.in-None.is
 
 pub put-requires-clause-generated : goal.put-requires-clause-generated
@@ -41,5 +41,5 @@ returns-in-Some c =
     let tells = subst (λ z. (l : Lock) → (c.generate.result ≡ Some l) ↔ Generated s a.thread z l)
     (sym node.2) c.generate.ensures in
     on_ok_weaker c.put.result (by_node_one s a.thread a.last.now g c.args.node node.0 node.1 c.generate.result tells
-    old.table (kept_of old)
-    new.table (kept_of new) c.in-Some.lock c.in-Some.is) c.put.ensures
+    old.numbering (kept_of old)
+    new.numbering (kept_of new) c.in-Some.lock c.in-Some.is) c.put.ensures

@@ -8,6 +8,6 @@ loop-node-preserved c =
     let old = c.args.trail.now in
     let mid = c.loop-node.trail in
     let new = c.put_by_node.new.trail in
-    generated_next a.scheme.now a.thread a.last.now a.flow.now old.table (kept_of old) mid.table
-    (kept_of mid) new.table (kept_of new)
+    generated_next a.scheme.now a.thread a.last.now a.flow.now old.numbering (kept_of old) mid.numbering
+    (kept_of mid) new.numbering (kept_of new)
     c.loop-node.node c.loop-node.invariant c.in_ok-put_by_node.ensures

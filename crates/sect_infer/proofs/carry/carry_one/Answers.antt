@@ -4,7 +4,7 @@ use Rattle.sect_names.specs.declared.lock.Lock.{Lock}
 use Rattle.sect_names.specs.Locks.{IsLockOf}
 use Rattle.sect_names.specs.Carrying.{CarriedBack}
 use Rattle.sect_infer.specs.Numbers.{with_number}
-use Rattle.sect_infer.proofs.Tabling.{numbered_there}
+use Rattle.sect_infer.proofs.Extending.{numbered_there}
 use Rattle.sect_infer.proofs.Carrying.{finds_one, finds_as}
 use Rattle.sect_infer.proofs.carry.carry_one.Goals as goal
 
@@ -13,7 +13,7 @@ returns-in_ok-insert c = λ l at.
     let s = c.args.scheme.now in
     let t = c.args.thread in
     let label = c.args.label.now in
-    let a = c.args.table.now in
+    let a = c.args.numbering.now in
     let n = c.args.number in
     let same : c.lock.result.now ≡ l = one_at a.keys n c.lock.result.now l c.lock.ensures at in
     let stay : (r : Lock) → CarriedBack s t label l r ↔ (r ≡ l) =
@@ -21,4 +21,4 @@ returns-in_ok-insert c = λ l at.
     (c.stays.ensures c.if-stays.true s (subst (IsLockOf s t) (sym same) (c.requires.lawful l at))) in
     rw c.in_ok-insert.ensures (finds_as s a a c.args.found.now (with_number c.args.found.now n) (λ r. r ≡ l)
     (CarriedBack s t label l) stay
-    (finds_one s a a c.args.found.now l n c.requires.finding (numbered_there s a l n c.requires.finding.table at)))
+    (finds_one s a a c.args.found.now l n c.requires.finding (numbered_there s a l n c.requires.finding.numbering at)))

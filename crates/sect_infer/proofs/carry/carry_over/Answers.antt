@@ -12,7 +12,7 @@ returns c =
     let s = c.args.scheme.now in
     let t = c.args.thread in
     let label = c.args.label.now in
-    let a = c.args.table.now in
+    let a = c.args.numbering.now in
     let locks = c.as_slice.result.now in
     on_ok_weaker c.find_all.result (λ f l at.
     let same : c.lock.result.now ≡ l = one_at a.keys c.args.number c.lock.result.now l c.lock.ensures at in
@@ -20,5 +20,5 @@ returns c =
     subst (λ k. (r : Lock) → Has locks r ↔ CarriedBack s t label k r) same
     (subst (λ ls. (r : Lock) → Has ls r ↔ CarriedBack s t label c.lock.result.now r) (sym c.as_slice.ensures.value)
     c.in_ok-locks.ensures) in
-    finds_as s a c.find_all.new.table c.args.found.now c.find_all.new.found (Has locks) (CarriedBack s t label l)
+    finds_as s a c.find_all.new.numbering c.args.found.now c.find_all.new.found (Has locks) (CarriedBack s t label l)
     (λ r. ((tells r).1, (tells r).0)) f) c.find_all.ensures

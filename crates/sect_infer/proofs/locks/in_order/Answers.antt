@@ -10,7 +10,7 @@ use Rattle.sect_infer.proofs.locks.in_order.Goals.{in-Some+in_ok-push, in_defaul
 
 pub loop-lock-preserved : goal.loop-lock-preserved
 loop-lock-preserved c =
-    let keys = c.args.table.now.keys in
+    let keys = c.args.numbering.now.keys in
     let locks = c.as_slice-lock-items.result.now in
     let i = c.loop-lock.lock-index in
     let l = c.lock-item.result in
@@ -37,7 +37,7 @@ returns c =
     let locks = c.as_slice-lock-items.result.now in
     let i = c.loop-lock.lock-index in
     let past : length locks ≤ i = omega (arith, c.loop-lock-test.false) in
-    order_is c.args.table.now.keys c.in_ok-locks.locks.items c.loop-lock.order.items c.requires
+    order_is c.args.numbering.now.keys c.in_ok-locks.locks.items c.loop-lock.order.items c.requires
     c.in_ok-locks.ensures.all c.in_ok-locks.ensures.in_order
     (c.loop-lock.invariant.same ∙ take_all i locks past ∙ c.as_slice-lock-items.ensures.value)
     c.loop-lock.invariant.numbers

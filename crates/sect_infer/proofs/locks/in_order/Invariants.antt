@@ -5,6 +5,6 @@ use Rattle.sect_infer.proofs.locks.in_order.Given as goal
 
 abbrev pub invariant-loop-lock : goal.invariant-loop-lock
 invariant-loop-lock l = record {
-  same : map (lock_at l.table.keys) l.order.items ≡ take l.lock-index l.lock-items;
-  numbers : (n : ℕ) → Has l.order.items n → n < length l.table.keys;
+  same : map (lock_at l.numbering.keys) l.order.items ≡ take l.lock-index l.lock-items;
+  numbers : (n : ℕ) → Has l.order.items n → n < length l.numbering.keys;
 }

@@ -23,7 +23,7 @@ lock-requires c =
 
 pub loop-number-preserved : goal.loop-number-preserved
 loop-number-preserved c =
-    let keys = c.args.table.now.keys in
+    let keys = c.args.numbering.now.keys in
     let order = c.args.order.now in
     let i = c.loop-number.number-index in
     let n = get_or order i 0 in
@@ -32,8 +32,8 @@ loop-number-preserved c =
     let once : List ℕ = with_numbers [] c.args.numbers.now in
     let found : c.insert_all.new.self ≡ once = c.in_ok-insert_all.ensures
     ∙ ap (λ ns. with_numbers ns c.args.numbers.now) c.new-found.ensures in
-    let p : ℕ → Bool = is_kept c.args.table.now.above once in
-    let test : c.is_kept.result ≡ p n = c.is_kept.ensures ∙ ap (λ ns. is_kept c.args.table.now.above ns n) found in
+    let p : ℕ → Bool = is_kept c.args.numbering.now.above once in
+    let test : c.is_kept.result ≡ p n = c.is_kept.ensures ∙ ap (λ ns. is_kept c.args.numbering.now.above ns n) found in
     elim c.if-is_kept.branch [
       | then-is_kept+in_ok-try_clone+in_ok-push w ↦
           let copy = w.in_ok-try_clone.field-0 in
@@ -49,6 +49,6 @@ loop-number-preserved c =
 pub returns : goal.returns
 returns c =
     let past : length c.args.order.now ≤ c.loop-number.number-index = omega (arith, c.loop-number-test.false) in
-    c.loop-number.invariant ∙ ap (λ xs. map (lock_at c.args.table.now.keys)
-    (filter (is_kept c.args.table.now.above (with_numbers [] c.args.numbers.now)) xs))
+    c.loop-number.invariant ∙ ap (λ xs. map (lock_at c.args.numbering.now.keys)
+    (filter (is_kept c.args.numbering.now.above (with_numbers [] c.args.numbers.now)) xs))
     (take_all c.loop-number.number-index c.args.order.now past)

@@ -5,5 +5,5 @@ use Rattle.sect_infer.specs.steps.Listing.{lock_at, is_kept}
 use Rattle.sect_infer.proofs.locks.list.Given as goal
 
 abbrev pub invariant-loop-number : goal.invariant-loop-number
-invariant-loop-number l = l.locks.items ≡ map (lock_at l.table.keys)
-    (filter (is_kept l.table.above (with_numbers [] l.numbers)) (take l.number-index l.order))
+invariant-loop-number l = l.locks.items ≡ map (lock_at l.numbering.keys)
+    (filter (is_kept l.numbering.above (with_numbers [] l.numbers)) (take l.number-index l.order))

@@ -10,7 +10,7 @@ use Rattle.sect_infer.proofs.locks.sorted.Goals as goal
 
 pub loop-number-preserved : goal.loop-number-preserved
 loop-number-preserved c = λ x.
-    let keys = c.args.table.now.keys in
+    let keys = c.args.numbering.now.keys in
     let i = c.loop-number.number in
     let l = c.lock.result.now in
     let within = slice_get_within keys i l c.lock.ensures in
@@ -24,7 +24,7 @@ loop-number-preserved c = λ x.
 
 pub returns : goal.returns
 returns c =
-    let keys = c.args.table.now.keys in
+    let keys = c.args.numbering.now.keys in
     let locks = c.loop-number.locks.keys in
     let i = c.loop-number.number in
     let collected = items_from_collect c.collect.result c.collect.ensures.ran

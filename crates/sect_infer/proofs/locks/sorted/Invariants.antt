@@ -4,4 +4,4 @@ use Rattle.sect_names.specs.declared.lock.Lock.{Lock}
 use Rattle.sect_infer.proofs.locks.sorted.Given as goal
 
 abbrev pub invariant-loop-number : goal.invariant-loop-number
-invariant-loop-number l = (x : Lock) → Has l.locks.keys x ↔ Has (take l.number l.table.keys) x
+invariant-loop-number l = (x : Lock) → Has l.locks.keys x ↔ Has (take l.number l.numbering.keys) x

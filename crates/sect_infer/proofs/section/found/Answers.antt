@@ -12,7 +12,7 @@ returns c =
     let s = c.args.scheme.now in
     let t = c.args.thread in
     let g = c.args.flow.now in
-    let a = c.settle.new.table in
+    let a = c.settle.new.numbering in
     let lists = c.settle.new.lists in
     IfOk-weaker c.of.result (λ (locks : LocksView). (order : List ℕ) × IsOrder a.keys order
     × (locks.at ≡ map (listed a order) lists) × (slice_get locks.at 0 ≡ Some locks.entry)) (IsFound s t g)

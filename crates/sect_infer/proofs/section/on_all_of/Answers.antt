@@ -17,7 +17,7 @@ returns c =
     × (locks.at ≡ map (listed a order) lists) × (slice_get locks.at 0 ≡ Some locks.entry)) (IsOnAll s count)
     (λ locks o. record {
       all = subst (AreAllOnAll s count) (sym o.2)
-          (are_on_all s a lists o.0 count c.in_ok-number.number c.in_ok-number.ensures.table
+          (are_on_all s a lists o.0 count c.in_ok-number.number c.in_ok-number.ensures.numbering
           c.in_ok-number.ensures.there o.1 c.loop-node.invariant.count
           (λ j h. c.loop-node.invariant.done j
           (omega (arith, h, c.loop-node-test.false, c.exit-node-end.ensures.number))));

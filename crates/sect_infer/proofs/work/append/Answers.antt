@@ -1,7 +1,7 @@
 use Rattle.std.proofs.Common.{◌<◌, ◌∙◌, length, get_or, take, refl, sym, arith, true≢false}
 use Rattle.std.proofs.lemmas.List.{get_or_default}
 use Rattle.sect_types.proofs.Membership.{Has-get_or}
-use Rattle.sect_infer.specs.Tables.{fresh_from}
+use Rattle.sect_infer.specs.Numberings.{fresh_from}
 use Rattle.sect_infer.proofs.Appending.{fresh_next, fresh_skip, behind_none, behind_next, some_behind}
 use Rattle.sect_infer.proofs.work.append.Goals as goal
 use Rattle.sect_infer.proofs.work.append.Goals.{then-not-is_under+in_ok-push, else-not-is_under}
@@ -19,7 +19,7 @@ loop-number-init c = record {
 
 pub loop-number-preserved : goal.loop-number-preserved
 loop-number-preserved c =
-    let above = c.args.table.now.above in
+    let above = c.args.numbering.now.above in
     let found = c.args.found.now in
     let numbers = c.args.numbers.now in
     let i = c.loop-number.number-index in

@@ -4,34 +4,34 @@ use Rattle.std.proofs.lemmas.Result.{on_ok_weaker}
 use Rattle.sect_types.proofs.Places.{told_at, told_of}
 use Rattle.sect_graph.specs.declared.flow.Node.{Node}
 use Rattle.sect_graph.specs.declared.flow.Successors.TheVariants.{Next, Branch}
-use Rattle.sect_infer.specs.Tables.{HasLock, AreNumbers, Finds}
-use Rattle.sect_infer.proofs.Tabling.{extends_numbers, extends_back}
+use Rattle.sect_infer.specs.Numberings.{HasLock, AreNumbers, Finds}
+use Rattle.sect_infer.proofs.Extending.{extends_numbers, extends_back}
 use Rattle.sect_infer.proofs.Carrying.{CarriedOf}
 use Rattle.sect_infer.proofs.Visiting.{carried_next_node, carried_branch}
 use Rattle.sect_infer.proofs.work.find_after.Goals as goal
 
 pub carry-requires-clause-numbers : goal.carry-requires-clause-numbers
 carry-requires-clause-numbers c =
-    subst (AreNumbers c.args.table.now.keys) (sym c.of.ensures) (c.requires.numbered.numbers c.in-Next.next)
+    subst (AreNumbers c.args.numbering.now.keys) (sym c.of.ensures) (c.requires.numbered.numbers c.in-Next.next)
 
 pub carry-requires-clause-lawful : goal.carry-requires-clause-lawful
 carry-requires-clause-lawful c =
-    λ l h. c.requires.lawful c.in-Next.next l (subst (λ ns. HasLock c.args.table.now.keys ns l) c.of.ensures h)
+    λ l h. c.requires.lawful c.in-Next.next l (subst (λ ns. HasLock c.args.numbering.now.keys ns l) c.of.ensures h)
 
 pub carry-requires-in-Branch-clause-numbers : goal.carry-requires-in-Branch-clause-numbers
 carry-requires-in-Branch-clause-numbers c =
-    subst (AreNumbers c.args.table.now.keys) (sym c.of-in-Branch.ensures)
+    subst (AreNumbers c.args.numbering.now.keys) (sym c.of-in-Branch.ensures)
     (c.requires.numbered.numbers c.in-Branch.holds)
 
 pub carry-requires-in-Branch-clause-lawful : goal.carry-requires-in-Branch-clause-lawful
 carry-requires-in-Branch-clause-lawful c =
     λ l h. c.requires.lawful c.in-Branch.holds l
-    (subst (λ ns. HasLock c.args.table.now.keys ns l) c.of-in-Branch.ensures h)
+    (subst (λ ns. HasLock c.args.numbering.now.keys ns l) c.of-in-Branch.ensures h)
 
 pub carry-requires-in-Branch-2-clause-numbers : goal.carry-requires-in-Branch-2-clause-numbers
 carry-requires-in-Branch-2-clause-numbers c =
-    let a = c.args.table.now in
-    let b = c.carry-in-Branch.new.table in
+    let a = c.args.numbering.now in
+    let b = c.carry-in-Branch.new.numbering in
     let numbers : List ℕ = slice_index_or c.args.lists.now c.in-Branch.fails [] in
     subst (AreNumbers b.keys) (sym c.of-in-Branch-2.ensures)
     (extends_numbers a b c.in_ok-carry-in-Branch.ensures.longer numbers
@@ -39,8 +39,8 @@ carry-requires-in-Branch-2-clause-numbers c =
 
 pub carry-requires-in-Branch-2-clause-lawful : goal.carry-requires-in-Branch-2-clause-lawful
 carry-requires-in-Branch-2-clause-lawful c = λ l h.
-    let a = c.args.table.now in
-    let b = c.carry-in-Branch.new.table in
+    let a = c.args.numbering.now in
+    let b = c.carry-in-Branch.new.numbering in
     let numbers : List ℕ = slice_index_or c.args.lists.now c.in-Branch.fails [] in
     c.requires.lawful c.in-Branch.fails l
     (extends_back a b c.in_ok-carry-in-Branch.ensures.longer numbers (c.requires.numbered.numbers c.in-Branch.fails)
@@ -53,16 +53,16 @@ returns-in-Next c =
     let g = c.args.flow.now in
     let j = c.args.node in
     let lists = c.args.lists.now in
-    let a = c.args.table.now in
+    let a = c.args.numbering.now in
     let ns = c.args.found.now in
     let node = told_at (λ (y : Node). y.label) g j c.action-label.result c.action-label.ensures in
     let goes : node.0.next ≡ Next c.in-Next.next =
     told_of (λ (y : Node). y.next) g j c.succ.result c.succ.ensures node.0 node.1 ∙ c.in-Next.is in
-    on_ok_weaker c.carry.result (λ f. carried_next_node s t g j node.0 node.1 lists a c.carry.new.table ns
+    on_ok_weaker c.carry.result (λ f. carried_next_node s t g j node.0 node.1 lists a c.carry.new.numbering ns
     c.carry.new.found c.in-Next.next goes
-    (subst (λ l. Finds s a ns c.carry.new.table c.carry.new.found
+    (subst (λ l. Finds s a ns c.carry.new.numbering c.carry.new.found
     (CarriedOf s t l a.keys (slice_index_or lists c.in-Next.next []))) (sym node.2)
-    (subst (λ numbers. Finds s a ns c.carry.new.table c.carry.new.found
+    (subst (λ numbers. Finds s a ns c.carry.new.numbering c.carry.new.found
     (CarriedOf s t c.action-label.result a.keys numbers)) c.of.ensures f))) c.carry.ensures
 
 pub returns-in_ok-carry-in-Branch : goal.returns-in_ok-carry-in-Branch
@@ -72,9 +72,9 @@ returns-in_ok-carry-in-Branch c =
     let g = c.args.flow.now in
     let j = c.args.node in
     let lists = c.args.lists.now in
-    let a = c.args.table.now in
-    let b = c.carry-in-Branch.new.table in
-    let d = c.carry-in-Branch-2.new.table in
+    let a = c.args.numbering.now in
+    let b = c.carry-in-Branch.new.numbering in
+    let d = c.carry-in-Branch-2.new.numbering in
     let ns = c.args.found.now in
     let ms = c.carry-in-Branch.new.found in
     let os = c.carry-in-Branch-2.new.found in

@@ -10,13 +10,13 @@ use Rattle.sect_infer.proofs.work.settle.Goals as goal
 
 -- the node that is taken out was the last that waited
 working : (c : In-Some)
-    → IsWorking c.args.scheme.now c.args.thread c.args.flow.now c.loop-node.table c.loop-node.lists
+    → IsWorking c.args.scheme.now c.args.thread c.args.flow.now c.loop-node.numbering c.loop-node.lists
     (c.pop_last.new.self.keys ++ c.in-Some.node ∷ [])
 working c = subst (IsWorking _ _ _ _ _) c.in-Some.ensures.removal c.loop-node.invariant.work
 
 -- where there is more, the nodes before it wait too
 busy : (c : In_ok-wait)
-    → IsWorking c.args.scheme.now c.args.thread c.args.flow.now c.visit.new.table c.visit.new.lists
+    → IsWorking c.args.scheme.now c.args.thread c.args.flow.now c.visit.new.numbering c.visit.new.lists
     c.wait.new.waiting.keys
 busy c =
     let w = working (goal.at.loop-node-preserved-in-Continue-branch-4 c).In-Some in
@@ -33,7 +33,7 @@ visit-requires-clause-node c = last_within _ _ _ _ _ _ _ (working (goal.at.visit
 
 pub visit-requires-clause-lawful : goal.visit-requires-clause-lawful
 visit-requires-clause-lawful c =
-    lawful_at c.args.scheme.now c.args.thread c.args.flow.now c.requires.lawful c.loop-node.table c.loop-node.lists
+    lawful_at c.args.scheme.now c.args.thread c.args.flow.now c.requires.lawful c.loop-node.numbering c.loop-node.lists
     c.loop-node.invariant.work.derived
 
 pub of-requires : goal.of-requires
@@ -43,7 +43,7 @@ of-requires c =
 
 pub loop-node-init : goal.loop-node-init
 loop-node-init c = record {
-  work = work_begins c.args.scheme.now c.args.thread c.args.flow.now c.args.table.now c.args.lists.now
+  work = work_begins c.args.scheme.now c.args.thread c.args.flow.now c.args.numbering.now c.args.lists.now
       c.in_ok-waiting.waiting.keys c.requires.begun
       (subst (λ n. (i : ℕ) → Has c.in_ok-waiting.waiting.keys i ↔ (i < n)) c.exit.ensures.number
       c.in_ok-waiting.ensures.nodes);
@@ -76,7 +76,7 @@ loop-node-smaller c =
     c.in_ok-any.ensures (work_quiet _ _ _ _ _ _ _ _ _ _ w c.in_ok-any.ensures c.if-any.false) c.if-any.false refl)
 
 pub returns : goal.returns
-returns c = work_ends c.args.scheme.now c.args.thread c.args.flow.now c.requires.lawful c.loop-node.table
+returns c = work_ends c.args.scheme.now c.args.thread c.args.flow.now c.requires.lawful c.loop-node.numbering
     c.loop-node.lists c.loop-node.waiting.keys
     (none_left c.loop-node.waiting.keys (λ h. let some = c.in_default.ensures.variant.1 h in absurd cc))
     c.loop-node.invariant.work

@@ -6,7 +6,7 @@ use Rattle.sect_infer.proofs.work.settle.Given as goal
 
 abbrev pub invariant-loop-node : goal.invariant-loop-node
 invariant-loop-node l = record {
-  work : IsWorking l.scheme l.thread l.flow l.table l.lists l.waiting.keys;
+  work : IsWorking l.scheme l.thread l.flow l.numbering l.lists l.waiting.keys;
   ordered : IsStrictlySortedBy nat_cmp l.waiting.keys;
 }
 

@@ -1,7 +1,7 @@
 use Rattle.std.proofs.Common.{◌≡◌, ◌∙◌, [], arith, sym, ap, subst}
 use Rattle.std.specs.Prelude.{slice_index_or}
 use Rattle.sect_infer.specs.Numbers.{with_numbers}
-use Rattle.sect_infer.specs.Tables.{IsFinding}
+use Rattle.sect_infer.specs.Numberings.{IsFinding}
 use Rattle.sect_infer.proofs.Visiting.{begun_finding, new_within, visit_is}
 use Rattle.sect_infer.proofs.work.visit.Goals.{After-members-known}
 use Rattle.sect_infer.proofs.work.visit.Goals as goal
@@ -14,7 +14,7 @@ starts c = c.in_ok-insert_all.ensures ∙ ap (λ ns. with_numbers ns c.of.result
 
 pub find_after-requires-clause-finding : goal.find_after-requires-clause-finding
 find_after-requires-clause-finding c =
-    let a = c.args.table.now in
+    let a = c.args.numbering.now in
     subst (IsFinding c.args.scheme.now a)
     (sym (starts (goal.at.find_after-requires-clause-finding c).After-members-known))
     (begun_finding c.args.scheme.now c.args.thread c.args.flow.now c.args.node a a a c.args.lists.now [] []

@@ -4,7 +4,7 @@ use Rattle.sect_types.specs.Lists.{Has}
 use Rattle.sect_names.specs.contracts.lock.LockPartialEq.TheImpl.{ghosts as the_lock_eq}
 use Rattle.sect_names.proofs.Telling.{lock_tells}
 use Rattle.sect_names.proofs.Seeking.{place_tells}
-use Rattle.sect_infer.proofs.table.Table.find.Goals as goal
+use Rattle.sect_infer.proofs.numbering.Numbering.find.Goals as goal
 
 pub returns : goal.returns
 returns c =

@@ -1,4 +1,4 @@
--- Locks by their numbers in a table.
+-- Locks by their numbers in a numbering.
 use Rattle.std.specs.Prelude.{◌≡◌, ◌<◌, ◌⊎◌, ℕ, Bool, not, List, [], filter, ◌++◌, Some, length}
 use Rattle.std.specs.Prelude.{slice_get, slice_index_or}
 use Rattle.std.specs.List.{list_any}
@@ -9,7 +9,7 @@ use Rattle.sect_names.specs.Climbing.{IsAbove}
 use Rattle.sect_infer.specs.Numbers.{has_number, AreApart}
 
 -- a lock's number is its place among the keys; for each, the numbers of those that are above it
-pub record TableView : Type 0 where
+pub record NumberingView : Type 0 where
   pub keys : List Lock
   pub above : List (List ℕ)
 
@@ -32,7 +32,7 @@ pub record AreAbove (s : SchemeView) (keys : List Lock) (l : Lock) (ns : List �
   pub all : (big : Lock) → IsAbove s big l → HasLock keys ns big
 
 -- each lock has one number, and those of the locks above it are told
-pub record IsTable (s : SchemeView) (t : TableView) : Type 0 where
+pub record IsNumbering (s : SchemeView) (t : NumberingView) : Type 0 where
   pub count : length t.above ≡ length t.keys
   pub apart : AreApart t.keys
   pub told : (n : ℕ) (l : Lock) → slice_get t.keys n ≡ Some l → AreAbove s t.keys l (slice_index_or t.above n [])
@@ -41,30 +41,30 @@ pub record IsTable (s : SchemeView) (t : TableView) : Type 0 where
 abbrev pub is_under : List (List ℕ) → List ℕ → ℕ → Bool
 is_under above ns n = list_any (has_number ns) (slice_index_or above n [])
 
--- the table has the locks that it had, by the same numbers, and may have more
-abbrev pub Extends : TableView → TableView → Type 0
+-- the numbering has the locks that it had, by the same numbers, and may have more
+abbrev pub Extends : NumberingView → NumberingView → Type 0
 Extends old new = (more : List Lock) × (new.keys ≡ old.keys ++ more)
 
--- the table has been extended so that the lock has the number
-pub record IsNumbered (s : SchemeView) (old new : TableView) (l : Lock) (n : ℕ) : Type 0 where
-  pub table : IsTable s new
+-- the numbering has been extended so that the lock has the number
+pub record IsNumbered (s : SchemeView) (old new : NumberingView) (l : Lock) (n : ℕ) : Type 0 where
+  pub numbering : IsNumbering s new
   pub longer : Extends old new
   pub there : slice_get new.keys n ≡ Some l
 
--- the table has been extended so that it has these locks
-pub record AreAllPut (s : SchemeView) (old new : TableView) (locks : List Lock) : Type 0 where
-  pub table : IsTable s new
+-- the numbering has been extended so that it has these locks
+pub record AreAllPut (s : SchemeView) (old new : NumberingView) (locks : List Lock) : Type 0 where
+  pub numbering : IsNumbering s new
   pub longer : Extends old new
   pub there : (l : Lock) → Has locks l → Has new.keys l
 
--- numbers of locks that were found: the table tells of each, and none is there twice
-pub record IsFinding (s : SchemeView) (t : TableView) (ns : List ℕ) : Type 0 where
-  pub table : IsTable s t
+-- numbers of locks that were found: the numbering tells of each, and none is there twice
+pub record IsFinding (s : SchemeView) (t : NumberingView) (ns : List ℕ) : Type 0 where
+  pub numbering : IsNumbering s t
   pub numbers : AreNumbers t.keys ns
   pub apart : AreApart ns
 
 -- locks with this property were found beside those that had been
-pub record Finds (s : SchemeView) (old : TableView) (before : List ℕ) (new : TableView) (after : List ℕ)
+pub record Finds (s : SchemeView) (old : NumberingView) (before : List ℕ) (new : NumberingView) (after : List ℕ)
     (P : Lock → Type 0) : Type 0 where
   pub finding : IsFinding s new after
   pub longer : Extends old new

@@ -1,8 +1,8 @@
 use Rattle.std.proofs.Common.{◌≡◌, ◌<◌, ◌∙◌, Some, length, sym, ap, arith}
 use Rattle.std.specs.Prelude.{slice_get}
 use Rattle.std.proofs.lemmas.Option.{slice_get-get_or}
-use Rattle.sect_infer.proofs.Tabling.{put_next}
-use Rattle.sect_infer.proofs.table.Table.put_all.Goals as goal
+use Rattle.sect_infer.proofs.Extending.{put_next}
+use Rattle.sect_infer.proofs.numbering.Numbering.put_all.Goals as goal
 
 pub put-requires-clause-above : goal.put-requires-clause-above
 put-requires-clause-above c = λ big h.

@@ -4,7 +4,7 @@ ghost use Rattle.std.specs.Prelude.{◌≡◌, ◌<◌, length, slice_get, [], S
 ghost use Rattle.sect_types.specs.Lists.{Has};
 ghost use Rattle.sect_names.specs.declared.lock.Lock.{Lock};
 ghost use Rattle.sect_names.specs.Climbing.{IsAbove, AreBehind};
-ghost use Rattle.sect_infer.specs.Tables.{AreOf, AreAllPut, IsTable, IsNumbered, is_under};
+ghost use Rattle.sect_infer.specs.Numberings.{AreOf, AreAllPut, IsNumbering, IsNumbered, is_under};
 
 use crate::numbers::Numbers;
 use indexmap::IndexSet;
@@ -15,18 +15,18 @@ use std::marker::Model;
 /// Locks, numbered from 0 in the order in which they came, and for each the numbers of the other locks that cover it,
 /// which have come before it.
 #[derive(Drop)]
-pub struct Table {
+pub struct Numbering {
     locks: IndexSet<Lock>,
     above: Vec<Vec<usize>>,
 }
 
-impl Model for Table {
+impl Model for Numbering {
     ghost use Rattle.std.specs.Prelude.{map};
     ghost use Rattle.std.specs.Coded.{codes};
     ghost use Rattle.sect_points.specs.Paths.{path_code};
-    ghost use Rattle.sect_infer.specs.Tables.{TableView};
+    ghost use Rattle.sect_infer.specs.Numberings.{NumberingView};
 
-    ghost Value = { TableView };
+    ghost Value = { NumberingView };
 
     ghost coded = { Prim.hlevel (codes, path_code) };
 
@@ -36,13 +36,13 @@ impl Model for Table {
     } };
 }
 
-impl Table {
+impl Numbering {
     /// No locks.
-    pub fn new(alloc: Global) -> Table
+    pub fn new(alloc: Global) -> Numbering
         ensures keys { result.keys ≡ [] }
         ensures above { result.above ≡ [] }
     {
-        Table {
+        Numbering {
             locks: IndexSet::new(alloc),
             above: Vec::new(alloc),
         }
@@ -104,7 +104,7 @@ impl Table {
         scheme: &Scheme,
         lock: &Lock,
     ) -> Result<usize, AllocError>
-        requires { IsTable scheme.now self.old }
+        requires { IsNumbering scheme.now self.old }
         ensures { IfOk result (IsNumbered scheme.now self.old self.new lock.now) }
     {
         if let Some(number) = self.find(lock) {
@@ -117,7 +117,7 @@ impl Table {
 
     /// Puts locks, each unless it is there: those above each are there or stand before it.
     fn put_all(&mut self, alloc: Global, scheme: &Scheme, locks: &[Lock]) -> Result<(), AllocError>
-        requires table { IsTable scheme.now self.old }
+        requires numbering { IsNumbering scheme.now self.old }
         requires behind { AreBehind scheme.now locks.now }
         ensures { OnOk result (AreAllPut scheme.now self.old self.new locks.now) }
     {
@@ -129,7 +129,7 @@ impl Table {
 
     /// The number of a lock, which comes now unless it is there. Those above it are there.
     fn put(&mut self, alloc: Global, scheme: &Scheme, lock: &Lock) -> Result<usize, AllocError>
-        requires table { IsTable scheme.now self.old }
+        requires numbering { IsNumbering scheme.now self.old }
         requires above { (big : Lock) → IsAbove scheme.now big lock.now → Has self.old.keys big }
         ensures { IfOk result (IsNumbered scheme.now self.old self.new lock.now) }
     {

@@ -1,9 +1,9 @@
 use Rattle.std.proofs.Common.{sym, subst}
 use Rattle.std.proofs.lemmas.Result.{IfOk-weaker}
 use Rattle.sect_types.specs.Lists.{Has}
-use Rattle.sect_infer.specs.Tables.{IsNumbered}
-use Rattle.sect_infer.proofs.Tabling.{numbered_after}
-use Rattle.sect_infer.proofs.table.Table.number.Goals as goal
+use Rattle.sect_infer.specs.Numberings.{IsNumbered}
+use Rattle.sect_infer.proofs.Extending.{numbered_after}
+use Rattle.sect_infer.proofs.numbering.Numbering.number.Goals as goal
 
 pub put-requires-clause-above : goal.put-requires-clause-above
 put-requires-clause-above c = λ big h.

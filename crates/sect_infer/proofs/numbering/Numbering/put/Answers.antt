@@ -2,9 +2,9 @@ use Rattle.std.proofs.Common.{◌≡◌, ◌∙◌, Some, [], ◌∷◌, ◌++�
 use Rattle.std.specs.Prelude.{slice_get}
 use Rattle.std.proofs.lemmas.List.{map-append}
 use Rattle.sect_types.specs.Lists.{Has}
-use Rattle.sect_infer.specs.Tables.{TableView, AreOf}
-use Rattle.sect_infer.proofs.Tabling.{put_last, table_put, get_end}
-use Rattle.sect_infer.proofs.table.Table.put.Goals as goal
+use Rattle.sect_infer.specs.Numberings.{NumberingView, AreOf}
+use Rattle.sect_infer.proofs.Extending.{put_last, numbering_put, get_end}
+use Rattle.sect_infer.proofs.numbering.Numbering.put.Goals as goal
 
 pub returns : goal.returns
 returns c =
@@ -14,7 +14,7 @@ returns c =
     let coverers = c.in_ok-coverers.coverers.items in
     let ns = c.in_ok-above.above.items in
     let locks = c.self.inside.locks.keys in
-    let was : locks ≡ t.keys = ap (λ (v : TableView). v.keys) c.self.view_is in
+    let was : locks ≡ t.keys = ap (λ (v : NumberingView). v.keys) c.self.view_is in
     let absent : Has t.keys l → ⊥ = c.in_default.ensures in
     let copy = c.in_ok-try_clone.field-0 in
     let same : copy ≡ l = c.in_ok-try_clone.ensures in
@@ -25,14 +25,15 @@ returns c =
     let above : map (λ v. v.items) c.push.new.self.items ≡ t.above ++ ns ∷ [] =
     ap (map (λ v. v.items)) c.in_ok-push.ensures.items
     ∙ map-append (λ v. v.items) c.self.inside.above.items (c.in_ok-above.above ∷ [])
-    ∙ ap (λ (v : TableView). v.above ++ ns ∷ []) c.self.view_is in
-    let new : TableView = record { keys = c.insert.new.self.keys; above = map (λ v. v.items) c.push.new.self.items } in
+    ∙ ap (λ (v : NumberingView). v.above ++ ns ∷ []) c.self.view_is in
+    let new : NumberingView = record { keys = c.insert.new.self.keys;
+      above = map (λ v. v.items) c.push.new.self.items } in
     let of : AreOf t.keys coverers ns =
     subst (λ ls. AreOf t.keys ls ns) c.as_slice.ensures.value
     (subst (λ ks. AreOf ks c.as_slice.result.now ns) refl c.in_ok-above.ensures) in
     let number : c.len-number.result ≡ length t.keys = c.len-number.ensures.len ∙ ap length was in
     record {
-      table = table_put s t new l coverers ns keys above c.requires.table absent c.in_ok-coverers.ensures
+      numbering = numbering_put s t new l coverers ns keys above c.requires.numbering absent c.in_ok-coverers.ensures
           c.requires.above of;
       longer = (l ∷ [], keys);
       there = subst (λ ks. slice_get ks c.len-number.result ≡ Some l) (sym keys)

@@ -1,9 +1,9 @@
 use Rattle.std.proofs.Common.{◌<◌, ◌≤◌, length, subst, arith}
 use Rattle.std.proofs.lemmas.List.{take_all}
-use Rattle.sect_infer.specs.Tables.{AreOf}
-use Rattle.sect_infer.proofs.Tabling.{of_next, of_skip}
-use Rattle.sect_infer.proofs.table.Table.find_all.Goals as goal
-use Rattle.sect_infer.proofs.table.Table.find_all.Goals.{in-Some+in_ok-push, in_default}
+use Rattle.sect_infer.specs.Numberings.{AreOf}
+use Rattle.sect_infer.proofs.Extending.{of_next, of_skip}
+use Rattle.sect_infer.proofs.numbering.Numbering.find_all.Goals as goal
+use Rattle.sect_infer.proofs.numbering.Numbering.find_all.Goals.{in-Some+in_ok-push, in_default}
 
 pub loop-lock-preserved : goal.loop-lock-preserved
 loop-lock-preserved c =

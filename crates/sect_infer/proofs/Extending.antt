@@ -1,4 +1,4 @@
--- Tables that are extended.
+-- Numberings that are extended.
 use Rattle.std.proofs.Common.{◌≡◌, ◌↔◌, inl, inr, ℕ, zero, suc, ◌+◌, ◌<◌, List, [], ◌∷◌, ◌++◌, Some, Bool, true, false}
 use Rattle.std.proofs.Common.{length, get_or, take, refl, sym, ap, ◌∙◌, subst, append_assoc, length-append, arith}
 use Rattle.std.specs.Prelude.{slice_get, slice_index_or, if◌then◌else◌}
@@ -16,8 +16,9 @@ use Rattle.sect_names.proofs.Making.{last_of, so_far}
 use Rattle.sect_names.proofs.Inserting.{behind}
 use Rattle.sect_names.proofs.Telling.{lock_tells, any_tells}
 use Rattle.sect_infer.specs.Numbers.{AreApart}
-use Rattle.sect_infer.specs.Tables.{TableView, HasLock, AreNumbers, AreOf, AreAbove, IsTable, Extends, IsNumbered}
-use Rattle.sect_infer.specs.Tables.{AreAllPut}
+use Rattle.sect_infer.specs.Numberings.{NumberingView, HasLock, AreNumbers, AreOf, AreAbove, IsNumbering, Extends,
+  IsNumbered}
+use Rattle.sect_infer.specs.Numberings.{AreAllPut}
 use Rattle.sect_infer.proofs.Apart.{apart_push}
 
 -- what stands in the front of a list
@@ -85,33 +86,33 @@ put_last keys l absent = go (list_any (the_lock_eq.eq l) keys) (any_tells the_lo
     go true tells = absurd (absent (tells.0 refl))
     go false tells = refl
 
--- a table goes on from itself
-pub extends_none : (t : TableView) → Extends t t
+-- a numbering goes on from itself
+pub extends_none : (t : NumberingView) → Extends t t
 extends_none t = ([], sym (append-nil t.keys))
 
 -- one extension after another
-pub extends_then : (a b c : TableView) → Extends a b → Extends b c → Extends a c
+pub extends_then : (a b c : NumberingView) → Extends a b → Extends b c → Extends a c
 extends_then a b c h k = (h.0 ++ k.0, k.1 ∙ ap (λ l. l ++ k.0) h.1 ∙ append_assoc a.keys h.0 k.0)
 
--- a table that is extended keeps its locks and their numbers
-pub extends_at : (old new : TableView) → Extends old new → (n : ℕ) (l : Lock) → slice_get old.keys n ≡ Some l
+-- a numbering that is extended keeps its locks and their numbers
+pub extends_at : (old new : NumberingView) → Extends old new → (n : ℕ) (l : Lock) → slice_get old.keys n ≡ Some l
     → slice_get new.keys n ≡ Some l
 extends_at old new e n l at = subst (λ ks. slice_get ks n ≡ Some l) (sym e.1) (get_left old.keys e.0 n l at)
 
-pub extends_has : (old new : TableView) → Extends old new → (l : Lock) → Has old.keys l → Has new.keys l
+pub extends_has : (old new : NumberingView) → Extends old new → (l : Lock) → Has old.keys l → Has new.keys l
 extends_has old new e l h = subst (λ ks. Has ks l) (sym e.1) (Has-left old.keys e.0 l h)
 
-pub extends_lock : (old new : TableView) → Extends old new → (ns : List ℕ) (l : Lock) → HasLock old.keys ns l
+pub extends_lock : (old new : NumberingView) → Extends old new → (ns : List ℕ) (l : Lock) → HasLock old.keys ns l
     → HasLock new.keys ns l
 extends_lock old new e ns l h = (h.0, h.1, extends_at old new e h.0 l h.2)
 
 -- the numbers that there were keep their locks
-pub extends_back : (old new : TableView) → Extends old new → (ns : List ℕ) → AreNumbers old.keys ns → (l : Lock)
+pub extends_back : (old new : NumberingView) → Extends old new → (ns : List ℕ) → AreNumbers old.keys ns → (l : Lock)
     → HasLock new.keys ns l → HasLock old.keys ns l
 extends_back old new e ns there l h =
     (h.0, h.1, get_front old.keys e.0 h.0 l (there h.0 h.1) (subst (λ ks. slice_get ks h.0 ≡ Some l) e.1 h.2))
 
-pub extends_numbers : (old new : TableView) → Extends old new → (ns : List ℕ) → AreNumbers old.keys ns
+pub extends_numbers : (old new : NumberingView) → Extends old new → (ns : List ℕ) → AreNumbers old.keys ns
     → AreNumbers new.keys ns
 extends_numbers old new e ns there n h = let w = there n h in
     omega (arith, w, ap length e.1, length-append old.keys e.0)
@@ -125,11 +126,12 @@ module _ (s : SchemeView) where
   }
 
   -- one lock more, whose coverers are there
-  pub table_put : (t new : TableView) (l : Lock) (coverers : List Lock) (ns : List ℕ) → new.keys ≡ t.keys ++ l ∷ []
-      → new.above ≡ t.above ++ ns ∷ [] → IsTable s t → (Has t.keys l → ⊥)
+  pub numbering_put : (t new : NumberingView) (l : Lock) (coverers : List Lock) (ns : List ℕ)
+      → new.keys ≡ t.keys ++ l ∷ []
+      → new.above ≡ t.above ++ ns ∷ [] → IsNumbering s t → (Has t.keys l → ⊥)
       → AreCoverers s l coverers → ((big : Lock) → IsAbove s big l → Has t.keys big) → AreOf t.keys coverers ns
-      → IsTable s new
-  table_put t new l coverers ns keys above is absent are there of = record {
+      → IsNumbering s new
+  numbering_put t new l coverers ns keys above is absent are there of = record {
     count = ap length above ∙ length-append t.above (ns ∷ []) ∙ ap (λ n. n + 1) is.count
         ∙ sym (ap length keys ∙ length-append t.keys (l ∷ []));
     apart = subst (λ ks. AreApart ks) (sym keys) (apart_push t.keys l is.apart absent);
@@ -157,24 +159,25 @@ module _ (s : SchemeView) where
       }
 
   -- a lock that is there has its number; one that is put after other locks has it too
-  pub numbered_there : (t : TableView) (l : Lock) (n : ℕ) → IsTable s t → slice_get t.keys n ≡ Some l
+  pub numbered_there : (t : NumberingView) (l : Lock) (n : ℕ) → IsNumbering s t → slice_get t.keys n ≡ Some l
       → IsNumbered s t t l n
-  numbered_there t l n is at = record { table = is; longer = extends_none t; there = at }
+  numbered_there t l n is at = record { numbering = is; longer = extends_none t; there = at }
 
-  pub numbered_after : (a b c : TableView) (l : Lock) (n : ℕ) → Extends a b → IsNumbered s b c l n
+  pub numbered_after : (a b c : NumberingView) (l : Lock) (n : ℕ) → Extends a b → IsNumbered s b c l n
       → IsNumbered s a c l n
-  numbered_after a b c l n e k = record { table = k.table; longer = extends_then a b c e k.longer; there = k.there }
+  numbered_after a b c l n e k = record { numbering = k.numbering; longer = extends_then a b c e k.longer;
+    there = k.there }
 
   -- no lock has been put
-  pub put_none : (t : TableView) → IsTable s t → AreAllPut s t t []
-  put_none t is = record { table = is; longer = extends_none t; there = λ l h. absurd h }
+  pub put_none : (t : NumberingView) → IsNumbering s t → AreAllPut s t t []
+  put_none t is = record { numbering = is; longer = extends_none t; there = λ l h. absurd h }
 
   -- the next lock of a list is put
-  pub put_next : (a b c : TableView) (locks : List Lock) (i : ℕ) (l : Lock) (n : ℕ) → i < length locks
+  pub put_next : (a b c : NumberingView) (locks : List Lock) (i : ℕ) (l : Lock) (n : ℕ) → i < length locks
       → l ≡ get_or locks i l → AreAllPut s a b (take i locks) → IsNumbered s b c l n
       → AreAllPut s a c (take (i + 1) locks)
   put_next a b c locks i l n within is before k = record {
-    table = k.table;
+    numbering = k.numbering;
     longer = extends_then a b c before.longer k.longer;
     there = λ x h. elim (last_of locks i l x within is h) [
       | inl old ↦ extends_has b c k.longer x (before.there x old)

@@ -94,4 +94,4 @@ pub schedule_due : (bytes : List ℕ) (k : ℕ) (schedule : List ℕ) (c : Compi
     → IsAccepted bytes k c.scheme
     → IsUnrun why schedule (length c.scheme.program.texts) → IsScheduleDue bytes k schedule (of_world why)
 schedule_due bytes k schedule c world_fault.Memory accepted h = tt
-schedule_due bytes k schedule c (world_fault.NoSuchThread t) accepted h = (c.scheme, accepted, h.0, h.1)
+schedule_due bytes k schedule c (world_fault.NoSuchThread t) accepted h = (c.scheme, accepted, h)

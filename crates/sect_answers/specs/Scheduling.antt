@@ -1,6 +1,5 @@
 -- What the command `schedule` answers to a source text. `schedule_outcome` cites it.
-use Rattle.std.specs.Prelude.{◌≡◌, ◌≢◌, ◌≤◌, ⊤, ℕ, List, ◌++◌, length}
-use Rattle.sect_types.specs.Lists.{Has}
+use Rattle.std.specs.Prelude.{◌≡◌, ◌≢◌, ⊤, ℕ, List, ◌++◌, length}
 use Rattle.sect_names.specs.Schemes.{SchemeView}
 use Rattle.sect_names.specs.Sources as sources
 use Rattle.sect_names.specs.Sources.{IsAccepted}
@@ -9,7 +8,7 @@ use Rattle.sect_store.specs.Printing.{outcome_text}
 use Rattle.sect_emit.specs.Compiled.{CompiledView, IsCompiledFrom, program_of}
 use Rattle.sect_emit.specs.State.{State, start}
 use Rattle.sect_world.specs.Runs.{order_of}
-use Rattle.sect_world.specs.Schedules.{TakeTurns, all_events}
+use Rattle.sect_world.specs.Schedules.{TakeTurns, IsFirstMissing, all_events}
 use Rattle.sect_world.specs.Worlds.{outcome_at}
 use Rattle.sect_world.specs.declared.event.Event.{Event}
 use Rattle.sect_world.specs.declared.turned.WorldFault.{WorldFault}
@@ -38,10 +37,10 @@ abbrev pub of_world : WorldFault → Refusal
 of_world fault.Memory = refusal.Memory
 of_world why = refusal.Schedule why
 
--- this number of the schedule is no thread's
+-- this is the first number of the schedule that is no thread's
 abbrev pub IsNoThread : List ℕ → ℕ → List ℕ → WorldFault → Type 0
 IsNoThread bytes k schedule (fault.NoSuchThread t) =
-    (s : SchemeView) × IsAccepted bytes k s × Has schedule t × (length s.program.texts ≤ t)
+    (s : SchemeView) × IsAccepted bytes k s × IsFirstMissing schedule (length s.program.texts) t
 IsNoThread bytes k schedule fault.Memory = ⊥
 
 -- the refusal is due: the text is judged first, and then the schedule

@@ -1,11 +1,14 @@
 //! The command `run`.
 
-ghost use Rattle.std.specs.Prelude.{◌≡◌, IfOk, IfErr};
+ghost use Rattle.std.specs.Prelude.{◌≡◌, IfOk, IfErr, IsOkUnless};
 ghost use Rattle.std.specs.String.{string_bytes};
+ghost use Rattle.sect_names.specs.Schemes.{SchemeView};
+ghost use Rattle.sect_names.specs.Sources.{IsAccepted};
 ghost use Rattle.sect_store.specs.Printing.{outcome_text as printed};
 ghost use Rattle.sect_emit.specs.Compiled.{program_of};
 ghost use Rattle.sect_world.specs.declared.world.Run.{Run};
 ghost use Rattle.sect_run.specs.Ends.{IsWholeRun};
+ghost use Rattle.sect_answers.specs.declared.refusal.Refusal.TheVariants.{Memory};
 ghost use Rattle.sect_answers.specs.Answers.{IsDue};
 ghost use Rattle.sect_answers.specs.Running.{IsOutcomeOfRun};
 
@@ -28,6 +31,8 @@ pub fn run_outcome<R: Threads + Wait + Sync, G: Gate>(
 ) -> Result<String, Refusal>
     // The program comes to the same by whole sections in some order, and this is the outcome with that order.
     ensures answers { IfOk result (λ text. IsOutcomeOfRun source.now fuel (string_bytes text)) }
+    // A text that is accepted is run to its end, unless memory runs out.
+    ensures only { (s : SchemeView) → IsAccepted source.now k s → IsOkUnless result Memory }
     // A refusal is due, and it is the first that is.
     ensures refuses { IfErr result (IsDue source.now k) }
 {

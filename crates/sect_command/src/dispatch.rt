@@ -1,5 +1,11 @@
 //! One run of the program, over any reader and writer.
 
+ghost use Rattle.std.specs.Prelude.{◌≡◌, ◌⊎◌, IfOk, IfErr, IfSome};
+ghost use Rattle.std.specs.Io.KnownBytes.{Appends};
+ghost use Rattle.sect_command.specs.declared.dispatch.Failure.TheVariants.{Memory};
+ghost use Rattle.sect_command.specs.declared.dispatch.TheConstants.{FAILED, WRONG_WORDS};
+ghost use Rattle.sect_command.specs.Requests.{Answers, IsRefusalDue, IsRight, IsRightForWords, IsTold};
+
 use crate::options::{Form, Request, UsageFault, request_of};
 use sect_answers::{
     Refusal, locks, program_certificate, program_explanation, program_listing, run_outcome,
@@ -45,6 +51,8 @@ enum Failure {
 }
 
 impl From<AllocError> for Failure {
+    ghost from_gives = { λ _ failure. failure ≡ Memory };
+
     fn from(_refused: AllocError) -> Failure {
         Failure::Memory
     }
@@ -62,15 +70,13 @@ impl From<io::Error> for Failure {
 
 /// Judges the words (the program's name first), reads the whole input, works, and writes the answer. It gives the
 /// exit status: 0 done, 1 refused, 2 the words are wrong, 3 want of memory, or the input or the output failed.
-pub fn command<R: Threads + Wait + Sync + AllocGlobal, I: Read, O: Write>(
+pub fn command<R: Threads + Wait + Sync + AllocGlobal, I: Read + Drop, O: Write>(
     rt: &R,
     words: &[String],
     input: I,
-    output: O,
+    output: &mut O,
 ) -> u8
-where
-    I: Drop,
-    O: Drop,
+    ensures { IsTold (I.remaining input) (O.contents output.old) (O.contents output.new) result }
 {
     match answer_to(rt, words, input) {
         Ok(answer) => told(output, answer.status, answer.text.as_slice()),
@@ -80,7 +86,10 @@ where
 }
 
 /// Writes a text, and gives the status, or `FAILED` where the writer failed.
-pub fn told<O: Write + Drop>(mut output: O, status: u8, text: &[u8]) -> u8 {
+pub fn told<O: Write>(output: &mut O, status: u8, text: &[u8]) -> u8
+    ensures { (result ≡ FAILED)
+        ⊎ ((result ≡ status) × Appends (O.contents output.old) (O.contents output.new) text.now) }
+{
     match output.write_all(text) {
         Ok(()) => match output.flush() {
             Ok(()) => status,
@@ -95,7 +104,9 @@ fn answer_to<R: Threads + Wait + Sync + AllocGlobal, I: Read + Drop>(
     rt: &R,
     words: &[String],
     input: I,
-) -> Result<Answer, Failure> {
+) -> Result<Answer, Failure>
+    ensures { IfOk result (IsRightForWords (I.remaining input)) }
+{
     let alloc = rt.alloc();
     match request_of(alloc, words) {
         Ok(request) => answered(rt, alloc, request, input),
@@ -104,7 +115,10 @@ fn answer_to<R: Threads + Wait + Sync + AllocGlobal, I: Read + Drop>(
 }
 
 /// What is answered to words that are wrong.
-fn words_refused(alloc: Global, fault: UsageFault) -> Result<Answer, Failure> {
+fn words_refused(alloc: Global, fault: UsageFault) -> Result<Answer, Failure>
+    ensures answers { IfOk result (λ answer. answer.status ≡ WRONG_WORDS) }
+    ensures fails { IfErr result (λ failure. failure ≡ Memory) }
+{
     match fault {
         UsageFault::Memory => Err(Failure::Memory),
         fault => Ok(Answer {
@@ -120,7 +134,9 @@ fn answered<R: Threads + Wait + Sync, I: Read + Drop>(
     alloc: Global,
     request: Request,
     mut input: I,
-) -> Result<Answer, Failure> {
+) -> Result<Answer, Failure>
+    ensures { IfOk result (λ answer. IfSome (I.remaining input) (λ source. IsRight request source answer)) }
+{
     let mut source = Vec::new(alloc);
     input.read_to_end(&mut source)?;
     worked(rt, alloc, request, source.as_slice())
@@ -132,7 +148,10 @@ fn worked<R: Threads + Wait + Sync>(
     alloc: Global,
     request: Request,
     source: &[u8],
-) -> Result<Answer, Failure> {
+) -> Result<Answer, Failure>
+    ensures answers { IfOk result (IsRight request source.now) }
+    ensures fails { IfErr result (λ failure. failure ≡ Memory) }
+{
     match printed(rt, alloc, request, source) {
         Ok(text) => Ok(Answer { status: DONE, text }),
         Err(Refusal::Memory) => Err(Failure::Memory),
@@ -149,7 +168,10 @@ fn printed<R: Threads + Wait + Sync>(
     alloc: Global,
     request: Request,
     source: &[u8],
-) -> Result<Vec<u8>, Refusal> {
+) -> Result<Vec<u8>, Refusal>
+    ensures answers { IfOk result (λ text. Answers request source.now text.items) }
+    ensures refuses { IfErr result (IsRefusalDue request source.now) }
+{
     match request {
         Request::Locks { k } => Ok(locks(alloc, source, k)?.into_bytes()),
         Request::Compile {

@@ -1,7 +1,7 @@
 -- Turns one after another are the turns of a schedule.
 use Rattle.std.proofs.Common.{◌≡◌, inl, inr, ℕ, ◌<◌, ◌≤◌, ◌++◌, List, [], ◌∷◌, map, length, refl, sym, ◌∙◌, ap, subst}
-use Rattle.std.proofs.Common.{append_assoc}
-use Rattle.std.proofs.lemmas.List.{append-nil, map-append}
+use Rattle.std.proofs.Common.{◌+◌, append_assoc, take, drop, get_or}
+use Rattle.std.proofs.lemmas.List.{append-nil, map-append, drop_more, take-append-drop}
 use Rattle.sect_types.specs.Lists.{Has}
 use Rattle.sect_types.proofs.Membership.{Has-cases}
 use Rattle.sect_emit.specs.Compiled.{CompiledView, program_of}
@@ -69,11 +69,18 @@ so_far_more c fuel ts w v counts counts' t n so counted lt counts_is = record {
   ];
 }
 
--- a refused turn is why a schedule with that thread isn't run
-pub unrun : (fault : WorldFault) (ts : List ℕ) (t count : ℕ) → Has ts t → IsRefused fault t count
-    → IsUnrun fault ts count
-unrun (NoSuchThread u) ts t count there r = (subst (Has ts) (sym r.0) there, subst (λ n. count ≤ n) (sym r.0) r.1)
-unrun Memory ts t count there r = tt
+-- a refused turn is why a schedule isn't run whose earlier entries are threads
+pub unrun : (fault : WorldFault) (ts : List ℕ) (i count : ℕ) → i < length ts
+    → ((t : ℕ) → Has (take i ts) t → t < count) → IsRefused fault (get_or ts i 0) count → IsUnrun fault ts count
+unrun (NoSuchThread u) ts i count lt there r = record {
+  before = take i ts;
+  after = drop (i + 1) ts;
+  split = subst (λ t. ts ≡ take i ts ++ t ∷ drop (i + 1) ts) (sym r.0)
+      (sym (take-append-drop i ts) ∙ ap (λ z. take i ts ++ z) (drop_more ts i 0 lt));
+  there = there;
+  missing = subst (λ n. count ≤ n) (sym r.0) r.1;
+}
+unrun Memory ts i count lt there r = tt
 
 -- what all turns have come to
 pub progress : (c : CompiledView) (fuel : ℕ) (schedule : List ℕ) (w : WorldView) (p : Progress)

@@ -1,5 +1,5 @@
 -- What running a schedule comes to. `run_schedule` cites it.
-use Rattle.std.specs.Prelude.{◌≡◌, ◌≤◌, ⊤, ℕ, List, [], ◌∷◌, map, length}
+use Rattle.std.specs.Prelude.{◌≡◌, ◌<◌, ◌≤◌, ⊤, ℕ, List, [], ◌∷◌, ◌++◌, map, length}
 use Rattle.std.specs.List.{flat_map}
 use Rattle.sect_types.specs.Lists.{Has}
 use Rattle.sect_types.specs.Whole.{SerialEndView, RunsWhole}
@@ -41,7 +41,15 @@ pub record IsProgress (c : CompiledView) (fuel : ℕ) (schedule : List ℕ) (p :
   pub serial : AllEnded state → (e : SerialEndView) × IsComplete state e
       × RunsWhole (program_of c) fuel (order_of p.run.events.items) e
 
--- why a schedule isn't run: an entry is none of so many threads, or want of memory
+-- the first number of the schedule that is none of so many threads
+pub record IsFirstMissing (schedule : List ℕ) (count u : ℕ) : Type 0 where
+  pub before : List ℕ
+  pub after : List ℕ
+  pub split : schedule ≡ before ++ u ∷ after
+  pub there : (t : ℕ) → Has before t → t < count
+  pub missing : count ≤ u
+
+-- why a schedule isn't run: the first entry that is none of so many threads, or want of memory
 abbrev pub IsUnrun : WorldFault → List ℕ → ℕ → Type 0
-IsUnrun (NoSuchThread u) schedule count = Has schedule u × (count ≤ u)
+IsUnrun (NoSuchThread u) schedule count = IsFirstMissing schedule count u
 IsUnrun Memory schedule count = ⊤

@@ -9,10 +9,11 @@ use std::process::ExitCode;
 use std::{env, io};
 
 fn main(rt: HostRuntime) -> ExitCode {
+    let mut output = rt.stdout();
     let status = match arguments(&rt) {
-        Ok(words) => command(&rt, words.as_slice(), rt.stdin(), rt.stdout()),
+        Ok(words) => command(&rt, words.as_slice(), rt.stdin(), &mut output),
         Err(refused) if refused.kind() == io::ErrorKind::OutOfMemory => {
-            told(rt.stdout(), FAILED, OUT_OF_MEMORY)
+            told(&mut output, FAILED, OUT_OF_MEMORY)
         }
         Err(_) => WRONG_WORDS,
     };

@@ -2,7 +2,6 @@
 use Rattle.std.proofs.Common.{◌≤◌, take, get_or, length, sym, ap, ◌∙◌, subst, arith}
 use Rattle.std.proofs.Common.{length-append}
 use Rattle.std.proofs.lemmas.List.{take_all, take_more}
-use Rattle.sect_types.proofs.Membership.{Has-get_or}
 use Rattle.sect_emit.specs.Compiled.{program_of}
 use Rattle.sect_world.specs.Worlds.{IsRefused}
 use Rattle.sect_world.proofs.Scheduling.{SoFar, so_far_more, unrun, progress}
@@ -11,9 +10,9 @@ use Rattle.sect_world.proofs.schedule.run_schedule.Goals as goal
 pub returns-in-Err-clause-refused : goal.returns-in-Err-clause-refused
 returns-in-Err-clause-refused c =
     let so = c.loop-thread.invariant.0 in
-    let t = get_or c.args.schedule.now c.loop-thread.thread-index 0 in
-    unrun c.in-Err.fault c.args.schedule.now t _
-    (Has-get_or c.args.schedule.now c.loop-thread.thread-index 0 c.loop-thread-test.true)
+    let i = c.loop-thread.thread-index in
+    let t = get_or c.args.schedule.now i 0 in
+    unrun c.in-Err.fault c.args.schedule.now i _ c.loop-thread-test.true so.within
     (subst (λ z. IsRefused c.in-Err.fault t (length (program_of z).texts)) so.compiled c.in-Err.ensures.refused)
 
 pub loop-thread-preserved : goal.loop-thread-preserved

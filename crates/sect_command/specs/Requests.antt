@@ -1,0 +1,57 @@
+-- What a run answers to its words and its input. `command` cites it.
+use Rattle.std.specs.Prelude.{◌≡◌, ◌≢◌, ◌⊎◌, ℕ, Option, List, IfSome, codes}
+use Rattle.std.specs.Io.KnownBytes.{Appends}
+use Rattle.sect_infer.specs.Workers.{AreOffered}
+use Rattle.sect_answers.specs.Answers.{IsAnswer, IsDue}
+use Rattle.sect_answers.specs.Checking.{IsValidInput, IsCheckDue}
+use Rattle.sect_answers.specs.Compiling.{IsCertified, IsProgramListing, IsCompileDue}
+use Rattle.sect_answers.specs.Explaining.{IsProgramExplanation}
+use Rattle.sect_answers.specs.Running.{IsOutcomeOfRun}
+use Rattle.sect_answers.specs.Scheduling.{IsScheduled, IsScheduleDue}
+use Rattle.sect_answers.specs.Serial.{IsOutcome, IsSerialDue}
+use Rattle.sect_answers.specs.declared.refusal.Refusal.{Refusal}
+use Rattle.sect_answers.specs.declared.refusal.Refusal.TheVariants as refusal
+use Rattle.sect_command.specs.declared.dispatch.TheConstants.{DONE, REFUSED, WRONG_WORDS, FAILED}
+use Rattle.sect_command.specs.declared.dispatch.Answer.{Answer}
+use Rattle.sect_command.specs.declared.options.Form.TheVariants.{Listing, Certificate}
+use Rattle.sect_command.specs.declared.options.Request.{Request}
+use Rattle.sect_command.specs.declared.options.Request.TheVariants.{Locks, Compile, Explain, Serial, Schedule, Run, Check}
+
+-- the bytes are what the request asks of the source
+abbrev pub Answers : Request → List ℕ → List ℕ → Type 0
+Answers (Locks k) source bytes = IsAnswer source k bytes
+Answers (Compile k workers Listing) source bytes = AreOffered workers × IsProgramListing source k bytes
+Answers (Compile k workers Certificate) source bytes = AreOffered workers × IsCertified source k bytes
+Answers (Explain k) source bytes = IsProgramExplanation source k bytes
+Answers (Serial fuel order) source bytes = IsOutcome source fuel order.items bytes
+Answers (Schedule k fuel schedule) source bytes = IsScheduled source k fuel schedule.items bytes
+Answers (Run k fuel) source bytes = IsOutcomeOfRun source fuel bytes
+Answers (Check k) source bytes = IsValidInput source k × (bytes ≡ codes "valid\n")
+
+-- the refusal is due to the source where the request is asked of it
+abbrev pub IsRefusalDue : Request → List ℕ → Refusal → Type 0
+IsRefusalDue (Locks k) source = IsDue source k
+IsRefusalDue (Compile k workers form) source = IsCompileDue source k workers
+IsRefusalDue (Explain k) source = IsDue source k
+IsRefusalDue (Serial fuel order) source = IsSerialDue source fuel order.items
+IsRefusalDue (Schedule k fuel schedule) source = IsScheduleDue source k schedule.items
+IsRefusalDue (Run k fuel) source = IsDue source k
+IsRefusalDue (Check k) source = IsCheckDue source k
+
+-- the answer is done with what the request asks of the source, or it is refused, and a refusal is due
+abbrev pub IsRight : Request → List ℕ → Answer → Type 0
+IsRight request source answer =
+    ((answer.status ≡ DONE) × Answers request source answer.text.items)
+  ⊎ ((answer.status ≡ REFUSED) × ((why : Refusal) × (why ≢ refusal.Memory) × IsRefusalDue request source why))
+
+-- the words are wrong, or the answer is right for what they ask of the input, where its bytes are known
+abbrev pub IsRightForWords : Option (List ℕ) → Answer → Type 0
+IsRightForWords input answer =
+    (answer.status ≡ WRONG_WORDS)
+  ⊎ ((request : Request) × IfSome input (λ source. IsRight request source answer))
+
+-- the run has failed, or its status is that of a right answer, whose text the output has behind what it had
+abbrev pub IsTold : Option (List ℕ) → Option (List ℕ) → Option (List ℕ) → ℕ → Type 0
+IsTold input old new status =
+    (status ≡ FAILED)
+  ⊎ ((answer : Answer) × (answer.status ≡ status) × IsRightForWords input answer × Appends old new answer.text.items)

@@ -15,11 +15,21 @@ const NODES: u32 = 8;
 /// writes it, reads it back and writes that again. It gives how many bytes were written, and whether they were the same
 /// both times.
 pub fn written_twice(alloc: Global, sections: u32, locks: u32) -> Result<(usize, bool), Failure> {
-    let cert = certificate(alloc, sections, locks)?;
-    let text = write_cert(alloc, &cert)?;
-    let read = read_cert(alloc, text.as_slice())?;
-    let again = write_cert(alloc, &read)?;
+    let text = written(alloc, sections, locks)?;
+    let again = written_again(alloc, text.as_slice())?;
     Ok((text.len(), text.as_slice() == again.as_slice()))
+}
+
+/// The text of a certificate of so many sections, whose lists have so many locks.
+fn written(alloc: Global, sections: u32, locks: u32) -> Result<Vec<u8>, AllocError> {
+    let cert = certificate(alloc, sections, locks)?;
+    write_cert(alloc, &cert)
+}
+
+/// The text of the certificate that is read from a text.
+fn written_again(alloc: Global, text: &[u8]) -> Result<Vec<u8>, Failure> {
+    let cert = read_cert(alloc, text)?;
+    Ok(write_cert(alloc, &cert)?)
 }
 
 /// A certificate of so many sections, whose lists have so many locks.

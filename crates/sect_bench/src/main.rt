@@ -12,7 +12,8 @@ mod work;
 
 use crate::failure::Failure;
 use crate::lines::line;
-use crate::work::works;
+use crate::work::{Work, works};
+use std::alloc::Global;
 use std::io::{Read, Write};
 use std::process::ExitCode;
 use std::{env, io};
@@ -34,14 +35,35 @@ fn done<I: Read + Drop, O: Write + Drop>(
     mut input: I,
     mut output: O,
 ) -> Result<(), Failure> {
+    let works = works_wanted(rt)?;
+    let source = source_for(rt.alloc(), works.as_slice(), &mut input)?;
+    print_each(rt.alloc(), works.as_slice(), source.as_slice(), &mut output)
+}
+
+/// The work that the words of the command line ask for.
+fn works_wanted(rt: &(impl std::rt::Env + AllocGlobal)) -> Result<Vec<Work>, Failure> {
     let words: Vec<String> = env::args(rt)?.collect(rt.alloc())?;
-    let works = works(rt.alloc(), words.as_slice())?;
-    let mut source = Vec::new(rt.alloc());
-    if works.as_slice().iter().any(|work| work.reads()) {
+    works(rt.alloc(), words.as_slice())
+}
+
+/// The whole input, if any of the works reads it.
+fn source_for(alloc: Global, works: &[Work], input: &mut impl Read) -> io::Result<Vec<u8>> {
+    let mut source = Vec::new(alloc);
+    if works.iter().any(|work| work.reads()) {
         input.read_to_end(&mut source)?;
     }
-    for work in works.as_slice() {
-        let line = line(rt.alloc(), *work, source.as_slice())?;
+    Ok(source)
+}
+
+/// Does each work, and prints its line.
+fn print_each(
+    alloc: Global,
+    works: &[Work],
+    source: &[u8],
+    output: &mut impl Write,
+) -> Result<(), Failure> {
+    for work in works {
+        let line = line(alloc, *work, source)?;
         output.write_all(line.as_bytes())?;
     }
     Ok(output.flush()?)

@@ -122,12 +122,14 @@ fn put_primitive(out: &mut Vec<Token>, p: Primitive) -> Result<(), AllocError>
     }
 }
 
-fn put_test(out: &mut Vec<Token>, t: Test) -> Result<(), AllocError>
-    ensures { OnOk result (Writes out.old.items out.new.items (test_tokens t)) }
+/// A word and the test behind it.
+fn put_test(out: &mut Vec<Token>, word: Token, t: Test) -> Result<(), AllocError>
+    ensures { OnOk result (Writes out.old.items out.new.items (λ w. word ∷ test_tokens t w)) }
 {
     put_all(
         out,
         &[
+            word,
             Token::OpenParen,
             operand(t.left),
             comparison(t.comparison),
@@ -183,20 +185,17 @@ fn put_statement(out: &mut Vec<Token>, s: &Statement) -> Result<(), AllocError>
     match s {
         Statement::Primitive(p) => put_primitive(out, *p),
         Statement::If(t, a) => {
-            put(out, Token::If)?;
-            put_test(out, *t)?;
+            put_test(out, Token::If, *t)?;
             put_braced(out, a)
         }
         Statement::IfElse(t, a, b) => {
-            put(out, Token::If)?;
-            put_test(out, *t)?;
+            put_test(out, Token::If, *t)?;
             put_braced(out, a)?;
             put(out, Token::Else)?;
             put_braced(out, b)
         }
         Statement::While(t, a) => {
-            put(out, Token::While)?;
-            put_test(out, *t)?;
+            put_test(out, Token::While, *t)?;
             put_braced(out, a)
         }
         Statement::Atomic(locking, a) => {

@@ -129,11 +129,7 @@ pub fn advance(line: &PartialHead, token: &Token) -> Option<Move>
     ensures { result ≡ advance_of line.now token.now }
 {
     match line {
-        PartialHead::AfterName(x) => match token {
-            Token::Equal => Some(Move::To(PartialHead::Assign(*x, PartialAssign::AfterEqual))),
-            Token::Dot => Some(Move::To(PartialHead::Store(*x, PartialStore::AfterDot))),
-            _ => None,
-        },
+        PartialHead::AfterName(x) => after_name(x, token),
         PartialHead::Assign(x, assign) => advance_assign(x, assign, token),
         PartialHead::Store(y, store) => advance_store(y, store, token),
         PartialHead::AfterPrint => {
@@ -142,15 +138,34 @@ pub fn advance(line: &PartialHead, token: &Token) -> Option<Move>
         }
         PartialHead::AfterPrinted(v) => whole(Primitive::Print(*v), token),
         PartialHead::Branch(branch, head) => advance_branch(*branch, head, token),
-        PartialHead::AfterAtomic => match token {
-            Token::OpenBrace => Some(Move::OpensAtomic(Locking::Inferred)),
-            Token::All => Some(Move::To(PartialHead::AfterAll)),
-            _ => None,
-        },
+        PartialHead::AfterAtomic => after_atomic(token),
         PartialHead::AfterAll => match token {
             Token::OpenBrace => Some(Move::OpensAtomic(Locking::All)),
             _ => None,
         },
+    }
+}
+
+/// A token after the name with which a statement begins.
+fn after_name(x: &Name, token: &Token) -> Option<Move>
+    ensures { result ≡ advance_of (PartialHead.AfterName x.now) token.now }
+{
+    let to = match token {
+        Token::Equal => PartialHead::Assign(*x, PartialAssign::AfterEqual),
+        Token::Dot => PartialHead::Store(*x, PartialStore::AfterDot),
+        _ => return None,
+    };
+    Some(Move::To(to))
+}
+
+/// A token after `atomic`.
+fn after_atomic(token: &Token) -> Option<Move>
+    ensures { result ≡ advance_of PartialHead.AfterAtomic token.now }
+{
+    match token {
+        Token::OpenBrace => Some(Move::OpensAtomic(Locking::Inferred)),
+        Token::All => Some(Move::To(PartialHead::AfterAll)),
+        _ => None,
     }
 }
 
@@ -253,13 +268,18 @@ fn advance_branch(branch: Branch, head: &PartialBranch, token: &Token) -> Option
             Token::CloseParen => PartialBranch::AfterClose(*test),
             _ => return None,
         },
-        PartialBranch::AfterClose(test) => {
-            return match (token, branch) {
-                (Token::OpenBrace, Branch::If) => Some(Move::OpensThen(*test)),
-                (Token::OpenBrace, Branch::While) => Some(Move::OpensWhile(*test)),
-                _ => None,
-            };
-        }
+        PartialBranch::AfterClose(test) => return opens(branch, *test, token),
     };
     Some(Move::To(PartialHead::Branch(branch, to)))
+}
+
+/// The opening brace of an `if` or a `while`.
+fn opens(branch: Branch, test: Test, token: &Token) -> Option<Move>
+    ensures { result ≡ branch_step branch (PartialBranch.AfterClose test) token.now }
+{
+    match (token, branch) {
+        (Token::OpenBrace, Branch::If) => Some(Move::OpensThen(test)),
+        (Token::OpenBrace, Branch::While) => Some(Move::OpensWhile(test)),
+        _ => None,
+    }
 }

@@ -7,6 +7,7 @@ ghost use Rattle.sect_front.specs.Layout.{separator as separator_of, layout_of, 
 ghost use Rattle.sect_front.specs.Grammar.{tokens_of as grammar_tokens};
 ghost use Rattle.sect_front.specs.Front.{IsSpelled};
 ghost use Rattle.sect_front.specs.declared.limits.TheConstants.{MOST_BYTES};
+ghost use Rattle.sect_front.specs.steps.Recognition.{fixed_of};
 ghost use Rattle.sect_front.specs.steps.Spread.{spread};
 ghost use Rattle.std.specs.List.{list_all};
 
@@ -24,6 +25,46 @@ fn put_decimal(alloc: Global, text: &mut Vec<u8>, value: Literal) -> Result<(), 
     text.extend_from_slice(digits.as_bytes())
 }
 
+/// How a keyword or a sign is spelled. A name and a number have no fixed spelling.
+fn fixed_spelling(token: Token) -> &'static [u8]
+    ensures { result.now ≡ fixed_of token }
+{
+    match token {
+        Token::Name(_) | Token::Number(_) => b"",
+        Token::Record => b"record",
+        Token::ProtectedBy => b"protected_by",
+        Token::Global => b"global",
+        Token::Proc => b"proc",
+        Token::Thread => b"thread",
+        Token::Int => b"int",
+        Token::New => b"new",
+        Token::Null => b"null",
+        Token::Print => b"print",
+        Token::If => b"if",
+        Token::Else => b"else",
+        Token::While => b"while",
+        Token::Atomic => b"atomic",
+        Token::All => b"all",
+        Token::Call => b"call",
+        Token::Class => b"class",
+        Token::OpenBrace => b"{",
+        Token::CloseBrace => b"}",
+        Token::OpenParen => b"(",
+        Token::CloseParen => b")",
+        Token::Semicolon => b";",
+        Token::Comma => b",",
+        Token::Dot => b".",
+        Token::Equal => b"=",
+        Token::Plus => b"+",
+        Token::Minus => b"-",
+        Token::Star => b"*",
+        Token::EqualEqual => b"==",
+        Token::NotEqual => b"!=",
+        Token::Less => b"<",
+        Token::LessEqual => b"<=",
+    }
+}
+
 /// Adds the spelling of a token.
 fn put_spelling(alloc: Global, text: &mut Vec<u8>, token: Token) -> Result<(), AllocError>
     ensures ok { OnOk result (text.new.items ≡ text.old.items ++ spelling_of token) }
@@ -32,37 +73,7 @@ fn put_spelling(alloc: Global, text: &mut Vec<u8>, token: Token) -> Result<(), A
     match token {
         Token::Name(name) => name.append_to(text),
         Token::Number(value) => put_decimal(alloc, text, value),
-        Token::Record => text.extend_from_slice(b"record"),
-        Token::ProtectedBy => text.extend_from_slice(b"protected_by"),
-        Token::Global => text.extend_from_slice(b"global"),
-        Token::Proc => text.extend_from_slice(b"proc"),
-        Token::Thread => text.extend_from_slice(b"thread"),
-        Token::Int => text.extend_from_slice(b"int"),
-        Token::New => text.extend_from_slice(b"new"),
-        Token::Null => text.extend_from_slice(b"null"),
-        Token::Print => text.extend_from_slice(b"print"),
-        Token::If => text.extend_from_slice(b"if"),
-        Token::Else => text.extend_from_slice(b"else"),
-        Token::While => text.extend_from_slice(b"while"),
-        Token::Atomic => text.extend_from_slice(b"atomic"),
-        Token::All => text.extend_from_slice(b"all"),
-        Token::Call => text.extend_from_slice(b"call"),
-        Token::Class => text.extend_from_slice(b"class"),
-        Token::OpenBrace => text.extend_from_slice(b"{"),
-        Token::CloseBrace => text.extend_from_slice(b"}"),
-        Token::OpenParen => text.extend_from_slice(b"("),
-        Token::CloseParen => text.extend_from_slice(b")"),
-        Token::Semicolon => text.extend_from_slice(b";"),
-        Token::Comma => text.extend_from_slice(b","),
-        Token::Dot => text.extend_from_slice(b"."),
-        Token::Equal => text.extend_from_slice(b"="),
-        Token::Plus => text.extend_from_slice(b"+"),
-        Token::Minus => text.extend_from_slice(b"-"),
-        Token::Star => text.extend_from_slice(b"*"),
-        Token::EqualEqual => text.extend_from_slice(b"=="),
-        Token::NotEqual => text.extend_from_slice(b"!="),
-        Token::Less => text.extend_from_slice(b"<"),
-        Token::LessEqual => text.extend_from_slice(b"<="),
+        _ => text.extend_from_slice(fixed_spelling(token)),
     }
 }
 

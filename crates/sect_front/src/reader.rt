@@ -105,11 +105,36 @@ pub enum Outside {
 }
 
 /// Where in a text the next token stands.
-#[derive(Drop)]
 pub enum Stage {
     Outside(Outside),
     /// Among the statements of a procedure or a thread with these locals.
     Inside(Owner, Declarations, Within),
+}
+
+impl Drop for Stage {
+    fn drop(self) {
+        match self {
+            Stage::Outside(outside) => drop(outside),
+            Stage::Inside(owner, locals, within) => {
+                drop(owner);
+                drop(locals);
+                drop(within);
+            }
+        }
+    }
+}
+
+impl Stage {
+    ghost use Rattle.std.specs.Prelude.{Some, None, if◌then◌else◌};
+    ghost use Rattle.sect_front.specs.TreeView.{TreeView};
+    ghost use Rattle.sect_front.specs.steps.Read.{finish_at};
+
+    /// Whether no declaration is begun.
+    fn is_between(&self) -> bool
+        ensures { (source : TreeView) → finish_at source self.now ≡ (if result then Some source else None) }
+    {
+        matches!(self, Stage::Outside(Outside::Between(_)))
+    }
 }
 
 /// A text that is being read.
@@ -244,13 +269,9 @@ impl Reader {
                 Token::OpenBrace => RecordStage::Fields(name, hints, Declarations::new(alloc)),
                 _ => return Err(StepError::Unexpected),
             },
-            RecordStage::AfterProtectedBy(name, mut hints) => match token {
-                Token::Name(hint) => {
-                    hints.push(hint)?;
-                    RecordStage::Head(name, hints)
-                }
-                _ => return Err(StepError::Unexpected),
-            },
+            RecordStage::AfterProtectedBy(name, hints) => {
+                return self.hint(name, hints, token);
+            }
             RecordStage::Fields(name, hints, fields) => match token {
                 Token::Int => RecordStage::AfterKind(name, hints, fields, Kind::Int),
                 Token::Name(of) => RecordStage::AfterKind(name, hints, fields, Kind::Record(of)),
@@ -261,16 +282,52 @@ impl Reader {
                 Token::Name(field) => RecordStage::AfterField(name, hints, fields, kind, field),
                 _ => return Err(StepError::Unexpected),
             },
-            RecordStage::AfterField(name, hints, mut fields, kind, field) => match token {
-                Token::Semicolon => {
-                    fields.push(kind, field)?;
-                    RecordStage::Fields(name, hints, fields)
-                }
-                _ => return Err(StepError::Unexpected),
-            },
+            RecordStage::AfterField(name, hints, fields, kind, field) => {
+                return self.after_field(name, hints, fields, kind, field, token);
+            }
         };
         self.lead_to(Stage::Outside(Outside::Record(next)));
         Ok(())
+    }
+
+    /// A token after `protected_by`.
+    fn hint(&mut self, name: Name, mut hints: Hints, token: Token) -> Result<(), StepError>
+        ensures { Reads result self.new
+            (record_step self.old.source (RecordStage.AfterProtectedBy name hints) token) }
+    {
+        match token {
+            Token::Name(hint) => {
+                hints.push(hint)?;
+                let next = RecordStage::Head(name, hints);
+                self.lead_to(Stage::Outside(Outside::Record(next)));
+                Ok(())
+            }
+            _ => Err(StepError::Unexpected),
+        }
+    }
+
+    /// A token after a field.
+    fn after_field(
+        &mut self,
+        name: Name,
+        hints: Hints,
+        mut fields: Declarations,
+        kind: Kind,
+        field: Name,
+        token: Token,
+    ) -> Result<(), StepError>
+        ensures { Reads result self.new
+            (record_step self.old.source (RecordStage.AfterField name hints fields kind field) token) }
+    {
+        match token {
+            Token::Semicolon => {
+                fields.push(kind, field)?;
+                let next = RecordStage::Fields(name, hints, fields);
+                self.lead_to(Stage::Outside(Outside::Record(next)));
+                Ok(())
+            }
+            _ => Err(StepError::Unexpected),
+        }
     }
 
     /// The closing brace of a record.
@@ -538,18 +595,17 @@ impl Reader {
         requires { ForSome (finish_of self) (λ tree. depth tree ≤ MOST_DEPTH) }
         ensures { result ≡ finish_of self }
     {
-        let Reader {
-            records,
-            globals,
-            procedures,
-            threads,
-            stage,
-        } = self;
-        match stage {
-            Stage::Outside(Outside::Between(_)) => {
-                Some(Tree::new(records, globals, procedures, threads))
-            }
-            _ => None,
+        if self.stage.is_between() {
+            let Reader {
+                records,
+                globals,
+                procedures,
+                threads,
+                stage: _,
+            } = self;
+            Some(Tree::new(records, globals, procedures, threads))
+        } else {
+            None
         }
     }
 }

@@ -21,7 +21,7 @@ use crate::within::StepError;
 use std::alloc::Global;
 
 /// Why a text spells no tree. Places are offsets in the text.
-#[derive(Clone, Copy, Debug)]
+#[derive(Clone, Copy)]
 pub enum ReadFault {
     Memory,
     /// No token stands at this place, and all that stands before it is tokens.

@@ -35,7 +35,7 @@ pub enum Operator {
 }
 
 /// The test of an `if` or a `while`.
-#[derive(Clone, Copy, PartialEq, Eq)]
+#[derive(Clone, Copy)]
 pub struct Test {
     pub left: Operand,
     pub comparison: Comparison,
@@ -52,7 +52,7 @@ pub enum Locking {
 }
 
 /// A statement without a block.
-#[derive(Clone, Copy, PartialEq, Eq)]
+#[derive(Clone, Copy)]
 pub enum Primitive {
     /// `x = v`
     Assign(Name, Operand),
@@ -318,12 +318,22 @@ pub struct Thread {
 }
 
 /// A source text: its records, globals, procedures and threads, each in text order.
-#[derive(Drop)]
 pub struct Tree {
     records: Vec<Record>,
     globals: Vec<GlobalObject>,
     procedures: Vec<Procedure>,
     threads: Vec<Thread>,
+}
+
+impl Drop for Tree {
+    fn drop(self) {
+        let Tree {
+            records: _,
+            globals: _,
+            procedures: _,
+            threads: _,
+        } = self;
+    }
 }
 
 impl Model for Tree {

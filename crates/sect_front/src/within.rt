@@ -6,7 +6,7 @@ ghost use Rattle.sect_front.specs.Syntax.{End, If};
 use crate::name::Name;
 use crate::partial::{Branch, Move, PartialBranch, PartialCall, PartialHead, advance, operand};
 use crate::token::Token;
-use crate::tree::{Block, Locking, Operands, Statement, Test};
+use crate::tree::{Block, Locking, Operand, Operands, Statement, Test};
 use std::alloc::{AllocError, AllocFailed, Global};
 use std::marker::Model;
 use std::mem;
@@ -21,7 +21,6 @@ pub enum Frame {
 }
 
 /// Where in a statement the next token stands.
-#[derive(Drop)]
 pub enum Partial {
     Start,
     Inside(PartialHead),
@@ -30,8 +29,18 @@ pub enum Partial {
     AfterElse(Test, Block),
 }
 
+impl Drop for Partial {
+    fn drop(self) {
+        match self {
+            Partial::Start | Partial::Inside(_) => {}
+            Partial::InCall(call) => drop(call),
+            Partial::AfterThen(_, then) | Partial::AfterElse(_, then) => drop(then),
+        }
+    }
+}
+
 /// Why a token was not taken.
-#[derive(Debug, Drop)]
+#[derive(Drop)]
 pub enum StepError {
     Memory,
     Unexpected,
@@ -207,40 +216,21 @@ impl Within {
     fn start(&mut self, alloc: Global, token: &Token) -> Result<Option<Block>, StepError>
         ensures { Steps result self.new (start_step self.old.frames self.old.before token.now) }
     {
-        match token {
-            Token::Name(x) => {
-                self.lead_to(Partial::Inside(PartialHead::AfterName(*x)));
-                Ok(None)
-            }
-            Token::Print => {
-                self.lead_to(Partial::Inside(PartialHead::AfterPrint));
-                Ok(None)
-            }
-            Token::If => {
-                self.lead_to(Partial::Inside(PartialHead::Branch(
-                    Branch::If,
-                    PartialBranch::AfterWord,
-                )));
-                Ok(None)
-            }
-            Token::While => {
-                self.lead_to(Partial::Inside(PartialHead::Branch(
-                    Branch::While,
-                    PartialBranch::AfterWord,
-                )));
-                Ok(None)
-            }
-            Token::Atomic => {
-                self.lead_to(Partial::Inside(PartialHead::AfterAtomic));
-                Ok(None)
-            }
-            Token::Call => {
-                self.lead_to(Partial::InCall(PartialCall::AfterWord));
-                Ok(None)
-            }
-            Token::CloseBrace => self.close(alloc),
-            _ => Err(StepError::Unexpected),
-        }
+        let next = match token {
+            Token::Name(x) => Partial::Inside(PartialHead::AfterName(*x)),
+            Token::Print => Partial::Inside(PartialHead::AfterPrint),
+            Token::If => Partial::Inside(PartialHead::Branch(Branch::If, PartialBranch::AfterWord)),
+            Token::While => Partial::Inside(PartialHead::Branch(
+                Branch::While,
+                PartialBranch::AfterWord,
+            )),
+            Token::Atomic => Partial::Inside(PartialHead::AfterAtomic),
+            Token::Call => Partial::InCall(PartialCall::AfterWord),
+            Token::CloseBrace => return self.close(alloc),
+            _ => return Err(StepError::Unexpected),
+        };
+        self.lead_to(next);
+        Ok(None)
     }
 
     /// A token of a call.
@@ -265,17 +255,9 @@ impl Within {
                 Token::CloseParen => PartialCall::AfterClose(callee, Operands::new(alloc)),
                 _ => return self.argument(callee, Operands::new(alloc), token),
             },
-            PartialCall::AfterArgument(callee, mut values, value) => match token {
-                Token::Comma => {
-                    values.push(value)?;
-                    PartialCall::AfterComma(callee, values)
-                }
-                Token::CloseParen => {
-                    values.push(value)?;
-                    PartialCall::AfterClose(callee, values)
-                }
-                _ => return Err(StepError::Unexpected),
-            },
+            PartialCall::AfterArgument(callee, values, value) => {
+                return self.after_argument(callee, values, value, token);
+            }
             PartialCall::AfterComma(callee, values) => return self.argument(callee, values, token),
             PartialCall::AfterClose(callee, values) => return self.end_call(callee, values, token),
         };
@@ -297,6 +279,32 @@ impl Within {
             return Err(StepError::Unexpected);
         };
         self.lead_to(Partial::InCall(PartialCall::AfterArgument(callee, values, value)));
+        Ok(None)
+    }
+
+    /// A token after an argument.
+    fn after_argument(
+        &mut self,
+        callee: Name,
+        mut values: Operands,
+        value: Operand,
+        token: &Token,
+    ) -> Result<Option<Block>, StepError>
+        ensures { Steps result self.new (call_step self.old.frames self.old.before
+            (PartialCall.AfterArgument callee values value) token.now) }
+    {
+        let next = match token {
+            Token::Comma => {
+                values.push(value)?;
+                PartialCall::AfterComma(callee, values)
+            }
+            Token::CloseParen => {
+                values.push(value)?;
+                PartialCall::AfterClose(callee, values)
+            }
+            _ => return Err(StepError::Unexpected),
+        };
+        self.lead_to(Partial::InCall(next));
         Ok(None)
     }
 

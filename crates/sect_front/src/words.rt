@@ -2,6 +2,7 @@
 
 ghost use Rattle.std.specs.Prelude.{◌≡◌, ◌&&◌, drop, length, take_while};
 ghost use Rattle.std.specs.List.{list_all};
+ghost use Rattle.std.specs.Str.{bytes_eq};
 ghost use Rattle.sect_front.specs.Words.{is_letter as letter_of, is_digit as digit_of, is_name_byte as name_byte};
 ghost use Rattle.sect_front.specs.Words.{is_name as name_of, begins};
 ghost use Rattle.sect_front.specs.steps.Recognition.{keyword_of, keyword_table, token_beside};
@@ -37,6 +38,13 @@ pub fn word_length(bytes: &[u8]) -> usize
     bytes.iter().take_while(|byte| is_name_byte(**byte)).count()
 }
 
+/// Whether these bytes are this text.
+fn is_text(bytes: &[u8], text: &[u8]) -> bool
+    ensures { result ≡ bytes_eq bytes.now text.now }
+{
+    bytes == text
+}
+
 /// The keyword that these bytes are.
 #[tactic(auto, using(crate::proofs::NamesLemmas::one_byte))]
 pub fn keyword(word: &[u8]) -> Option<Token>
@@ -45,17 +53,17 @@ pub fn keyword(word: &[u8]) -> Option<Token>
     // Many names are one letter, and no keyword is.
     if word.len() == 1 {
         None
-    } else if word == b"record".as_slice() {
+    } else if is_text(word, b"record") {
         Some(Token::Record)
-    } else if word == b"protected_by".as_slice() {
+    } else if is_text(word, b"protected_by") {
         Some(Token::ProtectedBy)
-    } else if word == b"global".as_slice() {
+    } else if is_text(word, b"global") {
         Some(Token::Global)
-    } else if word == b"proc".as_slice() {
+    } else if is_text(word, b"proc") {
         Some(Token::Proc)
-    } else if word == b"thread".as_slice() {
+    } else if is_text(word, b"thread") {
         Some(Token::Thread)
-    } else if word == b"int".as_slice() {
+    } else if is_text(word, b"int") {
         Some(Token::Int)
     } else {
         statement_keyword(word)
@@ -66,25 +74,25 @@ pub fn keyword(word: &[u8]) -> Option<Token>
 fn statement_keyword(word: &[u8]) -> Option<Token>
     ensures { result ≡ token_beside word.now (drop 6 keyword_table) }
 {
-    if word == b"null".as_slice() {
+    if is_text(word, b"null") {
         Some(Token::Null)
-    } else if word == b"new".as_slice() {
+    } else if is_text(word, b"new") {
         Some(Token::New)
-    } else if word == b"print".as_slice() {
+    } else if is_text(word, b"print") {
         Some(Token::Print)
-    } else if word == b"if".as_slice() {
+    } else if is_text(word, b"if") {
         Some(Token::If)
-    } else if word == b"else".as_slice() {
+    } else if is_text(word, b"else") {
         Some(Token::Else)
-    } else if word == b"while".as_slice() {
+    } else if is_text(word, b"while") {
         Some(Token::While)
-    } else if word == b"atomic".as_slice() {
+    } else if is_text(word, b"atomic") {
         Some(Token::Atomic)
-    } else if word == b"all".as_slice() {
+    } else if is_text(word, b"all") {
         Some(Token::All)
-    } else if word == b"call".as_slice() {
+    } else if is_text(word, b"call") {
         Some(Token::Call)
-    } else if word == b"class".as_slice() {
+    } else if is_text(word, b"class") {
         Some(Token::Class)
     } else {
         None

@@ -4,6 +4,7 @@ use Rattle.std.specs.Prelude.{length, codes}
 use Rattle.std.specs.List.{list_all}
 use Rattle.std.specs.Str.{bytes_eq}
 use Rattle.sect_front.specs.declared.limits.TheConstants.{MOST_NAME_BYTES}
+use Rattle.sect_front.specs.Spelling.{spelling_of}
 use Rattle.sect_front.specs.Words.{is_letter, is_digit, is_name_byte}
 use Rattle.sect_front.specs.declared.token.Token.{Token}
 use Rattle.sect_front.specs.declared.token.Token.TheVariants as token
@@ -95,3 +96,9 @@ spelled (b ∷ bs) =
     if is_letter b
     then (if list_all is_name_byte bs && nat_lt (length bs) MOST_NAME_BYTES then Some (word_token (b ∷ bs)) else None)
     else (if is_digit b then as_number (number_of (b ∷ bs)) else sign_token b bs)
+
+-- the spelling of a keyword or a sign, and nothing for a name or an integer
+abbrev pub fixed_of : Token → List ℕ
+fixed_of (token.Name n) = []
+fixed_of (token.Number n) = []
+fixed_of t = spelling_of t

@@ -12,7 +12,7 @@ use Rattle.sect_points.specs.declared.holders.ThreadAction.{ThreadAction}
 use Rattle.sect_points.specs.Flow.{Family, Within, IsClosed, family_of, IsLeastFlow}
 use Rattle.sect_points.specs.Sets.{PointsToView, InSets, AreBelow}
 use Rattle.sect_points.specs.Partitions.{ClassesView, Together, IsParted, AreSlotsOfSites}
-use Rattle.sect_points.specs.Statements.{statements_of}
+use Rattle.sect_points.specs.Statements.{thread_actions}
 use Rattle.sect_points.proofs.SolvingLaws.{moved_more}
 use Rattle.sect_hints.specs.Hints.{AreGuards}
 use Rattle.sect_names.specs.Schemes.{SchemeView, IsScheme}
@@ -119,13 +119,13 @@ same_graphs texts x y a b = λ i. record { threads = threads i; sections = secti
 
 pub one_scheme : (s r : SchemeView) → IsScheme s → IsScheme r → s.program ≡ r.program → AreOneScheme s r
 one_scheme s r is_s is_r same =
-    let flow = subst (λ (p : ProgramView). IsLeastFlow (InSets r.classes.sets) (statements_of p)) (sym same)
+    let flow = subst (λ (p : ProgramView). IsLeastFlow (InSets r.classes.sets) (thread_actions p)) (sym same)
     is_r.flow in
     let sites = subst (λ (p : ProgramView). r.classes.sets.sites ≡ length (sites_of p.globals p.texts)) (sym same)
     is_r.sites in
-    let to = least_within s.classes.sets r.classes.sets (statements_of s.program) is_s.flow flow is_r.parted.below
+    let to = least_within s.classes.sets r.classes.sets (thread_actions s.program) is_s.flow flow is_r.parted.below
     is_r.parted.slots in
-    let from = least_within r.classes.sets s.classes.sets (statements_of s.program) flow is_s.flow is_s.parted.below
+    let from = least_within r.classes.sets s.classes.sets (thread_actions s.program) flow is_s.flow is_s.parted.below
     is_s.parted.slots in
     let long : length s.classes.numbers ≡ length r.classes.numbers = is_s.parted.sites ∙ is_s.sites ∙ sym sites
     ∙ sym is_r.parted.sites in

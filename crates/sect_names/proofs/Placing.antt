@@ -16,7 +16,7 @@ use Rattle.sect_types.specs.declared.action.Label.{Label}
 use Rattle.sect_types.specs.declared.action.Label.TheVariants as label
 use Rattle.sect_points.specs.declared.holders.ThreadAction.{ThreadAction}
 use Rattle.sect_points.specs.Flow.{actions_of}
-use Rattle.sect_points.specs.Statements.{thread_action, actions_from, statements_of}
+use Rattle.sect_points.specs.Statements.{thread_action, actions_from, thread_actions}
 use Rattle.sect_names.specs.Schemes.{SchemeView}
 use Rattle.sect_names.specs.Laws.{IsProgramStep, IsSoundStep}
 use Rattle.sect_names.proofs.SectionSteps.{sound_action}
@@ -135,7 +135,7 @@ all_sound records globals (ls ∷ more) (p ∷ ps) t sound q h =
     ]
 
 -- a statement of a typed program agrees with the declarations
-pub statement_sound : (p : ProgramView) → IsTypedProgram p → (q : ThreadAction) → Has (statements_of p) q
+pub statement_sound : (p : ProgramView) → IsTypedProgram p → (q : ThreadAction) → Has (thread_actions p) q
     → IsSoundAction (environment_at p q.thread) q.action
 statement_sound p typed q h =
     let r = all_sound p.records p.globals p.locals p.texts 0 typed.sound q h in
@@ -152,7 +152,7 @@ MakesOwn p (action.Store b f v) = ⊤
 MakesOwn p (action.Print v) = ⊤
 
 -- a `new` of the program makes objects of a site whose record is its own
-pub statement_sited : (p : ProgramView) → IsTypedProgram p → (q : ThreadAction) → Has (statements_of p) q
+pub statement_sited : (p : ProgramView) → IsTypedProgram p → (q : ThreadAction) → Has (thread_actions p) q
     → MakesOwn p q.action
 statement_sited p typed q h = by q.action (all_sited (length p.globals) 0 p.texts typed.sited q h)
   where

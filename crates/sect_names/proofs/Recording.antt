@@ -25,7 +25,7 @@ use Rattle.sect_points.specs.Flow.{Family, ValueHas, BaseHas, Moved, Within, IsC
 use Rattle.sect_points.specs.Paths.{var, dot}
 use Rattle.sect_points.specs.Partitions.{Together, Respects}
 use Rattle.sect_points.specs.Sets.{InSets}
-use Rattle.sect_points.specs.Statements.{statements_of}
+use Rattle.sect_points.specs.Statements.{thread_actions}
 use Rattle.sect_points.proofs.SolvingLaws.{moved_more}
 use Rattle.sect_names.specs.Schemes.{SchemeView, IsScheme}
 use Rattle.sect_names.specs.Locks.{VariableTo, FieldTo}
@@ -196,7 +196,7 @@ module _ (p : ProgramView) where
       (f.of, r.0, base_site t b f.of o sound.1 base_has, sound.2 ∙ ap (λ y. Some y) r.1, r.2)
   moved_typed t (action.Print v) sound own h s k = absurd k
 
-  facts_closed : IsTypedProgram p → IsClosed (family_of all_facts) (statements_of p)
+  facts_closed : IsTypedProgram p → IsClosed (family_of all_facts) (thread_actions p)
   facts_closed typed q there h s moved =
       of_type_has h s (moved_typed q.thread q.action (statement_sound p typed q there) (statement_sited p typed q there)
       h s

@@ -11,7 +11,7 @@ use Rattle.sect_points.specs.Paths.{PathView}
 use Rattle.sect_points.specs.Sets.{InSets}
 use Rattle.sect_points.specs.declared.holders.Holder.{Holder}
 use Rattle.sect_points.specs.PathClasses.{Agree}
-use Rattle.sect_points.specs.Statements.{thread_action, statements_of}
+use Rattle.sect_points.specs.Statements.{thread_action, thread_actions}
 use Rattle.sect_names.specs.declared.lock.Lock.{Lock}
 use Rattle.sect_names.specs.Schemes.{SchemeView}
 use Rattle.sect_names.specs.Locks.{Covers}
@@ -19,7 +19,7 @@ use Rattle.sect_names.specs.Carrying.{Before, CarriedBack}
 
 -- a statement of thread t is one of the program's
 abbrev pub IsProgramStep : SchemeView → ℕ → Label → Type 0
-IsProgramStep s t (Act a) = Has (statements_of s.program) (thread_action t a)
+IsProgramStep s t (Act a) = Has (thread_actions s.program) (thread_action t a)
 IsProgramStep s t (Test c) = ⊤
 IsProgramStep s t (Section i) = ⊤
 

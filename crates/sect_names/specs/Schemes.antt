@@ -7,7 +7,7 @@ use Rattle.sect_points.specs.PathClasses.{ArePathClasses, KeepsClasses}
 use Rattle.sect_points.specs.Sets.{InSets}
 use Rattle.sect_points.specs.declared.holders.ThreadAction.{ThreadAction}
 use Rattle.sect_points.specs.Flow.{IsLeastFlow}
-use Rattle.sect_points.specs.Statements.{statements_of}
+use Rattle.sect_points.specs.Statements.{thread_actions}
 use Rattle.sect_hints.specs.Hints.{AreGuards, AreUnguarded}
 use Rattle.sect_graph.specs.Graphs.{GraphView, AreGraphs}
 
@@ -28,9 +28,9 @@ pub record IsScheme (s : SchemeView) : Type 0 where
   pub most : s.most ≤ 3
   pub parted : IsParted s.classes
   pub sites : s.classes.sets.sites ≡ length (sites_of s.program.globals s.program.texts)
-  pub flow : IsLeastFlow (InSets s.classes.sets) (statements_of s.program)
+  pub flow : IsLeastFlow (InSets s.classes.sets) (thread_actions s.program)
   pub paths : ArePathClasses s.classes
-  pub kept : (p : ThreadAction) → Has (statements_of s.program) p → KeepsClasses s.classes p.thread p.action
+  pub kept : (p : ThreadAction) → Has (thread_actions s.program) p → KeepsClasses s.classes p.thread p.action
   pub guarded : AreGuards s.program s.guards
   pub unguarded : AreUnguarded s.program s.guards
   pub graphed : AreGraphs s.program.texts s.graphs

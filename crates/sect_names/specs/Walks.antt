@@ -8,7 +8,7 @@ use Rattle.sect_types.specs.declared.action.Condition.{Condition}
 use Rattle.sect_types.specs.declared.action.Label.{Label}
 use Rattle.sect_types.specs.declared.action.Label.TheVariants.{Act, Test, Section as WholeSection}
 use Rattle.sect_points.specs.Flow.{actions_of}
-use Rattle.sect_points.specs.Statements.{thread_action, statements_of}
+use Rattle.sect_points.specs.Statements.{thread_action, thread_actions}
 use Rattle.sect_names.specs.Schemes.{SchemeView}
 
 -- what the steps do
@@ -44,4 +44,4 @@ Leads (Section i p rest) l k = (l ≡ WholeSection i) × (k ≡ rest)
 
 -- the statements of the text are statements of thread t of the program
 abbrev pub StandsInThread : SchemeView → ℕ → TextView → Type 0
-StandsInThread s t text = (a : Action) → Has (actions_of text) a → Has (statements_of s.program) (thread_action t a)
+StandsInThread s t text = (a : Action) → Has (actions_of text) a → Has (thread_actions s.program) (thread_action t a)

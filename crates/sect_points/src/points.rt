@@ -5,7 +5,7 @@ ghost use Rattle.sect_types.specs.Programs.{sites_of};
 ghost use Rattle.sect_points.specs.Flow.{IsLeastFlow};
 ghost use Rattle.sect_points.specs.Sets.{InSets, IsEmpty};
 ghost use Rattle.sect_points.specs.Sets.{AreBelow};
-ghost use Rattle.sect_points.specs.Statements.{statements_of, IsRoomFor};
+ghost use Rattle.sect_points.specs.Statements.{thread_actions, IsRoomFor};
 
 use crate::marks::Marks;
 use crate::readers::Readers;
@@ -17,7 +17,7 @@ use std::alloc::{AllocError, Global};
 
 /// The least sets that are closed under the program's statements, whatever their order: Andersen's inclusions.
 pub fn points_to(alloc: Global, program: &Program) -> Result<PointsTo, AllocError>
-    ensures least { IfOk result (λ sets. IsLeastFlow (InSets sets) (statements_of program.now)) }
+    ensures least { IfOk result (λ sets. IsLeastFlow (InSets sets) (thread_actions program.now)) }
     ensures below { IfOk result AreBelow }
     ensures sites { IfOk result (λ sets. sets.sites ≡ length (sites_of program.now.globals program.now.texts)) }
 {

@@ -9,7 +9,7 @@ use Rattle.sect_types.specs.declared.action.Action.TheVariants as action
 use Rattle.sect_types.specs.declared.action.Label.TheVariants.{Act}
 use Rattle.sect_types.specs.Statements.{TextView, Stop, Do, Choose, Loop, Section, joined}
 use Rattle.sect_types.specs.Programs.{ProgramView}
-use Rattle.sect_points.specs.Statements.{thread_action, statements_of}
+use Rattle.sect_points.specs.Statements.{thread_action, thread_actions}
 use Rattle.sect_names.specs.Laws.{IsProgramStep}
 use Rattle.sect_types.specs.declared.store.ObjectName.{ObjectName}
 use Rattle.sect_types.specs.declared.store.ObjectName.TheVariants.{Made}
@@ -152,7 +152,7 @@ module _ (c : CompiledView) (is : IsCompiled c) where
 
   one_kept : (s : StoreView) (t : ℕ) (a : Action) (w : WorkView) → t < length s.made → IsStoreKept c s
       → IsWorkKept c s t w
-      → Has (statements_of (program_of c)) (thread_action t a)
+      → Has (thread_actions (program_of c)) (thread_action t a)
       → IsCameKept s t (one (program_of c) t a (found_at s (looked a w.locals)) w)
   one_kept s t a w lt ks kw there =
       by (one (program_of c) t a (found_at s (looked a w.locals)) w) refl

@@ -13,7 +13,7 @@ use Rattle.sect_types.specs.Environments.{Environment}
 use Rattle.sect_types.specs.Sound.{IsSound, AreSound}
 use Rattle.sect_types.specs.Programs.{ProgramView, environment_at}
 use Rattle.sect_points.specs.Flow.{actions_of}
-use Rattle.sect_points.specs.Statements.{thread_action, actions_from, statements_of}
+use Rattle.sect_points.specs.Statements.{thread_action, actions_from, thread_actions}
 use Rattle.sect_points.specs.declared.holders.ThreadAction.{ThreadAction}
 use Rattle.sect_world.specs.Kept.{Each, IsTextOf}
 use Rattle.sect_names.proofs.Placing.{slice_get-left}
@@ -38,7 +38,7 @@ pub text_joined : (p : ProgramView) (t : ℕ) (inside : Bool) (a b : TextView) �
 text_joined p t inside a b x y = record {
   sound = sound_joined (environment_at p t) inside a b x.sound y.sound;
   listed =
-      each_joined (λ z. Has (statements_of p) (thread_action t z))
+      each_joined (λ z. Has (thread_actions p) (thread_action t z))
       (λ i b. slice_get (sections_of p.texts) i ≡ Some (record { thread = t; body = b })) a b x.listed y.listed;
 }
 
@@ -121,13 +121,13 @@ none_in_both (x ∷ xs) (y ∷ ys) (suc i) same e = none_in_both xs ys i (omega 
 
 module _ (p : ProgramView) where
   abbrev IsListed : ℕ → TextView → Type 0
-  IsListed t k = Each (λ a. Has (statements_of p) (thread_action t a))
+  IsListed t k = Each (λ a. Has (thread_actions p) (thread_action t a))
       (λ i b. slice_get (sections_of p.texts) i ≡ Some (record { thread = t; body = b })) k
 
   -- the texts from thread t on
   texts_from : (t n : ℕ) (locals : List (List ValueType)) (texts : List TextView)
       → AreSound p.records p.globals locals texts → AllNumbered n texts
-      → ((x : ThreadAction) → Has (actions_from t texts) x → Has (statements_of p) x)
+      → ((x : ThreadAction) → Has (actions_from t texts) x → Has (thread_actions p) x)
       → ((j : ℕ) (y : SectionView) → slice_get (sections_from t texts) j ≡ Some y
       → slice_get (sections_of p.texts) (n + j) ≡ Some y)
       → (j : ℕ) (k : TextView) → slice_get texts j ≡ Some k
@@ -141,7 +141,7 @@ module _ (p : ProgramView) where
     subst (λ x. IsSound (record { records = p.records; globals = p.globals; locals = ls }) false x)
         (some_injective text k at) sound.0,
     subst (λ m. IsListed m k) (let e : t ≡ t + zero = omega arith in e) (subst (IsListed t) (some_injective text k at)
-        (each_outside (λ a. Has (statements_of p) (thread_action t a))
+        (each_outside (λ a. Has (thread_actions p) (thread_action t a))
         (λ i b. slice_get (sections_of p.texts) i ≡ Some (record { thread = t; body = b }))
         (record { records = p.records; globals = p.globals; locals = ls }) n text sound.0 numbered.0
         (λ a h. statements (thread_action t a)

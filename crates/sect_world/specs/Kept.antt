@@ -7,7 +7,7 @@ use Rattle.sect_types.specs.Statements.{TextView, Stop, Do, Choose, Loop, Sectio
 use Rattle.sect_types.specs.Sections.{sections_of}
 use Rattle.sect_types.specs.Sound.{IsSound}
 use Rattle.sect_types.specs.Programs.{ProgramView, environment_at}
-use Rattle.sect_points.specs.Statements.{thread_action, statements_of}
+use Rattle.sect_points.specs.Statements.{thread_action, thread_actions}
 use Rattle.sect_modes.specs.declared.mode.Mode.{Mode}
 use Rattle.sect_modes.specs.declared.key.Key.{Key}
 use Rattle.sect_modes.specs.declared.key.Key.TheVariants as key
@@ -47,7 +47,7 @@ Each A S (Section i p rest) = S i p × Each A S p × Each A S rest
 -- statements of thread t of the program, in a section or outside
 pub record IsTextOf (p : ProgramView) (t : ℕ) (inside : Bool) (k : TextView) : Type 0 where
   pub sound : IsSound (environment_at p t) inside k
-  pub listed : Each (λ a. Has (statements_of p) (thread_action t a))
+  pub listed : Each (λ a. Has (thread_actions p) (thread_action t a))
       (λ i b. slice_get (sections_of p.texts) i ≡ Some (record { thread = t; body = b })) k
 
 -- the object is there

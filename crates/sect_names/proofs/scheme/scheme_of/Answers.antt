@@ -1,12 +1,12 @@
 use Rattle.std.proofs.Common.{ap, ◌∙◌, sym, subst}
 use Rattle.sect_points.specs.Sets.{PointsToView, InSets}
 use Rattle.sect_points.specs.Flow.{IsLeastFlow}
-use Rattle.sect_points.specs.Statements.{statements_of}
+use Rattle.sect_points.specs.Statements.{thread_actions}
 use Rattle.sect_names.proofs.scheme.scheme_of.Goals as goal
 
 pub invariant_of-result : goal.invariant_of-result
 invariant_of-result c =
-    let list = statements_of c.args.program in
+    let list = thread_actions c.args.program in
     let same = c.in_ok-classes.ensures.sets in
     let parted = c.in_ok-classes.ensures.parted in
     let flow = subst (λ (s : PointsToView). IsLeastFlow (InSets s) list) (sym same) c.in_ok-points_to.ensures.least in

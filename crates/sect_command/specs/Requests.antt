@@ -15,7 +15,8 @@ use Rattle.sect_command.specs.declared.dispatch.TheConstants.{DONE, REFUSED, WRO
 use Rattle.sect_command.specs.declared.dispatch.Answer.{Answer}
 use Rattle.sect_command.specs.declared.options.Form.TheVariants.{Listing, Certificate}
 use Rattle.sect_command.specs.declared.options.Request.{Request}
-use Rattle.sect_command.specs.declared.options.Request.TheVariants.{Locks, Compile, Explain, Serial, Schedule, Run, Check}
+use Rattle.sect_command.specs.declared.options.Request.TheVariants.{Locks, Compile, Explain, Check}
+use Rattle.sect_command.specs.declared.options.Request.TheVariants.{Serial, Schedule, Run}
 
 -- the bytes are what the request asks of the source
 abbrev pub Answers : Request → List ℕ → List ℕ → Type 0

@@ -85,7 +85,7 @@ fn are_seen(
 }
 
 /// A keeper that has seen nothing.
-fn keeper(clock: &HostRuntime) -> Keeper<'_> {
+fn fresh_keeper(clock: &HostRuntime) -> Keeper<'_> {
     Keeper {
         clock,
         first: AtomicBool::new(false),
@@ -96,7 +96,7 @@ fn keeper(clock: &HostRuntime) -> Keeper<'_> {
 
 #[test]
 fn two_workers_were_seen(rt: HostRuntime) -> Result<(), Fail> {
-    are_seen(&rt, &keeper(&rt))
+    are_seen(&rt, &fresh_keeper(&rt))
 }
 
 /// Is told of sections and does nothing.

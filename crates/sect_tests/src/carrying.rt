@@ -112,137 +112,80 @@ fn needs(rt: &(impl Abort + AllocGlobal), text: &[u8], rows: &[Needed]) -> Resul
     need_all(rt, &scheme(rt.alloc(), text, 2)?, rows)
 }
 
-#[test]
-fn a_store_to_what_may_be_one(rt: HostRuntime) -> Result<(), Fail> {
-    let (x, y, z) = (Local(0, 0), Local(0, 1), Local(0, 2));
-    carries(
-        &rt,
-        SHARED,
-        2,
-        &[
-            (0, At(y, 1, Write), &[At(y, 1, Write), At(z, 0, Write)]),
-            (0, At(x, 1, Write), &[At(z, 0, Write)]),
-            (0, At(y, 0, Read), &[At(y, 0, Read)]),
-        ],
-    )
-}
+/// The variables of the programs.
+const A: Variable = Global(0);
 
-/// Nothing is stored to `c.next`: `w.next` and `y.next.next` are always null.
-#[test]
-fn a_load(rt: HostRuntime) -> Result<(), Fail> {
-    let (y, w) = (Local(0, 1), Local(0, 3));
-    carries(
-        &rt,
-        SHARED,
-        2,
-        &[
-            (1, At(w, 0, Write), &[At(y, 1, Write)]),
-            (1, At(w, 1, Write), &[]),
-            (1, At(y, 1, Read), &[At(y, 1, Read)]),
-        ],
-    )
-}
+const X: Variable = Local(0, 0);
 
-#[test]
-fn a_load_where_no_path_has_a_field(rt: HostRuntime) -> Result<(), Fail> {
-    let (w, class) = (Local(0, 3), All(1, Right::Write));
-    carries(&rt, SHARED, 0, &[(1, At(w, 0, Write), &[class])])
-}
+const Y: Variable = Local(0, 1);
+
+const Z: Variable = Local(0, 2);
+
+const W: Variable = Local(0, 3);
 
 /// `x` may denote a and the new object, which are class 0, and `y` and `a.next` a alone.
 const RING: &[u8] = b"record Node { int val; Node next; } global Node a; \
 thread t { Node x; Node y; int v; y = a; atomic { x = y; x = a; x = null; y = x.next; \
 a.next = a; v = x.val; x = new Node; v = v + 1; print v; while (v < 2) { } } }";
 
-#[test]
-fn assignments(rt: HostRuntime) -> Result<(), Fail> {
-    let (a, x, y) = (Global(0), Local(0, 0), Local(0, 1));
-    carries(
-        &rt,
+/// A program, how many fields a path of it may have, and what is carried back in it.
+type Program<'a> = (&'a [u8], u16, &'a [Carried<'a>]);
+
+/// What is needed before nodes of programs.
+const CARRIED: &[Program<'static>] = &[
+    (
+        SHARED,
+        2,
+        &[
+            // A store to what may be one.
+            (0, At(Y, 1, Write), &[At(Y, 1, Write), At(Z, 0, Write)]),
+            (0, At(X, 1, Write), &[At(Z, 0, Write)]),
+            (0, At(Y, 0, Read), &[At(Y, 0, Read)]),
+            // A load. Nothing is stored to `c.next`: `w.next` and `y.next.next` are always null.
+            (1, At(W, 0, Write), &[At(Y, 1, Write)]),
+            (1, At(W, 1, Write), &[]),
+            (1, At(Y, 1, Read), &[At(Y, 1, Read)]),
+        ],
+    ),
+    // A load where no path has a field.
+    (SHARED, 0, &[(1, At(W, 0, Write), &[All(1, Right::Write)])]),
+    (
         RING,
         2,
         &[
-            (0, At(x, 1, Write), &[At(y, 1, Write)]),
-            (0, At(y, 1, Write), &[At(y, 1, Write)]),
-            (1, At(x, 0, Read), &[At(a, 0, Read)]),
-            (2, At(x, 1, Write), &[]),
-            (2, At(y, 0, Read), &[At(y, 0, Read)]),
-            (6, At(x, 0, Write), &[]),
-            (6, At(a, 0, Write), &[At(a, 0, Write)]),
+            // Assignments.
+            (0, At(X, 1, Write), &[At(Y, 1, Write)]),
+            (0, At(Y, 1, Write), &[At(Y, 1, Write)]),
+            (1, At(X, 0, Read), &[At(A, 0, Read)]),
+            (2, At(X, 1, Write), &[]),
+            (2, At(Y, 0, Read), &[At(Y, 0, Read)]),
+            (6, At(X, 0, Write), &[]),
+            (6, At(A, 0, Write), &[At(A, 0, Write)]),
+            // A long path.
+            (3, At(Y, 1, Read), &[At(X, 2, Read)]),
+            (3, At(Y, 2, Read), &[All(0, Right::Read)]),
+            (3, All(0, Right::Read), &[All(0, Right::Read)]),
+            // After `a.next = a` the path `a.next.next` is `a.next`, and that is a.
+            (4, At(A, 1, Read), &[At(A, 0, Read)]),
+            (4, At(A, 2, Read), &[At(A, 0, Read)]),
+            (4, At(X, 2, Read), &[At(X, 2, Read), At(A, 0, Read)]),
+            // What touches no object.
+            (5, At(X, 1, Write), &[At(X, 1, Write)]),
+            (7, At(X, 1, Write), &[At(X, 1, Write)]),
+            (8, At(X, 1, Write), &[At(X, 1, Write)]),
+            (9, At(X, 1, Write), &[At(X, 1, Write)]),
         ],
-    )
-}
+    ),
+    // A longer path.
+    (RING, 3, &[(3, At(Y, 2, Write), &[At(X, 3, Write)])]),
+];
 
 #[test]
-fn a_long_path(rt: HostRuntime) -> Result<(), Fail> {
-    let (x, y) = (Local(0, 0), Local(0, 1));
-    let class = [All(0, Right::Read)];
-    carries(
-        &rt,
-        RING,
-        2,
-        &[
-            (3, At(y, 1, Read), &[At(x, 2, Read)]),
-            (3, At(y, 2, Read), &class),
-            (3, class[0], &class),
-        ],
-    )?;
-    carries(&rt, RING, 3, &[(3, At(y, 2, Write), &[At(x, 3, Write)])])
-}
-
-/// After `a.next = a` the path `a.next.next` is `a.next`, and that is a.
-#[test]
-fn a_store_along_a_path(rt: HostRuntime) -> Result<(), Fail> {
-    let (a, x) = (Global(0), Local(0, 0));
-    let stored = At(a, 0, Read);
-    carries(
-        &rt,
-        RING,
-        2,
-        &[
-            (4, At(a, 1, Read), &[stored]),
-            (4, At(a, 2, Read), &[stored]),
-            (4, At(x, 2, Read), &[At(x, 2, Read), stored]),
-        ],
-    )
-}
-
-#[test]
-fn what_touches_no_object(rt: HostRuntime) -> Result<(), Fail> {
-    let after = At(Local(0, 0), 1, Write);
-    let same = [after];
-    let rows = [
-        (5, after, &same[..]),
-        (7, after, &same[..]),
-        (8, after, &same[..]),
-        (9, after, &same[..]),
-    ];
-    carries(&rt, RING, 2, &rows)?;
-    let rows = [
-        (0, 0, None),
-        (0, 2, None),
-        (0, 7, None),
-        (0, 8, None),
-        (0, 9, None),
-    ];
-    needs(&rt, RING, &rows)
-}
-
-#[test]
-fn accesses(rt: HostRuntime) -> Result<(), Fail> {
-    let rows = [
-        (0, 0, Some(At(Global(0), 0, Read))),
-        (0, 2, Some(At(Local(0, 0), 0, Read))),
-        (1, 0, Some(All(1, Right::Make))),
-        (1, 1, Some(At(Local(1, 0), 0, Write))),
-    ];
-    needs(&rt, LIST, &rows)
-}
-
-#[test]
-fn an_access_through_null(rt: HostRuntime) -> Result<(), Fail> {
-    let rows = [(0, 0, Some(At(Global(1), 0, Write))), (0, 2, None)];
-    needs(&rt, NULL, &rows)
+fn locks_are_carried_back(rt: HostRuntime) -> Result<(), Fail> {
+    for (text, k, rows) in CARRIED {
+        carries(&rt, text, *k, rows)?;
+    }
+    Ok(())
 }
 
 /// One global guards all cells, and another guards nothing.
@@ -250,14 +193,47 @@ const GUARDED: &[u8] = b"record Lock { int n; } record Cell protected_by g { int
 global Lock h; global Lock g; global Cell c; \
 thread t { Cell x; int v; atomic { x = new Cell; c.val = 1; v = x.val; h.n = v; } }";
 
+/// What nodes of programs need of themselves.
+const NEEDED: &[(&[u8], &[Needed])] = &[
+    // What touches no object.
+    (
+        RING,
+        &[
+            (0, 0, None),
+            (0, 2, None),
+            (0, 7, None),
+            (0, 8, None),
+            (0, 9, None),
+        ],
+    ),
+    // Accesses.
+    (
+        LIST,
+        &[
+            (0, 0, Some(At(A, 0, Read))),
+            (0, 2, Some(At(X, 0, Read))),
+            (1, 0, Some(All(1, Right::Make))),
+            (1, 1, Some(At(Local(1, 0), 0, Write))),
+        ],
+    ),
+    // An access through null.
+    (NULL, &[(0, 0, Some(At(Global(1), 0, Write))), (0, 2, None)]),
+    // Hinted accesses: the second global is the guard.
+    (
+        GUARDED,
+        &[
+            (0, 0, Some(At(Global(1), 0, Write))),
+            (0, 1, Some(At(Global(1), 0, Write))),
+            (0, 2, Some(At(Global(1), 0, Read))),
+            (0, 3, Some(At(A, 0, Write))),
+        ],
+    ),
+];
+
 #[test]
-fn hinted_accesses(rt: HostRuntime) -> Result<(), Fail> {
-    let (h, g) = (Global(0), Global(1));
-    let rows = [
-        (0, 0, Some(At(g, 0, Write))),
-        (0, 1, Some(At(g, 0, Write))),
-        (0, 2, Some(At(g, 0, Read))),
-        (0, 3, Some(At(h, 0, Write))),
-    ];
-    needs(&rt, GUARDED, &rows)
+fn nodes_need_locks(rt: HostRuntime) -> Result<(), Fail> {
+    for (text, rows) in NEEDED {
+        needs(&rt, text, rows)?;
+    }
+    Ok(())
 }

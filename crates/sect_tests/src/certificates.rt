@@ -1,6 +1,7 @@
 //! Certificates that are read and written back, and texts that are refused, each with its number and its line, both
 //! counted by hand.
 
+use crate::programs::printed;
 use sect_cert::{
     Cert, CertBase, CertFault, CertLock, CertPath, CertSection, CertStep, Chain, Items, read_cert,
     write_cert,
@@ -26,14 +27,21 @@ node 0: W a\nentry: none\nend\n";
 fn answer(alloc: Global, text: &[u8]) -> Result<String, AllocError> {
     match read_cert(alloc, text) {
         Ok(_) => Ok(String::new(alloc)),
-        Err(fault) => Ok(format!(in alloc; "{fault}")?),
+        Err(fault) => printed(alloc, &fault),
     }
 }
 
 fn answers(rt: &(impl Abort + AllocGlobal), text: &[u8], wanted: &str) -> Result<(), Fail> {
     let found = answer(rt.alloc(), text)?;
-    assert_eq!(rt; found.as_str(), wanted);
+    assert!(rt; found.as_str() == wanted, "{found}");
     Ok(())
+}
+
+/// The two texts, one behind the other.
+fn joined(alloc: Global, front: &[u8], rest: &[u8]) -> Result<Vec<u8>, AllocError> {
+    let mut text = Vec::from_slice(alloc, front)?;
+    text.extend_from_slice(rest)?;
+    Ok(text)
 }
 
 /// What follows these lines is refused so.
@@ -43,20 +51,22 @@ fn refused_after(
     rest: &[u8],
     wanted: &str,
 ) -> Result<(), Fail> {
-    let mut text = Vec::new(rt.alloc());
-    text.extend_from_slice(front)?;
-    text.extend_from_slice(rest)?;
-    answers(rt, text.as_slice(), wanted)
+    answers(rt, joined(rt.alloc(), front, rest)?.as_slice(), wanted)
 }
 
-fn reads_back(rt: &(impl Abort + AllocGlobal), text: &[u8]) -> Result<(), Fail> {
-    let cert = match read_cert(rt.alloc(), text) {
-        Ok(cert) => cert,
-        Err(_) => return Err(Fail::from("refused")),
-    };
-    let written = write_cert(rt.alloc(), &cert)?;
-    assert!(rt; written.as_slice() == text);
+/// The certificate is written so.
+fn writes(rt: &(impl Abort + AllocGlobal), cert: &Cert, wanted: &[u8]) -> Result<(), Fail> {
+    let written = write_cert(rt.alloc(), cert)?;
+    assert!(rt; written.as_slice() == wanted);
     Ok(())
+}
+
+/// What is read is written back.
+fn reads_back(rt: &(impl Abort + AllocGlobal), text: &[u8]) -> Result<(), Fail> {
+    match read_cert(rt.alloc(), text) {
+        Ok(cert) => writes(rt, &cert, text),
+        Err(_) => Err(Fail::from("refused")),
+    }
 }
 
 /// Locks on everything, and on paths that begin with locals of calls.
@@ -182,45 +192,45 @@ fn made_section(alloc: Global) -> Result<CertSection, Fail> {
     })
 }
 
-/// The text of a certificate of one section.
-fn written(alloc: Global, section: CertSection) -> Result<Vec<u8>, Fail> {
-    let sections = of_one(alloc, section)?;
-    Ok(write_cert(alloc, &Cert { k: 1, sections })?)
+/// A certificate of one section.
+fn made(alloc: Global) -> Result<Cert, Fail> {
+    let sections = of_one(alloc, made_section(alloc)?)?;
+    Ok(Cert { k: 1, sections })
 }
+
+/// The text of that certificate.
+const MADE: &[u8] =
+    b"sect-cert 2\nk 1\nsections 1\nsection 0 nodes 2\nnode 0: R head.next, M class 3\nnode 1: none\n\
+entry: W class 10\nchain 2: 0 R class 7\nend\n";
 
 #[test]
 fn a_certificate_that_is_made_is_written(rt: HostRuntime) -> Result<(), Fail> {
-    let text = written(rt.alloc(), made_section(rt.alloc())?)?;
-    let wanted =
-        b"sect-cert 2\nk 1\nsections 1\nsection 0 nodes 2\nnode 0: R head.next, M class 3\nnode 1: none\n\
-entry: W class 10\nchain 2: 0 R class 7\nend\n";
-    assert!(rt; text.as_slice() == wanted.as_slice());
-    Ok(())
+    writes(&rt, &made(rt.alloc())?, MADE)
+}
+
+/// A beginning of a certificate ends early, in the line in which it is cut.
+fn ends_early(rt: &(impl Abort + AllocGlobal), front: &[u8]) {
+    let feeds = front.iter().filter(|byte| **byte == b'\n').count();
+    match read_cert(rt.alloc(), front) {
+        Err(CertFault::CertEnd { line }) => assert!(rt; line == feeds.saturating_add(1)),
+        _ => assert!(rt; false, "not an early end"),
+    }
 }
 
 #[test]
-fn each_beginning_ends_early(rt: HostRuntime) -> Result<(), Fail> {
+fn each_beginning_ends_early(rt: HostRuntime) {
     for length in 0..ADDS_ONE.len() {
-        let front = &ADDS_ONE[..length];
-        match read_cert(rt.alloc(), front) {
-            Err(CertFault::CertEnd { line }) => {
-                let feeds = front.iter().filter(|byte| **byte == b'\n').count();
-                assert_eq!(rt; line, feeds + 1);
-            }
-            _ => return Err(Fail::from("not an early end")),
-        }
+        ends_early(&rt, &ADDS_ONE[..length]);
     }
-    Ok(())
 }
 
-#[test]
-fn nothing_follows_the_end(rt: HostRuntime) -> Result<(), Fail> {
-    let rests: [&[u8]; 4] = [b"x", b"\n", b"end\n", b"\xff"];
-    for rest in rests {
-        refused_after(&rt, ADDS_ONE, rest, "32 NotCanonical line 12")?;
-    }
-    Ok(())
-}
+/// What may follow no end.
+const BEHIND_THE_END: &[(&[u8], &str)] = &[
+    (b"x", "32 NotCanonical line 12"),
+    (b"\n", "32 NotCanonical line 12"),
+    (b"end\n", "32 NotCanonical line 12"),
+    (b"\xff", "32 NotCanonical line 12"),
+];
 
 /// Texts that are refused at one of their first lines, or behind it.
 const FIRST_LINES: &[(&[u8], &str)] = &[
@@ -243,14 +253,6 @@ const FIRST_LINES: &[(&[u8], &str)] = &[
     (b"sect-cert 2\nsections 01\n", "30 BadCertLine line 2"),
     (b"sect-cert 2\nk 2\nk 2\n", "30 BadCertLine line 3"),
 ];
-
-#[test]
-fn first_lines_are_refused(rt: HostRuntime) -> Result<(), Fail> {
-    for (text, wanted) in FIRST_LINES {
-        answers(&rt, text, wanted)?;
-    }
-    Ok(())
-}
 
 /// What may stand after the line `k 2`, and is refused.
 const SECTION_LINES: &[(&[u8], &str)] = &[
@@ -291,14 +293,6 @@ const SECTION_LINES: &[(&[u8], &str)] = &[
     ),
 ];
 
-#[test]
-fn section_lines_are_refused(rt: HostRuntime) -> Result<(), Fail> {
-    for (text, wanted) in SECTION_LINES {
-        refused_after(&rt, b"sect-cert 2\nk 2\n", text, wanted)?;
-    }
-    Ok(())
-}
-
 /// The lines before a section's two nodes.
 const BEFORE_NODES: &[u8] = b"sect-cert 2\nk 2\nsections 1\nsection 0 nodes 2\n";
 
@@ -336,49 +330,36 @@ const NODE_LINES: &[(&[u8], &str)] = &[
     ),
 ];
 
-#[test]
-fn node_lines_are_refused(rt: HostRuntime) -> Result<(), Fail> {
-    for (text, wanted) in NODE_LINES {
-        refused_after(&rt, BEFORE_NODES, text, wanted)?;
-    }
-    Ok(())
-}
-
 /// Lines of a node whose list is none.
-const NO_LISTS: &[&[u8]] = &[
-    b"node 0: none, R a\n",
-    b"node 0: R a, none\n",
-    b"node 0: R a,W b\n",
-    b"node 0: R a ,W b\n",
-    b"node 0: R a,\n",
-    b"node 0: R a, \n",
-    b"node 0: R a,, W b\n",
-    b"node 0: R  a\n",
-    b"node 0: R a W b\n",
-    b"node 0: X a\n",
-    b"node 0: M a\n",
-    b"node 0: R\n",
-    b"node 0: R class\n",
-    b"node 0: R class a\n",
-    b"node 0: R class 4294967296\n",
-    b"node 0: R int\n",
-    b"node 0: R a.class\n",
-    b"node 0: R a.\n",
-    b"node 0: R .a\n",
-    b"node 0: R a..b\n",
-    b"node 0: R 9a\n",
-    b"node 0: R a.01\n",
-    b"node 0: R a# 1\n",
-    b"node 0: R a12345678901234567890123456789012\n",
+const NO_LISTS: &[(&[u8], &str)] = &[
+    (b"node 0: none, R a\n", "30 BadCertLine line 5"),
+    (b"node 0: R a, none\n", "30 BadCertLine line 5"),
+    (b"node 0: R a,W b\n", "30 BadCertLine line 5"),
+    (b"node 0: R a ,W b\n", "30 BadCertLine line 5"),
+    (b"node 0: R a,\n", "30 BadCertLine line 5"),
+    (b"node 0: R a, \n", "30 BadCertLine line 5"),
+    (b"node 0: R a,, W b\n", "30 BadCertLine line 5"),
+    (b"node 0: R  a\n", "30 BadCertLine line 5"),
+    (b"node 0: R a W b\n", "30 BadCertLine line 5"),
+    (b"node 0: X a\n", "30 BadCertLine line 5"),
+    (b"node 0: M a\n", "30 BadCertLine line 5"),
+    (b"node 0: R\n", "30 BadCertLine line 5"),
+    (b"node 0: R class\n", "30 BadCertLine line 5"),
+    (b"node 0: R class a\n", "30 BadCertLine line 5"),
+    (b"node 0: R class 4294967296\n", "30 BadCertLine line 5"),
+    (b"node 0: R int\n", "30 BadCertLine line 5"),
+    (b"node 0: R a.class\n", "30 BadCertLine line 5"),
+    (b"node 0: R a.\n", "30 BadCertLine line 5"),
+    (b"node 0: R .a\n", "30 BadCertLine line 5"),
+    (b"node 0: R a..b\n", "30 BadCertLine line 5"),
+    (b"node 0: R 9a\n", "30 BadCertLine line 5"),
+    (b"node 0: R a.01\n", "30 BadCertLine line 5"),
+    (b"node 0: R a# 1\n", "30 BadCertLine line 5"),
+    (
+        b"node 0: R a12345678901234567890123456789012\n",
+        "30 BadCertLine line 5",
+    ),
 ];
-
-#[test]
-fn lists_that_are_no_lists_are_refused(rt: HostRuntime) -> Result<(), Fail> {
-    for text in NO_LISTS {
-        refused_after(&rt, BEFORE_NODES, text, "30 BadCertLine line 5")?;
-    }
-    Ok(())
-}
 
 /// The lines before a section's chains.
 const BEFORE_CHAINS: &[u8] =
@@ -416,70 +397,80 @@ const CHAIN_LINES: &[(&[u8], &str)] = &[
 ];
 
 #[test]
-fn chain_lines_are_refused(rt: HostRuntime) -> Result<(), Fail> {
-    for (text, wanted) in CHAIN_LINES {
-        refused_after(&rt, BEFORE_CHAINS, text, wanted)?;
-    }
-    Ok(())
-}
-
-#[test]
 fn want_of_memory_is_printed(rt: HostRuntime) -> Result<(), Fail> {
-    assert_eq!(rt;
-        format!(in rt.alloc(); "{}", CertFault::Memory)?.as_str(),
-        "out of memory"
-    );
+    let text = printed(rt.alloc(), &CertFault::Memory)?;
+    assert!(rt; text.as_str() == "out of memory");
     Ok(())
 }
 
 // Version 2: everything locked, locals of calls, and the first line of version 1.
 
-#[test]
-fn version_one_is_refused(rt: HostRuntime) -> Result<(), Fail> {
-    let table: [(&[u8], &str); 9] = [
-        (b"sect-cert 1\n", "33 OldVersion line 1"),
-        (b"sect-cert 1\nk 2\n", "33 OldVersion line 1"),
-        (b"sect-cert 1\nk 02\n", "33 OldVersion line 1"),
-        (b"sect-cert 1\n\xff", "33 OldVersion line 1"),
-        (b"sect-cert 1", "31 CertEnd line 1"),
-        (b"sect-cert 1 \n", "30 BadCertLine line 1"),
-        (b"sect-cert 10\n", "30 BadCertLine line 1"),
-        (b"sect-cert 3\n", "30 BadCertLine line 1"),
-        (b"\nsect-cert 1\n", "30 BadCertLine line 1"),
-    ];
-    for (text, wanted) in table {
-        answers(&rt, text, wanted)?;
-    }
-    Ok(())
-}
+/// The first line of version 1, and what is near it.
+const VERSION_ONE: &[(&[u8], &str)] = &[
+    (b"sect-cert 1\n", "33 OldVersion line 1"),
+    (b"sect-cert 1\nk 2\n", "33 OldVersion line 1"),
+    (b"sect-cert 1\nk 02\n", "33 OldVersion line 1"),
+    (b"sect-cert 1\n\xff", "33 OldVersion line 1"),
+    (b"sect-cert 1", "31 CertEnd line 1"),
+    (b"sect-cert 1 \n", "30 BadCertLine line 1"),
+    (b"sect-cert 10\n", "30 BadCertLine line 1"),
+    (b"sect-cert 3\n", "30 BadCertLine line 1"),
+    (b"\nsect-cert 1\n", "30 BadCertLine line 1"),
+];
 
 #[test]
 fn a_whole_certificate_of_version_one_is_refused(rt: HostRuntime) -> Result<(), Fail> {
     refused_after(&rt, b"sect-cert 1", &ADDS_ONE[11..], "33 OldVersion line 1")
 }
 
+/// Lists with locks of everything and of locals of calls.
+const EVERYTHING_AND_CALLS: &[(&[u8], &str)] = &[
+    (b"node 0: W all, R t#3.next\n", "31 CertEnd line 6"),
+    (b"node 0: R all\n", "30 BadCertLine line 5"),
+    (b"node 0: M all\n", "30 BadCertLine line 5"),
+    (b"node 0: W all.next\n", "30 BadCertLine line 5"),
+    (b"node 0: W a.all\n", "30 BadCertLine line 5"),
+    (b"node 0: W all#1\n", "30 BadCertLine line 5"),
+    (b"node 0: W alls\n", "31 CertEnd line 6"),
+    (b"node 0: R t#03\n", "32 NotCanonical line 5"),
+    (b"node 0: R t#00.next\n", "32 NotCanonical line 5"),
+    (b"node 0: R t#\n", "30 BadCertLine line 5"),
+    (b"node 0: R #3\n", "30 BadCertLine line 5"),
+    (b"node 0: R t#3#4\n", "30 BadCertLine line 5"),
+    (b"node 0: R t.f#3\n", "30 BadCertLine line 5"),
+    (b"node 0: R t#a\n", "30 BadCertLine line 5"),
+    (b"node 0: R t#4294967296\n", "30 BadCertLine line 5"),
+    (b"node 0: R t#04294967296\n", "30 BadCertLine line 5"),
+];
+
+/// Lines, and what may stand behind them and is refused, each with the line that says why.
+const REFUSED: &[(&[u8], &[(&[u8], &str)])] = &[
+    (ADDS_ONE, BEHIND_THE_END),
+    (b"", FIRST_LINES),
+    (b"sect-cert 2\nk 2\n", SECTION_LINES),
+    (BEFORE_NODES, NODE_LINES),
+    (BEFORE_NODES, NO_LISTS),
+    (BEFORE_CHAINS, CHAIN_LINES),
+    (b"", VERSION_ONE),
+    (BEFORE_NODES, EVERYTHING_AND_CALLS),
+];
+
+/// What follows these lines is refused so, row by row.
+fn all_refused_after(
+    rt: &(impl Abort + AllocGlobal),
+    front: &[u8],
+    rows: &[(&[u8], &str)],
+) -> Result<(), Fail> {
+    for (rest, wanted) in rows {
+        refused_after(rt, front, rest, wanted)?;
+    }
+    Ok(())
+}
+
 #[test]
-fn locks_of_everything_and_of_calls_are_read(rt: HostRuntime) -> Result<(), Fail> {
-    let table: [(&[u8], &str); 16] = [
-        (b"node 0: W all, R t#3.next\n", "31 CertEnd line 6"),
-        (b"node 0: R all\n", "30 BadCertLine line 5"),
-        (b"node 0: M all\n", "30 BadCertLine line 5"),
-        (b"node 0: W all.next\n", "30 BadCertLine line 5"),
-        (b"node 0: W a.all\n", "30 BadCertLine line 5"),
-        (b"node 0: W all#1\n", "30 BadCertLine line 5"),
-        (b"node 0: W alls\n", "31 CertEnd line 6"),
-        (b"node 0: R t#03\n", "32 NotCanonical line 5"),
-        (b"node 0: R t#00.next\n", "32 NotCanonical line 5"),
-        (b"node 0: R t#\n", "30 BadCertLine line 5"),
-        (b"node 0: R #3\n", "30 BadCertLine line 5"),
-        (b"node 0: R t#3#4\n", "30 BadCertLine line 5"),
-        (b"node 0: R t.f#3\n", "30 BadCertLine line 5"),
-        (b"node 0: R t#a\n", "30 BadCertLine line 5"),
-        (b"node 0: R t#4294967296\n", "30 BadCertLine line 5"),
-        (b"node 0: R t#04294967296\n", "30 BadCertLine line 5"),
-    ];
-    for (text, wanted) in table {
-        refused_after(&rt, BEFORE_NODES, text, wanted)?;
+fn lines_are_refused(rt: HostRuntime) -> Result<(), Fail> {
+    for (front, rows) in REFUSED {
+        all_refused_after(&rt, front, rows)?;
     }
     Ok(())
 }

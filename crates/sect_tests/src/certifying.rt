@@ -3,39 +3,43 @@
 use crate::certificates::ADDS_ONE;
 use crate::programs::{
     ACCOUNTS, ADDING, ALIASED, APART, CHAIN, EMPTY, EVERYTHING, GUARDED, LIST, NULL, SHARED,
-    TWO_ADDING,
+    TWO_ADDING, printed,
 };
 use sect_cert::write_cert;
 use sect_check::{CheckFault, check};
 use sect_emit::{Compiled, compile};
-use std::alloc::{AllocError, Global};
+use std::alloc::Global;
 use std::process::Abort;
 use std::test::Fail;
 
 /// The text of a compiled program's certificate.
-fn certificate_text(alloc: Global, compiled: &Compiled) -> Result<Vec<u8>, AllocError> {
+fn certificate_text(alloc: Global, compiled: &Compiled) -> Result<Vec<u8>, Fail> {
     let cert = compiled.certificate(alloc)?;
-    write_cert(alloc, &cert)
+    Ok(write_cert(alloc, &cert)?)
 }
 
 /// The certificate of what is inferred of a text.
 fn certificate(alloc: Global, source: &[u8], k: u16) -> Result<Vec<u8>, Fail> {
-    let compiled = compile(alloc, source, k)?;
-    Ok(certificate_text(alloc, &compiled)?)
+    certificate_text(alloc, &compile(alloc, source, k)?)
 }
 
 /// Programs whose sections need locks of all kinds.
-const PROGRAMS: [&[u8]; 12] = [
+const PROGRAMS: &[&[u8]] = &[
     EMPTY, ADDING, TWO_ADDING, LIST, SHARED, ALIASED, APART, NULL, CHAIN, GUARDED, ACCOUNTS,
     EVERYTHING,
 ];
+
+/// The certificate of what is inferred of a text is valid.
+fn is_valid(alloc: Global, source: &[u8], k: u16) -> Result<(), Fail> {
+    let cert = certificate(alloc, source, k)?;
+    Ok(check(alloc, source, k, cert.as_slice())?)
+}
 
 #[test]
 fn what_is_inferred_is_valid(rt: HostRuntime) -> Result<(), Fail> {
     for source in PROGRAMS {
         for k in 0..4u16 {
-            let cert = certificate(rt.alloc(), source, k)?;
-            check(rt.alloc(), source, k, cert.as_slice())?;
+            is_valid(rt.alloc(), source, k)?;
         }
     }
     Ok(())
@@ -48,6 +52,17 @@ fn the_certificate_of_one_that_adds(rt: HostRuntime) -> Result<(), Fail> {
     Ok(())
 }
 
+/// The fault is printed so.
+fn is_printed(
+    rt: &(impl Abort + AllocGlobal),
+    fault: &CheckFault,
+    wanted: &str,
+) -> Result<(), Fail> {
+    let text = printed(rt.alloc(), fault)?;
+    assert!(rt; text.as_str() == wanted, "{text}");
+    Ok(())
+}
+
 /// The bytes of a certificate are refused for the program that adds, and so.
 fn refuses(
     rt: &(impl Abort + AllocGlobal),
@@ -57,11 +72,7 @@ fn refuses(
 ) -> Result<(), Fail> {
     match check(rt.alloc(), source, 2, cert) {
         Ok(()) => Err(Fail::from("valid")),
-        Err(fault) => {
-            let text = format!(in rt.alloc(); "{fault}")?;
-            assert_eq!(rt; text.as_str(), wanted);
-            Ok(())
-        }
+        Err(fault) => is_printed(rt, &fault, wanted),
     }
 }
 

@@ -53,10 +53,17 @@ fn parts(
     Ok(())
 }
 
-#[test]
-fn sites_of_a_local_are_together(rt: HostRuntime) -> Result<(), Fail> {
-    parts(
-        &rt,
+/// The heads of two lists are in one class, so are what their fields hold, and so on: the rule on fields alone brings
+/// the ends together. The sites go a, b (the heads), then e, d, c, f: a.next = c, b.next = d, c.next = e, d.next = f.
+const LISTS: &[u8] = b"record Node { int val; Node next; } global Node a; global Node b; \
+global Node e; global Node d; global Node c; global Node f; global Node g; \
+thread t { Node x; x = a; x = b; \
+atomic { a.next = c; b.next = d; c.next = e; d.next = f; } }";
+
+/// Programs, the classes of their sites 0 and 1 with how many classes there are, and where paths lead.
+const PARTED: &[(&[u8], Parts, &[Leads])] = &[
+    // Sites that one local may hold are together.
+    (
         SHARED,
         (0, 0, 2),
         &[
@@ -66,13 +73,9 @@ fn sites_of_a_local_are_together(rt: HostRuntime) -> Result<(), Fail> {
             (Local(0, 1), 1, Some(1)),
             (Local(0, 1), 2, None),
         ],
-    )
-}
-
-#[test]
-fn sites_apart_have_classes_of_their_own(rt: HostRuntime) -> Result<(), Fail> {
-    parts(
-        &rt,
+    ),
+    // Sites apart have classes of their own.
+    (
         APART,
         (0, 1, 2),
         &[
@@ -83,13 +86,9 @@ fn sites_apart_have_classes_of_their_own(rt: HostRuntime) -> Result<(), Fail> {
             (Global(2), 0, None),
             (Local(1, 0), 0, None),
         ],
-    )
-}
-
-#[test]
-fn a_path_that_is_null_has_no_class(rt: HostRuntime) -> Result<(), Fail> {
-    parts(
-        &rt,
+    ),
+    // A path that is null has no class.
+    (
         NULL,
         (0, 1, 2),
         &[
@@ -97,13 +96,9 @@ fn a_path_that_is_null_has_no_class(rt: HostRuntime) -> Result<(), Fail> {
             (Local(0, 0), 1, None),
             (Global(1), 0, Some(1)),
         ],
-    )
-}
-
-#[test]
-fn a_class_has_paths_that_end(rt: HostRuntime) -> Result<(), Fail> {
-    parts(
-        &rt,
+    ),
+    // A class has paths that end.
+    (
         CHAIN,
         (0, 0, 1),
         &[
@@ -112,26 +107,15 @@ fn a_class_has_paths_that_end(rt: HostRuntime) -> Result<(), Fail> {
             (Local(0, 0), 2, None),
             (Local(1, 0), 0, Some(0)),
         ],
-    )
-}
-
-#[test]
-fn one_class_by_copies(rt: HostRuntime) -> Result<(), Fail> {
-    let rows = [(Local(0, 0), 0, Some(0)), (Global(1), 0, Some(0))];
-    parts(&rt, ACCOUNTS, (0, 0, 1), &rows)
-}
-
-/// The heads of two lists are in one class, so are what their fields hold, and so on: the rule on fields alone brings
-/// the ends together. The sites go a, b (the heads), then e, d, c, f: a.next = c, b.next = d, c.next = e, d.next = f.
-const LISTS: &[u8] = b"record Node { int val; Node next; } global Node a; global Node b; \
-global Node e; global Node d; global Node c; global Node f; global Node g; \
-thread t { Node x; x = a; x = b; \
-atomic { a.next = c; b.next = d; c.next = e; d.next = f; } }";
-
-#[test]
-fn fields_of_one_class_are_together(rt: HostRuntime) -> Result<(), Fail> {
-    parts(
-        &rt,
+    ),
+    // One class by copies.
+    (
+        ACCOUNTS,
+        (0, 0, 1),
+        &[(Local(0, 0), 0, Some(0)), (Global(1), 0, Some(0))],
+    ),
+    // The fields of one class are together.
+    (
         LISTS,
         (0, 0, 4),
         &[
@@ -143,7 +127,15 @@ fn fields_of_one_class_are_together(rt: HostRuntime) -> Result<(), Fail> {
             (Local(0, 0), 2, Some(1)),
             (Local(0, 0), 3, None),
         ],
-    )
+    ),
+];
+
+#[test]
+fn sites_and_paths_have_classes(rt: HostRuntime) -> Result<(), Fail> {
+    for (text, sites, rows) in PARTED {
+        parts(&rt, text, *sites, rows)?;
+    }
+    Ok(())
 }
 
 #[test]

@@ -41,7 +41,7 @@ fn covers(
 ) -> Result<(), Fail> {
     let big = lock(rt, big)?;
     let found = row(rt, scheme, locks(rt, small)?.as_slice(), &big)?;
-    assert_eq!(rt; found.as_str(), expected);
+    assert!(rt; found.as_str() == expected, "{found}");
     Ok(())
 }
 
@@ -83,11 +83,6 @@ const TABLE: &[(Wanted, &str)] = &[
     (At(X, 1, Write), "-------+--"),
     (At(W, 1, Write), "---------+"),
 ];
-
-#[test]
-fn the_table_of_locks(rt: HostRuntime) -> Result<(), Fail> {
-    covers_all(&rt, &scheme(rt.alloc(), SHARED, 2)?, ALONG, TABLE)
-}
 
 /// The locks are these, in this order.
 fn are_in_order(
@@ -173,9 +168,15 @@ const LEFT: &[(&[Wanted], &[Wanted])] = &[
     ),
 ];
 
+/// The scheme has the table of locks, and leaves what is left.
+fn has_table(rt: &(impl Abort + AllocGlobal), scheme: &Scheme) -> Result<(), Fail> {
+    covers_all(rt, scheme, ALONG, TABLE)?;
+    leave_all(rt, scheme, LEFT)
+}
+
 #[test]
-fn what_is_left(rt: HostRuntime) -> Result<(), Fail> {
-    leave_all(&rt, &scheme(rt.alloc(), SHARED, 2)?, LEFT)
+fn the_table_of_locks(rt: HostRuntime) -> Result<(), Fail> {
+    has_table(&rt, &scheme(rt.alloc(), SHARED, 2)?)
 }
 
 /// Each comes before the next.

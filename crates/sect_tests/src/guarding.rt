@@ -1,10 +1,11 @@
 //! Small programs with the guards of their records, or the refusal of their hints.
 
 use crate::programs::{
-    GUARDED, GUARDED_BY_A_CELL, GUARDED_BY_NOTHING, GUARDED_TWICE, program_of, scheme,
+    GUARDED, GUARDED_BY_A_CELL, GUARDED_BY_NOTHING, GUARDED_TWICE, printed, program_of, scheme,
 };
 use sect_hints::{Guards, guards};
-use sect_names::{MOST_PATH_FIELDS, SchemeFault, check_k, scheme_of};
+use sect_names::{MOST_PATH_FIELDS, Scheme, SchemeFault, check_k, scheme_of};
+use sect_types::Program;
 use std::alloc::Global;
 use std::process::Abort;
 use std::test::Fail;
@@ -39,11 +40,29 @@ const RIGHT: &[(&[u8], &[Option<u16>])] = &[
     ),
 ];
 
+/// The program has these guards.
+fn has_guards(
+    rt: &(impl Abort + AllocGlobal),
+    program: &Program,
+    wanted: &[Option<u16>],
+) -> Result<(), Fail> {
+    are_guards(rt, &guards(rt.alloc(), program)?, wanted);
+    Ok(())
+}
+
+/// The program of a text has these guards.
+fn text_has_guards(
+    rt: &(impl Abort + AllocGlobal),
+    text: &[u8],
+    wanted: &[Option<u16>],
+) -> Result<(), Fail> {
+    has_guards(rt, &program_of(rt.alloc(), text)?, wanted)
+}
+
 #[test]
 fn guards_of_records(rt: HostRuntime) -> Result<(), Fail> {
     for (text, wanted) in RIGHT {
-        let program = program_of(rt.alloc(), text)?;
-        are_guards(&rt, &guards(rt.alloc(), &program)?, wanted);
+        text_has_guards(&rt, text, wanted)?;
     }
     Ok(())
 }
@@ -52,7 +71,7 @@ fn guards_of_records(rt: HostRuntime) -> Result<(), Fail> {
 fn answer(alloc: Global, text: &[u8]) -> Result<String, Fail> {
     match guards(alloc, &program_of(alloc, text)?) {
         Ok(_) => Ok(String::new(alloc)),
-        Err(fault) => Ok(format!(in alloc; "{fault}")?),
+        Err(fault) => Ok(printed(alloc, &fault)?),
     }
 }
 
@@ -88,10 +107,17 @@ const WRONG: &[(&[u8], &str)] = &[
     ),
 ];
 
+/// The hints of a text have this answer.
+fn hints_answer(rt: &(impl Abort + AllocGlobal), text: &[u8], wanted: &str) -> Result<(), Fail> {
+    let found = answer(rt.alloc(), text)?;
+    assert!(rt; found.as_str() == wanted, "{found}");
+    Ok(())
+}
+
 #[test]
 fn wrong_hints(rt: HostRuntime) -> Result<(), Fail> {
     for (text, wanted) in WRONG {
-        assert_eq!(rt; answer(rt.alloc(), text)?.as_str(), *wanted);
+        hints_answer(&rt, text, wanted)?;
     }
     Ok(())
 }
@@ -100,7 +126,7 @@ fn wrong_hints(rt: HostRuntime) -> Result<(), Fail> {
 fn scheme_answer(alloc: Global, text: &[u8], k: u16) -> Result<String, Fail> {
     match scheme_of(alloc, program_of(alloc, text)?, k) {
         Ok(_) => Ok(String::new(alloc)),
-        Err(fault) => Ok(format!(in alloc; "{fault}")?),
+        Err(fault) => Ok(printed(alloc, &fault)?),
     }
 }
 
@@ -114,20 +140,36 @@ const SCHEMES: &[(&[u8], u16, &str)] = &[
     (GUARDED_TWICE, 4, "60 BadK"),
 ];
 
+/// A text and the most fields of a path have this answer.
+fn text_answers(
+    rt: &(impl Abort + AllocGlobal),
+    text: &[u8],
+    k: u16,
+    wanted: &str,
+) -> Result<(), Fail> {
+    let found = scheme_answer(rt.alloc(), text, k)?;
+    assert!(rt; found.as_str() == wanted, "{found}");
+    Ok(())
+}
+
 #[test]
 fn schemes_of_texts(rt: HostRuntime) -> Result<(), Fail> {
     for (text, k, wanted) in SCHEMES {
-        assert_eq!(rt; scheme_answer(rt.alloc(), text, *k)?.as_str(), *wanted);
+        text_answers(&rt, text, *k, wanted)?;
     }
     assert!(rt; check_k(3).is_ok());
     assert!(rt; matches!(check_k(4), Err(SchemeFault::BadK)));
     Ok(())
 }
 
+/// The scheme has paths of one field, and the guards of its program.
+fn scheme_has_guards(rt: &impl Abort, scheme: &Scheme) {
+    assert!(rt; scheme.k() == 1);
+    are_guards(rt, scheme.guards(), &[None, Some(0)]);
+}
+
 #[test]
 fn a_scheme_has_the_guards(rt: HostRuntime) -> Result<(), Fail> {
-    let scheme = scheme(rt.alloc(), GUARDED, 1)?;
-    assert_eq!(rt; scheme.k(), 1);
-    are_guards(&rt, scheme.guards(), &[None, Some(0)]);
+    scheme_has_guards(&rt, &scheme(rt.alloc(), GUARDED, 1)?);
     Ok(())
 }

@@ -5,8 +5,9 @@ use crate::wanted::{Wanted, locks, set};
 use Effect::{Read, Write};
 use Variable::{Global, Local};
 use Wanted::{All, At};
+use indexmap::IndexSet;
 use sect_infer::{Locks, infer};
-use sect_names::{Effect, Right, Scheme};
+use sect_names::{Effect, Lock, Right, Scheme};
 use sect_points::Variable;
 use std::process::Abort;
 use std::test::Fail;
@@ -32,6 +33,18 @@ fn takes(rt: &(impl Abort + AllocGlobal), sets: &Locks, wanted: &[Wanted]) -> Re
     Ok(())
 }
 
+/// These are the locks that are left of a set, in canonical order.
+fn are_left(
+    rt: &(impl Abort + AllocGlobal),
+    scheme: &Scheme,
+    found: &[Lock],
+    wanted: &IndexSet<Lock>,
+) -> Result<(), Fail> {
+    let left = scheme.maximal(rt.alloc(), wanted)?;
+    assert!(rt; found == left.as_slice());
+    Ok(())
+}
+
 /// The locks of a node are those of these that no other of them covers, in canonical order.
 fn needs(
     rt: &(impl Abort + AllocGlobal),
@@ -41,10 +54,8 @@ fn needs(
     wanted: &[Wanted],
 ) -> Result<(), Fail> {
     assert!(rt; (node as usize) < sets.node_count());
-    let wanted = scheme.maximal(rt.alloc(), &set(rt, wanted)?)?;
     let found = sets.at(rt.alloc(), node)?;
-    assert!(rt; found.as_slice() == wanted.as_slice(), "node {node}");
-    Ok(())
+    are_left(rt, scheme, found.as_slice(), &set(rt, wanted)?)
 }
 
 /// What is needed from some nodes on.
@@ -96,58 +107,19 @@ fn holds(
     entry: &[Wanted],
     nodes: &[(u16, &[Wanted])],
 ) -> Result<(), Fail> {
-    let scheme = scheme(rt.alloc(), text, k)?;
-    has_sets(rt, &scheme, section, count, entry, nodes)
+    has_sets(
+        rt,
+        &scheme(rt.alloc(), text, k)?,
+        section,
+        count,
+        entry,
+        nodes,
+    )
 }
 
-/// The first global of each program.
+/// The variables of the programs.
 const HEAD: Variable = Global(0);
 
-/// The list from a variable on is read.
-const fn walked(base: Variable) -> [Wanted; 4] {
-    [
-        All(1, Right::Read),
-        At(base, 0, Read),
-        At(base, 1, Read),
-        At(base, 2, Read),
-    ]
-}
-
-#[test]
-fn a_list_is_read(rt: HostRuntime) -> Result<(), Fail> {
-    let (first, walk) = (walked(HEAD), walked(Local(0, 0)));
-    holds(
-        &rt,
-        (LIST, 2, 0),
-        6,
-        &[All(1, Right::Read), At(HEAD, 0, Read)],
-        &[(0, &first), (1, &walk), (3, &walk), (4, &walk), (5, &[])],
-    )
-}
-
-#[test]
-fn an_object_is_made(rt: HostRuntime) -> Result<(), Fail> {
-    let make = All(1, Right::Make);
-    let (read, write, own) = (
-        At(HEAD, 0, Read),
-        At(HEAD, 0, Write),
-        At(Local(1, 0), 0, Write),
-    );
-    holds(
-        &rt,
-        (LIST, 2, 1),
-        5,
-        &[make, write],
-        &[
-            (0, &[make, read, write]),
-            (2, &[own, read, write]),
-            (3, &[own, write]),
-            (4, &[write]),
-        ],
-    )
-}
-
-/// The variables of the program whose paths may be one.
 const X: Variable = Local(0, 0);
 
 const Y: Variable = Local(0, 1);
@@ -156,110 +128,143 @@ const Z: Variable = Local(0, 2);
 
 const W: Variable = Local(0, 3);
 
-#[test]
-fn paths_that_may_be_one(rt: HostRuntime) -> Result<(), Fail> {
-    let first = [
-        At(X, 0, Write),
-        At(Y, 0, Read),
-        At(Y, 1, Write),
-        At(Z, 0, Write),
-    ];
-    holds(
-        &rt,
+/// What is needed while the list is read from a local on.
+const WALK: &[Wanted] = &[
+    All(1, Right::Read),
+    At(X, 0, Read),
+    At(X, 1, Read),
+    At(X, 2, Read),
+];
+
+/// The locks of a program whose paths may be one.
+const MAY_BE_ONE: &[Wanted] = &[
+    At(X, 0, Write),
+    At(Y, 0, Read),
+    At(Y, 1, Write),
+    At(Z, 0, Write),
+];
+
+/// The locks of a list that ends.
+const ENDS: &[Wanted] = &[At(HEAD, 0, Write), At(X, 0, Read), At(X, 1, Read)];
+
+/// The locks of the two programs with branches.
+const BOTH: &[Wanted] = &[At(HEAD, 0, Read), At(Global(1), 0, Write)];
+
+/// The lock on everything.
+const ALL: &[Wanted] = &[Wanted::Everything];
+
+/// What is needed from some nodes on.
+type Nodes<'a> = &'a [(u16, &'a [Wanted])];
+
+/// A program, the most fields of a path and a section; how many nodes the section has beside its exit, the locks at its
+/// entry, and those from some of its nodes on.
+type Row<'a> = ((&'a [u8], u16, u16), u16, &'a [Wanted], Nodes<'a>);
+
+/// Sections and their locks.
+const SECTIONS: &[Row<'static>] = &[
+    // A list is read.
+    (
+        (LIST, 2, 0),
+        6,
+        &[All(1, Right::Read), At(HEAD, 0, Read)],
+        &[
+            (
+                0,
+                &[
+                    All(1, Right::Read),
+                    At(HEAD, 0, Read),
+                    At(HEAD, 1, Read),
+                    At(HEAD, 2, Read),
+                ],
+            ),
+            (1, WALK),
+            (3, WALK),
+            (4, WALK),
+            (5, &[]),
+        ],
+    ),
+    // An object is made.
+    (
+        (LIST, 2, 1),
+        5,
+        &[All(1, Right::Make), At(HEAD, 0, Write)],
+        &[
+            (
+                0,
+                &[All(1, Right::Make), At(HEAD, 0, Read), At(HEAD, 0, Write)],
+            ),
+            (
+                2,
+                &[
+                    At(Local(1, 0), 0, Write),
+                    At(HEAD, 0, Read),
+                    At(HEAD, 0, Write),
+                ],
+            ),
+            (3, &[At(Local(1, 0), 0, Write), At(HEAD, 0, Write)]),
+            (4, &[At(HEAD, 0, Write)]),
+        ],
+    ),
+    // Paths that may be one, and the same by their class.
+    (
         (SHARED, 2, 0),
         3,
-        &first,
+        MAY_BE_ONE,
         &[
-            (0, &first),
+            (0, MAY_BE_ONE),
             (1, &[At(Y, 0, Read), At(Y, 1, Write)]),
             (2, &[At(W, 0, Write)]),
         ],
-    )
-}
-
-#[test]
-fn paths_that_may_be_one_by_their_class(rt: HostRuntime) -> Result<(), Fail> {
-    let taken = [All(1, Right::Write), At(X, 0, Write), At(Y, 0, Read)];
-    holds(&rt, (SHARED, 0, 0), 3, &taken, &[])
-}
-
-#[test]
-fn a_list_that_ends(rt: HostRuntime) -> Result<(), Fail> {
-    let every = [At(HEAD, 0, Write), At(X, 0, Read), At(X, 1, Read)];
-    let last = [At(HEAD, 0, Write)];
-    holds(
-        &rt,
+    ),
+    (
+        (SHARED, 0, 0),
+        3,
+        &[All(1, Right::Write), At(X, 0, Write), At(Y, 0, Read)],
+        &[],
+    ),
+    // A list that ends, the sections beside it, and the list by its class.
+    (
         (CHAIN, 2, 1),
         4,
-        &every,
-        &[(0, &every), (2, &every), (3, &last)],
-    )
-}
-
-#[test]
-fn beside_a_list_that_ends(rt: HostRuntime) -> Result<(), Fail> {
-    holds(&rt, (CHAIN, 2, 0), 1, &[At(HEAD, 0, Write)], &[])?;
-    holds(&rt, (CHAIN, 2, 2), 2, &[At(Local(1, 0), 0, Read)], &[])
-}
-
-#[test]
-fn a_list_that_ends_by_its_class(rt: HostRuntime) -> Result<(), Fail> {
-    let (class, end, own) = (All(0, Right::Read), At(HEAD, 0, Write), At(X, 0, Read));
-    holds(
-        &rt,
+        ENDS,
+        &[(0, ENDS), (2, ENDS), (3, &[At(HEAD, 0, Write)])],
+    ),
+    ((CHAIN, 2, 0), 1, &[At(HEAD, 0, Write)], &[]),
+    ((CHAIN, 2, 2), 2, &[At(Local(1, 0), 0, Read)], &[]),
+    (
         (CHAIN, 0, 1),
         4,
-        &[class, end],
-        &[(2, &[class, own, end])],
-    )
-}
-
-/// The locks of the two programs with branches.
-const BOTH: [Wanted; 2] = [At(Global(0), 0, Read), At(Global(1), 0, Write)];
-
-#[test]
-fn around_a_loop(rt: HostRuntime) -> Result<(), Fail> {
-    holds(
-        &rt,
-        (TURNS, 2, 0),
-        4,
-        &BOTH,
-        &[(0, &BOTH), (2, &BOTH), (3, &BOTH)],
-    )
-}
-
-#[test]
-fn along_either_branch(rt: HostRuntime) -> Result<(), Fail> {
-    holds(
-        &rt,
+        &[All(0, Right::Read), At(HEAD, 0, Write)],
+        &[(
+            2,
+            &[All(0, Right::Read), At(X, 0, Read), At(HEAD, 0, Write)],
+        )],
+    ),
+    // Around a loop, and along either branch.
+    ((TURNS, 2, 0), 4, BOTH, &[(0, BOTH), (2, BOTH), (3, BOTH)]),
+    (
         (EITHER, 2, 0),
         4,
-        &BOTH,
-        &[(0, &BOTH), (1, &BOTH[..1]), (2, &BOTH[1..]), (3, &[])],
-    )
-}
+        BOTH,
+        &[
+            (0, BOTH),
+            (1, &[At(HEAD, 0, Read)]),
+            (2, &[At(Global(1), 0, Write)]),
+            (3, &[]),
+        ],
+    ),
+    // A section locks everything, another one beside it does not, and one locks everything and does nothing.
+    ((EVERYTHING, 2, 0), 1, ALL, &[(0, ALL), (1, ALL)]),
+    ((EVERYTHING, 2, 1), 1, &[At(HEAD, 0, Write)], &[(1, &[])]),
+    ((b"thread e { atomic all { } }", 2, 0), 0, ALL, &[(0, ALL)]),
+    // An empty section takes nothing.
+    ((b"thread e { atomic { } }", 2, 0), 0, &[], &[]),
+];
 
 #[test]
-fn a_section_locks_everything(rt: HostRuntime) -> Result<(), Fail> {
-    let all = [Wanted::Everything];
-    holds(&rt, (EVERYTHING, 2, 0), 1, &all, &[(0, &all), (1, &all)])?;
-    holds(
-        &rt,
-        (EVERYTHING, 2, 1),
-        1,
-        &[At(HEAD, 0, Write)],
-        &[(1, &[])],
-    )?;
-    holds(
-        &rt,
-        (b"thread e { atomic all { } }", 2, 0),
-        0,
-        &all,
-        &[(0, &all)],
-    )
-}
-
-#[test]
-fn an_empty_section_takes_nothing(rt: HostRuntime) -> Result<(), Fail> {
-    holds(&rt, (b"thread e { atomic { } }", 2, 0), 0, &[], &[])
+fn sections_take_and_need_locks(rt: HostRuntime) -> Result<(), Fail> {
+    for (section, count, entry, nodes) in SECTIONS {
+        holds(&rt, *section, *count, entry, nodes)?;
+    }
+    Ok(())
 }

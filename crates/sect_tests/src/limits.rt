@@ -326,12 +326,23 @@ fn called_in_blocks(alloc: Global, deep: usize, around: usize) -> Result<String,
     Ok(source)
 }
 
+/// A procedure of so many blocks, called within so many, has this answer.
+fn answers_in_blocks(
+    rt: &(impl Abort + AllocGlobal),
+    deep: usize,
+    around: usize,
+    wanted: &str,
+) -> Result<(), Fail> {
+    let source = called_in_blocks(rt.alloc(), deep, around)?;
+    let found = answer(rt.alloc(), &source)?;
+    assert!(rt; found.as_str() == wanted, "{deep} and {around}: {found}");
+    Ok(())
+}
+
 #[test]
 fn blocks_of_the_expanded_text(rt: HostRuntime) -> Result<(), Fail> {
     for (deep, around, wanted) in BLOCKS {
-        let source = called_in_blocks(rt.alloc(), *deep, *around)?;
-        let found = answer(rt.alloc(), &source)?;
-        assert!(rt; found.as_str() == *wanted, "{deep} and {around}: {found}");
+        answers_in_blocks(&rt, *deep, *around, wanted)?;
     }
     Ok(())
 }

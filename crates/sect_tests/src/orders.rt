@@ -1,6 +1,6 @@
 //! Programs run by whole sections in an order.
 
-use crate::programs::{LIST, program_of};
+use crate::programs::{LIST, printed, program_of};
 use sect_serial::{SerialEnd, serial};
 use sect_store::{Outcome, Store, put_outcome};
 use sect_types::{Datum, End, ObjectName, Program};
@@ -74,15 +74,25 @@ fn shown(alloc: Global, source: &str, fuel: u32, order: &[u16]) -> Result<String
     let program = program_of(alloc, source.as_bytes())?;
     match serial(alloc, &program, fuel, order) {
         Ok(end) => end_text(alloc, &program, end, order),
-        Err(fault) => Ok(format!(in alloc; "{fault}")?),
+        Err(fault) => Ok(printed(alloc, &fault)?),
     }
+}
+
+/// The run of a program with so much fuel in an order shows this.
+fn shows(
+    rt: &(impl Abort + AllocGlobal),
+    (source, fuel, order): (&str, u32, &[u16]),
+    wanted: &str,
+) -> Result<(), Fail> {
+    let text = shown(rt.alloc(), source, fuel, order)?;
+    assert!(rt; text.as_str() == wanted, "{text}");
+    Ok(())
 }
 
 #[test]
 fn orders_come_to_outcomes(rt: HostRuntime) -> Result<(), Fail> {
     for (source, fuel, order, wanted) in ORDERS {
-        let text = shown(rt.alloc(), source, *fuel, order)?;
-        assert_eq!(rt; text.as_str(), *wanted);
+        shows(&rt, (source, *fuel, order), wanted)?;
     }
     Ok(())
 }

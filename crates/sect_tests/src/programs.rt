@@ -3,7 +3,8 @@
 use sect_front::parse;
 use sect_names::{Scheme, scheme_of};
 use sect_types::{Field, Program, check_types};
-use std::alloc::Global;
+use std::alloc::{AllocError, Global};
+use std::fmt::Display;
 use std::test::Fail;
 
 /// The program of a text.
@@ -14,6 +15,11 @@ pub fn program_of(alloc: Global, text: &[u8]) -> Result<Program, Fail> {
 /// The scheme of a text, for paths of at most `k` fields.
 pub fn scheme(alloc: Global, text: &[u8], k: u16) -> Result<Scheme, Fail> {
     Ok(scheme_of(alloc, program_of(alloc, text)?, k)?)
+}
+
+/// A fault as it is printed.
+pub fn printed(alloc: Global, fault: &impl Display) -> Result<String, AllocError> {
+    Ok(format!(in alloc; "{fault}")?)
 }
 
 /// The field `next` of all programs here that have references.

@@ -1,10 +1,12 @@
 //! Whole runs of a lock table.
 
+use crate::programs::printed;
 use Answer::{Granted, Queued};
 use Mode::{Exclusive, IntentionExclusive, IntentionShared, Shared};
 use TableFault::{AlreadyHeld, AlreadyWaiting};
 use sect_modes::{Key, Mode};
 use sect_table::{Answer, Claim, Grant, Grants, Table, TableFault};
+use std::alloc::Global;
 use std::process::Abort;
 use std::test::Fail;
 
@@ -208,11 +210,27 @@ const FRESH: &[Call<'static>] = &[
     Call::Spares(1),
 ];
 
+/// A table whose one thread was given key A.
+fn given(alloc: Global) -> Result<Table, Fail> {
+    let mut table = Table::with_threads(alloc, 1)?;
+    table.give_fresh(0, A)?;
+    Ok(table)
+}
+
 #[test]
 fn a_fresh_key(rt: HostRuntime) -> Result<(), Fail> {
-    let mut table = Table::with_threads(rt.alloc(), 1)?;
-    table.give_fresh(0, A)?;
-    goes_on(&rt, &mut table, FRESH)
+    goes_on(&rt, &mut given(rt.alloc())?, FRESH)
+}
+
+/// Each of 64 threads asks for one key and gives it back.
+fn goes_round(rt: &impl Abort, table: &mut Table, grants: &mut Grants) {
+    for thread in 0..64 {
+        let wanted = if thread == 0 { Granted } else { Queued };
+        asks(rt, table, thread, A, Exclusive, Ok(wanted));
+    }
+    for thread in 0..64 {
+        releases(rt, table, thread, grants);
+    }
 }
 
 #[test]
@@ -220,34 +238,22 @@ fn many_rounds_over_one_key(rt: HostRuntime) -> Result<(), Fail> {
     let mut table = Table::with_threads(rt.alloc(), 64)?;
     let mut grants = Grants::with_threads(rt.alloc(), 64)?;
     for _ in 0..10_000 {
-        for thread in 0..64 {
-            asks(
-                &rt,
-                &mut table,
-                thread,
-                A,
-                Exclusive,
-                Ok(if thread == 0 { Granted } else { Queued }),
-            );
-        }
-        for thread in 0..64 {
-            releases(&rt, &mut table, thread, &mut grants);
-        }
+        goes_round(&rt, &mut table, &mut grants);
     }
     spares(&rt, &table, 64);
     Ok(())
 }
 
+/// The fault is printed so.
+fn prints(rt: &(impl Abort + AllocGlobal), fault: &TableFault, wanted: &str) -> Result<(), Fail> {
+    let text = printed(rt.alloc(), fault)?;
+    assert!(rt; text.as_str() == wanted, "{text}");
+    Ok(())
+}
+
 #[test]
 fn printed_faults(rt: HostRuntime) -> Result<(), Fail> {
-    let lines = [
-        (AlreadyWaiting, "50 AlreadyWaiting"),
-        (AlreadyHeld, "51 AlreadyHeld"),
-        (TableFault::Memory, "out of memory"),
-    ];
-    for (fault, line) in lines {
-        let text = format!(in rt.alloc(); "{fault}")?;
-        assert_eq!(rt; text.as_str(), line);
-    }
-    Ok(())
+    prints(&rt, &AlreadyWaiting, "50 AlreadyWaiting")?;
+    prints(&rt, &AlreadyHeld, "51 AlreadyHeld")?;
+    prints(&rt, &TableFault::Memory, "out of memory")
 }

@@ -1,8 +1,10 @@
 //! Small texts with the answer that each has, the items counted by hand.
 
+use crate::programs::printed;
 use sect_front::parse;
 use sect_types::{TypeFault, check_types};
 use std::alloc::Global;
+use std::process::Abort;
 use std::test::Fail;
 
 /// Texts without a fault.
@@ -363,38 +365,48 @@ const REFUSED: &[(&str, &str)] = &[
 
 /// What is answered for a text: its fault, or nothing.
 pub fn answer(alloc: Global, text: &str) -> Result<String, Fail> {
-    let tree = parse(alloc, text.as_bytes())?;
-    match check_types(alloc, tree) {
+    match check_types(alloc, parse(alloc, text.as_bytes())?) {
         Ok(_) => Ok(String::new(alloc)),
-        Err(fault) => Ok(format!(in alloc; "{fault}")?),
+        Err(fault) => Ok(printed(alloc, &fault)?),
     }
+}
+
+/// The text has this answer.
+fn answers(rt: &(impl Abort + AllocGlobal), text: &str, wanted: &str) -> Result<(), Fail> {
+    let found = answer(rt.alloc(), text)?;
+    assert!(rt; found.as_str() == wanted, "{found} at {text}");
+    Ok(())
 }
 
 #[test]
 fn accepts_typed_texts(rt: HostRuntime) -> Result<(), Fail> {
     for text in ACCEPTED {
-        assert_eq!(rt; answer(rt.alloc(), text)?.as_str(), "", "at {text}");
+        answers(&rt, text, "")?;
     }
     Ok(())
 }
 
 #[test]
 fn names_the_first_item_at_fault(rt: HostRuntime) -> Result<(), Fail> {
-    for (text, want) in REFUSED {
-        assert_eq!(rt; answer(rt.alloc(), text)?.as_str(), *want, "at {text}");
+    for (text, wanted) in REFUSED {
+        answers(&rt, text, wanted)?;
     }
+    Ok(())
+}
+
+/// The fault is printed so.
+fn prints(rt: &(impl Abort + AllocGlobal), fault: &TypeFault, wanted: &str) -> Result<(), Fail> {
+    let text = printed(rt.alloc(), fault)?;
+    assert!(rt; text.as_str() == wanted, "{text}");
     Ok(())
 }
 
 #[test]
 fn refusals_are_printed(rt: HostRuntime) -> Result<(), Fail> {
-    assert_eq!(rt;
-        format!(in rt.alloc(); "{}", TypeFault::Memory)?.as_str(),
-        "out of memory"
-    );
-    assert_eq!(rt;
-        format!(in rt.alloc(); "{}", TypeFault::TooMany { item: 9600 })?.as_str(),
-        "15 TooMany item 9600"
-    );
-    Ok(())
+    prints(&rt, &TypeFault::Memory, "out of memory")?;
+    prints(
+        &rt,
+        &TypeFault::TooMany { item: 9600 },
+        "15 TooMany item 9600",
+    )
 }

@@ -48,28 +48,55 @@ impl<'a> Seen for Keeper<'a> {
     }
 }
 
+/// Two workers that this keeper is told of infer the two sections of a scheme.
+fn infer_both(
+    rt: &(impl Threads + Wait + Sync + AllocGlobal + Abort),
+    scheme: &Scheme,
+    keeper: &Keeper<'_>,
+) -> Result<(), Fail> {
+    let found = infer_all(rt, rt.alloc(), scheme, 2, keeper)?;
+    assert!(rt; found.len() == 2);
+    Ok(())
+}
+
 /// Two workers that this keeper is told of infer the two sections of a program.
 fn are_inferred(
     rt: &(impl Threads + Wait + Sync + AllocGlobal + Abort),
     keeper: &Keeper<'_>,
 ) -> Result<(), Fail> {
-    let scheme = scheme(rt.alloc(), TWO_ADDING, 2)?;
-    assert_eq!(rt; infer_all(rt, rt.alloc(), &scheme, 2, keeper)?.len(), 2);
+    infer_both(rt, &scheme(rt.alloc(), TWO_ADDING, 2)?, keeper)
+}
+
+/// Each of the two workers was seen, and neither gave up.
+fn have_both_met(rt: &impl Abort, keeper: &Keeper<'_>) {
+    assert!(rt; keeper.first.load(Ordering::SeqCst));
+    assert!(rt; keeper.second.load(Ordering::SeqCst));
+    assert!(rt; !keeper.gave_up.load(Ordering::SeqCst));
+}
+
+/// Two workers infer, and each is seen while the other is at work.
+fn are_seen(
+    rt: &(impl Threads + Wait + Sync + AllocGlobal + Abort),
+    keeper: &Keeper<'_>,
+) -> Result<(), Fail> {
+    are_inferred(rt, keeper)?;
+    have_both_met(rt, keeper);
     Ok(())
+}
+
+/// A keeper that has seen nothing.
+fn fresh_keeper(clock: &HostRuntime) -> Keeper<'_> {
+    Keeper {
+        clock,
+        first: AtomicBool::new(false),
+        second: AtomicBool::new(false),
+        gave_up: AtomicBool::new(false),
+    }
 }
 
 #[test]
 fn two_workers_were_seen(rt: HostRuntime) -> Result<(), Fail> {
-    let keeper = Keeper {
-        clock: &rt,
-        first: AtomicBool::new(false),
-        second: AtomicBool::new(false),
-        gave_up: AtomicBool::new(false),
-    };
-    are_inferred(&rt, &keeper)?;
-    assert!(rt; keeper.first.load(Ordering::SeqCst) && keeper.second.load(Ordering::SeqCst));
-    assert!(rt; !keeper.gave_up.load(Ordering::SeqCst));
-    Ok(())
+    are_seen(&rt, &fresh_keeper(&rt))
 }
 
 /// Is told of sections and does nothing.
@@ -108,23 +135,39 @@ fn agree(
     Ok(())
 }
 
-#[test]
-fn any_number_of_workers_finds_the_same(rt: HostRuntime) -> Result<(), Fail> {
-    let list = scheme(rt.alloc(), LIST, 2)?;
+/// Any number of workers finds what one call after another finds.
+fn agree_all(
+    rt: &(impl Threads + Wait + Sync + AllocGlobal + Abort),
+    scheme: &Scheme,
+) -> Result<(), Fail> {
     for workers in 1..17u16 {
-        agree(&rt, &list, workers)?;
+        agree(rt, scheme, workers)?;
     }
     Ok(())
 }
 
 #[test]
+fn any_number_of_workers_finds_the_same(rt: HostRuntime) -> Result<(), Fail> {
+    agree_all(&rt, &scheme(rt.alloc(), LIST, 2)?)
+}
+
+/// So many workers are refused.
+fn is_refused(
+    rt: &(impl Threads + Wait + Sync + AllocGlobal + Abort),
+    scheme: &Scheme,
+    workers: u16,
+) {
+    match infer_all(rt, rt.alloc(), scheme, workers, &Unseen) {
+        Ok(_) => assert!(rt; false, "{workers} workers"),
+        Err(fault) => assert!(rt; fault == InferFault::BadWorkers),
+    }
+}
+
+#[test]
 fn other_numbers_of_workers_are_refused(rt: HostRuntime) -> Result<(), Fail> {
     let list = scheme(rt.alloc(), LIST, 2)?;
-    for workers in [0u16, 17, 65535] {
-        match infer_all(&rt, rt.alloc(), &list, workers, &Unseen) {
-            Ok(_) => assert!(rt; false, "{workers} workers"),
-            Err(fault) => assert_eq!(rt; fault, InferFault::BadWorkers),
-        }
-    }
+    is_refused(&rt, &list, 0);
+    is_refused(&rt, &list, 17);
+    is_refused(&rt, &list, 65535);
     Ok(())
 }

@@ -57,17 +57,32 @@ fn words_of(alloc: Global, line: &str) -> Result<Vec<String>, AllocError> {
     Ok(words)
 }
 
+/// Runs a command line on an input, and returns the status.
+fn status_of(
+    rt: &(impl Threads + Wait + Sync + AllocGlobal + Abort),
+    line: &str,
+    input: &[u8],
+    out: &mut Vec<u8>,
+) -> Result<u8, AllocError> {
+    let words = words_of(rt.alloc(), line)?;
+    Ok(command(rt, words.as_slice(), input, out))
+}
+
+/// The text of what is printed.
+fn text_of(alloc: Global, bytes: &[u8]) -> Result<String, AllocError> {
+    let shown = String::from_utf8_lossy(alloc, bytes)?;
+    String::from_str(alloc, shown.as_str())
+}
+
 /// What a command line prints of an input, and the status.
 fn answer_of(
     rt: &(impl Threads + Wait + Sync + AllocGlobal + Abort),
     line: &str,
     input: &[u8],
 ) -> Result<(u8, String), Fail> {
-    let words = words_of(rt.alloc(), line)?;
     let mut out = Vec::new(rt.alloc());
-    let status = command(rt, words.as_slice(), input, &mut out);
-    let shown = String::from_utf8_lossy(rt.alloc(), out.as_slice())?;
-    Ok((status, String::from_str(rt.alloc(), shown.as_str())?))
+    let status = status_of(rt, line, input, &mut out)?;
+    Ok((status, text_of(rt.alloc(), out.as_slice())?))
 }
 
 /// Runs a command line on a source, and compares the status and the text.
@@ -98,28 +113,36 @@ fn expect_rows(
     Ok(())
 }
 
-/// The certificate of a program with paths of at most k fields, and its source text behind that.
-fn certified(
+/// How a certificate is made and how it is judged, for paths of at most so many fields.
+const LENGTHS: &[(&str, &str)] = &[
+    ("compile --cert --k 0", "check --k 0"),
+    ("compile --cert --k 1", "check --k 1"),
+    ("compile --cert --k 2", "check --k 2"),
+    ("compile --cert --k 3", "check --k 3"),
+];
+
+/// The certificate that the first command line makes of a program is valid, as the second says.
+fn expect_certified(
     rt: &(impl Threads + Wait + Sync + AllocGlobal + Abort),
     source: &str,
-    k: u8,
-) -> Result<String, Fail> {
-    let line = format!(in rt.alloc(); "compile --cert --k {k}")?;
-    let (status, mut input) = answer_of(rt, &line, source.as_bytes())?;
-    assert_eq!(rt; status, 0, "{line}: {input}");
+    made: &str,
+    judged: &str,
+) -> Result<(), Fail> {
+    let (status, mut input) = answer_of(rt, made, source.as_bytes())?;
+    assert_eq!(rt; status, 0, "{made}: {input}");
     input.push_str(source)?;
-    Ok(input)
+    expect_bytes(rt, judged, input.as_bytes(), 0, "valid\n")
 }
 
-/// The certificate of a program with paths of at most k fields is valid.
+/// The certificates of a program are valid, whatever the most fields of a path are.
 fn expect_valid(
     rt: &(impl Threads + Wait + Sync + AllocGlobal + Abort),
     source: &str,
-    k: u8,
 ) -> Result<(), Fail> {
-    let input = certified(rt, source, k)?;
-    let line = format!(in rt.alloc(); "check --k {k}")?;
-    expect_bytes(rt, &line, input.as_bytes(), 0, "valid\n")
+    for (made, judged) in LENGTHS {
+        expect_certified(rt, source, made, judged)?;
+    }
+    Ok(())
 }
 
 /// A run of a program of two sections, of thread 0 and of thread 1, comes to what they come to in their order.
@@ -137,24 +160,96 @@ fn expect_run_in_order(
     expect_bytes(rt, order, source.as_bytes(), 0, &shown)
 }
 
-#[test]
-fn prints_lock_sets(rt: HostRuntime) -> Result<(), Fail> {
-    for (source, text) in [
-        ("", ""),
-        (
-            "record A { int f; } global A a; global A b; thread t { int x; atomic { x = a.f; b.f = x; } }",
-            "section 0: R a, W b\n",
-        ),
-        ("thread t { atomic { print 1; } }", "section 0: none\n"),
-    ] {
-        expect_bytes(&rt, "locks", source.as_bytes(), 0, text)?;
+/// So many runs of a program of two sections come to what they come to in their order.
+fn expect_runs_in_order(
+    rt: &(impl Threads + Wait + Sync + AllocGlobal + Abort),
+    source: &str,
+    count: u8,
+) -> Result<(), Fail> {
+    for _ in 0..count {
+        expect_run_in_order(rt, source)?;
     }
     Ok(())
 }
 
+/// What `locks` answers to a source text, with this status.
+fn expect_locks(
+    rt: &(impl Threads + Wait + Sync + AllocGlobal + Abort),
+    status: u8,
+    rows: &[(&str, &str)],
+) -> Result<(), Fail> {
+    for (source, text) in rows {
+        expect_bytes(rt, "locks", source.as_bytes(), status, text)?;
+    }
+    Ok(())
+}
+
+/// 65 threads, one more than there may be.
+const MANY_THREADS: &str =
+    "thread t0 { } thread t1 { } thread t2 { } thread t3 { } thread t4 { } thread t5 { } thread t6 { } \
+    thread t7 { } thread t8 { } thread t9 { } thread t10 { } thread t11 { } thread t12 { } thread t13 { } \
+    thread t14 { } thread t15 { } thread t16 { } thread t17 { } thread t18 { } thread t19 { } thread t20 { } \
+    thread t21 { } thread t22 { } thread t23 { } thread t24 { } thread t25 { } thread t26 { } thread t27 { } \
+    thread t28 { } thread t29 { } thread t30 { } thread t31 { } thread t32 { } thread t33 { } thread t34 { } \
+    thread t35 { } thread t36 { } thread t37 { } thread t38 { } thread t39 { } thread t40 { } thread t41 { } \
+    thread t42 { } thread t43 { } thread t44 { } thread t45 { } thread t46 { } thread t47 { } thread t48 { } \
+    thread t49 { } thread t50 { } thread t51 { } thread t52 { } thread t53 { } thread t54 { } thread t55 { } \
+    thread t56 { } thread t57 { } thread t58 { } thread t59 { } thread t60 { } thread t61 { } thread t62 { } \
+    thread t63 { } thread t64 { } ";
+
+/// The beginning of a thread with 31 blocks of conditions in one another.
+const BLOCKS_31: &str =
+    "thread t { if (1 == 1) { if (1 == 1) { if (1 == 1) { if (1 == 1) { if (1 == 1) { if (1 == 1) { \
+    if (1 == 1) { if (1 == 1) { if (1 == 1) { if (1 == 1) { if (1 == 1) { if (1 == 1) { if (1 == 1) { \
+    if (1 == 1) { if (1 == 1) { if (1 == 1) { if (1 == 1) { if (1 == 1) { if (1 == 1) { if (1 == 1) { \
+    if (1 == 1) { if (1 == 1) { if (1 == 1) { if (1 == 1) { if (1 == 1) { if (1 == 1) { if (1 == 1) { \
+    if (1 == 1) { if (1 == 1) { if (1 == 1) { if (1 == 1) { ";
+
+/// The same with 32 blocks, one more than there may be.
+const BLOCKS_32: &str =
+    "thread t { if (1 == 1) { if (1 == 1) { if (1 == 1) { if (1 == 1) { if (1 == 1) { if (1 == 1) { \
+    if (1 == 1) { if (1 == 1) { if (1 == 1) { if (1 == 1) { if (1 == 1) { if (1 == 1) { if (1 == 1) { \
+    if (1 == 1) { if (1 == 1) { if (1 == 1) { if (1 == 1) { if (1 == 1) { if (1 == 1) { if (1 == 1) { \
+    if (1 == 1) { if (1 == 1) { if (1 == 1) { if (1 == 1) { if (1 == 1) { if (1 == 1) { if (1 == 1) { \
+    if (1 == 1) { if (1 == 1) { if (1 == 1) { if (1 == 1) { if (1 == 1) { ";
+
+/// Command lines and texts that show what `locks` prints, and the limits of what it reads.
+const LOCKS: &[Row<'static>] = &[
+    ("locks", "", 0, ""),
+    (
+        "locks",
+        "record A { int f; } global A a; global A b; thread t { int x; atomic { x = a.f; b.f = x; } }",
+        0,
+        "section 0: R a, W b\n",
+    ),
+    (
+        "locks",
+        "thread t { atomic { print 1; } }",
+        0,
+        "section 0: none\n",
+    ),
+    // The 65th thread is refused, and so is a block in 31 others.
+    ("locks", MANY_THREADS, 1, "refused 15 TooMany item 64\n"),
+    ("locks", BLOCKS_31, 1, "refused 5 UnexpectedEnd line 1\n"),
+    ("locks", BLOCKS_32, 1, "refused 6 TooDeep line 1\n"),
+    // How many fields a path may have is judged before the source.
+    ("locks --k 4", ACCOUNT, 1, "refused 60 BadK\n"),
+    ("locks --k 4", "$", 1, "refused 60 BadK\n"),
+    ("locks --k=65535", ACCOUNT, 1, "refused 60 BadK\n"),
+    ("locks --k=65535", "$", 1, "refused 60 BadK\n"),
+    ("locks --k 0", ACCOUNT, 0, "section 0: W a\n"),
+    ("locks --k=3", ACCOUNT, 0, "section 0: W a\n"),
+    ("locks --k 0003", ACCOUNT, 0, "section 0: W a\n"),
+];
+
+#[test]
+fn prints_lock_sets(rt: HostRuntime) -> Result<(), Fail> {
+    expect_rows(&rt, LOCKS)
+}
+
 /// Texts that are refused, and the line that says why: each refusal of a text, of its names and types and of its hints
 /// but those that need a long text.
-const REFUSALS: [(&str, &str); 18] = [
+const REFUSALS: &[(&str, &str)] = &[
     ("thread t } $", "refused 1 BadByte line 1\n"),
     (
         "thread t { int x; x = 01; }",
@@ -228,10 +323,7 @@ thread p {
 
 #[test]
 fn refuses_texts(rt: HostRuntime) -> Result<(), Fail> {
-    for (source, text) in REFUSALS {
-        expect_bytes(&rt, "locks", source.as_bytes(), 1, text)?;
-    }
-    Ok(())
+    expect_locks(&rt, 1, REFUSALS)
 }
 
 #[test]
@@ -240,74 +332,25 @@ fn a_comment_holds_any_bytes(rt: HostRuntime) -> Result<(), Fail> {
     expect_bytes(&rt, "locks", source, 0, "section 0: none\n")
 }
 
-#[test]
-fn the_sixty_fifth_thread_is_refused(rt: HostRuntime) -> Result<(), Fail> {
-    let mut source = String::new(rt.alloc());
-    for thread in 0..65u8 {
-        let text = format!(in rt.alloc(); "thread t{thread} {{ }} ")?;
-        source.push_str(&text)?;
-    }
-    expect_bytes(
-        &rt,
-        "locks",
-        source.as_bytes(),
-        1,
-        "refused 15 TooMany item 64\n",
-    )
-}
-
-/// The beginning of a thread with so many blocks of conditions in its own.
-fn opened_blocks(alloc: Global, count: usize) -> Result<String, AllocError> {
-    let mut source = String::from_str(alloc, "thread t { ")?;
-    for _ in 0..count {
-        source.push_str("if (1 == 1) { ")?;
-    }
-    Ok(source)
-}
-
-#[test]
-fn blocks_stand_in_blocks_at_most_32_deep(rt: HostRuntime) -> Result<(), Fail> {
-    for (count, text) in [
-        (31, "refused 5 UnexpectedEnd line 1\n"),
-        (32, "refused 6 TooDeep line 1\n"),
-    ] {
-        let source = opened_blocks(rt.alloc(), count)?;
-        expect_bytes(&rt, "locks", source.as_bytes(), 1, text)?;
-    }
-    Ok(())
+/// What `locks` answers to a text of so many blanks.
+fn expect_blanks(
+    rt: &(impl Threads + Wait + Sync + AllocGlobal + Abort),
+    count: usize,
+    status: u8,
+    text: &str,
+) -> Result<(), Fail> {
+    let source = vec![in rt.alloc(); b' '; count]?;
+    expect_bytes(rt, "locks", source.as_slice(), status, text)
 }
 
 #[test]
 fn a_text_has_a_mebibyte_at_most(rt: HostRuntime) -> Result<(), Fail> {
-    let mut source: Vec<u8> = Vec::new(rt.alloc());
-    for _ in 0..1_048_576 {
-        source.push(b' ')?;
-    }
-    expect_bytes(&rt, "locks", source.as_slice(), 0, "")?;
-    source.push(b' ')?;
-    expect_bytes(
-        &rt,
-        "locks",
-        source.as_slice(),
-        1,
-        "refused 7 TooLarge line 1\n",
-    )
-}
-
-#[test]
-fn k_is_judged_before_the_source(rt: HostRuntime) -> Result<(), Fail> {
-    for line in ["locks --k 4", "locks --k=65535"] {
-        expect_bytes(&rt, line, ACCOUNT.as_bytes(), 1, "refused 60 BadK\n")?;
-        expect_bytes(&rt, line, b"$", 1, "refused 60 BadK\n")?;
-    }
-    for line in ["locks --k 0", "locks --k=3", "locks --k 0003"] {
-        expect_bytes(&rt, line, ACCOUNT.as_bytes(), 0, "section 0: W a\n")?;
-    }
-    Ok(())
+    expect_blanks(&rt, 1_048_576, 0, "")?;
+    expect_blanks(&rt, 1_048_577, 1, "refused 7 TooLarge line 1\n")
 }
 
 /// Wrong command lines and calls for help, and what their answer says beside the rest.
-const WRONG_LINES: [(&str, &str); 47] = [
+const WRONG_LINES: &[(&str, &str)] = &[
     ("", "standard input"),
     ("help", "standard input"),
     ("--help", "standard input"),
@@ -357,15 +400,22 @@ const WRONG_LINES: [(&str, &str); 47] = [
     ("run --fuel 1000001", "a number from 1 to 1000000"),
 ];
 
+/// A command line is answered as a wrong one, and by what is wanted.
+fn expect_told(
+    rt: &(impl Threads + Wait + Sync + AllocGlobal + Abort),
+    line: &str,
+    wanted: &str,
+) -> Result<(), Fail> {
+    let (got, shown) = answer_of(rt, line, b"$")?;
+    assert_eq!(rt; got, 2, "{line}");
+    assert!(rt; shown.as_str().contains(wanted), "{line}: {shown}");
+    Ok(())
+}
+
 #[test]
 fn wrong_words_are_told_what_is_wanted(rt: HostRuntime) -> Result<(), Fail> {
     for (line, wanted) in WRONG_LINES {
-        let words = words_of(rt.alloc(), line)?;
-        let mut out: Vec<u8> = Vec::new(rt.alloc());
-        let got = command(&rt, words.as_slice(), b"$".as_slice(), &mut out);
-        let shown = String::from_utf8_lossy(rt.alloc(), out.as_slice())?;
-        assert_eq!(rt; got, 2, "{line}");
-        assert!(rt; shown.as_str().contains(wanted), "{line}: {shown}");
+        expect_told(&rt, line, wanted)?;
     }
     Ok(())
 }

@@ -56,13 +56,22 @@ fn changed(alloc: Global, text: &[u8], chance: &mut Chance) -> Result<Vec<u8>, A
 /// How many texts are made of each example, and as many of its certificate.
 const TEXTS: u16 = 360;
 
+/// The text with some changes is answered, or refused by name.
+fn expect_answered(
+    rt: &(impl Threads + Wait + Sync + AllocGlobal + Abort),
+    source: &[u8],
+    chance: &mut Chance,
+) -> Result<(), Fail> {
+    let input = changed(rt.alloc(), source, chance)?;
+    expect_any(rt, input.as_slice())
+}
+
 #[test]
 fn changed_programs(rt: HostRuntime) -> Result<(), Fail> {
     let mut chance = Chance { state: 1 };
     for (source, _) in EXAMPLES {
         for _ in 0..TEXTS {
-            let bytes = changed(rt.alloc(), source.as_bytes(), &mut chance)?;
-            expect_any(&rt, bytes.as_slice())?;
+            expect_answered(&rt, source.as_bytes(), &mut chance)?;
         }
     }
     Ok(())
@@ -80,14 +89,24 @@ fn expect_judged(
     expect_verdict(rt, input.as_slice())
 }
 
+/// The certificate of a program, with some changes each time, is judged.
+fn expect_all_judged(
+    rt: &(impl Threads + Wait + Sync + AllocGlobal + Abort),
+    source: &[u8],
+    chance: &mut Chance,
+) -> Result<(), Fail> {
+    let (_, certificate) = answer_of(rt, "compile --cert", source)?;
+    for _ in 0..TEXTS {
+        expect_judged(rt, certificate.as_bytes(), source, chance)?;
+    }
+    Ok(())
+}
+
 #[test]
 fn changed_certificates(rt: HostRuntime) -> Result<(), Fail> {
     let mut chance = Chance { state: 2 };
     for (source, _) in EXAMPLES {
-        let (_, certificate) = answer_of(&rt, "compile --cert", source.as_bytes())?;
-        for _ in 0..TEXTS {
-            expect_judged(&rt, certificate.as_bytes(), source.as_bytes(), &mut chance)?;
-        }
+        expect_all_judged(&rt, source.as_bytes(), &mut chance)?;
     }
     Ok(())
 }

@@ -1,7 +1,6 @@
 //! The command `check` over memory.
 
-use super::{answer_of, expect_bytes, expect_rows};
-use std::alloc::{AllocError, Global};
+use super::{Row, answer_of, expect_bytes, expect_rows};
 use std::process::Abort;
 use std::sync::Wait;
 use std::test::Fail;
@@ -101,164 +100,147 @@ const LINES: &[(&str, u8, &str)] = &[
     ("node 0: W", 1, "refused 41 Text 30 BadCertLine line 5\n"),
 ];
 
+/// What `check` answers to these lines, with the program behind them.
+fn expect_lines(
+    rt: &(impl Threads + Wait + Sync + AllocGlobal + Abort),
+    lines: &str,
+    status: u8,
+    text: &str,
+) -> Result<(), Fail> {
+    let input = format!(in rt.alloc(); "{FRONT}{lines}{ADDING}")?;
+    expect_bytes(rt, "check", input.as_bytes(), status, text)
+}
+
 #[test]
 fn certificates_of_one_section(rt: HostRuntime) -> Result<(), Fail> {
     for (lines, status, text) in LINES {
-        let input = format!(in rt.alloc(); "{FRONT}{lines}{ADDING}")?;
-        expect_bytes(&rt, "check", input.as_bytes(), *status, text)?;
+        expect_lines(&rt, lines, *status, text)?;
     }
     Ok(())
 }
 
-#[test]
-fn texts_that_are_no_certificates(rt: HostRuntime) -> Result<(), Fail> {
-    expect_rows(
-        &rt,
-        &[
-            ("check", "", 1, "refused 41 Text 31 CertEnd line 1\n"),
-            (
-                "check",
-                "sect-cert 2\nk 2\nsections 1\nsection 0 nodes 4\nnode 0: W",
-                1,
-                "refused 41 Text 31 CertEnd line 5\n",
-            ),
-            (
-                "check",
-                "sect-cert 2\nk 2\nsections 4294967295\n",
-                1,
-                "refused 41 Text 31 CertEnd line 4\n",
-            ),
-            (
-                "check",
-                "sect-cert 2\nk 2\nsections 4294967296\n",
-                1,
-                "refused 41 Text 30 BadCertLine line 3\n",
-            ),
-            (
-                "check",
-                "sect-cert 2\nk 02\n",
-                1,
-                "refused 41 Text 32 NotCanonical line 2\n",
-            ),
-            (
-                "check",
-                "sect-cert 1\nk 2\nsections 0\nend\n",
-                1,
-                "refused 41 Text 33 OldVersion line 1\n",
-            ),
-        ],
-    )
-}
+/// Inputs of `check`, and what it answers.
+const INPUTS: &[Row<'static>] = &[
+    // Texts that are no certificates.
+    ("check", "", 1, "refused 41 Text 31 CertEnd line 1\n"),
+    (
+        "check",
+        "sect-cert 2\nk 2\nsections 1\nsection 0 nodes 4\nnode 0: W",
+        1,
+        "refused 41 Text 31 CertEnd line 5\n",
+    ),
+    (
+        "check",
+        "sect-cert 2\nk 2\nsections 4294967295\n",
+        1,
+        "refused 41 Text 31 CertEnd line 4\n",
+    ),
+    (
+        "check",
+        "sect-cert 2\nk 2\nsections 4294967296\n",
+        1,
+        "refused 41 Text 30 BadCertLine line 3\n",
+    ),
+    (
+        "check",
+        "sect-cert 2\nk 02\n",
+        1,
+        "refused 41 Text 32 NotCanonical line 2\n",
+    ),
+    (
+        "check",
+        "sect-cert 1\nk 2\nsections 0\nend\n",
+        1,
+        "refused 41 Text 33 OldVersion line 1\n",
+    ),
+    // The source begins behind the first line `end`.
+    ("check", "sect-cert 2\nk 2\nsections 0\nend\n", 0, "valid\n"),
+    // Without its line feed the line isn't there, and all is the certificate.
+    (
+        "check",
+        "sect-cert 2\nk 2\nsections 0\nend",
+        1,
+        "refused 41 Text 31 CertEnd line 4\n",
+    ),
+    // The source is judged first, and what stands behind the first line `end` is all of it.
+    (
+        "check",
+        "end\nthread",
+        1,
+        "refused 40 Source 5 UnexpectedEnd line 1\n",
+    ),
+    (
+        "check",
+        "sect-cert 2\nk 2\nsections 0\nend\nend\n",
+        1,
+        "refused 40 Source 4 Unexpected line 1\n",
+    ),
+    (
+        "check",
+        "end \nthread",
+        1,
+        "refused 41 Text 30 BadCertLine line 1\n",
+    ),
+    (
+        "check",
+        "\nend\n",
+        1,
+        "refused 41 Text 30 BadCertLine line 1\n",
+    ),
+    // How many fields a path may have is judged first, and compared.
+    ("check --k 4", "", 1, "refused 40 Source 60 BadK\n"),
+    (
+        "check --k 4",
+        "sect-cert 2\nk 2\nsections 0\nend\nthread",
+        1,
+        "refused 40 Source 60 BadK\n",
+    ),
+    (
+        "check --k=0",
+        "sect-cert 2\nk 0\nsections 0\nend\n",
+        0,
+        "valid\n",
+    ),
+    (
+        "check",
+        "sect-cert 2\nk 1\nsections 0\nend\n",
+        1,
+        "refused 42 WrongProgram\n",
+    ),
+    // A section that locks everything.
+    (
+        "check",
+        "sect-cert 2\nk 2\nsections 1\nsection 0 nodes 1\nnode 0: W all\nentry: W all\n\
+        chain 0: 0 W all\nend\nthread e { atomic all { } }\n",
+        0,
+        "valid\n",
+    ),
+    (
+        "check",
+        "sect-cert 2\nk 2\nsections 1\nsection 0 nodes 1\nnode 0: none\nentry: W all\n\
+        chain 0: 0 W all\nend\nthread e { atomic all { } }\n",
+        1,
+        "refused 43 NotGenerated section 0 node 0\n",
+    ),
+    // Nothing generates it in a section that isn't marked.
+    (
+        "check",
+        "sect-cert 2\nk 2\nsections 1\nsection 0 nodes 1\nnode 0: W all\nentry: W all\n\
+        chain 0: 0 W all\nend\nthread e { atomic { } }\n",
+        1,
+        "refused 47 BrokenChain section 0 lock 0 step 0\n",
+    ),
+];
 
 #[test]
-fn the_source_begins_behind_the_first_end(rt: HostRuntime) -> Result<(), Fail> {
-    expect_rows(
-        &rt,
-        &[
-            ("check", "sect-cert 2\nk 2\nsections 0\nend\n", 0, "valid\n"),
-            // Without its line feed the line isn't there, and all is the certificate.
-            (
-                "check",
-                "sect-cert 2\nk 2\nsections 0\nend",
-                1,
-                "refused 41 Text 31 CertEnd line 4\n",
-            ),
-            // The source is judged first, and what stands behind the first line `end` is all of it.
-            (
-                "check",
-                "end\nthread",
-                1,
-                "refused 40 Source 5 UnexpectedEnd line 1\n",
-            ),
-            (
-                "check",
-                "sect-cert 2\nk 2\nsections 0\nend\nend\n",
-                1,
-                "refused 40 Source 4 Unexpected line 1\n",
-            ),
-            (
-                "check",
-                "end \nthread",
-                1,
-                "refused 41 Text 30 BadCertLine line 1\n",
-            ),
-            (
-                "check",
-                "\nend\n",
-                1,
-                "refused 41 Text 30 BadCertLine line 1\n",
-            ),
-        ],
-    )
+fn inputs_are_judged(rt: HostRuntime) -> Result<(), Fail> {
+    expect_rows(&rt, INPUTS)
 }
 
-#[test]
-fn k_is_judged_first_and_compared(rt: HostRuntime) -> Result<(), Fail> {
-    expect_rows(
-        &rt,
-        &[
-            ("check --k 4", "", 1, "refused 40 Source 60 BadK\n"),
-            (
-                "check --k 4",
-                "sect-cert 2\nk 2\nsections 0\nend\nthread",
-                1,
-                "refused 40 Source 60 BadK\n",
-            ),
-            (
-                "check --k=0",
-                "sect-cert 2\nk 0\nsections 0\nend\n",
-                0,
-                "valid\n",
-            ),
-            (
-                "check",
-                "sect-cert 2\nk 1\nsections 0\nend\n",
-                1,
-                "refused 42 WrongProgram\n",
-            ),
-        ],
-    )
-}
-
-#[test]
-fn a_section_that_locks_everything(rt: HostRuntime) -> Result<(), Fail> {
-    expect_rows(
-        &rt,
-        &[
-            (
-                "check",
-                "sect-cert 2\nk 2\nsections 1\nsection 0 nodes 1\nnode 0: W all\nentry: W all\n\
-                chain 0: 0 W all\nend\nthread e { atomic all { } }\n",
-                0,
-                "valid\n",
-            ),
-            (
-                "check",
-                "sect-cert 2\nk 2\nsections 1\nsection 0 nodes 1\nnode 0: none\nentry: W all\n\
-                chain 0: 0 W all\nend\nthread e { atomic all { } }\n",
-                1,
-                "refused 43 NotGenerated section 0 node 0\n",
-            ),
-            // Nothing generates it in a section that isn't marked.
-            (
-                "check",
-                "sect-cert 2\nk 2\nsections 1\nsection 0 nodes 1\nnode 0: W all\nentry: W all\n\
-                chain 0: 0 W all\nend\nthread e { atomic { } }\n",
-                1,
-                "refused 47 BrokenChain section 0 lock 0 step 0\n",
-            ),
-        ],
-    )
-}
-
-/// The first certificate of `LINES`.
-fn first_certificate(alloc: Global) -> Result<String, AllocError> {
-    let mut cert = String::from_str(alloc, FRONT)?;
-    if let Some((lines, _, _)) = LINES.first() {
-        cert.push_str(lines)?;
-    }
-    Ok(cert)
-}
+/// A certificate of the program, as a whole.
+const CERTIFICATE: &[u8] =
+    b"sect-cert 2\nk 2\nsections 1\nsection 0 nodes 4\nnode 0: W a\nnode 1: W a\nnode 2: W a\n\
+    node 3: none\nentry: W a\nchain 0: 0 W a > 1 W a > 2 W a\nend\n";
 
 /// The bytes before a program are no certificate.
 fn expect_no_certificate(
@@ -275,10 +257,8 @@ fn expect_no_certificate(
 
 #[test]
 fn each_beginning_before_the_program_is_refused(rt: HostRuntime) -> Result<(), Fail> {
-    let cert = first_certificate(rt.alloc())?;
-    let bytes = cert.as_bytes();
-    for length in 0..bytes.len() {
-        expect_no_certificate(&rt, &bytes[..length])?;
+    for length in 0..CERTIFICATE.len() {
+        expect_no_certificate(&rt, &CERTIFICATE[..length])?;
     }
     Ok(())
 }

@@ -1,6 +1,6 @@
 //! The examples of the repository: the text of each, as it stands in its file, and what `sectc locks` prints of it.
 
-use super::expect_bytes;
+use super::expect_locks;
 use std::test::Fail;
 
 /// `examples/empty_section.sect`
@@ -166,7 +166,7 @@ thread q { atomic { call move(b, a, 1); } }
 ";
 
 /// The text of each example, and the lines that are printed of it.
-pub(super) const EXAMPLES: [(&str, &str); 15] = [
+pub(super) const EXAMPLES: &[(&str, &str)] = &[
     (EMPTY_SECTION, "section 0: none\n"),
     (ACCOUNT, "section 0: W a\n"),
     (TWO_THREADS, "section 0: W a\nsection 1: W a\n"),
@@ -195,8 +195,5 @@ pub(super) const EXAMPLES: [(&str, &str); 15] = [
 
 #[test]
 fn examples_have_these_locks(rt: HostRuntime) -> Result<(), Fail> {
-    for (source, text) in EXAMPLES {
-        expect_bytes(&rt, "locks", source.as_bytes(), 0, text)?;
-    }
-    Ok(())
+    expect_locks(&rt, 0, EXAMPLES)
 }

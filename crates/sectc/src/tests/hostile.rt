@@ -77,19 +77,31 @@ fn expect_known(
     Ok((status, shown))
 }
 
-/// `compile`, `schedule` and `run` answer a source text that `locks` answers, and refuse another by the same line.
+/// A command answers a source text that `locks` answers, and refuses another by the same line.
 fn expect_alike(
+    rt: &(impl Threads + Wait + Sync + AllocGlobal + Abort),
+    line: &str,
+    source: &[u8],
+    status: u8,
+    shown: &str,
+) -> Result<(), Fail> {
+    let (other, text) = answer_of(rt, line, source)?;
+    assert_eq!(rt; other, status, "{line}: {text}");
+    assert!(rt; status == 0 || text.as_str() == shown, "{line}: {text}");
+    Ok(())
+}
+
+/// `compile`, `schedule` and `run` answer a source text that `locks` answers, and refuse another by the same line.
+fn expect_all_alike(
     rt: &(impl Threads + Wait + Sync + AllocGlobal + Abort),
     source: &[u8],
     status: u8,
     shown: &str,
 ) -> Result<(), Fail> {
     for line in ["compile", "schedule", "run --fuel 500"] {
-        let (other, text) = answer_of(rt, line, source)?;
-        assert_eq!(rt; other, status, "{line}: {text}");
-        assert!(rt; status == 0 || text.as_str() == shown, "{line}: {text}");
+        expect_alike(rt, line, source, status, shown)?;
     }
-    Ok(())
+    expect_serial(rt, source, status, shown)
 }
 
 /// `serial` refuses a source text by the line of `locks`, but for hints, and else answers it or misses its sections.
@@ -117,8 +129,7 @@ fn expect_answers(
     refusals: &[&str],
 ) -> Result<(), Fail> {
     let (status, shown) = expect_known(rt, source, refusals)?;
-    expect_alike(rt, source, status, &shown)?;
-    expect_serial(rt, source, status, &shown)
+    expect_all_alike(rt, source, status, &shown)
 }
 
 /// Each command answers any source text, or refuses it by the line by which the others do.
@@ -161,17 +172,26 @@ fn beginnings_of_programs(rt: HostRuntime) -> Result<(), Fail> {
     Ok(())
 }
 
-/// A certificate that is cut anywhere lacks the line in which it is cut.
+/// The beginning of a certificate lacks the line in which it is cut.
 fn expect_cut(
     rt: &(impl Threads + Wait + Sync + AllocGlobal + Abort),
-    certificate: &[u8],
+    begun: &[u8],
 ) -> Result<(), Fail> {
-    for count in 0..certificate.len() {
-        let begun = &certificate[..count];
-        let feeds = begun.iter().filter(|byte| **byte == b'\n').count();
-        let line = feeds.saturating_add(1);
-        let text = format!(in rt.alloc(); "refused 41 Text 31 CertEnd line {line}\n")?;
-        expect_bytes(rt, "check", begun, 1, &text)?;
+    let feeds = begun.iter().filter(|byte| **byte == b'\n').count();
+    let line = feeds.saturating_add(1);
+    let text = format!(in rt.alloc(); "refused 41 Text 31 CertEnd line {line}\n")?;
+    expect_bytes(rt, "check", begun, 1, &text)
+}
+
+/// Each beginning of a program's certificate lacks the line in which it is cut.
+fn expect_cuts(
+    rt: &(impl Threads + Wait + Sync + AllocGlobal + Abort),
+    source: &str,
+) -> Result<(), Fail> {
+    let (_, certificate) = answer_of(rt, "compile --cert", source.as_bytes())?;
+    let bytes = certificate.as_bytes();
+    for count in 0..bytes.len() {
+        expect_cut(rt, &bytes[..count])?;
     }
     Ok(())
 }
@@ -179,8 +199,7 @@ fn expect_cut(
 #[test]
 fn beginnings_of_certificates(rt: HostRuntime) -> Result<(), Fail> {
     for (source, _) in EXAMPLES {
-        let (_, certificate) = answer_of(&rt, "compile --cert", source.as_bytes())?;
-        expect_cut(&rt, certificate.as_bytes())?;
+        expect_cuts(&rt, source)?;
     }
     Ok(())
 }

@@ -1,7 +1,7 @@
 //! Lock sets of programs with references, branches, loops, `new` and hints, and their refusals.
 
 use super::examples::{ALIASED_STORE, WALK};
-use super::expect_bytes;
+use super::{Row, expect_rows};
 use std::test::Fail;
 
 /// The load goes through the variable of the store, so it sees what was stored.
@@ -13,17 +13,19 @@ thread t { Node x; Node y; Node z; Node w;
   atomic { x.next = z; w = x.next; w.val = 1; } }
 ";
 
-/// Programs and the most fields of a path, with the lock sets.
-const LOCKS: [(&str, &str, &str); 7] = [
+/// Programs and the most fields of a path, with the lock sets, and hints that are refused.
+const LOCKS: &[Row<'static>] = &[
     (
         "locks --k 0",
         ALIASED_STORE,
+        0,
         "section 0: W class 1, W x, R y\n",
     ),
-    ("locks", SAME_VARIABLE, "section 0: W x, W z\n"),
+    ("locks", SAME_VARIABLE, 0, "section 0: W x, W z\n"),
     (
         "locks --k 0",
         WALK,
+        0,
         "section 0: W a\nsection 1: R class 0, W a\nsection 2: R q\n",
     ),
     // Branches and loops count, whatever their conditions.
@@ -31,12 +33,14 @@ const LOCKS: [(&str, &str, &str); 7] = [
         "locks",
         "record A { int f; } global A a; global A b; \
         thread t { int x; atomic { while (x < 3) { x = a.f; if (x == 1) { b.f = x; } } } }",
+        0,
         "section 0: R a, W b\n",
     ),
     (
         "locks",
         "record A { int f; } global A a; global A b; \
         thread t { atomic { while (1 == 2) { a.f = 1; } } }",
+        0,
         "section 0: W a\n",
     ),
     // A section that locks everything takes one lock, also where it does nothing.
@@ -44,32 +48,25 @@ const LOCKS: [(&str, &str, &str); 7] = [
         "locks",
         "record Acct { int bal; } global Acct a; thread p { int t; atomic all { t = a.bal; } } \
         thread q { atomic { a.bal = 2; } }",
+        0,
         "section 0: W all\nsection 1: W a\n",
     ),
     (
         "locks --k 0",
         "thread e { atomic all { } }",
+        0,
         "section 0: W all\n",
     ),
-];
-
-#[test]
-fn paths_branches_and_loops(rt: HostRuntime) -> Result<(), Fail> {
-    for (line, source, text) in LOCKS {
-        expect_bytes(&rt, line, source.as_bytes(), 0, text)?;
-    }
-    Ok(())
-}
-
-/// Programs with hints, the status and the answer.
-const HINTS: [(&str, u8, &str); 4] = [
+    // Guards stand for their objects.
     (
+        "locks",
         "record Lock { int n; } record Cell protected_by g { int val; } global Lock g; global Lock h; \
         thread t { Cell x; atomic { x = new Cell; x.val = 1; } }",
         0,
         "section 0: W g\n",
     ),
     (
+        "locks",
         "record Lock { int n; } record Cell protected_by c { int val; Cell next; } \
         global Lock g; global Cell c; global Cell d; \
         thread t { int v; atomic { c.val = 1; v = d.val; } }",
@@ -77,6 +74,7 @@ const HINTS: [(&str, u8, &str); 4] = [
         "refused 21 GuardIsGuarded record 1\n",
     ),
     (
+        "locks",
         "record Lock { int n; } record Cell protected_by h { int val; Cell next; } \
         global Lock g; global Cell c; global Cell d; \
         thread t { int v; atomic { c.val = 1; v = d.val; } }",
@@ -84,6 +82,7 @@ const HINTS: [(&str, u8, &str); 4] = [
         "refused 20 NoSuchGlobal record 1\n",
     ),
     (
+        "locks",
         "record Lock { int n; } record Cell protected_by g protected_by h { int val; } \
         global Lock g; global Lock h; \
         thread t { Cell x; atomic { x = new Cell; x.val = 1; } }",
@@ -93,9 +92,6 @@ const HINTS: [(&str, u8, &str); 4] = [
 ];
 
 #[test]
-fn guards_stand_for_their_objects(rt: HostRuntime) -> Result<(), Fail> {
-    for (source, status, text) in HINTS {
-        expect_bytes(&rt, "locks", source.as_bytes(), status, text)?;
-    }
-    Ok(())
+fn paths_branches_loops_and_guards(rt: HostRuntime) -> Result<(), Fail> {
+    expect_rows(&rt, LOCKS)
 }

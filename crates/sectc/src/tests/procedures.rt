@@ -1,8 +1,11 @@
 //! Programs with procedures, by every command.
 
 use super::examples::PROCEDURE;
-use super::{answer_of, expect_rows, expect_run_in_order, expect_valid};
+use super::{Row, answer_of, expect_rows, expect_runs_in_order, expect_valid};
+use std::process::Abort;
+use std::sync::Wait;
 use std::test::Fail;
+use std::thread::Threads;
 
 /// Each procedure calls the one before it twice: 2,048 calls of the first, of one local.
 const TOWER_OF_11: &str =
@@ -25,117 +28,114 @@ const TWO_CALLS: &str =
     "record Acct { int bal; } global Acct a; proc add(Acct x, int n) { int t; t = x.bal; t = t + n; x.bal = \
     t; } thread p { atomic { call add(a, 1); call add(a, 2); } }";
 
-#[test]
-fn procedures_are_expanded(rt: HostRuntime) -> Result<(), Fail> {
-    expect_rows(
-        &rt,
-        &[
-            (
-                "locks",
-                PROCEDURE,
-                0,
-                "section 0: W a, W b\nsection 1: W a, W b\n",
-            ),
-            (
-                "serial --fuel 10 0 1",
-                PROCEDURE,
-                0,
-                "thread 0 done\nthread 1 done\norder 0 1\nobject a bal=-2\nobject b bal=2\n",
-            ),
-            (
-                "serial --fuel 9 0 1",
-                PROCEDURE,
-                0,
-                "thread 0 fuel\nthread 1 fuel\norder 0 1\nobject a bal=-3\nobject b bal=-1\n",
-            ),
-            (
-                "serial 0",
-                TWO_CALLS,
-                0,
-                "thread 0 done\norder 0\nobject a bal=3\n",
-            ),
-            ("locks", TOWER_OF_11, 0, "section 0: none\n"),
-            ("locks", TOWER_OF_12, 1, "refused 15 TooMany item 40\n"),
-        ],
-    )
-}
+/// Programs with procedures, and what is answered.
+const ANSWERS: &[Row<'static>] = &[
+    // Procedures are expanded.
+    (
+        "locks",
+        PROCEDURE,
+        0,
+        "section 0: W a, W b\nsection 1: W a, W b\n",
+    ),
+    (
+        "serial --fuel 10 0 1",
+        PROCEDURE,
+        0,
+        "thread 0 done\nthread 1 done\norder 0 1\nobject a bal=-2\nobject b bal=2\n",
+    ),
+    (
+        "serial --fuel 9 0 1",
+        PROCEDURE,
+        0,
+        "thread 0 fuel\nthread 1 fuel\norder 0 1\nobject a bal=-3\nobject b bal=-1\n",
+    ),
+    (
+        "serial 0",
+        TWO_CALLS,
+        0,
+        "thread 0 done\norder 0\nobject a bal=3\n",
+    ),
+    ("locks", TOWER_OF_11, 0, "section 0: none\n"),
+    ("locks", TOWER_OF_12, 1, "refused 15 TooMany item 40\n"),
+    // Calls are refused.
+    (
+        "locks",
+        "proc f() { call f(); }",
+        1,
+        "refused 16 Recursion item 1\n",
+    ),
+    (
+        "locks",
+        "proc f(int n) { } thread t { atomic { call f(); } }",
+        1,
+        "refused 17 Arguments item 4\n",
+    ),
+    (
+        "locks",
+        "proc f() { } thread t { call f(); }",
+        1,
+        "refused 13 SharedOutside item 2\n",
+    ),
+    (
+        "locks",
+        "proc f() { atomic { } }",
+        1,
+        "refused 14 Nested item 1\n",
+    ),
+    (
+        "locks",
+        "proc f() { call g(); }",
+        1,
+        "refused 10 Unknown item 1\n",
+    ),
+    (
+        "serial",
+        "proc f() { call g(1); } proc g() { }",
+        1,
+        "refused 17 Arguments item 1\n",
+    ),
+];
 
 #[test]
-fn calls_are_refused(rt: HostRuntime) -> Result<(), Fail> {
-    expect_rows(
-        &rt,
-        &[
-            (
-                "locks",
-                "proc f() { call f(); }",
-                1,
-                "refused 16 Recursion item 1\n",
-            ),
-            (
-                "locks",
-                "proc f(int n) { } thread t { atomic { call f(); } }",
-                1,
-                "refused 17 Arguments item 4\n",
-            ),
-            (
-                "locks",
-                "proc f() { } thread t { call f(); }",
-                1,
-                "refused 13 SharedOutside item 2\n",
-            ),
-            (
-                "locks",
-                "proc f() { atomic { } }",
-                1,
-                "refused 14 Nested item 1\n",
-            ),
-            (
-                "locks",
-                "proc f() { call g(); }",
-                1,
-                "refused 10 Unknown item 1\n",
-            ),
-            (
-                "serial",
-                "proc f() { call g(1); } proc g() { }",
-                1,
-                "refused 17 Arguments item 1\n",
-            ),
-        ],
-    )
+fn procedures_are_expanded(rt: HostRuntime) -> Result<(), Fail> {
+    expect_rows(&rt, ANSWERS)
 }
 
 /// What a procedure's locals are called in a listing, and in what says why a lock is needed.
+const CALLED: &[(&str, &str)] = &[
+    ("compile", "node 0: x#0 = a -> 1\n"),
+    ("compile", "node 2: t#0 = 0 -> 3\n"),
+    ("compile", "node 6: x#1 = a -> 7\n"),
+    ("compile", "node 11: x#1.bal = t#1 -> 12\n"),
+    ("explain", "W x#0"),
+];
+
+/// What is printed of the two calls has this in it.
+fn expect_called(
+    rt: &(impl Threads + Wait + Sync + AllocGlobal + Abort),
+    line: &str,
+    wanted: &str,
+) -> Result<(), Fail> {
+    let (_, shown) = answer_of(rt, line, TWO_CALLS.as_bytes())?;
+    assert!(rt; shown.contains(wanted), "{wanted} in {shown}");
+    Ok(())
+}
+
 #[test]
 fn locals_of_calls_are_told_apart(rt: HostRuntime) -> Result<(), Fail> {
-    let (_, listing) = answer_of(&rt, "compile", TWO_CALLS.as_bytes())?;
-    for line in [
-        "node 0: x#0 = a -> 1\n",
-        "node 2: t#0 = 0 -> 3\n",
-        "node 6: x#1 = a -> 7\n",
-        "node 11: x#1.bal = t#1 -> 12\n",
-    ] {
-        assert!(rt; listing.contains(line), "{line} in {listing}");
+    for (line, wanted) in CALLED {
+        expect_called(&rt, line, wanted)?;
     }
-    let (_, explanation) = answer_of(&rt, "explain", TWO_CALLS.as_bytes())?;
-    assert!(rt; explanation.contains("W x#0"), "{explanation}");
     Ok(())
 }
 
 #[test]
 fn certificates_of_expanded_texts(rt: HostRuntime) -> Result<(), Fail> {
-    for source in [PROCEDURE, TWO_CALLS] {
-        for k in 0..4u8 {
-            expect_valid(&rt, source, k)?;
-        }
-    }
-    Ok(())
+    expect_valid(&rt, PROCEDURE)?;
+    expect_valid(&rt, TWO_CALLS)
 }
 
 #[test]
 fn runs_of_expanded_texts(rt: HostRuntime) -> Result<(), Fail> {
-    for _ in 0..20u8 {
-        expect_run_in_order(&rt, PROCEDURE)?;
-    }
-    Ok(())
+    expect_runs_in_order(&rt, PROCEDURE, 20)
 }

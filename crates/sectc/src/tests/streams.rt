@@ -5,7 +5,10 @@ use super::{answer_of, words_of};
 use sect_command::command;
 use std::io;
 use std::io::{ErrorKind, Read, Write};
+use std::process::Abort;
+use std::sync::Wait;
 use std::test::Fail;
+use std::thread::Threads;
 
 /// A certificate and the text that it is of.
 const CERTIFIED: &str =
@@ -13,7 +16,7 @@ const CERTIFIED: &str =
     chain 0: 0 W all\nend\nthread e { atomic all { } }\n";
 
 /// Each command with an input, and texts that are refused.
-const COMMANDS: [(&str, &str); 11] = [
+const COMMANDS: &[(&str, &str)] = &[
     ("locks", TWO_THREADS),
     ("explain", TWO_THREADS),
     ("compile", TWO_THREADS),
@@ -75,75 +78,111 @@ impl Write for FailingWriter {
     }
 }
 
+/// A command whose input fails behind these bytes says so.
+fn expect_unread(
+    rt: &(impl Threads + Wait + Sync + AllocGlobal + Abort),
+    words: &[String],
+    given: &[u8],
+) -> Result<(), Fail> {
+    let mut out: Vec<u8> = Vec::new(rt.alloc());
+    let got = command(rt, words, FailingReader { left: given }, &mut out);
+    assert_eq!(rt; got, 3, "{}", given.len());
+    assert!(rt;
+        out.as_slice() == b"input or output failed\n".as_slice(),
+        "{}",
+        given.len()
+    );
+    Ok(())
+}
+
+/// A command whose input fails anywhere says so.
+fn expect_all_unread(
+    rt: &(impl Threads + Wait + Sync + AllocGlobal + Abort),
+    line: &str,
+    bytes: &[u8],
+) -> Result<(), Fail> {
+    let words = words_of(rt.alloc(), line)?;
+    for given in 0..bytes.len() {
+        expect_unread(rt, words.as_slice(), &bytes[..given])?;
+    }
+    Ok(())
+}
+
 #[test]
 fn a_reader_fails_in_the_middle(rt: HostRuntime) -> Result<(), Fail> {
     for (line, input) in COMMANDS {
-        let words = words_of(rt.alloc(), line)?;
-        let bytes = input.as_bytes();
-        for given in 0..bytes.len() {
-            let mut out: Vec<u8> = Vec::new(rt.alloc());
-            let reader = FailingReader {
-                left: &bytes[..given],
-            };
-            assert_eq!(rt;
-                command(&rt, words.as_slice(), reader, &mut out),
-                3,
-                "{line}: {given}"
-            );
-            assert!(rt;
-                out.as_slice() == b"input or output failed\n".as_slice(),
-                "{line}: {given}"
-            );
-        }
+        expect_all_unread(&rt, line, input.as_bytes())?;
     }
+    Ok(())
+}
+
+/// The status of a command line, where there is room for so many bytes.
+fn written(
+    rt: &(impl Threads + Wait + Sync + AllocGlobal + Abort),
+    words: &[String],
+    input: &[u8],
+    room: usize,
+    flushes: bool,
+) -> u8 {
+    command(rt, words, input, FailingWriter { room, flushes })
+}
+
+/// A command fails where its output does, and has its own status where all of its output is taken.
+fn expect_unwritten(
+    rt: &(impl Threads + Wait + Sync + AllocGlobal + Abort),
+    words: &[String],
+    input: &[u8],
+    count: usize,
+    status: u8,
+) {
+    for room in 0..count {
+        assert_eq!(rt; written(rt, words, input, room, true), 3, "{room}");
+    }
+    assert_eq!(rt; written(rt, words, input, count, true), status);
+    assert_eq!(rt; written(rt, words, input, count, false), 3);
+}
+
+/// A command fails wherever its output does.
+fn expect_line_unwritten(
+    rt: &(impl Threads + Wait + Sync + AllocGlobal + Abort),
+    line: &str,
+    input: &[u8],
+) -> Result<(), Fail> {
+    let (status, text) = answer_of(rt, line, input)?;
+    let words = words_of(rt.alloc(), line)?;
+    expect_unwritten(rt, words.as_slice(), input, text.len(), status);
     Ok(())
 }
 
 #[test]
 fn a_writer_fails_in_the_middle(rt: HostRuntime) -> Result<(), Fail> {
     for (line, input) in COMMANDS {
-        let words = words_of(rt.alloc(), line)?;
-        let (status, text) = answer_of(&rt, line, input.as_bytes())?;
-        for room in 0..text.len() {
-            let writer = FailingWriter {
-                room,
-                flushes: true,
-            };
-            let got = command(&rt, words.as_slice(), input.as_bytes(), writer);
-            assert_eq!(rt; got, 3, "{line}: {room}");
-        }
-        for (flushes, wanted) in [(true, status), (false, 3)] {
-            let writer = FailingWriter {
-                room: text.len(),
-                flushes,
-            };
-            let got = command(&rt, words.as_slice(), input.as_bytes(), writer);
-            assert_eq!(rt; got, wanted, "{line}: {flushes}");
-        }
+        expect_line_unwritten(&rt, line, input.as_bytes())?;
     }
+    Ok(())
+}
+
+/// A wrong command line is answered though no input can be read, and fails where its output does.
+fn expect_told(
+    rt: &(impl Threads + Wait + Sync + AllocGlobal + Abort),
+    line: &str,
+) -> Result<(), Fail> {
+    let words = words_of(rt.alloc(), line)?;
+    let mut out: Vec<u8> = Vec::new(rt.alloc());
+    let got = command(rt, words.as_slice(), FailingReader { left: b"" }, &mut out);
+    assert_eq!(rt; got, 2, "{line}");
+    assert_eq!(rt;
+        written(rt, words.as_slice(), b"", out.len() / 2, true),
+        3,
+        "{line}"
+    );
     Ok(())
 }
 
 #[test]
 fn wrong_words_are_answered_without_the_input(rt: HostRuntime) -> Result<(), Fail> {
     for line in ["", "--help", "locks --k x", "compile --workers 65536"] {
-        let words = words_of(rt.alloc(), line)?;
-        let mut out: Vec<u8> = Vec::new(rt.alloc());
-        let reader = FailingReader { left: b"" };
-        assert_eq!(rt;
-            command(&rt, words.as_slice(), reader, &mut out),
-            2,
-            "{line}"
-        );
-        let writer = FailingWriter {
-            room: out.len() / 2,
-            flushes: true,
-        };
-        assert_eq!(rt;
-            command(&rt, words.as_slice(), b"".as_slice(), writer),
-            3,
-            "{line}"
-        );
+        expect_told(&rt, line)?;
     }
     Ok(())
 }

@@ -10,7 +10,7 @@ use std::test::Fail;
 use std::thread::Threads;
 
 /// The program of each example, and how many threads it has.
-const PROGRAMS: [(&str, u8); 15] = [
+const PROGRAMS: &[(&str, u8)] = &[
     (EMPTY_SECTION, 1),
     (ACCOUNT, 1),
     (TWO_THREADS, 2),
@@ -101,7 +101,7 @@ fn expect_serial(
 }
 
 /// How many fields a path may have, and how much fuel each thread has.
-const OPTIONS: [(&str, &str); 5] = [
+const OPTIONS: &[(&str, &str)] = &[
     ("", ""),
     ("--k 0", ""),
     ("--k 1", "--fuel 3"),
@@ -109,16 +109,37 @@ const OPTIONS: [(&str, &str); 5] = [
     ("", "--fuel 2"),
 ];
 
+/// These turns come to whole sections, with each of the options.
+fn expect_each_serial(
+    rt: &(impl Threads + Wait + Sync + AllocGlobal + Abort),
+    source: &str,
+    turns: &str,
+) -> Result<(), Fail> {
+    for (k, fuel) in OPTIONS {
+        expect_serial(rt, source, (k, fuel), turns)?;
+    }
+    Ok(())
+}
+
+/// Schedules that begin with each of so many threads come to whole sections, with stretches of so many turns.
+fn expect_stretches(
+    rt: &(impl Threads + Wait + Sync + AllocGlobal + Abort),
+    source: &str,
+    threads: u8,
+    stretch: u8,
+) -> Result<(), Fail> {
+    for first in 0..threads {
+        let turns = schedule_of(rt.alloc(), threads, first, stretch)?;
+        expect_each_serial(rt, source, &turns)?;
+    }
+    Ok(())
+}
+
 #[test]
 fn stretches_of_turns_come_to_whole_sections(rt: HostRuntime) -> Result<(), Fail> {
     for (source, threads) in PROGRAMS {
-        for first in 0..threads {
-            for stretch in 1..8u8 {
-                let turns = schedule_of(rt.alloc(), threads, first, stretch)?;
-                for options in OPTIONS {
-                    expect_serial(&rt, source, options, &turns)?;
-                }
-            }
+        for stretch in 1..8u8 {
+            expect_stretches(&rt, source, *threads, stretch)?;
         }
     }
     Ok(())

@@ -124,7 +124,7 @@ fn written(
     room: usize,
     flushes: bool,
 ) -> u8 {
-    command(rt, words, input, FailingWriter { room, flushes })
+    command(rt, words, input, &mut FailingWriter { room, flushes })
 }
 
 /// A command fails where its output does, and has its own status where all of its output is taken.

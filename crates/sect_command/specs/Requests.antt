@@ -43,16 +43,16 @@ IsRefusalDue (Check k) source = IsCheckDue source k
 abbrev pub IsRight : Request → List ℕ → Answer → Type 0
 IsRight request source answer =
     ((answer.status ≡ DONE) × Answers request source answer.text.items)
-  ⊎ ((answer.status ≡ REFUSED) × ((why : Refusal) × (why ≢ refusal.Memory) × IsRefusalDue request source why))
+    ⊎ ((answer.status ≡ REFUSED) × ((why : Refusal) × (why ≢ refusal.Memory) × IsRefusalDue request source why))
 
 -- the words are wrong, or the answer is right for what they ask of the input, where its bytes are known
 abbrev pub IsRightForWords : Option (List ℕ) → Answer → Type 0
 IsRightForWords input answer =
     (answer.status ≡ WRONG_WORDS)
-  ⊎ ((request : Request) × IfSome input (λ source. IsRight request source answer))
+    ⊎ ((request : Request) × IfSome input (λ source. IsRight request source answer))
 
 -- the run has failed, or its status is that of a right answer, whose text the output has behind what it had
 abbrev pub IsTold : Option (List ℕ) → Option (List ℕ) → Option (List ℕ) → ℕ → Type 0
 IsTold input old new status =
     (status ≡ FAILED)
-  ⊎ ((answer : Answer) × (answer.status ≡ status) × IsRightForWords input answer × Appends old new answer.text.items)
+    ⊎ ((answer : Answer) × (answer.status ≡ status) × IsRightForWords input answer × Appends old new answer.text.items)

@@ -16,8 +16,16 @@ use Rattle.sect_names.proofs.Making.{last_of, so_far}
 use Rattle.sect_names.proofs.Inserting.{behind}
 use Rattle.sect_names.proofs.Telling.{lock_tells, any_tells}
 use Rattle.sect_infer.specs.Numbers.{AreApart}
-use Rattle.sect_infer.specs.Numberings.{NumberingView, HasLock, AreNumbers, AreOf, AreAbove, IsNumbering, Extends,
-  IsNumbered}
+use Rattle.sect_infer.specs.Numberings.{
+  NumberingView,
+  HasLock,
+  AreNumbers,
+  AreOf,
+  AreAbove,
+  IsNumbering,
+  Extends,
+  IsNumbered,
+}
 use Rattle.sect_infer.specs.Numberings.{AreAllPut}
 use Rattle.sect_infer.proofs.Apart.{apart_push}
 
@@ -165,8 +173,11 @@ module _ (s : SchemeView) where
 
   pub numbered_after : (a b c : NumberingView) (l : Lock) (n : ℕ) → Extends a b → IsNumbered s b c l n
       → IsNumbered s a c l n
-  numbered_after a b c l n e k = record { numbering = k.numbering; longer = extends_then a b c e k.longer;
-    there = k.there }
+  numbered_after a b c l n e k = record {
+    numbering = k.numbering;
+    longer = extends_then a b c e k.longer;
+    there = k.there;
+  }
 
   -- no lock has been put
   pub put_none : (t : NumberingView) → IsNumbering s t → AreAllPut s t t []

@@ -60,7 +60,7 @@ fn carry_over(
     requires number { number < length numbering.old.keys }
     ensures { OnOk result ((l : Lock) → slice_get numbering.old.keys number ≡ Some l
         → Finds scheme.now numbering.old found.old numbering.new found.new
-            (CarriedBack scheme.now thread label.now l)) }
+        (CarriedBack scheme.now thread label.now l)) }
 {
     let locks = scheme.rewrite(alloc, thread, *label, numbering.lock(number))?;
     find_all(alloc, scheme, numbering, found, locks.as_slice())
@@ -81,7 +81,7 @@ pub fn carry_one(
     requires lawful { (l : Lock) → slice_get numbering.old.keys number ≡ Some l → IsLockOf scheme.now thread l }
     ensures { OnOk result ((l : Lock) → slice_get numbering.old.keys number ≡ Some l
         → Finds scheme.now numbering.old found.old numbering.new found.new
-            (CarriedBack scheme.now thread label.now l)) }
+        (CarriedBack scheme.now thread label.now l)) }
 {
     if stays(thread, label, numbering.lock(number)) {
         found.insert(number)?;

@@ -38,7 +38,7 @@ IsCoveredAt s links a = (big : Lock) × Has links (link a.node big) × Covers s 
 
 -- from each lock that was found steps lead on; one that covers it is kept at its node; no step is kept twice
 pub record IsKept (s : SchemeView) (t : ℕ) (last : List Lock) (g : List Node) (a : NumberingView)
-  (w : KeptView) : Type 0
+    (w : KeptView) : Type 0
   where
     pub numbering : IsNumbering s a
     pub count : length w.found ≡ length g + 1

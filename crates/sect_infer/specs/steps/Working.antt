@@ -74,7 +74,7 @@ pub record IsBegun (g : List Node) (numbering : NumberingView) (lists : List (Li
 
 -- what was found is derived, and covers what is derived
 pub record IsSettled (s : SchemeView) (t : ℕ) (g : List Node) (numbering : NumberingView)
-  (lists : List (List ℕ)) : Type 0 where
+    (lists : List (List ℕ)) : Type 0 where
   pub numbered : AreNumbered s g numbering lists
   pub derived : (j : ℕ) (l : Lock) → IsFoundAt numbering.keys lists j l → IsDerived s t g (need j l)
   pub covered : (j : ℕ) (l : Lock) → IsDerived s t g (need j l) → IsCoveredAt s numbering.keys lists j l

@@ -14,7 +14,7 @@ unwrap-number-requires c =
     let trail = c.args.trail.now in
     let l = c.args.lock.now in
     some_found (Has trail.numbering.keys l) c.find.result (λ n. slice_get trail.numbering.keys n ≡ Some l)
-      c.find.ensures
+    c.find.ensures
     (lock_there trail.numbering.keys trail.steps.items l c.requires.numbers c.requires.there)
 
 pub index-requires : goal.index-requires

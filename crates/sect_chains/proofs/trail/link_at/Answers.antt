@@ -22,5 +22,5 @@ returns c =
     let at : slice_get steps i ≡ Some x = slice_get-get_or steps i x c.requires.index
     ∙ ap (λ z. Some z) (sym c.index-step.ensures) in
     rw (c.in_ok-try_clone.ensures, c.from.ensures) (link_is c.args.trail.now.numbering.keys steps i x
-      c.lock.result.now at
+    c.lock.result.now at
     c.lock.ensures)

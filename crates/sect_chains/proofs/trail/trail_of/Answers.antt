@@ -20,7 +20,7 @@ of-nodes-requires c =
     ∙ ap (λ z. Some z) (sym c.index.ensures) in
     let b = link_at old.numbering.keys old.steps.items i x at in
     let d = kept_trail a.scheme.now a.thread a.last.now a.flow.now old.numbering (kept_of old)
-      c.loop-done.invariant.kept
+    c.loop-done.invariant.kept
     b.0 (Has-slice_get (links_of old.numbering.keys old.steps.items) i b.0 b.1) in
     let there = (trail_lock a.scheme.now a.thread a.last.now a.flow.now c.requires.lawful b.0 d.0 d.1).0 in
     omega (arith, there, b.2, c.in_ok-predecessors.ensures.count)

@@ -75,7 +75,7 @@ returns c = on_ok_weaker c.keep_all.result (λ is y b at_y at_b.
     = subst (λ ms. Finds s old.numbering [] new ms (CarriedBack s t y.label b.lock)) (sym c.members.ensures)
     (subst (λ ms. Finds s old.numbering ms new c.carry_one.new.found (CarriedBack s t y.label b.lock)) c.clear.ensures
     (subst (λ z. Finds s old.numbering c.clear.new.self new c.carry_one.new.found (CarriedBack s t z b.lock))
-      (sym label)
+    (sym label)
     (c.in_ok-carry_one.ensures b.lock told.1))) in
     subst (λ v. Grows s t a.last.now g old.numbering (kept_of old) new v (λ z. (z.node ≡ j)
     × CarriedBack s t y.label b.lock z.lock)) (sym is)

@@ -30,7 +30,7 @@ returns c =
     let l = c.args.lock.now in
     let n = c.in_ok-number.number in
     let grown = put_one s a.thread a.last.now g old.numbering (kept_of old)
-      t j l n c.requires.work c.in_ok-number.ensures
+    t j l n c.requires.work c.in_ok-number.ensures
     c.requires.generated
     (generated_within s a.thread a.last.now g old.numbering (kept_of old) (link j l) c.requires.work
     c.requires.generated) in

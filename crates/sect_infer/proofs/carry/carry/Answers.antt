@@ -10,7 +10,7 @@ carry_one-requires-clause-number c =
     let numbers = c.args.numbers.now in
     let i = c.loop-number.number-index in
     extends_numbers c.args.numbering.now c.loop-number.numbering c.loop-number.invariant.longer numbers
-      c.requires.numbers
+    c.requires.numbers
     (get_or numbers i 0) (Has-get_or numbers i 0 (omega (arith, c.loop-number-test.true)))
 
 pub carry_one-requires-clause-lawful : goal.carry_one-requires-clause-lawful
@@ -19,7 +19,7 @@ carry_one-requires-clause-lawful c = λ l at.
     let i = c.loop-number.number-index in
     let there = Has-get_or numbers i 0 (omega (arith, c.loop-number-test.true)) in
     c.requires.lawful l (extends_back c.args.numbering.now c.loop-number.numbering c.loop-number.invariant.longer
-      numbers
+    numbers
     c.requires.numbers l (get_or numbers i 0, there, at))
 
 pub loop-number-init : goal.loop-number-init
@@ -43,5 +43,5 @@ returns c =
     let numbers = c.args.numbers.now in
     let past : length numbers ≤ c.loop-number.number-index = omega (arith, c.loop-number-test.false) in
     carried_done c.args.scheme.now c.args.thread c.args.label.now c.args.numbering.now c.loop-number.numbering
-      c.args.found.now
+    c.args.found.now
     c.loop-number.found numbers c.loop-number.number-index past c.loop-number.invariant

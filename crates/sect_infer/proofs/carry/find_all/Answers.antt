@@ -14,12 +14,12 @@ loop-lock-preserved c =
     let i = c.loop-lock.lock-index in
     let within : i < length locks = omega (arith, c.loop-lock-test.true) in
     finds_next c.args.scheme.now c.args.numbering.now c.loop-lock.numbering c.find.new.numbering c.args.found.now
-      c.loop-lock.found
+    c.loop-lock.found
     c.find.new.found locks i c.lock-item.result within c.lock-item.is c.loop-lock.invariant c.in_ok-find.ensures
 
 pub returns : goal.returns
 returns c =
     let past : length c.args.locks.now ≤ c.loop-lock.lock-index = omega (arith, c.loop-lock-test.false) in
     finds_done c.args.scheme.now c.args.numbering.now c.loop-lock.numbering c.args.found.now c.loop-lock.found
-      c.args.locks.now
+    c.args.locks.now
     c.loop-lock.lock-index past c.loop-lock.invariant

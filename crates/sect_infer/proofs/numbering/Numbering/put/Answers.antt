@@ -26,8 +26,10 @@ returns c =
     ap (map (λ v. v.items)) c.in_ok-push.ensures.items
     ∙ map-append (λ v. v.items) c.self.inside.above.items (c.in_ok-above.above ∷ [])
     ∙ ap (λ (v : NumberingView). v.above ++ ns ∷ []) c.self.view_is in
-    let new : NumberingView = record { keys = c.insert.new.self.keys;
-      above = map (λ v. v.items) c.push.new.self.items } in
+    let new : NumberingView = record {
+      keys = c.insert.new.self.keys;
+      above = map (λ v. v.items) c.push.new.self.items;
+    } in
     let of : AreOf t.keys coverers ns =
     subst (λ ls. AreOf t.keys ls ns) c.as_slice.ensures.value
     (subst (λ ks. AreOf ks c.as_slice.result.now ns) refl c.in_ok-above.ensures) in

@@ -3,7 +3,7 @@
 ghost use Rattle.std.specs.Prelude.{◌≡◌, ◌≤◌, ◌<◌, ◌↔◌, [], ◌∷◌, Some, None, IfOk, IsTrue};
 ghost use Rattle.sect_types.specs.Lists.{Has};
 ghost use Rattle.sect_points.specs.declared.holders.Variable.{Variable};
-ghost use Rattle.sect_points.specs.Paths.{PathView, var};
+ghost use Rattle.sect_points.specs.Paths.{PathView, var, dot};
 ghost use Rattle.sect_names.specs.declared.lock.Lock.{Lock};
 ghost use Rattle.sect_names.specs.declared.lock.Lock.TheVariants as lock;
 ghost use Rattle.sect_names.specs.Locks.{depth};
@@ -48,6 +48,21 @@ fn rebased(x: Variable, start: &Path, path: &Path) -> Result<Path, AllocError>
     } else {
         Ok(path.try_clone()?)
     }
+}
+
+/// The path alone, which stays.
+fn unchanged(alloc: Global, path: &Path) -> Result<Vec<Path>, AllocError>
+    ensures { IfOk result (λ paths. (q : PathView) → Has paths.items q ↔ (q ≡ path.now)) }
+{
+    alone(alloc, path.try_clone()?)
+}
+
+/// The path alone, with `start` in place of the variable `x`, where it begins with that.
+fn moved(alloc: Global, x: Variable, start: &Path, path: &Path) -> Result<Vec<Path>, AllocError>
+    ensures { IfOk result (λ paths. (q : PathView)
+        → Has paths.items q ↔ Replaced x (Some start.now) path.now q) }
+{
+    alone(alloc, rebased(x, start, path)?)
 }
 
 /// The path, unless it begins with the variable `x`.
@@ -139,8 +154,8 @@ fn are_of_one_class(scheme: &Scheme, path: &Path, variable: Variable) -> bool
     }
 }
 
-/// The paths that may denote before the store `z.f = w` what this path denotes after it.
-fn before_store(
+/// The paths that may denote before the store `z.f = w` what this path denotes after it, field by field.
+fn field_by_field(
     scheme: &Scheme,
     alloc: Global,
     z: Variable,
@@ -199,7 +214,7 @@ impl Scheme {
             → Has paths.items q ↔ Before self.now.classes thread label path.now q) }
     {
         let Label::Act(action) = label else {
-            return alone(alloc, path.try_clone()?);
+            return unchanged(alloc, path);
         };
         match action {
             Action::Assign(target, value) => {
@@ -209,18 +224,14 @@ impl Scheme {
                 unless_based(alloc, Variable::Local(thread, target), path)
             }
             Action::Load(target, base, field) => {
-                let start = Path::new(alloc, variable_of(thread, base)).extended(&[field])?;
-                alone(
-                    alloc,
-                    rebased(Variable::Local(thread, target), &start, path)?,
-                )
+                let target = Variable::Local(thread, target);
+                before_load(alloc, target, variable_of(thread, base), field, path)
             }
-            Action::Store(_, field, _) if !path.follows(field) => alone(alloc, path.try_clone()?),
             Action::Store(base, field, value) => {
                 let z = variable_of(thread, base);
                 before_store(self, alloc, z, field, variable_in(thread, value), path)
             }
-            Action::Compute(_, _, _, _) | Action::Print(_) => alone(alloc, path.try_clone()?),
+            Action::Compute(_, _, _, _) | Action::Print(_) => unchanged(alloc, path),
         }
     }
 
@@ -278,15 +289,48 @@ fn before_assignment(
 {
     let x = Variable::Local(thread, target);
     match value {
-        Value::Number(_) => alone(alloc, path.try_clone()?),
+        Value::Number(_) => unchanged(alloc, path),
         Value::Null => unless_based(alloc, x, path),
         Value::Local(number) => {
             let start = Path::new(alloc, Variable::Local(thread, number));
-            alone(alloc, rebased(x, &start, path)?)
+            moved(alloc, x, &start, path)
         }
         Value::Global(number) => {
             let start = Path::new(alloc, Variable::Global(number));
-            alone(alloc, rebased(x, &start, path)?)
+            moved(alloc, x, &start, path)
         }
     }
+}
+
+/// The paths that may denote before the load `x = z.f` what this path denotes after it.
+fn before_load(
+    alloc: Global,
+    x: Variable,
+    z: Variable,
+    f: Field,
+    path: &Path,
+) -> Result<Vec<Path>, AllocError>
+    ensures { IfOk result (λ paths. (q : PathView)
+        → Has paths.items q ↔ Replaced x (Some (dot (var z) f)) path.now q) }
+{
+    let start = Path::new(alloc, z).extended(&[f])?;
+    moved(alloc, x, &start, path)
+}
+
+/// The paths that may denote before the store `z.f = w` what this path denotes after it.
+fn before_store(
+    scheme: &Scheme,
+    alloc: Global,
+    z: Variable,
+    f: Field,
+    w: Option<Variable>,
+    path: &Path,
+) -> Result<Vec<Path>, AllocError>
+    ensures { IfOk result (λ paths. (q : PathView)
+        → Has paths.items q ↔ BeforeStore scheme.now.classes z f w path.now q) }
+{
+    if path.follows(f) {
+        return field_by_field(scheme, alloc, z, f, w, path);
+    }
+    unchanged(alloc, path)
 }

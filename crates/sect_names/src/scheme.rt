@@ -1,10 +1,14 @@
 //! What lock inference knows of a program.
 
-ghost use Rattle.std.specs.Prelude.{◌≡◌, ◌≤◌, ◌↔◌, ◌<◌, ℕ, Some, IsOkUnless, OnOk, IfErr};
+ghost use Rattle.std.specs.Prelude.{◌≡◌, ◌≤◌, ◌↔◌, ◌<◌, ℕ, Some, Err, length, IsOkUnless, IfOk, OnOk, IfErr};
 ghost use Rattle.sect_hints.specs.Hints.{ObeysHints};
 ghost use Rattle.sect_names.specs.declared.fault.SchemeFault.TheVariants.{Memory, BadK};
 ghost use Rattle.sect_points.specs.Paths.{var};
-ghost use Rattle.sect_points.specs.Partitions.{HasClass};
+ghost use Rattle.sect_points.specs.Flow.{IsLeastFlow};
+ghost use Rattle.sect_points.specs.Partitions.{HasClass, IsParted};
+ghost use Rattle.sect_points.specs.Sets.{InSets};
+ghost use Rattle.sect_points.specs.Statements.{thread_actions};
+ghost use Rattle.sect_types.specs.Programs.{sites_of};
 ghost use Rattle.sect_names.specs.Schemes.{IsScheme};
 ghost use Rattle.sect_names.specs.Verdicts.{Judges};
 
@@ -14,7 +18,7 @@ use sect_graph::{Graph, graph_of};
 use sect_hints::{Guards, guards};
 use sect_points::{Classes, Variable, class_of_path, laws_of_classes, points_to, site_classes};
 use sect_types::Program;
-use std::alloc::Global;
+use std::alloc::{AllocError, Global};
 use std::marker::Model;
 
 /// The most fields that a path may be allowed.
@@ -75,11 +79,7 @@ pub fn scheme_of(alloc: Global, program: Program, k: u16) -> Result<Scheme, Sche
     ensures judges { Judges program k result }
     ensures only { k ≤ 3 → ObeysHints program → IsOkUnless result Memory }
 {
-    check_k(k)?;
-    let guards = guards(alloc, &program)?;
-    let classes = site_classes(alloc, points_to(alloc, &program)?)?;
-    laws_of_classes();
-    let graph = graph_of(alloc, &program)?;
+    let (guards, classes, graph) = parts_of(alloc, &program, k)?;
     Ok(Scheme {
         program,
         k,
@@ -87,6 +87,42 @@ pub fn scheme_of(alloc: Global, program: Program, k: u16) -> Result<Scheme, Sche
         guards,
         graph,
     })
+}
+
+/// The guards, the classes and the graphs of a program's scheme, or the fault.
+fn parts_of(
+    alloc: Global,
+    program: &Program,
+    k: u16,
+) -> Result<(Guards, Classes, Graph), SchemeFault>
+    ensures few { OnOk result (k ≤ 3) }
+    ensures obeys { OnOk result (ObeysHints program.now) }
+    ensures scheme { IfOk result (λ parts. IsScheme (record {
+      program = program.now;
+      most = k;
+      classes = parts.1;
+      guards = parts.0;
+      graphs = parts.2;
+    })) }
+    ensures refuses { IfErr result (λ fault. Judges program.now k (Err fault)) }
+    ensures only { k ≤ 3 → ObeysHints program.now → IsOkUnless result Memory }
+{
+    check_k(k)?;
+    let guards = guards(alloc, program)?;
+    let classes = classes_of(alloc, program)?;
+    laws_of_classes();
+    let graph = graph_of(alloc, program)?;
+    Ok((guards, classes, graph))
+}
+
+/// The classes of a program's sites.
+fn classes_of(alloc: Global, program: &Program) -> Result<Classes, AllocError>
+    ensures parted { IfOk result IsParted }
+    ensures flow { IfOk result (λ c. IsLeastFlow (InSets c.sets) (thread_actions program.now)) }
+    ensures sites { IfOk result (λ c. c.sets.sites ≡ length (sites_of program.now.globals program.now.texts)) }
+{
+    let classes = site_classes(alloc, points_to(alloc, program)?)?;
+    Ok(classes)
 }
 
 impl Scheme {

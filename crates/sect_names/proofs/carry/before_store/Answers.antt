@@ -1,47 +1,19 @@
-use Rattle.std.proofs.Common.{◌≡◌, ◌↔◌, sym, ap, ◌∙◌, arith, subst, length, ◌<◌, ◌≤◌, get_or}
-use Rattle.std.proofs.lemmas.List.{at_drop_all, get_or_default}
-use Rattle.sect_types.specs.declared.action.Field.{Field}
+use Rattle.std.proofs.Common.{◌≡◌, ◌↔◌}
+use Rattle.std.proofs.lemmas.Result.{IfOk-weaker}
 use Rattle.sect_types.specs.Lists.{Has}
-use Rattle.sect_types.proofs.Lists.{drop_next}
-use Rattle.sect_points.specs.Paths.{dots, path_of-fields}
-use Rattle.sect_names.specs.Carrying.{OverField}
-use Rattle.sect_names.proofs.Making.{one_has}
-use Rattle.sect_names.proofs.Storing.{over_before}
+use Rattle.sect_points.specs.Paths.{PathView}
+use Rattle.sect_names.specs.Carrying.{BeforeStore}
+use Rattle.sect_names.proofs.Untouched.{tells_off, untouched_field}
 use Rattle.sect_names.proofs.carry.before_store.Goals as goal
-
-pub loop-field-init : goal.loop-field-init
-loop-field-init c = record {
-  before = λ q. rw (c.in_ok-paths.ensures, c.new.ensures, c.new-beginning.ensures, c.base.ensures, c.base-2.ensures)
-      (one_has _ q);
-  rest = rw (c.new-beginning.ensures, c.base.ensures, c.fields-field-items.ensures.fields)
-      (path_of-fields c.args.path.now);
-}
-
-pub loop-field-preserved : goal.loop-field-preserved
-loop-field-preserved c =
-    let a = c.args in
-    let s = a.scheme.now.classes in
-    let fs = c.fields-field-items.result.now in
-    let i = c.loop-field.field-index in
-    let p = c.loop-field.beginning in
-    let within : i < length fs = omega arith in
-    let zero : Field = record { of = 0; number = 0 } in
-    let f = get_or fs i zero in
-    let next = drop_next fs i f within (get_or_default fs i zero f within) in
-    let over = over_before s a.z a.f a.w p f c.loop-field.paths.items c.loop-field.invariant.before in
-    record {
-      before = λ q. rw c.in_ok-push.ensures (
-          let made = subst (λ xs. Has c.in_ok-paths-2.paths.items q ↔ OverField s a.z a.f a.w p f xs q)
-          c.as_slice.ensures.value (c.in_ok-paths-2.ensures q) in
-          (λ h. (over q).0 (made.0 h), λ h. made.1 ((over q).1 h)));
-      rest = rw c.in_ok-push.ensures (sym (ap (dots p) next) ∙ c.loop-field.invariant.rest);
-    }
 
 pub returns : goal.returns
 returns c =
-    let fs = c.fields-field-items.result.now in
-    let past : length fs ≤ c.loop-field.field-index = omega arith in
-    let whole : c.loop-field.beginning ≡ c.args.path.now =
-    sym (at_drop_all (dots c.loop-field.beginning) fs c.loop-field.field-index past)
-    ∙ c.loop-field.invariant.rest in
-    λ q. rw (sym whole) (c.loop-field.invariant.before q)
+    let cs = c.args.scheme.now.classes in
+    let p = c.args.path.now in
+    IfOk-weaker c.unchanged.result (λ paths. (q : PathView) → Has paths.items q ↔ (q ≡ p))
+    (λ paths. (q : PathView) → Has paths.items q ↔ BeforeStore cs c.args.z c.args.f c.args.w p q)
+    (λ paths same q.
+    let tells = untouched_field cs c.args.z c.args.f c.args.w p q
+    (tells_off c.follows.ensures c.if-follows.false) in
+    (λ h. tells.1 ((same q).0 h), λ h. (same q).1 (tells.0 h)))
+    c.unchanged.ensures

@@ -2,7 +2,7 @@ use Rattle.std.proofs.Common.{◌≡◌, ◌↔◌, drop}
 use Rattle.sect_types.specs.Lists.{Has}
 use Rattle.sect_points.specs.Paths.{PathView, dots}
 use Rattle.sect_names.specs.Carrying.{BeforeStore}
-use Rattle.sect_names.proofs.carry.before_store.Given as goal
+use Rattle.sect_names.proofs.carry.field_by_field.Given as goal
 
 abbrev pub invariant-loop-field : goal.invariant-loop-field
 invariant-loop-field l = record {

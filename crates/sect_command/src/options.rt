@@ -131,25 +131,34 @@ fn k_option<'a>(alloc: Global) -> Arg<'a>
     )
 }
 
+/// The option `--workers N`.
+fn workers_option<'a>(alloc: Global) -> Arg<'a>
+    ensures { result.global ≡ false }
+{
+    numeral(
+        alloc,
+        "workers",
+        "the workers that infer locks side by side, 1 to 16 (default 1)",
+    )
+}
+
+/// The option `--cert`.
+fn cert_option<'a>(alloc: Global) -> Arg<'a>
+    ensures { result.global ≡ false }
+{
+    Arg::new(alloc, "cert")
+        .long("cert")
+        .help("prints the certificate of the program in place of its listing")
+        .action(ArgAction::SetTrue)
+}
+
 /// The command `compile` and what it takes.
 fn compile_command<'a>(alloc: Global) -> Result<Command<'a>, AllocError>
     ensures { IfOk result (λ c. (fields_of c).has_globals ≡ false) }
 {
-    let workers = numeral(
-        alloc,
-        "workers",
-        "the workers that infer locks side by side, 1 to 16 (default 1)",
-    );
-    let cert = Arg::new(alloc, "cert")
-        .long("cert")
-        .help("prints the certificate of the program in place of its listing")
-        .action(ArgAction::SetTrue);
-    let command = Command::new(alloc, "compile")
-        .about("prints the compiled program of the source text")
-        .arg(k_option(alloc))?
-        .arg(workers)?
-        .arg(cert)?;
-    Ok(command)
+    let about = "prints the compiled program of the source text";
+    let command = k_command(alloc, "compile", about)?.arg(workers_option(alloc))?;
+    command.arg(cert_option(alloc))
 }
 
 /// A command that takes `--k N`.
@@ -168,21 +177,36 @@ fn grammar<'a>(alloc: Global) -> Result<Command<'a>, AllocError>
     ensures required { IfOk result (λ c. (fields_of c).subcommand_required ≡ true) }
     ensures local { IfOk result (λ c. (fields_of c).has_globals ≡ false) }
 {
-    let locks = "prints the lock set of each section of the source text";
-    let explain = "prints why each section of the source text takes each of its locks";
-    let check =
-        "tests a certificate: the input is the certificate, and the source text behind its line `end`";
     let sectc = Command::new(alloc, "sectc").about(
         "infers the locks of atomic sections; reads a source text on standard input",
     );
-    let sectc = with(sectc, k_command(alloc, "locks", locks))?;
-    let sectc = with(sectc, compile_command(alloc))?;
-    let sectc = with(sectc, k_command(alloc, "explain", explain))?;
-    let sectc = with(sectc, serial_command(alloc))?;
-    let sectc = with(sectc, schedule_command(alloc))?;
-    let sectc = with(sectc, run_command(alloc))?;
+    let sectc = with_running(alloc, with_inference(alloc, sectc)?)?;
+    let check =
+        "tests a certificate: the input is the certificate, and the source text behind its line `end`";
     let sectc = with(sectc, k_command(alloc, "check", check))?;
     Ok(sectc.subcommand_required(true))
+}
+
+/// A grammar with the commands that tell what was inferred.
+fn with_inference<'a>(alloc: Global, grammar: Command<'a>) -> Result<Command<'a>, AllocError>
+    requires { (fields_of grammar).has_globals ≡ false }
+    ensures { IfOk result (λ c. (fields_of c).has_globals ≡ false) }
+{
+    let locks = "prints the lock set of each section of the source text";
+    let grammar = with(grammar, k_command(alloc, "locks", locks))?;
+    let grammar = with(grammar, compile_command(alloc))?;
+    let explain = "prints why each section of the source text takes each of its locks";
+    with(grammar, k_command(alloc, "explain", explain))
+}
+
+/// A grammar with the commands that run a program.
+fn with_running<'a>(alloc: Global, grammar: Command<'a>) -> Result<Command<'a>, AllocError>
+    requires { (fields_of grammar).has_globals ≡ false }
+    ensures { IfOk result (λ c. (fields_of c).has_globals ≡ false) }
+{
+    let grammar = with(grammar, serial_command(alloc))?;
+    let grammar = with(grammar, schedule_command(alloc))?;
+    with(grammar, run_command(alloc))
 }
 
 /// A grammar with one command more, if that could be made.
@@ -250,32 +274,56 @@ pub fn request_of(alloc: Global, words: &[String]) -> Result<Request, UsageFault
 /// What the command of this name asks for by its options.
 fn requested(alloc: Global, name: &str, options: &ArgMatches<'_>) -> Result<Request, UsageFault> {
     match name {
-        "serial" => Ok(Request::Serial {
-            fuel: fuel_of(alloc, options)?,
-            order: threads_of(alloc, options)?,
-        }),
-        "schedule" => Ok(Request::Schedule {
-            k: number_of(alloc, options, "k", DEFAULT_K)?,
-            fuel: fuel_of(alloc, options)?,
-            schedule: threads_of(alloc, options)?,
-        }),
-        "run" => Ok(Request::Run {
-            k: number_of(alloc, options, "k", DEFAULT_K)?,
-            fuel: fuel_of(alloc, options)?,
-        }),
-        "compile" => Ok(Request::Compile {
-            k: number_of(alloc, options, "k", DEFAULT_K)?,
-            workers: number_of(alloc, options, "workers", DEFAULT_WORKERS)?,
-            form: form_of(options),
-        }),
+        "serial" => serial_request(alloc, options),
+        "schedule" => schedule_request(alloc, options),
+        "run" => run_request(alloc, options),
+        "compile" => compile_request(alloc, options),
         "explain" => Ok(Request::Explain {
-            k: number_of(alloc, options, "k", DEFAULT_K)?,
+            k: k_of(alloc, options)?,
         }),
         "check" => Ok(Request::Check {
-            k: number_of(alloc, options, "k", DEFAULT_K)?,
+            k: k_of(alloc, options)?,
         }),
         _locks => Ok(Request::Locks {
-            k: number_of(alloc, options, "k", DEFAULT_K)?,
+            k: k_of(alloc, options)?,
         }),
     }
+}
+
+/// The most fields of a path.
+fn k_of(alloc: Global, options: &ArgMatches<'_>) -> Result<u16, UsageFault> {
+    number_of(alloc, options, "k", DEFAULT_K)
+}
+
+/// What `serial` asks for by its options.
+fn serial_request(alloc: Global, options: &ArgMatches<'_>) -> Result<Request, UsageFault> {
+    let fuel = fuel_of(alloc, options)?;
+    let order = threads_of(alloc, options)?;
+    Ok(Request::Serial { fuel, order })
+}
+
+/// What `schedule` asks for by its options.
+fn schedule_request(alloc: Global, options: &ArgMatches<'_>) -> Result<Request, UsageFault> {
+    let k = k_of(alloc, options)?;
+    let fuel = fuel_of(alloc, options)?;
+    let schedule = threads_of(alloc, options)?;
+    Ok(Request::Schedule { k, fuel, schedule })
+}
+
+/// What `run` asks for by its options.
+fn run_request(alloc: Global, options: &ArgMatches<'_>) -> Result<Request, UsageFault> {
+    let k = k_of(alloc, options)?;
+    let fuel = fuel_of(alloc, options)?;
+    Ok(Request::Run { k, fuel })
+}
+
+/// What `compile` asks for by its options.
+fn compile_request(alloc: Global, options: &ArgMatches<'_>) -> Result<Request, UsageFault> {
+    let k = k_of(alloc, options)?;
+    let workers = number_of(alloc, options, "workers", DEFAULT_WORKERS)?;
+    Ok(Request::Compile {
+        k,
+        workers,
+        form: form_of(options),
+    })
 }

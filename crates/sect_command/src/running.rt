@@ -39,14 +39,13 @@ pub fn thread_words<'a>(alloc: Global, help: &'a str) -> Arg<'a>
 pub fn serial_command<'a>(alloc: Global) -> Result<Command<'a>, AllocError>
     ensures { IfOk result (λ c. (fields_of c).has_globals ≡ false) }
 {
-    let threads = thread_words(alloc, "the threads of the sections, in their order");
+    let about =
+        "runs the program of the source text by whole sections in an order, and prints the outcome";
     let command = Command::new(alloc, "serial")
-        .about(
-            "runs the program of the source text by whole sections in an order, and prints the outcome",
-        )
-        .arg(fuel_option(alloc))?
-        .arg(threads)?;
-    Ok(command)
+        .about(about)
+        .arg(fuel_option(alloc))?;
+    let threads = "the threads of the sections, in their order";
+    command.arg(thread_words(alloc, threads))
 }
 
 /// A command that runs a compiled program, with the options that each takes.
@@ -65,13 +64,11 @@ fn compiled_command<'a>(
 pub fn schedule_command<'a>(alloc: Global) -> Result<Command<'a>, AllocError>
     ensures { IfOk result (λ c. (fields_of c).has_globals ≡ false) }
 {
-    let threads = thread_words(
-        alloc,
-        "the threads whose turn it is, one turn after another",
-    );
     let about =
         "runs the compiled program of the source text turn by turn, and prints the events and the outcome so far";
-    compiled_command(alloc, "schedule", about)?.arg(threads)
+    let command = compiled_command(alloc, "schedule", about)?;
+    let threads = "the threads whose turn it is, one turn after another";
+    command.arg(thread_words(alloc, threads))
 }
 
 /// The command `run` and what it takes.

@@ -4,6 +4,6 @@ use Rattle.sect_answers.specs.declared.refusal.Refusal.TheVariants as refusal
 use Rattle.sect_answers.proofs.run.run_outcome.Goals as goal
 
 pub returns-in_err-outcome_of-clause-only : goal.returns-in_err-outcome_of-clause-only
-returns-in_err-outcome_of-clause-only c = λ s accepted.
+returns-in_err-outcome_of-clause-only g c = λ s accepted.
     given c.from_residual-in_err-outcome_of.result (λ r. r ≡ refusal.Memory) refusal.Memory refl
     c.from_residual-in_err-outcome_of.ensures.1

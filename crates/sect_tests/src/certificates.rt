@@ -443,18 +443,6 @@ const EVERYTHING_AND_CALLS: &[(&[u8], &str)] = &[
     (b"node 0: R t#04294967296\n", "30 BadCertLine line 5"),
 ];
 
-/// Lines, and what may stand behind them and is refused, each with the line that says why.
-const REFUSED: &[(&[u8], &[(&[u8], &str)])] = &[
-    (ADDS_ONE, BEHIND_THE_END),
-    (b"", FIRST_LINES),
-    (b"sect-cert 2\nk 2\n", SECTION_LINES),
-    (BEFORE_NODES, NODE_LINES),
-    (BEFORE_NODES, NO_LISTS),
-    (BEFORE_CHAINS, CHAIN_LINES),
-    (b"", VERSION_ONE),
-    (BEFORE_NODES, EVERYTHING_AND_CALLS),
-];
-
 /// What follows these lines is refused so, row by row.
 fn all_refused_after(
     rt: &(impl Abort + AllocGlobal),
@@ -468,9 +456,41 @@ fn all_refused_after(
 }
 
 #[test]
-fn lines_are_refused(rt: HostRuntime) -> Result<(), Fail> {
-    for (front, rows) in REFUSED {
-        all_refused_after(&rt, front, rows)?;
-    }
-    Ok(())
+fn nothing_follows_the_end(rt: HostRuntime) -> Result<(), Fail> {
+    all_refused_after(&rt, ADDS_ONE, BEHIND_THE_END)
+}
+
+#[test]
+fn first_lines_are_refused(rt: HostRuntime) -> Result<(), Fail> {
+    all_refused_after(&rt, b"", FIRST_LINES)
+}
+
+#[test]
+fn lines_of_sections_are_refused(rt: HostRuntime) -> Result<(), Fail> {
+    all_refused_after(&rt, b"sect-cert 2\nk 2\n", SECTION_LINES)
+}
+
+#[test]
+fn lines_of_nodes_are_refused(rt: HostRuntime) -> Result<(), Fail> {
+    all_refused_after(&rt, BEFORE_NODES, NODE_LINES)
+}
+
+#[test]
+fn what_is_no_list_is_refused(rt: HostRuntime) -> Result<(), Fail> {
+    all_refused_after(&rt, BEFORE_NODES, NO_LISTS)
+}
+
+#[test]
+fn lines_of_chains_are_refused(rt: HostRuntime) -> Result<(), Fail> {
+    all_refused_after(&rt, BEFORE_CHAINS, CHAIN_LINES)
+}
+
+#[test]
+fn version_one_is_refused(rt: HostRuntime) -> Result<(), Fail> {
+    all_refused_after(&rt, b"", VERSION_ONE)
+}
+
+#[test]
+fn locks_of_everything_and_of_calls_are_refused(rt: HostRuntime) -> Result<(), Fail> {
+    all_refused_after(&rt, BEFORE_NODES, EVERYTHING_AND_CALLS)
 }

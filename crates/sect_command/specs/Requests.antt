@@ -18,7 +18,7 @@ use Rattle.sect_command.specs.declared.options.Request.{Request}
 use Rattle.sect_command.specs.declared.options.Request.TheVariants.{Locks, Compile, Explain, Check}
 use Rattle.sect_command.specs.declared.options.Request.TheVariants.{Serial, Schedule, Run}
 
--- the bytes are what the request asks of the source
+-- the bytes are what is requested of the source
 abbrev pub Answers : Request → List ℕ → List ℕ → Type 0
 Answers (Locks k) source bytes = IsAnswer source k bytes
 Answers (Compile k workers Listing) source bytes = AreOffered workers × IsProgramListing source k bytes
@@ -29,7 +29,7 @@ Answers (Schedule k fuel schedule) source bytes = IsScheduled source k fuel sche
 Answers (Run k fuel) source bytes = IsOutcomeOfRun source fuel bytes
 Answers (Check k) source bytes = IsValidInput source k × (bytes ≡ codes "valid\n")
 
--- the refusal is due to the source where the request is asked of it
+-- the refusal is due where this is requested of the source
 abbrev pub IsRefusalDue : Request → List ℕ → Refusal → Type 0
 IsRefusalDue (Locks k) source = IsDue source k
 IsRefusalDue (Compile k workers form) source = IsCompileDue source k workers
@@ -39,7 +39,7 @@ IsRefusalDue (Schedule k fuel schedule) source = IsScheduleDue source k schedule
 IsRefusalDue (Run k fuel) source = IsDue source k
 IsRefusalDue (Check k) source = IsCheckDue source k
 
--- the answer is done with what the request asks of the source, or it is refused, and a refusal is due
+-- the answer is done with what is requested of the source, or it is refused, and a refusal is due
 abbrev pub IsRight : Request → List ℕ → Answer → Type 0
 IsRight request source answer =
     ((answer.status ≡ DONE) × Answers request source answer.text.items)

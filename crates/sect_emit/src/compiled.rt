@@ -25,11 +25,20 @@ use std::marker::Model;
 
 /// A compiled program: what inference knows of it, the locks of each section, and the fixed part of each section's
 /// plan.
-#[derive(Drop)]
 pub struct Compiled {
     scheme: Scheme,
     locks: Vec<Locks>,
     parts: Vec<Vec<Grip>>,
+}
+
+impl Drop for Compiled {
+    fn drop(self) {
+        let Compiled {
+            scheme: _,
+            locks: _,
+            parts: _,
+        } = self;
+    }
 }
 
 impl Model for Compiled {

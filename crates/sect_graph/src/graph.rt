@@ -13,10 +13,18 @@ use std::alloc::{AllocError, Global};
 use std::marker::Model;
 
 /// The control-flow graph of each thread, in which a section is one node, and that of each section.
-#[derive(Drop)]
 pub struct Graph {
     threads: Vec<Flow>,
     sections: Vec<Flow>,
+}
+
+impl Drop for Graph {
+    fn drop(self) {
+        let Graph {
+            threads: _,
+            sections: _,
+        } = self;
+    }
 }
 
 impl Model for Graph {

@@ -17,12 +17,22 @@ use std::marker::Model;
 
 /// The locks of a section: for each node of its graph, the exit too, the maximal ones of those that are needed from
 /// there on, in canonical order. Those of the first node are taken at the section's entry.
-#[derive(Drop)]
 pub struct Locks {
     numbering: Numbering,
     order: Vec<usize>,
     lists: Lists,
     entry: Vec<Lock>,
+}
+
+impl Drop for Locks {
+    fn drop(self) {
+        let Locks {
+            numbering: _,
+            order: _,
+            lists: _,
+            entry: _,
+        } = self;
+    }
 }
 
 impl Model for Locks {

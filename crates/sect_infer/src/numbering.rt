@@ -14,10 +14,15 @@ use std::marker::Model;
 
 /// Locks, numbered from 0 in the order in which they came, and for each the numbers of the other locks that cover it,
 /// which have come before it.
-#[derive(Drop)]
 pub struct Numbering {
     locks: IndexSet<Lock>,
     above: Vec<Vec<usize>>,
+}
+
+impl Drop for Numbering {
+    fn drop(self) {
+        let Numbering { locks: _, above: _ } = self;
+    }
 }
 
 impl Model for Numbering {

@@ -26,13 +26,24 @@ pub const MOST_PATH_FIELDS: u16 = 3;
 
 /// A typed program whose hints obey the rules, and how many fields a path may have: with the classes of its sites, the
 /// guards of its records and its control-flow graphs.
-#[derive(Drop)]
 pub struct Scheme {
     program: Program,
     k: u16,
     classes: Classes,
     guards: Guards,
     graph: Graph,
+}
+
+impl Drop for Scheme {
+    fn drop(self) {
+        let Scheme {
+            program: _,
+            k: _,
+            classes: _,
+            guards: _,
+            graph: _,
+        } = self;
+    }
 }
 
 impl Model for Scheme {

@@ -22,12 +22,21 @@ use std::marker::Model;
 
 /// Points-to sets, and the classes of their sites: the finest partition that keeps together what one variable or one
 /// field may hold. Classes are numbered from 0 by their least sites.
-#[derive(Drop)]
 pub struct Classes {
     points: PointsTo,
     numbers: Vec<u16>,
     /// For each field, by its number, the sites that have something in it.
     filled: Rows,
+}
+
+impl Drop for Classes {
+    fn drop(self) {
+        let Classes {
+            points: _,
+            numbers: _,
+            filled: _,
+        } = self;
+    }
 }
 
 impl Model for Classes {

@@ -8,12 +8,22 @@ use std::marker::Model;
 
 /// What a run has come to: how each thread has ended, if it has; the threads whose sections ran, in their order; the
 /// numbers that sections have printed; and the store.
-#[derive(Drop)]
 pub struct Outcome {
     ends: Vec<Option<End>>,
     order: Vec<u16>,
     output: Vec<i64>,
     store: Store,
+}
+
+impl Drop for Outcome {
+    fn drop(self) {
+        let Outcome {
+            ends: _,
+            order: _,
+            output: _,
+            store: _,
+        } = self;
+    }
 }
 
 impl Model for Outcome {

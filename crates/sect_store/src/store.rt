@@ -12,10 +12,18 @@ use std::alloc::{AllocError, Global};
 use std::marker::Model;
 
 /// The objects of the globals, and for each thread those that it made, in order.
-#[derive(Drop)]
 pub struct Store {
     globals: Objects,
     made: Vec<Objects>,
+}
+
+impl Drop for Store {
+    fn drop(self) {
+        let Store {
+            globals: _,
+            made: _,
+        } = self;
+    }
 }
 
 impl Model for Store {

@@ -14,12 +14,22 @@ use std::marker::Model;
 
 /// What a thread works with: its locals, the units of fuel left, how many objects it has made, and what the section
 /// that runs has printed. Each object cost a unit, so both counts together stay below 2^32.
-#[derive(Drop)]
 pub struct Work {
     locals: Vec<Datum>,
     fuel: u32,
     made: u32,
     printed: Vec<i64>,
+}
+
+impl Drop for Work {
+    fn drop(self) {
+        let Work {
+            locals: _,
+            fuel: _,
+            made: _,
+            printed: _,
+        } = self;
+    }
 }
 
 impl Model for Work {

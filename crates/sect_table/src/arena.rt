@@ -21,13 +21,24 @@ use std::marker::Model;
 /// One arena of nodes, each a request or free. In `queues`, list 0 has the free nodes, list 2k + 1 the holders of key
 /// number k and list 2k + 2 its waiters. In `chains`, list 0 has the free nodes, list 2t + 1 what thread t holds and
 /// list 2t + 2 what it waits for.
-#[derive(Drop)]
 pub(crate) struct Arena {
     nodes: Vec<Grant>,
     keys: Keys,
     queues: Lists,
     chains: Lists,
     threads: usize,
+}
+
+impl Drop for Arena {
+    fn drop(self) {
+        let Arena {
+            nodes: _,
+            keys: _,
+            queues: _,
+            chains: _,
+            threads: _,
+        } = self;
+    }
 }
 
 impl Model for Arena {

@@ -482,7 +482,6 @@ fn judge_tree(alloc: Global, tree: &Tree, spot: &mut Spot) -> Result<Parts, Faul
 /// globals and threads are numbered from 0 in text order, the fields of a record and the locals of a thread likewise.
 /// Sections are numbered from 0 in text order over the whole program; sites are the globals, then the `new` statements
 /// in text order.
-#[derive(Drop)]
 pub struct Program {
     tree: Tree,
     records: Vec<Types>,
@@ -494,6 +493,23 @@ pub struct Program {
     section_count: u16,
     site_count: u16,
     statement_count: u32,
+}
+
+impl Drop for Program {
+    fn drop(self) {
+        let Program {
+            tree: _,
+            records: _,
+            globals: _,
+            locals: _,
+            fresh: _,
+            texts: _,
+            lockings: _,
+            section_count: _,
+            site_count: _,
+            statement_count: _,
+        } = self;
+    }
 }
 
 impl Model for Program {

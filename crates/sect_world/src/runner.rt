@@ -28,7 +28,6 @@ pub enum Stage {
 
 /// A thread: where it is; the node of its own graph at which it goes on outside sections; what it works with; how it
 /// has ended, if it has; the plan with which it entered a section, and how many keys of it it has come to hold.
-#[derive(Drop)]
 pub struct Runner {
     pub stage: Stage,
     pub node: u16,
@@ -36,6 +35,19 @@ pub struct Runner {
     pub ended: Option<End>,
     pub wanted: Vec<Grip>,
     pub taken: usize,
+}
+
+impl Drop for Runner {
+    fn drop(self) {
+        let Runner {
+            stage: _,
+            node: _,
+            work: _,
+            ended: _,
+            wanted: _,
+            taken: _,
+        } = self;
+    }
 }
 
 /// What a thread works with at its start.

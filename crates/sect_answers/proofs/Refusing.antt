@@ -1,7 +1,6 @@
 -- What the layers refuse, the program refuses.
 use Rattle.std.proofs.Common.{◌≡◌, ℕ, List, Err, refl, length}
 use Rattle.sect_names.specs.Sources as sources
-use Rattle.sect_names.specs.Sources.{IsRefused}
 use Rattle.sect_names.specs.declared.refusal.Refusal.{Refusal}
 use Rattle.sect_names.specs.declared.refusal.Refusal.TheVariants as source
 use Rattle.sect_types.specs.Whole.{SerialEndView}
@@ -17,7 +16,7 @@ use Rattle.sect_answers.specs.Compiling.{IsCompileDue, of_compile}
 use Rattle.sect_emit.specs.Faults.{IsDueBy}
 use Rattle.sect_emit.specs.declared.fault.CompileFault.{CompileFault}
 use Rattle.sect_emit.specs.declared.fault.CompileFault.TheVariants as compile_fault
-use Rattle.sect_answers.specs.Serial.{IsSerialDue, of_serial}
+use Rattle.sect_answers.specs.Serial.{of_serial}
 use Rattle.sect_answers.specs.Splitting.{IsSplit}
 use Rattle.sect_answers.specs.Checking.{IsCheckDue, of_check}
 use Rattle.sect_answers.specs.Scheduling.{IsScheduleDue, of_world}
@@ -43,14 +42,6 @@ compile_due bytes k workers (compile_fault.Source source.Memory) h = absurd (h.1
 compile_due bytes k workers (compile_fault.Source (source.Front f)) h = (h.0, due bytes k (source.Front f) h.2)
 compile_due bytes k workers (compile_fault.Source (source.Types f)) h = (h.0, due bytes k (source.Types f) h.2)
 compile_due bytes k workers (compile_fault.Source (source.Scheme f)) h = (h.0, due bytes k (source.Scheme f) h.2)
-
--- a text that is refused is refused by `serial`
-pub serial_due : (bytes : List ℕ) (fuel : ℕ) (order : List ℕ) (why : Refusal) → IsRefused bytes why
-    → IsSerialDue bytes fuel order (of_source why)
-serial_due bytes fuel order source.Memory h = tt
-serial_due bytes fuel order (source.Front fault) h = (λ e. cc, h)
-serial_due bytes fuel order (source.Types fault) h = (λ e. cc, h)
-serial_due bytes fuel order (source.Scheme fault) h = absurd h
 
 -- an order that comes to an end is refused for want of memory alone
 pub ended_gives : (e : SerialEndView) (why : SerialFault) → serial.Gives e (Err why) → of_serial why ≡ program.Memory

@@ -1,7 +1,7 @@
 //! The chains of a section.
 
 ghost use Rattle.std.specs.Prelude.{◌≡◌, ◌<◌, List, length, slice_get, Some, IfOk};
-ghost use Rattle.sect_types.specs.Lists.{Has};
+ghost use Rattle.sect_lemmas.specs.Lists.{Has};
 ghost use Rattle.sect_types.specs.Sections.{SectionView, sections_of};
 ghost use Rattle.sect_graph.specs.declared.flow.Node.{Node};
 ghost use Rattle.sect_names.specs.declared.lock.Lock.{Lock};
@@ -9,7 +9,8 @@ ghost use Rattle.sect_names.specs.Needed.{end_locks, end_of};
 ghost use Rattle.sect_names.specs.Chains.{link};
 ghost use Rattle.sect_infer.specs.Sets.{AreLocksOf};
 ghost use Rattle.sect_chains.specs.Chains.{AreChains};
-ghost use Rattle.sect_chains.specs.steps.Trails.{AreLawful, RespectCover, AreTops};
+ghost use Rattle.sect_names.specs.Laws.{AreLawful};
+ghost use Rattle.sect_chains.specs.steps.Trails.{RespectCover, AreTops};
 ghost use Rattle.sect_graph.specs.Predecessors.{StaysWithin};
 ghost use Rattle.sect_chains.specs.steps.Trails.{GoBack, AreFromEntry};
 ghost use Rattle.sect_chains.specs.steps.Starting.{AreStarts};

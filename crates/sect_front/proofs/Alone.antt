@@ -18,7 +18,7 @@ use Rattle.sect_front.specs.declared.parsing.FrontFault.TheVariants as fault
 use Rattle.sect_front.proofs.TokenFaults.{TokenFault, IsTokenFault}
 use Rattle.sect_front.proofs.TokenFaults as token_fault
 use Rattle.sect_front.proofs.Reach.{one_lexing, one_bad, bad_or_lexed}
-use Rattle.sect_front.proofs.Only.{only}
+use Rattle.sect_front.proofs.shared.Only.{only}
 
 take_take : {A : Type 0} (i j : ℕ) (xs : List A) → i ≤ j → take i (take j xs) ≡ take i xs
 take_take zero j xs h = refl

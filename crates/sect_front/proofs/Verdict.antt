@@ -18,12 +18,12 @@ use Rattle.sect_front.specs.declared.reader.Stage.{Stage}
 use Rattle.sect_front.specs.declared.reader.Stage.TheVariants as stage
 use Rattle.sect_front.proofs.TokenFaults.{TokenFault, JudgesTokens}
 use Rattle.sect_front.proofs.TokenFaults as fault
-use Rattle.sect_front.proofs.Choices.{some_inj, no_some}
 use Rattle.sect_front.proofs.Keeps.{reading_tokens}
 use Rattle.sect_front.proofs.Finish.{start, finishes, kept_from}
 use Rattle.sect_front.proofs.Passes.{source_passes, last_part}
 use Rattle.sect_front.proofs.Listed.{tokens_same}
 use Rattle.sect_front.proofs.Peaks.{peak, peak_from, peak_append, peak_cons, depth_peak, shallow_from}
+use Rattle.sect_lemmas.proofs.Options.{some_injective, none_or_some}
 
 -- the tokens of a tree lead to it
 tree_passes : (tree : TreeView) → after start (tokens_of tree) ≡ Some (reading tree (outside.Between (last_part tree)))
@@ -116,19 +116,19 @@ unfinished list r k h e = record {
   viable = viable list r h.is;
   none = λ tree same. let one : Some r ≡ Some (reading tree (outside.Between (last_part tree))) =
       sym h.is ∙ (ap (after start) (sym same) ∙ tree_passes tree) in
-      let two : finish_of r ≡ Some tree = ap (λ o. option_and_then finish_of o) one in no_some tree (sym e ∙ two);
+      let two : finish_of r ≡ Some tree = ap (λ o. option_and_then finish_of o) one in none_or_some tree (sym e ∙ two);
   shallow = shallow_from list h.shallow;
 }
 
 finished_at : (s : TreeView) (g : Stage) (tree : TreeView) → finish_at s g ≡ Some tree
     → reading_tokens (record { source = s; stage = g }) [] ≡ source_tokens tree []
-finished_at s (stage.Outside (outside.Between p)) tree e = ap (λ x. source_tokens x []) (some_inj s tree e)
-finished_at s (stage.Outside (outside.Record r)) tree e = absurd (no_some tree e)
-finished_at s (stage.Outside (outside.Global g)) tree e = absurd (no_some tree e)
-finished_at s (stage.Outside (outside.Procedure p)) tree e = absurd (no_some tree e)
-finished_at s (stage.Outside (outside.Thread t)) tree e = absurd (no_some tree e)
-finished_at s (stage.Outside (outside.Body b)) tree e = absurd (no_some tree e)
-finished_at s (stage.Inside o ls x) tree e = absurd (no_some tree e)
+finished_at s (stage.Outside (outside.Between p)) tree e = ap (λ x. source_tokens x []) (some_injective s tree e)
+finished_at s (stage.Outside (outside.Record r)) tree e = absurd (none_or_some tree e)
+finished_at s (stage.Outside (outside.Global g)) tree e = absurd (none_or_some tree e)
+finished_at s (stage.Outside (outside.Procedure p)) tree e = absurd (none_or_some tree e)
+finished_at s (stage.Outside (outside.Thread t)) tree e = absurd (none_or_some tree e)
+finished_at s (stage.Outside (outside.Body b)) tree e = absurd (none_or_some tree e)
+finished_at s (stage.Inside o ls x) tree e = absurd (none_or_some tree e)
 
 kept : (list : List Token) (r : ReaderView) → after start list ≡ Some r → list ≡ reading_tokens r []
 kept list r h = sym (append-nil list) ∙ (kept_from list [] r h).is

@@ -10,7 +10,6 @@ pub mod Grammar
 pub mod Gaps
 pub mod Spelling
 pub mod Layout
-pub mod Lexeme
 pub mod TokenAt
 pub mod Lexing
 pub mod Braces

@@ -6,7 +6,7 @@ ghost use Rattle.sect_front.specs.Words.{is_name_byte as name_byte, begins, is_l
 ghost use Rattle.sect_front.specs.Gaps.{is_blank as blank_of, begins_with as begins_so, after_gap as gap_of};
 ghost use Rattle.sect_front.specs.steps.Recognition.{word_token as word_of, number_of, decimal_from, spelled};
 ghost use Rattle.sect_front.specs.steps.Recognition.{single_sign, double_sign};
-ghost use Rattle.sect_front.specs.Lexeme.{sign_at, with_length, lexeme_of, begins_name};
+ghost use Rattle.sect_front.specs.steps.Lexeme.{sign_at, with_length, lexeme_of, begins_name};
 
 use crate::limits::MOST_NAME_BYTES;
 use crate::literal::Literal;

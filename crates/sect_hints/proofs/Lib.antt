@@ -1,4 +1,4 @@
-pub mod GlobalLaws
-pub mod HintLaws
-pub mod GuardLaws
-pub mod FaultLaws
+mod GlobalLaws
+mod HintLaws
+mod GuardLaws
+mod FaultLaws

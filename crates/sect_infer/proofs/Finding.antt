@@ -5,8 +5,8 @@ use Rattle.std.specs.Prelude.{slice_get, slice_index_or}
 use Rattle.std.proofs.lemmas.Bool.{cases_lt}
 use Rattle.std.proofs.lemmas.List.{length-map}
 use Rattle.std.proofs.lemmas.Option.{slice_get_within, get_or_from_slice_get}
-use Rattle.sect_types.proofs.Places.{one_at}
-use Rattle.sect_types.specs.Lists.{Has}
+use Rattle.sect_lemmas.proofs.Places.{one_at}
+use Rattle.sect_lemmas.specs.Lists.{Has}
 use Rattle.sect_types.specs.Statements.{TextView}
 use Rattle.sect_types.specs.Traces.{Visit}
 use Rattle.sect_graph.specs.declared.flow.Node.{Node}
@@ -18,7 +18,7 @@ use Rattle.sect_names.specs.Schemes.{SchemeView}
 use Rattle.sect_names.specs.Locks.{IsLockOf}
 use Rattle.sect_names.specs.Needed.{CarriedOver, IsNeededOn, IsNeeded, IsNeededFrom}
 use Rattle.sect_names.specs.Order.{AreMaximal}
-use Rattle.sect_names.proofs.Maximals.{maximal_as, maximal_least}
+use Rattle.sect_names.proofs.shared.Maximals.{maximal_as, maximal_least}
 use Rattle.sect_infer.specs.steps.Needs.{need, IsDerived, AreLawful}
 use Rattle.sect_infer.specs.Numberings.{NumberingView, HasLock, AreNumbers, IsNumbering}
 use Rattle.sect_infer.specs.steps.Working.{IsSettled}

@@ -1,30 +1,14 @@
 -- Locks of sections that workers have found, put in their places.
-use Rattle.std.proofs.Common.{◌≡◌, ◌⊎◌, ℕ, zero, suc, ◌+◌, ◌<◌, List, [], ◌∷◌, ◌++◌, Option, Some, length}
-use Rattle.std.proofs.Common.{length-append, slice_get, slice_set, refl, sym, ap, ◌∙◌, subst, arith, inl, inr}
+use Rattle.std.proofs.Common.{◌≡◌, ◌⊎◌, ℕ, zero, suc, ◌+◌, ◌<◌, List, [], ◌∷◌, ◌++◌, Option, Some, length, slice_get}
+use Rattle.std.proofs.Common.{slice_set, refl, sym, ap, ◌∙◌, subst, arith, inl, inr}
 use Rattle.std.proofs.lemmas.List.{length-set}
 use Rattle.sect_types.specs.Sections.{sections_of}
-use Rattle.sect_types.proofs.Basics.{some_injective, none_or_some}
-use Rattle.sect_types.proofs.Places.{pushed_at}
+use Rattle.sect_lemmas.proofs.Options.{some_injective}
+use Rattle.sect_lemmas.proofs.Places.{pushed_at}
 use Rattle.sect_names.specs.Schemes.{SchemeView}
 use Rattle.sect_infer.specs.Sets.{LocksView, AreInferredAt}
 use Rattle.sect_infer.specs.declared.workers.SectionLocks.{SectionLocks}
 use Rattle.sect_infer.specs.steps.Sharing.{AreFound, AreInPlace}
-
--- the locks of so many sections
-pub record AreInferredBelow (s : SchemeView) (n : ℕ) (all : List LocksView) : Type 0 where
-  pub count : length all ≡ n
-  pub each : (i : ℕ) (locks : LocksView) → slice_get all i ≡ Some locks → AreInferredAt s i locks
-
--- one section more
-pub one_inferred : (s : SchemeView) (n : ℕ) (all : List LocksView) (locks : LocksView) → AreInferredBelow s n all
-    → AreInferredAt s n locks → AreInferredBelow s (n + 1) (all ++ locks ∷ [])
-one_inferred s n all locks before here = record {
-  count = (let e = before.count in omega (arith, e, length-append all (locks ∷ [])));
-  each = λ i x at. elim (pushed_at all locks x i at) [
-    | inl e ↦ subst (AreInferredAt s i) e.1 (subst (λ m. AreInferredAt s m locks) (sym (e.0 ∙ before.count)) here)
-    | inr h ↦ before.each i x h
-  ];
-}
 
 -- one more is found
 pub one_found : (s : SchemeView) (found : List SectionLocks) (x : SectionLocks) → AreFound s found
@@ -37,10 +21,6 @@ one_found s found x before within is = record {
     | inr h ↦ before.each k y h
   ];
 }
-
--- none so far
-pub none_found : (s : SchemeView) → AreFound s []
-none_found s = record { each = λ k x at. absurd (none_or_some x at) }
 
 -- no place is filled
 pub record AreEmpty (n : ℕ) (places : List (Option LocksView)) : Type 0 where

@@ -1,7 +1,7 @@
 //! What is needed before a statement for what is needed after it.
 
 ghost use Rattle.std.specs.Prelude.{◌≡◌, ◌≤◌, ◌<◌, ◌↔◌, [], ◌∷◌, Some, None, IfOk, IsTrue};
-ghost use Rattle.sect_types.specs.Lists.{Has};
+ghost use Rattle.sect_lemmas.specs.Lists.{Has};
 ghost use Rattle.sect_points.specs.declared.holders.Variable.{Variable};
 ghost use Rattle.sect_points.specs.Paths.{PathView, var, dot};
 ghost use Rattle.sect_names.specs.declared.lock.Lock.{Lock};

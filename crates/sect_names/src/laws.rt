@@ -4,7 +4,7 @@ pub mod needs;
 pub mod records;
 
 ghost use Rattle.std.specs.Prelude.{◌≡◌, ◌<◌, ℕ, List, length};
-ghost use Rattle.sect_types.specs.Lists.{Has};
+ghost use Rattle.sect_lemmas.specs.Lists.{Has};
 ghost use Rattle.sect_types.specs.Sections.{SectionView};
 ghost use Rattle.sect_types.specs.Sound.{AreSound};
 ghost use Rattle.sect_types.specs.declared.action.Label.{Label};

@@ -1,7 +1,7 @@
 //! Classes of sites and of paths.
 
 ghost use Rattle.std.specs.Prelude.{◌≡◌, ◌↔◌, ◌<◌, ◌≤◌, ℕ, List, Some, length, slice_get, slice_index, IfSome, IfNone};
-ghost use Rattle.sect_types.specs.Lists.{Has};
+ghost use Rattle.sect_lemmas.specs.Lists.{Has};
 ghost use Rattle.sect_points.specs.declared.holders.ThreadAction.{ThreadAction};
 ghost use Rattle.sect_points.specs.declared.holders.Holder.TheVariants.{Slot};
 ghost use Rattle.sect_points.specs.Sites.{HasSite};

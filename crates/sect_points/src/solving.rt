@@ -9,7 +9,7 @@ ghost use Rattle.sect_points.specs.Sets.{AreBelow};
 ghost use Rattle.sect_points.specs.steps.Marks.{Suits, Grows, AreBases, IsBase, MovedBy, IsOnlyBase, IsThere};
 ghost use Rattle.sect_points.specs.steps.Marks.{IsUntouched, grown, Covers, Handles, IsStretch, IsGoing, IsLeft};
 ghost use Rattle.sect_points.specs.steps.Marks.{IsSpan, HasMark, local_row};
-ghost use Rattle.sect_types.specs.Lists.{Has};
+ghost use Rattle.sect_lemmas.specs.Lists.{Has};
 ghost use Rattle.sect_points.specs.declared.holders.ThreadAction.{ThreadAction};
 ghost use Rattle.sect_points.specs.declared.holders.Holder.{Holder};
 ghost use Rattle.sect_points.specs.declared.holders.Holder.TheVariants.{Local, Slot};

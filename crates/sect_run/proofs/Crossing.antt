@@ -3,7 +3,7 @@ use denote.Struct.Declared.{shape}
 use denote.Param.Send.{AllSync, IsSync, sendable}
 use Rattle.std.proofs.alloc.Global.TheSendSync as heap
 use Rattle.std.proofs.vec.Vec.TheSendSync as vec
-use Rattle.sect_names.proofs.Crossing.{scheme_sync}
+use Rattle.sect_names.proofs.shared.Crossing.{scheme_sync}
 use Rattle.sect_infer.proofs.locks.Locks.TheSendSync as locks
 use Rattle.sect_emit.proofs.plan.Grip.TheSendSync as grip
 use Rattle.sect_emit.specs.contracts.compiled.Compiled as compiled

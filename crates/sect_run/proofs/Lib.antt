@@ -1,4 +1,3 @@
-pub mod Completing
-pub mod Crossing
-pub mod Keeping
-pub mod Threads
+mod Completing
+mod Crossing
+mod Threads

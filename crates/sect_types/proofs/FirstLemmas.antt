@@ -1,7 +1,7 @@
 -- The verdict on a list names its first fault.
-use Rattle.std.proofs.Common.{◌≡◌, ℕ, zero, suc, ◌+◌, ◌≤◌, Bool, true, false, List, [], ◌∷◌, Option, Some, None, Result}
-use Rattle.std.proofs.Common.{Ok, Err, if◌then◌else◌, refl, sym, ◌∙◌, true≢false, arith, subst, ap, ◌⊎◌, inl, inr, ◌<◌}
-use Rattle.std.proofs.Common.{◌-◌, get_or}
+use Rattle.std.proofs.Common.{◌≡◌, ℕ, zero, suc, ◌+◌, ◌≤◌, Bool, true, false, List, [], ◌∷◌, Option, Some, None}
+use Rattle.std.proofs.Common.{Result, Ok, Err, if◌then◌else◌, refl, sym, ◌∙◌, true≢false, arith, subst, ap, ◌⊎◌, inl}
+use Rattle.std.proofs.Common.{inr, ◌<◌, ◌-◌, get_or}
 use Rattle.std.proofs.Math.Nat.{eq-or-lt_of_le}
 use Rattle.sect_front.specs.declared.tree.Primitive.TheVariants as primitive
 use Rattle.sect_types.specs.declared.rule.Rule.{Rule}
@@ -139,10 +139,6 @@ judge_says text c (item ∷ more) =
     by (Some r) (here, least_here) rest =
         (0, omega arith, record { broken = here; first = λ j q h. omega arith; least = least_here })
 
-pub fine_says : (text : Declared) (c d : Counts) (list : List Item) → judge text c list ≡ Fine d → (i : ℕ) (r : Rule)
-    → BreaksFrom text c list i r → ⊥
-fine_says text c d list e = subst (Says text c list) e (judge_says text c list)
-
 pub fault_says : (text : Declared) (list : List Item) (n : ℕ) (r : Rule) → judge text none_yet list ≡ Faulty n r
     → IsFirstFrom text none_yet list n r
 fault_says text list n r e = by (subst (Says text none_yet list) e (judge_says text none_yet list))
@@ -169,3 +165,7 @@ pub only_memory : {A : Type 0} (t : TreeView) (start new : Counts) (f : Fault) (
 only_memory t start new f (Ok a) e walks h typed = absurd h
 only_memory t start new f (Err x) e walks h typed =
     h ∙ refused_typed t new f (subst (λ c. Walks {A = ℕ} (declared_in t) (all_items t) c new (Err f)) e walks) typed
+
+pub fine_says : (text : Declared) (c d : Counts) (list : List Item) → judge text c list ≡ Fine d → (i : ℕ) (r : Rule)
+    → BreaksFrom text c list i r → ⊥
+fine_says text c d list e = subst (Says text c list) e (judge_says text c list)

@@ -1,8 +1,7 @@
 -- How far an expansion has come, statement by statement.
-use Rattle.std.proofs.Common.{◌≡◌, ℕ, zero, suc, ◌+◌, ◌*◌, ◌<◌, ◌≤◌, List, [], ◌∷◌, ◌++◌, map, drop, get_or}
-use Rattle.std.proofs.Common.{Some, None, refl, sym, ◌∙◌, ap, arith, subst, length, append_assoc, slice_get}
+use Rattle.std.proofs.Common.{◌≡◌, ℕ, zero, suc, ◌+◌, ◌*◌, ◌<◌, ◌≤◌, List, [], ◌∷◌, ◌++◌, map, drop, get_or, Some, sym}
+use Rattle.std.proofs.Common.{◌∙◌, ap, arith, subst, length, append_assoc, slice_get, length-append}
 use Rattle.std.proofs.lemmas.List.{drop_all, append-nil}
-use Rattle.std.proofs.Common.{length-append}
 use Rattle.sect_front.specs.declared.tree.Declaration.{Declaration}
 use Rattle.sect_front.specs.declared.tree.Operand.{Operand}
 use Rattle.sect_front.specs.declared.tree.Procedure.{Procedure}
@@ -19,8 +18,7 @@ use Rattle.sect_types.specs.Statements.{TextView, Stop, Choose, joined}
 use Rattle.sect_types.specs.declared.action.Condition.{Condition}
 use Rattle.sect_types.specs.Resolve.{test_of}
 use Rattle.sect_types.specs.Numbered.{condition_in}
-use Rattle.sect_types.specs.Expanded.{moved_condition}
-use Rattle.sect_types.specs.Expanded.{Scene, expand_within, set_parameters, clear_locals, of_call}
+use Rattle.sect_types.specs.Expanded.{moved_condition, Scene, expand_within, set_parameters, clear_locals, of_call}
 use Rattle.sect_types.specs.Expanded.{block_fresh, fresh_of, fresh_within}
 use Rattle.sect_types.specs.steps.Expanding.{SettingView, FrontView, Fits, front_past_statement, front_past_block}
 use Rattle.sect_types.specs.steps.Expanding.{expanded_there, block_there, IsFront, most_size, tree_of, AreFlat}
@@ -30,7 +28,7 @@ use Rattle.sect_types.specs.Rules.{sight}
 use Rattle.std.specs.Option.{option_map}
 use Rattle.std.proofs.lemmas.Option.{slice_get-map}
 use Rattle.sect_types.specs.steps.Threads.{VariablesView, variables_shown}
-use Rattle.sect_types.proofs.Lists.{drop_next}
+use Rattle.sect_lemmas.proofs.Elements.{drop_next}
 use Rattle.sect_types.proofs.Writing.{called, statement_follows, call_by_parts, alone, either_written}
 
 -- two fronts of the same parts
@@ -129,11 +127,6 @@ ends_front w n v block all ss i old now before text le h =
     front_same now (front_past_block w n now End) (omega arith) (omega arith) (omega arith) (omega arith)
     (sym (append-nil now.fresh))
     ∙ (ended w n v block all ss i old now before text le h).past
-
--- a call of what is no procedure, and one that is too deep, come to nothing
-nothing_numbered : (w : SettingView) (n : ℕ) (f : FrontView) → fresh_within n w.procedures None f.calls ≡ []
-nothing_numbered w zero f = refl
-nothing_numbered w (suc n) f = refl
 
 -- what a call comes to
 record CallIs (w : SettingView) (n most : ℕ) (f : FrontView) (x : List ℕ) (p : Procedure) : Type 0 where

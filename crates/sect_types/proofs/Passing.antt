@@ -1,9 +1,9 @@
 -- A block of which the first statements have been passed.
-use Rattle.std.proofs.Common.{◌≡◌, ℕ, zero, suc, ◌+◌, ◌<◌, ◌≤◌, subst, arith, sym, List, [], ◌∷◌, drop, get_or}
-use Rattle.std.proofs.Common.{length, ap, ◌∙◌, Result, Ok, Err}
+use Rattle.std.proofs.Common.{◌≡◌, ℕ, zero, suc, ◌+◌, ◌<◌, ◌≤◌, subst, arith, sym, List, [], ◌∷◌, drop, get_or, length}
+use Rattle.std.proofs.Common.{ap, ◌∙◌, Result, Ok, Err}
 use Rattle.std.specs.Result.{IsErrAnd}
 use Rattle.sect_front.specs.declared.tree.Test.{Test}
-use Rattle.sect_types.proofs.Lists.{drop_next}
+use Rattle.sect_lemmas.proofs.Elements.{drop_next}
 use Rattle.sect_front.specs.Syntax.{BlockView, Then}
 use Rattle.sect_front.specs.Trees.{statement_of, block_of}
 use Rattle.sect_front.specs.Depth.{statement_depth, block_depth}
@@ -41,18 +41,6 @@ kept d ls at block ss i x old now then h e so_far walks = record {
       ∙ (ap (λ b. judge d now (block_items ls at b w)) (next_of ss i x h e)
       ∙ walks (block_items ls at (block_of (drop (i + 1) ss)) w));
 }
-
--- a fault in the next statement is the fault of the block
-pub fails : (d : Declared) (ls : List Declaration) (at : Place) (block : BlockView) (ss : List Statement) (i : ℕ)
-    (x : Statement) (old now then : Counts) (e : Fault) → i < length ss → x ≡ get_or ss i x
-    → IsPassed d ls at block (block_of ss) (block_of (drop i ss)) old now
-    → Walks {A = ℕ} d (statement_items ls at (statement_of x)) now then (Err e)
-    → Walks {A = ℕ} d (block_items ls at block) old then (Err e)
-fails d ls at block ss i x old now then fault.Memory h e so_far walks = tt
-fails d ls at block ss i x old now then (fault.Broken n r) h e so_far walks = λ w.
-    so_far.walks w
-    ∙ (ap (λ b. judge d now (block_items ls at b w)) (next_of ss i x h e)
-    ∙ walks (block_items ls at (block_of (drop (i + 1) ss)) w))
 
 -- no statement is deeper than its block
 pub depth_at : (ss : List Statement) (i : ℕ) (d : Statement) → i < length ss

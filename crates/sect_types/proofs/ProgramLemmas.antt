@@ -27,8 +27,8 @@ use Rattle.sect_types.specs.Rules.{Declared, Counts, declared_in, knows_kind}
 use Rattle.sect_types.specs.Sums.{sums, sums_within, number_of, statement_sums, block_sums}
 use Rattle.sect_types.specs.declared.expand.Fresh.{Fresh}
 use Rattle.sect_types.specs.Expanded.{Ahead, Freshens, of_call, statement_fresh, block_fresh, fresh_of, fresh_within}
-use Rattle.sect_types.specs.Expanded.{fresh_in, procedure_numbered, local_types_of, all_local_types}
-use Rattle.sect_types.specs.Expanded.{past_thread, expanded_threads, texts_of, block_sections, statement_sections}
+use Rattle.sect_types.specs.Expanded.{fresh_in, procedure_numbered, local_types_of, all_local_types, past_thread}
+use Rattle.sect_types.specs.Expanded.{expanded_threads, texts_of, block_sections, statement_sections}
 use Rattle.sect_types.specs.Statements.{TextView}
 use Rattle.sect_types.specs.steps.Listing.{all_known, fields_fine, locals_fine, globals_known}
 use Rattle.sect_types.specs.steps.Threads.{variables_fine}
@@ -39,7 +39,7 @@ use Rattle.sect_types.specs.steps.Counted.{IsCounted}
 use Rattle.sect_types.specs.Lockings.{statement_lockings, block_lockings, threads_lockings, lockings_of}
 use Rattle.sect_types.specs.Clean.{IsCleanStatement, IsCleanBlock, AreCleanThreads}
 use Rattle.sect_types.proofs.Heads.{placed}
-use Rattle.sect_types.proofs.SoundLemmas.{both, place_within}
+use Rattle.sect_types.proofs.SoundLemmas.{place_within}
 use Rattle.sect_types.proofs.Standing.{fresh_types, call_types}
 use Rattle.sect_types.proofs.Walked.{text_clean}
 use Rattle.sect_types.proofs.SiteLaws.{typed_sites}
@@ -47,6 +47,7 @@ use Rattle.sect_types.proofs.SectionLaws.{block_flat, inside_section, sections_i
 use Rattle.sect_types.proofs.TypeLaws.{typed_sound}
 use Rattle.sect_types.proofs.Counting.{fine_typed, fine_counts}
 use Rattle.sect_types.proofs.WithinLimits.{AreFewTypes, typed_few_types, typed_within}
+use Rattle.std.proofs.lemmas.Bool.{and_parts}
 
 at_most : (m n : ℕ) → nat_le m n ≡ true → m ≤ n
 at_most m n h = grind (arith, nat_tests)
@@ -56,7 +57,7 @@ few_types : (records : List (List ℕ)) (ds : List Declaration) (n : ℕ)
 few_types records ds n h =
     omega (
       arith,
-      at_most (length ds) n (both (all_known records ds) (nat_le (length ds) n) h).1,
+      at_most (length ds) n (and_parts (all_known records ds) (nat_le (length ds) n) h).1,
       length-map ds (λ (d : Declaration). type_of records d.kind),
     )
 
@@ -64,7 +65,7 @@ few_fields : (records : List (List ℕ)) (rs : List Record) → fields_fine reco
     → All (λ (ts : List ValueType). length ts ≤ MOST_FIELDS) (field_types records rs)
 few_fields records [] h = All-nil (λ (ts : List ValueType). length ts ≤ MOST_FIELDS)
 few_fields records (r ∷ rs) h =
-    let parts = both (all_known records r.fields && nat_le (length r.fields) MOST_FIELDS) (fields_fine records rs) h in
+    let parts = and_parts (all_known records r.fields && nat_le (length r.fields) MOST_FIELDS) (fields_fine records rs) h in
     All-cons (λ (ts : List ValueType). length ts ≤ MOST_FIELDS) (types_of records r.fields) (field_types records rs)
     (few_types records r.fields MOST_FIELDS parts.0) (few_fields records rs parts.1)
 
@@ -86,7 +87,7 @@ types_there : (records : List (List ℕ)) (ds : List Declaration) → all_known 
     → All (IsInRange (length records)) (types_of records ds)
 types_there records [] h = All-nil (IsInRange (length records))
 types_there records (d ∷ ds) h =
-    let parts = both (knows_kind records d.kind) (all_known records ds) h in
+    let parts = and_parts (knows_kind records d.kind) (all_known records ds) h in
     All-cons (IsInRange (length records)) (type_of records d.kind) (types_of records ds)
     (type_there records d.kind parts.0) (types_there records ds parts.1)
 
@@ -94,17 +95,17 @@ fields_there : (records : List (List ℕ)) (rs : List Record) → fields_fine re
     → All (λ (ts : List ValueType). All (IsInRange (length records)) ts) (field_types records rs)
 fields_there records [] h = All-nil (λ (ts : List ValueType). All (IsInRange (length records)) ts)
 fields_there records (r ∷ rs) h =
-    let parts = both (all_known records r.fields && nat_le (length r.fields) MOST_FIELDS) (fields_fine records rs) h in
+    let parts = and_parts (all_known records r.fields && nat_le (length r.fields) MOST_FIELDS) (fields_fine records rs) h in
     All-cons (λ (ts : List ValueType). All (IsInRange (length records)) ts) (types_of records r.fields)
     (field_types records rs)
-    (types_there records r.fields (both (all_known records r.fields) (nat_le (length r.fields) MOST_FIELDS) parts.0).0)
+    (types_there records r.fields (and_parts (all_known records r.fields) (nat_le (length r.fields) MOST_FIELDS) parts.0).0)
     (fields_there records rs parts.1)
 
 globals_there : (records : List (List ℕ)) (gs : List GlobalObject) → globals_known records gs ≡ true
     → All (λ (r : ℕ). r < length records) (global_records records gs)
 globals_there records [] h = All-nil (λ (r : ℕ). r < length records)
 globals_there records (g ∷ gs) h =
-    let parts = both (has_name g.of records) (globals_known records gs) h in
+    let parts = and_parts (has_name g.of records) (globals_known records gs) h in
     All-cons (λ (r : ℕ). r < length records) (record_number records g.of) (global_records records gs)
     (record_there g.of records parts.0) (globals_there records gs parts.1)
 
@@ -148,12 +149,12 @@ procedure_known records [] q p h e = absurd (cc)
 procedure_known records (x ∷ ps) zero p h e =
     let same : x ≡ p = cc in
     let few = nat_le (length (variables x)) MOST_LOCALS in
-    let parts = both (all_known records (variables x) && few) (variables_fine records ps) h in
+    let parts = and_parts (all_known records (variables x) && few) (variables_fine records ps) h in
     subst (λ y. all_known records (variables y) ≡ true) same
-    (both (all_known records (variables x)) few parts.0).0
+    (and_parts (all_known records (variables x)) few parts.0).0
 procedure_known records (x ∷ ps) (suc q) p h e =
     procedure_known records ps q p
-    (both (all_known records (variables x) && nat_le (length (variables x)) MOST_LOCALS) (variables_fine records ps)
+    (and_parts (all_known records (variables x) && nat_le (length (variables x)) MOST_LOCALS) (variables_fine records ps)
     h).1 e
 
 pub numbered_known : (records : List (List ℕ)) (ps : List Procedure) (q : Option ℕ) (p : Procedure)
@@ -192,8 +193,8 @@ locals_there t (x ∷ ts) h g =
     let ps = t.procedures in
     let d = declared_in t in
     let few = nat_le (length x.locals) MOST_LOCALS in
-    let parts = both (all_known names x.locals && few) (locals_fine names ts) g in
-    let own = types_there names x.locals (both (all_known names x.locals) few parts.0).0 in
+    let parts = and_parts (all_known names x.locals && few) (locals_fine names ts) g in
+    let own = types_there names x.locals (and_parts (all_known names x.locals) few parts.0).0 in
     let fresh = block_there d n ps (sums ps) (fresh_within (length ps) ps) (calls_there (length ps) d ps h) 0 x.body in
     All-cons (λ (ls : List ValueType). All (IsInRange n) ls) (local_types_of t x) (map (local_types_of t) ts)
     (All-append (IsInRange n) (types_of names x.locals) (fresh_types d (fresh_in t x)) own fresh)

@@ -1,9 +1,9 @@
 -- One record more.
 use Rattle.std.proofs.Common.{◌≡◌, ℕ, ◌+◌, ◌<◌, ◌≤◌, List, [], ◌∷◌, ◌++◌, drop, get_or, length, Err, refl, ap, ◌∙◌}
-use Rattle.std.proofs.Common.{length-append, arith, Bool, true, ◌&&◌, nat_le, subst}
+use Rattle.std.proofs.Common.{length-append, arith, true, ◌&&◌, nat_le, subst}
 use Rattle.std.proofs.lemmas.List.{drop_all}
 use Rattle.std.proofs.lemmas.Bool.Decides.{nat_tests}
-use Rattle.sect_types.proofs.Lists.{drop_next}
+use Rattle.sect_lemmas.proofs.Elements.{drop_next}
 use Rattle.sect_types.proofs.Passed.{judged_on, joined_on, tested_on}
 use Rattle.sect_front.specs.declared.tree.Record.{Record}
 use Rattle.sect_types.specs.declared.limits.TheConstants.{MOST_FIELDS, MOST_RECORDS}
@@ -14,9 +14,7 @@ use Rattle.sect_types.specs.Items.{Item, ARecord, field_items, record_items}
 use Rattle.sect_types.specs.Rules.{Declared, Counts, judge}
 use Rattle.sect_types.specs.steps.Walks.{Walks}
 use Rattle.sect_types.specs.steps.Listing.{AreRecords, all_known, fields_fine}
-
-pub both_true : (a b : Bool) → a ≡ true → b ≡ true → (a && b) ≡ true
-both_true a b e h = cc
+use Rattle.std.proofs.lemmas.Bool.{and_from}
 
 pub at_most : (m n : ℕ) → m ≤ n → nat_le m n ≡ true
 at_most m n h = grind (arith, nat_tests)
@@ -46,7 +44,7 @@ go_on d all rs i r names new fields more old now then h e so_far step named with
       fine =
           tested_on (fields_fine (names_of_records d.records)) r rest (drop i rs) all
           (all_known (names_of_records d.records) r.fields && nat_le (length r.fields) MOST_FIELDS) refl
-          (both_true (all_known (names_of_records d.records) r.fields) (nat_le (length r.fields) MOST_FIELDS) known
+          (and_from (all_known (names_of_records d.records) r.fields) (nat_le (length r.fields) MOST_FIELDS) known
           (at_most (length r.fields) MOST_FIELDS few_fields)) at so_far.fine;
     }
   where

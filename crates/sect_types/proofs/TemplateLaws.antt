@@ -1,44 +1,34 @@
 -- Copies of templates are the expansion.
 use Rattle.std.specs.Prelude.{Bool, true, false, ◌&&◌}
-use Rattle.std.proofs.Common.{◌≡◌, ℕ, zero, suc, ◌+◌, List, [], ◌∷◌, map, Option, Some, None}
-use Rattle.std.proofs.Common.{refl, sym, ◌∙◌, ap, arith, length}
+use Rattle.std.proofs.Common.{◌≡◌, ℕ, ◌+◌, List, [], ◌∷◌, map, Option, Some, None, refl, sym, ◌∙◌, ap, arith}
 use Rattle.sect_front.specs.declared.tree.Operand.{Operand}
 use Rattle.sect_front.specs.declared.tree.Operator.{Operator}
 use Rattle.sect_front.specs.declared.tree.Primitive as leaf
 use Rattle.sect_front.specs.declared.tree.Primitive.TheVariants as primitive
 use Rattle.sect_front.specs.declared.tree.Kind.TheVariants as kind
-use Rattle.sect_front.specs.declared.tree.Declaration.{Declaration}
 use Rattle.sect_front.specs.declared.tree.Record.{Record}
-use Rattle.sect_front.specs.declared.tree.GlobalObject.{GlobalObject}
 use Rattle.sect_types.specs.declared.resolve.Denoted.{Denoted}
 use Rattle.sect_types.specs.declared.resolve.Denoted.TheVariants as denoted
 use Rattle.sect_types.specs.declared.resolve.Given.{Given}
 use Rattle.sect_types.specs.declared.resolve.Looked.{Looked}
 use Rattle.sect_types.specs.declared.resolve.Looked.TheVariants as looked
 use Rattle.sect_types.specs.declared.action.Value.{Value}
-use Rattle.sect_types.specs.declared.action.Value.TheVariants as value
-use Rattle.sect_types.specs.declared.action.Action.TheVariants as action
 use Rattle.sect_types.specs.declared.action.Action.{Action}
 use Rattle.sect_types.specs.Sight.{Sight, place, names_of_records, base_of, operand_of}
 use Rattle.sect_types.specs.Resolve.{well_typed, same_kind, accepts, primitive_of, test_of, assign_of, compute_of}
-use Rattle.sect_types.specs.Resolve.{new_of}
-use Rattle.sect_types.specs.Resolve.{load_of, store_of, print_of, looked_of}
+use Rattle.sect_types.specs.Resolve.{new_of, load_of, store_of, print_of, looked_of}
 use Rattle.sect_types.specs.Numbered.{action_in, condition_in}
 use Rattle.sect_types.specs.Rules.{sight}
-use Rattle.sect_types.specs.Statements.{TextView, Stop, Do, Choose, Loop, Section, joined}
+use Rattle.sect_types.specs.Statements.{TextView, Stop, Do, Choose, Loop, Section}
 use Rattle.sect_front.specs.Syntax.{StatementView, Primitive, If, IfElse, While, Atomic, Call, BlockView, End, Then}
 use Rattle.sect_front.specs.declared.tree.Procedure.{Procedure}
-use Rattle.sect_types.specs.Items.{variables}
 use Rattle.sect_types.specs.declared.sums.Sums.{Sums}
-use Rattle.sect_types.specs.Sums.{sums, statement_sums, block_sums, number_of}
-use Rattle.sect_types.specs.Expanded.{Scene, Ahead, Expander}
-use Rattle.sect_types.specs.Expanded.{moved_value, moved_action, moved_condition, past_statement}
-use Rattle.sect_types.specs.Expanded.{past_block, statement_sections, block_sections, expanded_statement}
-use Rattle.sect_types.specs.Expanded.{expanded_block, argument_in, set_parameters, clear_locals, after_call, call_of}
-use Rattle.sect_types.specs.Expanded.{procedure_numbered}
-use Rattle.sect_types.specs.Templates.{TemplateView, value_in, values_in, template_statement}
-use Rattle.sect_types.specs.Templates.{template_block, sited_action, shifted, Copier, copied}
-use Rattle.sect_types.specs.Templates.{set_values, nothing_before, copy_of, copy_within}
+use Rattle.sect_types.specs.Sums.{statement_sums, block_sums, number_of}
+use Rattle.sect_types.specs.Expanded.{Scene, Ahead, Expander, moved_value, moved_action, moved_condition}
+use Rattle.sect_types.specs.Expanded.{past_statement, past_block, statement_sections, block_sections}
+use Rattle.sect_types.specs.Expanded.{expanded_statement, expanded_block, argument_in}
+use Rattle.sect_types.specs.Templates.{TemplateView, value_in, values_in, template_statement, template_block}
+use Rattle.sect_types.specs.Templates.{sited_action, shifted, Copier, copied}
 
 -- a statement that has its site from n on
 typed_sited : (n : ℕ) (b : Bool) (a x : Action) → x ≡ sited_action n a
@@ -112,14 +102,6 @@ arguments_moved : (s : Sight) (n : ℕ) (vs : List Operand)
     → map (moved_value n) (values_in s vs) ≡ arguments_in (record { sight = s; first = n }) vs
 arguments_moved s n [] = refl
 arguments_moved s n (v ∷ vs) = λ i. argument_moved n (operand_of s v) i ∷ arguments_moved s n vs i
-
--- setting parameters to arguments is setting them to values
-pub set_by_values : (v : Scene) (x : ℕ) (ds : List Declaration) (vs : List Operand) (k : TextView)
-    → set_parameters v x ds vs k ≡ set_values x ds (arguments_in v vs) k
-set_by_values v x [] vs k = refl
-set_by_values v x (d ∷ ds) [] k = ap (Do (action.Assign x value.Null)) (set_by_values v (x + 1) ds [] k)
-set_by_values v x (d ∷ ds) (u ∷ us) k =
-    ap (Do (action.Assign x (argument_in v.first (operand_of v.sight u)))) (set_by_values v (x + 1) ds us k)
 
 -- positions behind b
 past_shifted : (ps : List Procedure) (table : List Sums) (b a : Ahead) (s : StatementView)
@@ -202,44 +184,3 @@ mutual
       statement_copied ps table expand copy h s n b a f (template_block ps table s d c) _
       (block_copied ps table expand copy h s n b d c
       ∙ ap (λ x. expanded_block ps table expand v x c) (past_shifted ps table b a f))
-
--- the expansion where each call reads the same table
-abbrev pub expand_by : ℕ → List Record → List GlobalObject → List Procedure → Expander
-expand_by zero rs gs ps q v a vs k = k
-expand_by (suc n) rs gs ps q v a vs k =
-    call_of rs gs ps (sums ps) (expand_by n rs gs ps) (procedure_numbered ps q) q v a vs k
-
-at_start : (a : Ahead) → shifted a nothing_before ≡ a
-at_start a =
-    let of_sites : a.sites + 0 ≡ a.sites = omega arith in
-    let of_sections : a.sections + 0 ≡ a.sections = omega arith in
-    let of_fresh : a.fresh + 0 ≡ a.fresh = omega arith in
-    λ i. record { sites = of_sites i; sections = of_sections i; fresh = of_fresh i }
-
--- the copy of a template is the expansion of its body
-pub template_copied : (ps : List Procedure) (table : List Sums) (expand : Expander) (copy : Copier)
-    → CopiesCalls expand copy → (s : Sight) (n : ℕ) (a : Ahead) (c : BlockView)
-    → copied copy n a (template_block ps table s nothing_before c)
-    ≡ expanded_block ps table expand (record { sight = s; first = n }) a c
-template_copied ps table expand copy h s n a c =
-    let v : Scene = record { sight = s; first = n } in
-    block_copied ps table expand copy h s n a nothing_before c
-    ∙ ap (λ x. expanded_block ps table expand v x c) (at_start a)
-
-call_copied : (rs : List Record) (gs : List GlobalObject) (ps : List Procedure) (expand : Expander) (copy : Copier)
-    → CopiesCalls expand copy → (o : Option Procedure) (q : Option ℕ) (v : Scene) (a : Ahead) (vs : List Operand)
-    (k : TextView) → copy_of rs gs ps copy o a (arguments_in v vs) k ≡ call_of rs gs ps (sums ps) expand o q v a vs k
-call_copied rs gs ps expand copy h None q v a vs k = refl
-call_copied rs gs ps expand copy h (Some p) q v a vs k =
-    let x = template_copied ps (sums ps) expand copy h (sight rs gs (variables p)) a.fresh (after_call a p) p.body in
-    let rest : TextView → TextView = λ y. clear_locals (a.fresh + length p.parameters) p.locals (joined y k) in
-    ap (λ y. set_values a.fresh p.parameters (arguments_in v vs) (rest y)) x
-    ∙ sym (set_by_values v a.fresh p.parameters vs (rest _))
-
--- copies for calls are their expansion
-pub calls_copied : (n : ℕ) (rs : List Record) (gs : List GlobalObject) (ps : List Procedure)
-    → CopiesCalls (expand_by n rs gs ps) (copy_within n rs gs ps)
-calls_copied zero rs gs ps q v a vs k = refl
-calls_copied (suc n) rs gs ps q v a vs k =
-    call_copied rs gs ps (expand_by n rs gs ps) (copy_within n rs gs ps) (calls_copied n rs gs ps)
-    (procedure_numbered ps q) q v a vs k

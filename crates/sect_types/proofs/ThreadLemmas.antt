@@ -3,7 +3,7 @@ use Rattle.std.proofs.Common.{◌≡◌, ℕ, zero, suc, ◌+◌, ◌<◌, ◌�
 use Rattle.std.proofs.Common.{Result, Ok, Err, sym, ap, subst, ◌∙◌, append_assoc, length-append, arith, true, ◌&&◌}
 use Rattle.std.proofs.Common.{nat_le}
 use Rattle.std.specs.Result.{IsErrAnd}
-use Rattle.sect_types.proofs.Lists.{drop_next}
+use Rattle.sect_lemmas.proofs.Elements.{drop_next}
 use Rattle.sect_front.specs.Syntax.{BlockView}
 use Rattle.sect_front.specs.Depth.{block_depth, procedures_depth, threads_depth}
 use Rattle.sect_front.specs.declared.tree.Declaration.{Declaration}
@@ -27,8 +27,8 @@ use Rattle.sect_types.specs.steps.Listing.{all_known, locals_fine}
 use Rattle.std.proofs.lemmas.Bool.Decides.{nat_tests}
 use Rattle.std.proofs.lemmas.List.{drop_all}
 use Rattle.sect_types.specs.steps.Capped.{HaveFewVariables}
-use Rattle.sect_types.proofs.SoundLemmas.{both}
-use Rattle.sect_types.proofs.Records.{both_true, at_most}
+use Rattle.sect_types.proofs.Records.{at_most}
+use Rattle.std.proofs.lemmas.Bool.{and_parts, and_from}
 
 -- what comes first, and then a walk
 pub walks_then : {A : Type 0} (d : Declared) (all first : List Item → List Item) (old now new : Counts)
@@ -108,7 +108,7 @@ procedure_more d all ps i p names new scopes more old now then h e so_far step n
           so_far.fine
           ∙ (ap (variables_fine (names_of_records d.records)) at
           ∙ ap (λ b. b && variables_fine (names_of_records d.records) rest)
-          (both_true (all_known (names_of_records d.records) (variables p))
+          (and_from (all_known (names_of_records d.records) (variables p))
           (nat_le (length (variables p)) MOST_LOCALS) known
           (at_most (length (variables p)) MOST_LOCALS few_own)));
     }
@@ -159,7 +159,7 @@ thread_more d all ts i t names new locals more old now then h e so_far step name
           so_far.fine
           ∙ (ap (locals_fine (names_of_records d.records)) at
           ∙ ap (λ b. b && locals_fine (names_of_records d.records) rest)
-          (both_true (all_known (names_of_records d.records) t.locals) (nat_le (length t.locals) MOST_LOCALS) known
+          (and_from (all_known (names_of_records d.records) t.locals) (nat_le (length t.locals) MOST_LOCALS) known
           (at_most (length t.locals) MOST_LOCALS few_own)));
     }
   where
@@ -207,8 +207,8 @@ pub few_variables : (records : List (List ℕ)) (ps : List Procedure) → variab
 few_variables records [] h = tt
 few_variables records (p ∷ ps) h =
     let few = nat_le (length (variables p)) MOST_LOCALS in
-    let parts = both (all_known records (variables p) && few) (variables_fine records ps) h in
-    let own = both (all_known records (variables p)) few parts.0 in (
+    let parts = and_parts (all_known records (variables p) && few) (variables_fine records ps) h in
+    let own = and_parts (all_known records (variables p)) few parts.0 in (
       omega (arith, is_at_most (length (variables p)) MOST_LOCALS own.1, length-append p.parameters p.locals),
       few_variables records ps parts.1,
     )

@@ -1,8 +1,8 @@
 -- The expanded text of a typed text is sound where its fresh locals have the types of their declarations.
 use Rattle.std.specs.Prelude.{Bool, true, false, not, ◌&&◌, ◌||◌, is_some, nat_eq}
-use Rattle.std.proofs.Common.{◌≡◌, ℕ, zero, suc, ◌+◌, List, [], ◌∷◌, ◌++◌, map, Option, Some, None, IfSome}
-use Rattle.std.proofs.Common.{refl, sym, ◌∙◌, arith, subst, length, length-append}
-use Rattle.std.proofs.lemmas.Bool.{eqb-true}
+use Rattle.std.proofs.Common.{◌≡◌, ℕ, zero, suc, ◌+◌, List, [], ◌∷◌, ◌++◌, map, Option, Some, None, IfSome, refl, sym}
+use Rattle.std.proofs.Common.{◌∙◌, arith, subst, length, length-append}
+use Rattle.std.proofs.lemmas.Bool.{eqb-true, and_parts}
 use Rattle.sect_front.specs.declared.tree.Operand.{Operand}
 use Rattle.sect_front.specs.declared.tree.Kind.{Kind}
 use Rattle.sect_front.specs.declared.tree.Kind.TheVariants as kind
@@ -15,7 +15,7 @@ use Rattle.sect_types.specs.Resolve.{value_by}
 use Rattle.sect_types.specs.Environments.{Environment, environment, type_of, field_types, global_records}
 use Rattle.sect_types.specs.Sound.{HasType, IsSound, AreSound, StandsRight, is_shared}
 use Rattle.sect_types.specs.Statements.{TextView, joined}
-use Rattle.sect_types.proofs.SoundLemmas.{IsGiven, accepts_has, operand_there, joined_sound, both}
+use Rattle.sect_types.proofs.SoundLemmas.{IsGiven, accepts_has, operand_there, joined_sound}
 use Rattle.sect_front.specs.Syntax.{StatementView, Primitive, If, IfElse, While, Atomic, Call, BlockView, End, Then}
 use Rattle.sect_front.specs.declared.tree.Procedure.{Procedure}
 use Rattle.sect_front.specs.declared.tree.Thread.{Thread}
@@ -79,7 +79,7 @@ set_sound d ls n all stand x [] vs k there same t h = h
 set_sound d ls n all stand x (p ∷ ps) [] k there same t h = absurd (omega (arith, same))
 set_sound d ls n all stand x (p ∷ ps) (u ∷ us) k there same t h =
     let o = operand_of (seen d ls) u in
-    let taken = both (kind_accepts p.kind o) (all_accept (seen d ls) ps us) t in
+    let taken = and_parts (kind_accepts p.kind o) (all_accept (seen d ls) ps us) t in
     let few = types_in d ps in (
       (
         type_in d p,

@@ -1,7 +1,7 @@
 -- A text that breaks no rule stays within the limits.
 use Rattle.std.specs.Prelude.{Bool, true, false, ◌&&◌, ◌||◌, nat_le, nat_lt, is_some, ⊤}
-use Rattle.std.proofs.Common.{◌≡◌, ℕ, zero, suc, ◌+◌, ◌<◌, ◌≤◌, List, [], ◌∷◌, ◌++◌, map, Option, Some, None}
-use Rattle.std.proofs.Common.{refl, sym, ◌∙◌, arith, subst, length, length-append}
+use Rattle.std.proofs.Common.{◌≡◌, ℕ, zero, suc, ◌+◌, ◌<◌, ◌≤◌, List, [], ◌∷◌, ◌++◌, map, Option, Some, None, refl}
+use Rattle.std.proofs.Common.{sym, ◌∙◌, arith, subst, length, length-append}
 use Rattle.std.proofs.lemmas.List.{length-map}
 use Rattle.std.proofs.lemmas.Bool.Decides.{nat_tests}
 use Rattle.sect_front.specs.declared.tree.Primitive as leaf
@@ -9,8 +9,8 @@ use Rattle.sect_front.specs.declared.tree.Primitive.TheVariants as primitive
 use Rattle.sect_front.specs.declared.tree.Operand.{Operand}
 use Rattle.sect_front.specs.declared.tree.Declaration.{Declaration}
 use Rattle.sect_front.specs.declared.tree.GlobalObject.{GlobalObject}
-use Rattle.sect_types.specs.declared.limits.TheConstants.{MOST_ALL_LOCALS, MOST_CALLS, MOST_GLOBALS}
-use Rattle.sect_types.specs.declared.limits.TheConstants.{MOST_LOCALS, MOST_SECTIONS, MOST_SITES, MOST_STATEMENTS}
+use Rattle.sect_types.specs.declared.limits.TheConstants.{MOST_ALL_LOCALS, MOST_CALLS, MOST_GLOBALS, MOST_LOCALS}
+use Rattle.sect_types.specs.declared.limits.TheConstants.{MOST_SECTIONS, MOST_SITES, MOST_STATEMENTS}
 use Rattle.sect_types.specs.declared.types.ValueType.{ValueType}
 use Rattle.sect_types.specs.Sight.{names_of_records}
 use Rattle.sect_types.specs.Environments.{type_of, types_of}
@@ -32,7 +32,6 @@ use Rattle.sect_types.specs.Clean.{IsClean}
 use Rattle.sect_types.specs.First.{none_yet, IsTyped}
 use Rattle.sect_types.specs.declared.expand.Fresh.{Fresh}
 use Rattle.sect_types.specs.Expanded.{procedure_numbered, fresh_in, local_types_of, texts_of}
-use Rattle.sect_types.proofs.FuelLaws.{or_false}
 use Rattle.sect_types.proofs.Resolved.{not_false}
 use Rattle.sect_types.proofs.Walked.{NoneBroken, first_clean, first_few, next_none, statement_after, block_after}
 use Rattle.sect_types.proofs.Walked.{statement_walked, block_walked, declared_after, locals_walked, thread_after}
@@ -40,6 +39,7 @@ use Rattle.sect_types.proofs.Walked.{threads_after, records_after, records_walke
 use Rattle.sect_types.proofs.Walked.{before_procedures, before_threads}
 use Rattle.sect_types.proofs.CountLaws.{sums_of, looked, thread_freshens}
 use Rattle.sect_types.proofs.Counting.{end_of, before_add, typed_counts, thread_sums, threads_add}
+use Rattle.sect_lemmas.proofs.Booleans.{neither}
 
 -- the counts of the expanded text so far
 pub record IsFew (c : Counts) : Type 0 where
@@ -69,7 +69,7 @@ primitive_few : (d : Declared) (ls : List Declaration) (inside : Bool) (depth : 
 primitive_few d ls inside depth c (primitive.Assign x v) h f = one_statement c h f
 primitive_few d ls inside depth c (primitive.Compute x v o w) h f = one_statement c h f
 primitive_few d ls inside depth c (primitive.New x r) h f =
-    let g = or_false (nat_le MOST_STATEMENTS c.statements) (nat_le MOST_SITES c.sites) h in
+    let g = neither (nat_le MOST_STATEMENTS c.statements) (nat_le MOST_SITES c.sites) h in
     record {
       few_statements = omega (arith, under MOST_STATEMENTS c.statements g.0);
       few_sites = omega (arith, under MOST_SITES c.sites g.1);
@@ -83,7 +83,7 @@ primitive_few d ls inside depth c (primitive.Print v) h f = one_statement c h f
 section_few : (c : Counts) → (nat_le MOST_STATEMENTS c.statements || nat_le MOST_SECTIONS c.sections) ≡ false → IsFew c
     → IsFew (record c { items = c.items + 1; statements = c.statements + 1; sections = c.sections + 1 })
 section_few c h f =
-    let g = or_false (nat_le MOST_STATEMENTS c.statements) (nat_le MOST_SECTIONS c.sections) h in
+    let g = neither (nat_le MOST_STATEMENTS c.statements) (nat_le MOST_SECTIONS c.sections) h in
     record {
       few_statements = omega (arith, under MOST_STATEMENTS c.statements g.0);
       few_sites = f.few_sites;
@@ -107,9 +107,9 @@ passes_few : (c : Counts) (depth : ℕ) (s : Sums) → passes_by c depth s ≡ f
       calls = c.calls + s.calls;
     })
 passes_few c depth s h f =
-    let g = or_false _ _ h in
-    let i = or_false _ _ g.1 in
-    let j = or_false _ _ i.1 in
+    let g = neither _ _ h in
+    let i = neither _ _ g.1 in
+    let j = neither _ _ i.1 in
     record {
       few_statements = at_most MOST_STATEMENTS (c.statements + s.statements) g.0;
       few_sites = at_most MOST_SITES (c.sites + s.sites) i.0;

@@ -1,17 +1,14 @@
 -- Writing an expansion, statement by statement.
-use Rattle.std.proofs.Common.{◌≡◌, ℕ, zero, suc, ◌+◌, ◌*◌, ◌<◌, ◌≤◌, List, [], ◌∷◌, drop, get_or, Option, Some, None}
-use Rattle.std.proofs.Common.{refl, sym, ◌∙◌, ap, arith, subst, length, length-append, slice_get}
+use Rattle.std.proofs.Common.{◌≡◌, ℕ, zero, suc, ◌+◌, ◌<◌, ◌≤◌, List, [], ◌∷◌, drop, get_or, Option, Some, None, refl}
+use Rattle.std.proofs.Common.{sym, ◌∙◌, ap, arith, length, slice_get}
 use Rattle.std.proofs.lemmas.List.{drop_all}
 use Rattle.sect_front.specs.declared.tree.Declaration.{Declaration}
 use Rattle.sect_front.specs.declared.tree.Operand.{Operand}
 use Rattle.sect_front.specs.declared.tree.Procedure.{Procedure}
 use Rattle.sect_front.specs.declared.tree.Record.{Record}
 use Rattle.sect_front.specs.declared.tree.GlobalObject.{GlobalObject}
-use Rattle.sect_front.specs.declared.tree.Statement.{Statement}
-use Rattle.sect_front.specs.Syntax.{StatementView, Primitive, If, IfElse, While, Atomic, Call, BlockView, End, Then}
+use Rattle.sect_front.specs.Syntax.{StatementView, Primitive, If, IfElse, While, Atomic, Call, BlockView}
 use Rattle.sect_front.specs.TreeView.{TreeView}
-use Rattle.sect_front.specs.Trees.{statement_of, block_of, block_size}
-use Rattle.sect_types.specs.declared.limits.TheConstants.{MOST_ALL_LOCALS}
 use Rattle.sect_types.specs.declared.action.Value.{Value}
 use Rattle.sect_types.specs.declared.action.Value.TheVariants as value
 use Rattle.sect_types.specs.declared.action.Action.TheVariants as action
@@ -28,20 +25,16 @@ use Rattle.sect_types.specs.declared.sums.Sums.{Sums}
 use Rattle.sect_types.specs.Sight.{Sight, operand_of}
 use Rattle.sect_types.specs.Rules.{sight}
 use Rattle.sect_types.specs.Items.{variables}
-use Rattle.sect_types.specs.Sums.{sums_at, sums_within, statement_sums, block_sums, number_of}
+use Rattle.sect_types.specs.Sums.{sums_at, sums_within, block_sums, number_of}
 use Rattle.sect_types.specs.Statements.{TextView, Stop, Do, Choose, Loop, Section, joined}
 use Rattle.sect_types.specs.Texts.{step_then}
-use Rattle.sect_types.specs.Expanded.{Scene, Ahead, Expander, statement_sections, block_sections, past_statement}
-use Rattle.sect_types.specs.Expanded.{past_block}
-use Rattle.sect_types.specs.Expanded.{expanded_block, argument_in, cleared, set_parameters}
-use Rattle.sect_types.specs.Expanded.{moved_action}
-use Rattle.sect_types.specs.Expanded.{moved_condition}
-use Rattle.sect_types.specs.Expanded.{clear_locals, after_call, call_of, procedure_numbered, expand_within}
-use Rattle.sect_types.specs.steps.Expansion.{Appends, IsPast, HasRoom, table_by, calls_by, view_of, statement_by}
-use Rattle.sect_types.specs.steps.Expansion.{block_by}
-use Rattle.sect_types.specs.steps.Expansion.{IsExpanding, total_size, argument_at}
-use Rattle.sect_types.proofs.Lists.{drop_next}
-use Rattle.sect_types.proofs.Joining.{joined_stop, joined_again}
+use Rattle.sect_types.specs.Expanded.{Scene, Ahead, Expander, block_sections, past_block, expanded_block, argument_in}
+use Rattle.sect_types.specs.Expanded.{cleared, set_parameters, moved_action, moved_condition, clear_locals, after_call}
+use Rattle.sect_types.specs.Expanded.{call_of, procedure_numbered, expand_within}
+use Rattle.sect_types.specs.steps.Expansion.{Appends, IsPast, table_by, calls_by, view_of, statement_by, block_by}
+use Rattle.sect_types.specs.steps.Expansion.{argument_at}
+use Rattle.sect_lemmas.proofs.Elements.{drop_next}
+use Rattle.sect_types.proofs.shared.Joining.{joined_stop, joined_again}
 use Rattle.sect_types.proofs.CountLaws.{sums_of, looked}
 
 -- one step more
@@ -136,11 +129,6 @@ pub set_all : (v : Scene) (start i : ℕ) (ds : List Declaration) (vs : List Ope
     → set_parameters v (start + i) (drop i ds) vs k ≡ k
 set_all v start i ds vs k le = ap (λ l. set_parameters v (start + i) l vs k) (drop_all i ds le)
 
--- the position behind a statement, and behind a block
-pub at_past : (ps : List Procedure) (table : List Sums) (a e : Ahead) (s : StatementView)
-    → IsPast a e (statement_sums ps table s) (statement_sections s) → e ≡ past_statement ps table a s
-at_past ps table a e s h = λ i. record { sites = h.of_sites i; sections = h.of_sections i; fresh = h.of_fresh i }
-
 pub at_past_block : (ps : List Procedure) (table : List Sums) (a e : Ahead) (b : BlockView)
     → IsPast a e (block_sums ps table b) (block_sections b) → e ≡ past_block ps table a b
 at_past_block ps table a e b h = λ i. record { sites = h.of_sites i; sections = h.of_sections i; fresh = h.of_fresh i }
@@ -189,72 +177,6 @@ statement_follows t n s first a (Atomic lock b) k l = refl
 statement_follows t n s first a (Call f vs) k l =
     calls_follow n t.records t.globals t.procedures (number_of t.procedures f) (view_of s first) a vs k l
 
--- at the start of a block, and at its end
-pub starts : (t : TreeView) (n : ℕ) (s : Sight) (first : ℕ) (block all : BlockView) (at : Ahead) (text : TextView)
-    → all ≡ block → HasRoom at (block_sums t.procedures (table_by t n) block) (block_sections block)
-    → IsExpanding t n s first block all all at at text text
-starts t n s first block all at text e room = record {
-  whole = e;
-  written = λ k. ap (λ b. joined text (joined (block_by t n s first at b) k)) e;
-  past = λ x h. subst (λ b. IsPast at x (block_sums t.procedures (table_by t n) b) (block_sections b)) e h;
-  room = subst (λ b. HasRoom at (block_sums t.procedures (table_by t n) b) (block_sections b)) (sym e) room;
-}
-
-next_of : (ss : List Statement) (i : ℕ) (x : Statement) → i < length ss → x ≡ get_or ss i x
-    → block_of (drop i ss) ≡ Then (statement_of x) (block_of (drop (i + 1) ss))
-next_of ss i x h e = ap block_of (drop_next ss i x h e)
-
-goes_on : (t : TreeView) (n : ℕ) (s : Sight) (first : ℕ) (block all : BlockView) (f : StatementView) (rest : BlockView)
-    (old now next : Ahead) (before text new : TextView)
-    → IsExpanding t n s first block all (Then f rest) old now before text
-    → IsPast now next (statement_sums t.procedures (table_by t n) f) (statement_sections f)
-    → Appends text new (statement_by t n s first now f) → IsExpanding t n s first block all rest old next before new
-goes_on t n s first block all f rest old now next before text new h past writes = record {
-  whole = h.whole;
-  written = λ k.
-      let b = block_by t n s first next rest in
-      let same = at_past t.procedures (table_by t n) now next f past in
-      writes (joined b k) ∙ ap (joined text) (sym (statement_follows t n s first now f b k))
-      ∙ ap (λ e. joined text (joined (statement_by t n s first now f (block_by t n s first e rest)) k)) same
-      ∙ h.written k;
-  past = λ e g. h.past e (record {
-    of_sites = omega (arith, past.of_sites, g.of_sites);
-    of_sections = omega (arith, past.of_sections, g.of_sections);
-    of_fresh = omega (arith, past.of_fresh, g.of_fresh);
-  });
-  room = record {
-    for_sites = omega (arith, past.of_sites, h.room.for_sites);
-    for_sections = omega (arith, past.of_sections, h.room.for_sections);
-    for_fresh = omega (arith, past.of_fresh, h.room.for_fresh);
-  };
-}
-
--- the next statement is written
-pub one_more : (t : TreeView) (n : ℕ) (s : Sight) (first : ℕ) (block : BlockView) (ss : List Statement) (i : ℕ)
-    (x : Statement) (old now next : Ahead) (before text new : TextView) → i < length ss → x ≡ get_or ss i x
-    → IsExpanding t n s first block (block_of ss) (block_of (drop i ss)) old now before text
-    → IsPast now next (statement_sums t.procedures (table_by t n) (statement_of x))
-    (statement_sections (statement_of x))
-    → Appends text new (statement_by t n s first now (statement_of x))
-    → IsExpanding t n s first block (block_of ss) (block_of (drop (i + 1) ss)) old next before new
-one_more t n s first block ss i x old now next before text new lt e h past writes =
-    goes_on t n s first block (block_of ss) (statement_of x) (block_of (drop (i + 1) ss)) old now next before text new
-    (subst (λ b. IsExpanding t n s first block (block_of ss) b old now before text) (next_of ss i x lt e) h) past writes
-
-ended : (t : TreeView) (n : ℕ) (s : Sight) (first : ℕ) (block all : BlockView) (ss : List Statement) (i : ℕ)
-    (old now : Ahead) (before text : TextView) → length ss ≤ i
-    → IsExpanding t n s first block all (block_of (drop i ss)) old now before text
-    → IsExpanding t n s first block all End old now before text
-ended t n s first block all ss i old now before text le h =
-    subst (λ l. IsExpanding t n s first block all (block_of l) old now before text) (drop_all i ss le) h
-
-pub ends_text : (t : TreeView) (n : ℕ) (s : Sight) (first : ℕ) (block all : BlockView) (ss : List Statement) (i : ℕ)
-    (old now : Ahead) (before text : TextView) → length ss ≤ i
-    → IsExpanding t n s first block all (block_of (drop i ss)) old now before text
-    → Appends before text (joined (block_by t n s first old block))
-ends_text t n s first block all ss i old now before text le h k =
-    (ended t n s first block all ss i old now before text le h).written k
-
 -- a call is an assignment for each parameter and local, and the body
 pub called : (t : TreeView) (n q : ℕ) (p : Procedure) → slice_get t.procedures q ≡ Some p
     → sums_at (table_by t (suc n)) (Some q) ≡ sums_of t.procedures (table_by t n) (Some p)
@@ -293,51 +215,6 @@ call_by_parts t n fuel q p s inner first own a b ps ls vs old one two new f e i 
   where
     at : b ≡ after_call a p
     at = c ∙ (λ z. record a { fresh = a.fresh + (length (x z) + length (y z)) })
-
--- what a call comes to
-record CallCounts (t : TreeView) (n fuel q : ℕ) (p : Procedure) : Type 0 where
-  sites_are : (sums_at (table_by t fuel) (Some q)).sites ≡ (block_sums t.procedures (table_by t n) p.body).sites
-  fresh_are : (sums_at (table_by t fuel) (Some q)).fresh
-      ≡ length p.parameters + length p.locals + (block_sums t.procedures (table_by t n) p.body).fresh
-
-call_counts : (t : TreeView) (n fuel q : ℕ) (p : Procedure) → fuel ≡ suc n → slice_get t.procedures q ≡ Some p
-    → CallCounts t n fuel q p
-call_counts t n fuel q p f e =
-    let same = ap (λ m. sums_at (table_by t m) (Some q)) f ∙ called t n q p e in
-    record { sites_are = ap (λ (s : Sums). s.sites) same; fresh_are = ap (λ (s : Sums). s.fresh) same }
-
--- there are so many locals left for its variables
-pub call_own : (t : TreeView) (n fuel q : ℕ) (p : Procedure) (a : Ahead) → fuel ≡ suc n
-    → slice_get t.procedures q ≡ Some p
-    → HasRoom a (sums_at (table_by t fuel) (Some q)) 0
-    → a.fresh + (length p.parameters + length p.locals) ≤ MOST_ALL_LOCALS
-call_own t n fuel q p a f g h =
-    let counts = call_counts t n fuel q p f g in omega (arith, h.for_fresh, counts.fresh_are)
-
--- a body is no larger than all bodies
-pub size_within : (ps : List Procedure) (q : ℕ) (p : Procedure) → slice_get ps q ≡ Some p
-    → block_size p.body ≤ total_size ps
-size_within [] q p e = absurd (cc)
-size_within (x ∷ ps) zero p e = let same : x ≡ p = cc in omega (arith, ap (λ (y : Procedure). block_size y.body) same)
-size_within (x ∷ ps) (suc q) p e = omega (arith, size_within ps q p e)
-
--- the measure of a body is less than that of a call
-pub falls : (n fuel total size : ℕ) → fuel ≡ suc n → size ≤ total
-    → n * (4 * total + 3) + 4 * size + 2 < fuel * (4 * total + 3)
-falls n fuel total size e le = omega (arith, e, le, ap (λ m. m * (4 * total + 3)) e)
-
--- the variables of a procedure are as many as it takes
-pub own_locals : (t : TreeView) (n fuel q : ℕ) (p : Procedure) (a : Ahead) (s : Sight) (own : ℕ) → fuel ≡ suc n
-    → slice_get t.procedures q ≡ Some p → s ≡ sight t.records t.globals (variables p) → own ≡ a.fresh
-    → HasRoom a (sums_at (table_by t fuel) (Some q)) 0 → own + length s.locals ≤ MOST_ALL_LOCALS
-own_locals t n fuel q p a s own f g i o h =
-    omega (
-      arith,
-      call_own t n fuel q p a f g h,
-      ap (λ (x : Sight). length x.locals) i,
-      o,
-      length-append p.parameters p.locals,
-    )
 
 -- a statement is written by one step
 pub primitive_written : (t : TreeView) (n : ℕ) (s : Sight) (first : ℕ) (a : Ahead) (f : StatementView)

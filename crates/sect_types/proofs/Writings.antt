@@ -1,7 +1,6 @@
 -- The expanded texts of all threads, with their fresh locals.
-use Rattle.std.proofs.Common.{◌≡◌, ℕ, ◌+◌, ◌<◌, ◌≤◌, List, [], ◌∷◌, ◌++◌, map, drop, get_or}
-use Rattle.std.proofs.Common.{refl, sym, ◌∙◌, ap, arith, subst, length, append_assoc}
-use Rattle.std.proofs.lemmas.List.{drop_all}
+use Rattle.std.proofs.Common.{◌≡◌, ℕ, ◌+◌, ◌<◌, ◌≤◌, List, [], ◌∷◌, ◌++◌, map, drop, get_or, refl, sym, ◌∙◌, ap, arith}
+use Rattle.std.proofs.Common.{subst, length, append_assoc}
 use Rattle.sect_front.specs.declared.tree.Thread.{Thread}
 use Rattle.sect_front.specs.TreeView.{TreeView}
 use Rattle.sect_types.specs.declared.limits.TheConstants.{MOST_CALLS, MOST_LOCALS, MOST_SECTIONS, MOST_SITES}
@@ -14,13 +13,12 @@ use Rattle.sect_types.specs.Statements.{TextView}
 use Rattle.sect_types.specs.First.{IsTyped}
 use Rattle.sect_types.specs.Expanded.{Ahead, past_thread, expanded_threads, fresh_in}
 use Rattle.sect_types.specs.steps.Expanding.{SettingView, FrontView, Fits, block_there, thread_start, thread_end}
-use Rattle.sect_types.specs.steps.Expanding.{thread_text}
-use Rattle.sect_types.specs.steps.Expanding.{AllFit, tree_of, AreWritten, AreFlat}
+use Rattle.sect_types.specs.steps.Expanding.{thread_text, AllFit, tree_of, AreWritten, AreFlat}
 use Rattle.sect_types.specs.Items.{variables}
 use Rattle.sect_types.specs.declared.place.Place.TheVariants.{InProcedure}
 use Rattle.sect_types.proofs.SiteLaws.{typed_clean}
 use Rattle.sect_types.specs.steps.Expansion.{view_of}
-use Rattle.sect_types.proofs.Lists.{drop_next}
+use Rattle.sect_lemmas.proofs.Elements.{drop_next}
 use Rattle.sect_types.proofs.Walked.{before_threads}
 use Rattle.sect_types.proofs.SectionLaws.{sections_in, block_flat}
 use Rattle.sect_types.proofs.Counting.{thread_sums, before_add, threads_add}
@@ -34,9 +32,6 @@ pub thread_written : (w : SettingView) (sites sections most : ℕ) (h : Thread) 
     → text ≡ block_there w most (view_of s 0) f h.body → text ≡ thread_text w sites sections h
 thread_written w sites sections most h s f text e g i j =
     j ∙ (λ k. block_there w (e k) (view_of (g k) 0) (i k) h.body)
-
-place : ℕ → ℕ → Ahead
-place sites sections = record { sites = sites; sections = sections; fresh = 0 }
 
 pub starts : (w : SettingView) (threads : List Thread) (sites : ℕ) → sites ≡ length w.globals
     → AllFit w (length w.globals) 0 threads
@@ -97,12 +92,6 @@ pub one_thread : (w : SettingView) (all : List Thread) (i : ℕ) (h : Thread) (s
 one_thread w all i h sites sections more later texts fresh text own lt is a =
     goes_on w all h (drop (i + 1) all) sites sections more later texts fresh text own
     (next_thread w all i h sites sections texts fresh lt is a)
-
-ended : (w : SettingView) (all : List Thread) (i sites sections : ℕ) (texts : List TextView) (fresh : List (List Fresh))
-    → length all ≤ i → AreWritten w all (drop i all) sites sections texts fresh
-    → AreWritten w all [] sites sections texts fresh
-ended w all i sites sections texts fresh le a =
-    subst (λ l. AreWritten w all l sites sections texts fresh) (drop_all i all le) a
 
 fit_all : (t : TreeView) (w : SettingView) (sites section : ℕ) (hs : List Thread) → w.procedures ≡ t.procedures
     → sites + (thread_sums (declared_in t) hs).sites ≤ MOST_SITES → section + sections_in hs ≤ MOST_SECTIONS

@@ -16,7 +16,6 @@ pub mod Environments
 pub mod Sound
 pub mod Sections
 pub mod Programs
-pub mod Lists
 pub mod Traces
 pub mod Lockings
 pub mod Endings

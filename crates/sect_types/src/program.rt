@@ -17,7 +17,7 @@ ghost use Rattle.sect_types.specs.steps.Shown.{Shows};
 ghost use Rattle.sect_types.specs.Sound.{IsSound, AreSound};
 ghost use Rattle.sect_types.specs.declared.rule.TypeFault.TheVariants.{Memory};
 ghost use Rattle.sect_types.specs.Sections.{sections_of, AllNumbered, AllSited};
-ghost use Rattle.sect_types.specs.steps.Found.{section_shown};
+ghost use Rattle.sect_types.specs.Sections.{section_shown};
 ghost use Rattle.sect_types.specs.Expanded.{fresh_in};
 ghost use Rattle.sect_types.specs.LocalNames.{all_local_names};
 ghost use Rattle.sect_types.specs.First.{Judges, none_yet, IsTyped};

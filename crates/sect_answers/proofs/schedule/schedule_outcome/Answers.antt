@@ -1,5 +1,5 @@
 use Rattle.std.proofs.Common.{subst, length}
-use Rattle.sect_names.proofs.Refusing.{given}
+use Rattle.sect_lemmas.proofs.Results.{given}
 use Rattle.sect_answers.specs.Answers.{of_source}
 use Rattle.sect_answers.specs.Scheduling.{IsScheduleDue, of_world}
 use Rattle.sect_world.specs.Schedules.{IsUnrun}

@@ -2,9 +2,9 @@ use Rattle.std.proofs.Common.{◌≡◌, ◌+◌, [], ◌∷◌, ℕ, List, Resu
 use Rattle.std.specs.Prelude.{slice_get, Some, IfOk}
 use Rattle.std.proofs.lemmas.Result.{IfOk-weaker}
 use Rattle.sect_front.specs.declared.tree.Locking.{Locking}
-use Rattle.sect_types.specs.Lists.{Has}
+use Rattle.sect_lemmas.specs.Lists.{Has}
 use Rattle.sect_types.specs.Sections.{SectionView, sections_of}
-use Rattle.sect_types.specs.steps.Found.{section_shown}
+use Rattle.sect_types.specs.Sections.{section_shown}
 use Rattle.sect_graph.specs.declared.flow.Node.{Node}
 use Rattle.sect_graph.specs.Graphs.{IsGraphOf}
 use Rattle.sect_names.specs.declared.lock.Lock.{Lock}
@@ -14,7 +14,7 @@ use Rattle.sect_names.specs.Locks.{IsLockOf}
 use Rattle.sect_names.specs.Needed.{end_locks, end_of}
 use Rattle.sect_infer.specs.Sets.{LocksView, AreLocksOf}
 use Rattle.sect_infer.specs.steps.Found.{IsFound, IsOnAll}
-use Rattle.sect_names.proofs.Ending.{section_read, end_is}
+use Rattle.sect_names.proofs.shared.Ending.{section_read, end_is}
 use Rattle.sect_infer.proofs.Finding.{inferred_of, on_all_of, found_lawful, all_lawful}
 use Rattle.sect_infer.proofs.section.infer.Goals.{After-locking}
 use Rattle.sect_infer.proofs.section.infer.Goals as goal

@@ -2,7 +2,7 @@ use Rattle.std.proofs.Common.{[], ◌∷◌, ◌++◌, ◌+◌, drop, arith, ap,
 use Rattle.sect_types.specs.Items.{ALocal, local_items}
 use Rattle.sect_types.specs.Rules.{declared_in, judge}
 use Rattle.sect_types.specs.steps.Listing.{AreLocals}
-use Rattle.sect_types.proofs.Lists.{drop_next}
+use Rattle.sect_lemmas.proofs.Elements.{drop_next}
 use Rattle.sect_types.proofs.Records.{fault_after}
 use Rattle.sect_types.proofs.Listed.{local_more}
 use Rattle.sect_types.proofs.Passed.{none_left}

@@ -3,7 +3,7 @@ use Rattle.std.proofs.Common.{◌≡◌, ℕ, ◌+◌, ◌<◌, ◌≤◌, List,
 use Rattle.std.proofs.Common.{refl, sym, ◌∙◌, ap, arith, subst, length, append_assoc}
 use Rattle.sect_front.specs.declared.tree.Thread.{Thread}
 use Rattle.sect_front.specs.TreeView.{TreeView}
-use Rattle.sect_types.specs.declared.limits.TheConstants.{MOST_LOCALS, MOST_SECTIONS, MOST_SITES, MOST_STATEMENTS}
+use Rattle.sect_types.specs.Limits.{most_locals, most_sections, most_sites, most_statements}
 use Rattle.sect_types.specs.Rules.{declared_in, sight}
 use Rattle.sect_types.specs.Sums.{sums, block_sums}
 use Rattle.sect_types.specs.Statements.{TextView}
@@ -88,12 +88,12 @@ one_thread t now next hs i h texts text lt is e w p =
 -- there is room for it
 pub thread_few : (t : TreeView) (now : Ahead) (hs : List Thread) (i : ℕ) (h : Thread) (texts : List TextView)
     → i < length hs
-    → h ≡ get_or hs i h → AreExpanded t now (drop i hs) texts → length h.locals ≤ MOST_LOCALS
+    → h ≡ get_or hs i h → AreExpanded t now (drop i hs) texts → length h.locals ≤ most_locals
 thread_few t now hs i h texts lt is e = (next_thread t now hs i h texts lt is e).room.0
 
-room_for : (t : TreeView) (a : Ahead) (hs : List Thread) → a.sites + (thread_sums (declared_in t) hs).sites ≤ MOST_SITES
-    → a.sections + sections_in hs ≤ MOST_SECTIONS → HaveFewLocals hs
-    → (thread_sums (declared_in t) hs).statements ≤ MOST_STATEMENTS
+room_for : (t : TreeView) (a : Ahead) (hs : List Thread) → a.sites + (thread_sums (declared_in t) hs).sites ≤ most_sites
+    → a.sections + sections_in hs ≤ most_sections → HaveFewLocals hs
+    → (thread_sums (declared_in t) hs).statements ≤ most_statements
     → RoomFor t a hs
 room_for t a [] sites sections locals statements = tt
 room_for t a (h ∷ hs) sites sections locals statements =

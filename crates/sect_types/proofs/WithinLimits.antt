@@ -9,8 +9,8 @@ use Rattle.sect_front.specs.declared.tree.Primitive.TheVariants as primitive
 use Rattle.sect_front.specs.declared.tree.Operand.{Operand}
 use Rattle.sect_front.specs.declared.tree.Declaration.{Declaration}
 use Rattle.sect_front.specs.declared.tree.GlobalObject.{GlobalObject}
-use Rattle.sect_types.specs.declared.limits.TheConstants.{MOST_ALL_LOCALS, MOST_CALLS, MOST_GLOBALS}
-use Rattle.sect_types.specs.declared.limits.TheConstants.{MOST_LOCALS, MOST_SECTIONS, MOST_SITES, MOST_STATEMENTS}
+use Rattle.sect_types.specs.Limits.{most_all_locals, most_calls, most_globals}
+use Rattle.sect_types.specs.Limits.{most_locals, most_sections, most_sites, most_statements}
 use Rattle.sect_types.specs.declared.types.ValueType.{ValueType}
 use Rattle.sect_types.specs.Sight.{names_of_records}
 use Rattle.sect_types.specs.Environments.{type_of, types_of}
@@ -43,10 +43,10 @@ use Rattle.sect_types.proofs.Counting.{end_of, before_add, typed_counts, thread_
 
 -- the counts of the expanded text so far
 pub record IsFew (c : Counts) : Type 0 where
-  pub few_statements : c.statements ≤ MOST_STATEMENTS
-  pub few_sites : c.sites ≤ MOST_SITES
-  pub few_sections : c.sections ≤ MOST_SECTIONS
-  pub few_calls : c.calls ≤ MOST_CALLS
+  pub few_statements : c.statements ≤ most_statements
+  pub few_sites : c.sites ≤ most_sites
+  pub few_sections : c.sections ≤ most_sections
+  pub few_calls : c.calls ≤ most_calls
 
 under : (m n : ℕ) → nat_le m n ≡ false → n < m
 under m n h = grind (arith, nat_tests)
@@ -54,10 +54,10 @@ under m n h = grind (arith, nat_tests)
 at_most : (m n : ℕ) → nat_lt m n ≡ false → n ≤ m
 at_most m n h = grind (arith, nat_tests)
 
-one_statement : (c : Counts) → nat_le MOST_STATEMENTS c.statements ≡ false → IsFew c
+one_statement : (c : Counts) → nat_le most_statements c.statements ≡ false → IsFew c
     → IsFew (record c { items = c.items + 1; statements = c.statements + 1 })
 one_statement c h f = record {
-  few_statements = omega (arith, under MOST_STATEMENTS c.statements h);
+  few_statements = omega (arith, under most_statements c.statements h);
   few_sites = f.few_sites;
   few_sections = f.few_sections;
   few_calls = f.few_calls;
@@ -69,10 +69,10 @@ primitive_few : (d : Declared) (ls : List Declaration) (inside : Bool) (depth : 
 primitive_few d ls inside depth c (primitive.Assign x v) h f = one_statement c h f
 primitive_few d ls inside depth c (primitive.Compute x v o w) h f = one_statement c h f
 primitive_few d ls inside depth c (primitive.New x r) h f =
-    let g = or_false (nat_le MOST_STATEMENTS c.statements) (nat_le MOST_SITES c.sites) h in
+    let g = or_false (nat_le most_statements c.statements) (nat_le most_sites c.sites) h in
     record {
-      few_statements = omega (arith, under MOST_STATEMENTS c.statements g.0);
-      few_sites = omega (arith, under MOST_SITES c.sites g.1);
+      few_statements = omega (arith, under most_statements c.statements g.0);
+      few_sites = omega (arith, under most_sites c.sites g.1);
       few_sections = f.few_sections;
       few_calls = f.few_calls;
     }
@@ -80,14 +80,14 @@ primitive_few d ls inside depth c (primitive.Load x y g) h f = one_statement c h
 primitive_few d ls inside depth c (primitive.Store y g v) h f = one_statement c h f
 primitive_few d ls inside depth c (primitive.Print v) h f = one_statement c h f
 
-section_few : (c : Counts) → (nat_le MOST_STATEMENTS c.statements || nat_le MOST_SECTIONS c.sections) ≡ false → IsFew c
+section_few : (c : Counts) → (nat_le most_statements c.statements || nat_le most_sections c.sections) ≡ false → IsFew c
     → IsFew (record c { items = c.items + 1; statements = c.statements + 1; sections = c.sections + 1 })
 section_few c h f =
-    let g = or_false (nat_le MOST_STATEMENTS c.statements) (nat_le MOST_SECTIONS c.sections) h in
+    let g = or_false (nat_le most_statements c.statements) (nat_le most_sections c.sections) h in
     record {
-      few_statements = omega (arith, under MOST_STATEMENTS c.statements g.0);
+      few_statements = omega (arith, under most_statements c.statements g.0);
       few_sites = f.few_sites;
-      few_sections = omega (arith, under MOST_SECTIONS c.sections g.1);
+      few_sections = omega (arith, under most_sections c.sections g.1);
       few_calls = f.few_calls;
     }
 
@@ -111,10 +111,10 @@ passes_few c depth s h f =
     let i = or_false _ _ g.1 in
     let j = or_false _ _ i.1 in
     record {
-      few_statements = at_most MOST_STATEMENTS (c.statements + s.statements) g.0;
-      few_sites = at_most MOST_SITES (c.sites + s.sites) i.0;
+      few_statements = at_most most_statements (c.statements + s.statements) g.0;
+      few_sites = at_most most_sites (c.sites + s.sites) i.0;
       few_sections = f.few_sections;
-      few_calls = at_most MOST_CALLS (c.calls + s.calls) j.0;
+      few_calls = at_most most_calls (c.calls + s.calls) j.0;
     }
 
 call_few : (d : Declared) (ls : List Declaration) (inside : Bool) (depth : ℕ) (c : Counts) (x : List ℕ)
@@ -199,11 +199,11 @@ named_few most item name items d step bound c before (x ∷ xs) w h f =
     (next_none d c first rest none) (omega (arith, one, here)) in
     omega (arith, one, more)
 
--- a variable is one of at most `MOST_LOCALS`
+-- a variable is one of at most `most_locals`
 locals_few : (d : Declared) (c : Counts) (before : List (List ℕ)) (ls : List Declaration) (w : List Item)
-    → NoneBroken d c (local_items before ls w) → length before ≤ MOST_LOCALS → length before + length ls ≤ MOST_LOCALS
+    → NoneBroken d c (local_items before ls w) → length before ≤ most_locals → length before + length ls ≤ most_locals
 locals_few d =
-    named_few MOST_LOCALS (λ l before. ALocal l.kind l.name before) (λ l. l.name) local_items d (λ before l ls w. refl)
+    named_few most_locals (λ l before. ALocal l.kind l.name before) (λ l. l.name) local_items d (λ before l ls w. refl)
     (λ c before l. refl)
 
 item_keeps : (c : Counts) → IsFew c → IsFew (after_item c)
@@ -219,10 +219,10 @@ declared_keep : (c : Counts) (ls : List Declaration) → IsFew c → IsFew (decl
 declared_keep c [] f = f
 declared_keep c (l ∷ ls) f = declared_keep (after_item c) ls (item_keeps c f)
 
--- each thread has at most `MOST_LOCALS` locals of its own
+-- each thread has at most `most_locals` locals of its own
 abbrev pub HaveFewLocals : List Thread → Type 0
 HaveFewLocals [] = ⊤
-HaveFewLocals (t ∷ ts) = (length t.locals ≤ MOST_LOCALS) × HaveFewLocals ts
+HaveFewLocals (t ∷ ts) = (length t.locals ≤ most_locals) × HaveFewLocals ts
 
 -- the threads of a text stay within the limits
 pub threads_few : (d : Declared) (c : Counts) (before : List (List ℕ)) (ts : List Thread) (w : List Item)
@@ -243,10 +243,10 @@ threads_few d c before (t ∷ ts) w h f =
     (y.0, (omega (arith, locals_few d e [] t.locals body at_locals (omega arith)), y.1))
 
 globals_few : (d : Declared) (c : Counts) (before : List (List ℕ)) (gs : List GlobalObject) (w : List Item)
-    → NoneBroken d c (global_items before gs w) → length before ≤ MOST_GLOBALS
-    → length before + length gs ≤ MOST_GLOBALS
+    → NoneBroken d c (global_items before gs w) → length before ≤ most_globals
+    → length before + length gs ≤ most_globals
 globals_few d =
-    named_few MOST_GLOBALS (λ g before. AGlobal g.of g.name before) (λ g. g.name) global_items d (λ before g gs w. refl)
+    named_few most_globals (λ g before. AGlobal g.of g.name before) (λ g. g.name) global_items d (λ before g gs w. refl)
     (λ c before g. refl)
 
 -- the counts at the end of a typed text, and the locals of its threads
@@ -271,9 +271,9 @@ typed_few t h =
 
 -- the expanded texts of a typed text are within the limits
 pub record AreWithinLimits (t : TreeView) : Type 0 where
-  pub statements_within : total_statements (texts_of t) ≤ MOST_STATEMENTS
-  pub sites_within : length t.globals + length (all_made (texts_of t)) ≤ MOST_SITES
-  pub sections_within : length (sections_of (texts_of t)) ≤ MOST_SECTIONS
+  pub statements_within : total_statements (texts_of t) ≤ most_statements
+  pub sites_within : length t.globals + length (all_made (texts_of t)) ≤ most_sites
+  pub sections_within : length (sections_of (texts_of t)) ≤ most_sections
 
 pub typed_within : (t : TreeView) → IsTyped t → AreWithinLimits t
 typed_within t h =
@@ -324,13 +324,13 @@ calls_take (suc n) ps q =
     subst (λ (s : Sums). s.fresh ≤ s.statements) (sym (looked ps (sums_within n ps) q))
     (call_takes ps (sums_within n ps) (calls_take n ps) (procedure_numbered ps q))
 
--- each expanded thread has at most `MOST_ALL_LOCALS` locals
+-- each expanded thread has at most `most_all_locals` locals
 abbrev pub AreFewTypes : List (List ValueType) → Type 0
 AreFewTypes [] = ⊤
-AreFewTypes (ls ∷ more) = (length ls ≤ MOST_ALL_LOCALS) × AreFewTypes more
+AreFewTypes (ls ∷ more) = (length ls ≤ most_all_locals) × AreFewTypes more
 
 types_few : (t : TreeView) (hs : List Thread) → HaveFewLocals hs
-    → (thread_sums (declared_in t) hs).statements ≤ MOST_STATEMENTS
+    → (thread_sums (declared_in t) hs).statements ≤ most_statements
     → AreFewTypes (map (local_types_of t) hs)
 types_few t [] f s = tt
 types_few t (h ∷ hs) f s =

@@ -11,7 +11,7 @@ use Rattle.sect_front.specs.declared.tree.Statement.{Statement}
 use Rattle.sect_front.specs.Syntax.{StatementView, Primitive, If, IfElse, While, Atomic, Call, BlockView, End, Then}
 use Rattle.sect_front.specs.TreeView.{TreeView}
 use Rattle.sect_front.specs.Trees.{statement_of, block_of, block_size}
-use Rattle.sect_types.specs.declared.limits.TheConstants.{MOST_ALL_LOCALS}
+use Rattle.sect_types.specs.Limits.{most_all_locals}
 use Rattle.sect_types.specs.declared.action.Value.{Value}
 use Rattle.sect_types.specs.declared.action.Value.TheVariants as value
 use Rattle.sect_types.specs.declared.action.Action.TheVariants as action
@@ -310,7 +310,7 @@ call_counts t n fuel q p f e =
 pub call_own : (t : TreeView) (n fuel q : ℕ) (p : Procedure) (a : Ahead) → fuel ≡ suc n
     → slice_get t.procedures q ≡ Some p
     → HasRoom a (sums_at (table_by t fuel) (Some q)) 0
-    → a.fresh + (length p.parameters + length p.locals) ≤ MOST_ALL_LOCALS
+    → a.fresh + (length p.parameters + length p.locals) ≤ most_all_locals
 call_own t n fuel q p a f g h =
     let counts = call_counts t n fuel q p f g in omega (arith, h.for_fresh, counts.fresh_are)
 
@@ -329,7 +329,7 @@ falls n fuel total size e le = omega (arith, e, le, ap (λ m. m * (4 * total + 3
 -- the variables of a procedure are as many as it takes
 pub own_locals : (t : TreeView) (n fuel q : ℕ) (p : Procedure) (a : Ahead) (s : Sight) (own : ℕ) → fuel ≡ suc n
     → slice_get t.procedures q ≡ Some p → s ≡ sight t.records t.globals (variables p) → own ≡ a.fresh
-    → HasRoom a (sums_at (table_by t fuel) (Some q)) 0 → own + length s.locals ≤ MOST_ALL_LOCALS
+    → HasRoom a (sums_at (table_by t fuel) (Some q)) 0 → own + length s.locals ≤ most_all_locals
 own_locals t n fuel q p a s own f g i o h =
     omega (
       arith,

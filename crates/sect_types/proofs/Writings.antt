@@ -4,8 +4,8 @@ use Rattle.std.proofs.Common.{refl, sym, ◌∙◌, ap, arith, subst, length, ap
 use Rattle.std.proofs.lemmas.List.{drop_all}
 use Rattle.sect_front.specs.declared.tree.Thread.{Thread}
 use Rattle.sect_front.specs.TreeView.{TreeView}
-use Rattle.sect_types.specs.declared.limits.TheConstants.{MOST_CALLS, MOST_LOCALS, MOST_SECTIONS, MOST_SITES}
-use Rattle.sect_types.specs.declared.limits.TheConstants.{MOST_STATEMENTS}
+use Rattle.sect_types.specs.Limits.{most_calls, most_locals, most_sections, most_sites}
+use Rattle.sect_types.specs.Limits.{most_statements}
 use Rattle.sect_types.specs.declared.expand.Fresh.{Fresh}
 use Rattle.sect_types.specs.Sight.{Sight}
 use Rattle.sect_types.specs.Rules.{sight, declared_in}
@@ -77,7 +77,7 @@ next_thread w all i h sites sections texts fresh lt is a =
 
 pub thread_few : (w : SettingView) (all : List Thread) (i : ℕ) (h : Thread) (sites sections : ℕ) (texts : List TextView)
     (fresh : List (List Fresh)) → i < length all → h ≡ get_or all i h
-    → AreWritten w all (drop i all) sites sections texts fresh → length h.locals ≤ MOST_LOCALS
+    → AreWritten w all (drop i all) sites sections texts fresh → length h.locals ≤ most_locals
 thread_few w all i h sites sections texts fresh lt is a =
     (next_thread w all i h sites sections texts fresh lt is a).fits.0
 
@@ -105,10 +105,10 @@ ended w all i sites sections texts fresh le a =
     subst (λ l. AreWritten w all l sites sections texts fresh) (drop_all i all le) a
 
 fit_all : (t : TreeView) (w : SettingView) (sites section : ℕ) (hs : List Thread) → w.procedures ≡ t.procedures
-    → sites + (thread_sums (declared_in t) hs).sites ≤ MOST_SITES → section + sections_in hs ≤ MOST_SECTIONS
+    → sites + (thread_sums (declared_in t) hs).sites ≤ most_sites → section + sections_in hs ≤ most_sections
     → HaveFewLocals hs
-    → (thread_sums (declared_in t) hs).statements ≤ MOST_STATEMENTS
-    → (thread_sums (declared_in t) hs).calls ≤ MOST_CALLS
+    → (thread_sums (declared_in t) hs).statements ≤ most_statements
+    → (thread_sums (declared_in t) hs).calls ≤ most_calls
     → AllFit w sites section hs
 fit_all t w sites section [] e s n l c d = tt
 fit_all t w sites section (h ∷ hs) e s n l c d =

@@ -1,3 +1,4 @@
+pub mod Limits
 pub mod Sight
 pub mod Resolve
 pub mod Items

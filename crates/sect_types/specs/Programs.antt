@@ -1,8 +1,8 @@
 -- Programs.
 use Rattle.std.specs.Prelude.{◌≡◌, ◌≤◌, ◌<◌, ℕ, ◌+◌, List, [], ◌∷◌, ◌++◌, length, All, slice_index_or}
 use Rattle.sect_front.specs.TreeView.{TreeView}
-use Rattle.sect_types.specs.declared.limits.TheConstants.{MOST_RECORDS, MOST_FIELDS, MOST_GLOBALS, MOST_THREADS}
-use Rattle.sect_types.specs.declared.limits.TheConstants.{MOST_ALL_LOCALS, MOST_STATEMENTS, MOST_SITES, MOST_SECTIONS}
+use Rattle.sect_types.specs.Limits.{most_records, most_fields, most_globals, most_threads}
+use Rattle.sect_types.specs.Limits.{most_all_locals, most_statements, most_sites, most_sections}
 use Rattle.sect_types.specs.declared.types.ValueType.{ValueType}
 use Rattle.sect_types.specs.Sight.{names_of_records}
 use Rattle.sect_types.specs.Statements.{TextView, statement_count, made_in}
@@ -44,15 +44,15 @@ sites_of globals texts = globals ++ all_made texts
 
 -- the counts are within the limits
 pub record IsWithinLimits (p : ProgramView) : Type 0 where
-  pub few_records : length p.records ≤ MOST_RECORDS
-  pub few_fields : All (λ (ts : List ValueType). length ts ≤ MOST_FIELDS) p.records
-  pub few_globals : length p.globals ≤ MOST_GLOBALS
-  pub few_threads : length p.texts ≤ MOST_THREADS
+  pub few_records : length p.records ≤ most_records
+  pub few_fields : All (λ (ts : List ValueType). length ts ≤ most_fields) p.records
+  pub few_globals : length p.globals ≤ most_globals
+  pub few_threads : length p.texts ≤ most_threads
   pub as_many : length p.locals ≡ length p.texts
-  pub few_locals : All (λ (ts : List ValueType). length ts ≤ MOST_ALL_LOCALS) p.locals
-  pub few_statements : total_statements p.texts ≤ MOST_STATEMENTS
-  pub few_sections : length (sections_of p.texts) ≤ MOST_SECTIONS
-  pub few_sites : length (sites_of p.globals p.texts) ≤ MOST_SITES
+  pub few_locals : All (λ (ts : List ValueType). length ts ≤ most_all_locals) p.locals
+  pub few_statements : total_statements p.texts ≤ most_statements
+  pub few_sections : length (sections_of p.texts) ≤ most_sections
+  pub few_sites : length (sites_of p.globals p.texts) ≤ most_sites
 
 -- each reference has its record
 pub record AreRecordsThere (p : ProgramView) : Type 0 where

@@ -13,10 +13,10 @@ use Rattle.sect_front.specs.declared.tree.GlobalObject.{GlobalObject}
 use Rattle.sect_front.specs.declared.tree.Declaration.{Declaration}
 use Rattle.sect_front.specs.declared.tree.Procedure.{Procedure}
 use Rattle.sect_front.specs.TreeView.{TreeView}
-use Rattle.sect_front.specs.declared.limits.TheConstants.{MOST_DEPTH}
-use Rattle.sect_types.specs.declared.limits.TheConstants.{MOST_RECORDS, MOST_FIELDS, MOST_GLOBALS, MOST_THREADS}
-use Rattle.sect_types.specs.declared.limits.TheConstants.{MOST_LOCALS, MOST_STATEMENTS, MOST_SITES, MOST_SECTIONS}
-use Rattle.sect_types.specs.declared.limits.TheConstants.{MOST_PROCEDURES, MOST_CALLS}
+use Rattle.sect_front.specs.Limits.{most_depth}
+use Rattle.sect_types.specs.Limits.{most_records, most_fields, most_globals, most_threads}
+use Rattle.sect_types.specs.Limits.{most_locals, most_statements, most_sites, most_sections}
+use Rattle.sect_types.specs.Limits.{most_procedures, most_calls}
 use Rattle.sect_types.specs.declared.rule.Rule.{Rule}
 use Rattle.sect_types.specs.declared.rule.Rule.TheVariants.{Unknown, Twice, WrongType, SharedOutside, Nested, TooMany}
 use Rattle.sect_types.specs.declared.rule.Rule.TheVariants.{Recursion, Arguments}
@@ -253,8 +253,8 @@ depth_at (InProcedure p) = 0
 
 abbrev pub passes_by : Counts → ℕ → Sums → Bool
 passes_by c depth s =
-    nat_lt MOST_STATEMENTS (c.statements + s.statements) || (nat_lt MOST_SITES (c.sites + s.sites)
-    || (nat_lt MOST_CALLS (c.calls + s.calls) || nat_lt MOST_DEPTH (depth + s.deep)))
+    nat_lt most_statements (c.statements + s.statements) || (nat_lt most_sites (c.sites + s.sites)
+    || (nat_lt most_calls (c.calls + s.calls) || nat_lt most_depth (depth + s.deep)))
 
 -- a call that breaks 10, 13 or 17 has no expansion
 abbrev pub expands : Declared → Sight → Bool → List ℕ → List Operand → Bool
@@ -262,19 +262,19 @@ expands d s inside f vs = knows_head d s (CallHead f vs) && (inside && as_many (
 
 abbrev pub passes_limit : Declared → Counts → Sight → Place → Head → Bool
 passes_limit d c s at (PrimitiveHead (primitive.New x r)) =
-    nat_le MOST_STATEMENTS c.statements || nat_le MOST_SITES c.sites
-passes_limit d c s at AtomicHead = nat_le MOST_STATEMENTS c.statements || nat_le MOST_SECTIONS c.sections
+    nat_le most_statements c.statements || nat_le most_sites c.sites
+passes_limit d c s at AtomicHead = nat_le most_statements c.statements || nat_le most_sections c.sections
 passes_limit d c s at (CallHead f vs) =
     expands d s (is_inside at) f vs && passes_by c (depth_at at) (sums_of_call d f)
-passes_limit d c s at _ = nat_le MOST_STATEMENTS c.statements
+passes_limit d c s at _ = nat_le most_statements c.statements
 
 abbrev pub too_many : Declared → Counts → Item → Bool
-too_many d c (ARecord x before) = nat_le MOST_RECORDS (length before)
-too_many d c (AField k x before) = nat_le MOST_FIELDS (length before)
-too_many d c (AGlobal r x before) = nat_le MOST_GLOBALS (length before)
-too_many d c (AProcedure x before) = nat_le MOST_PROCEDURES (length before)
-too_many d c (AThread x before) = nat_le MOST_THREADS (length before)
-too_many d c (ALocal k x before) = nat_le MOST_LOCALS (length before)
+too_many d c (ARecord x before) = nat_le most_records (length before)
+too_many d c (AField k x before) = nat_le most_fields (length before)
+too_many d c (AGlobal r x before) = nat_le most_globals (length before)
+too_many d c (AProcedure x before) = nat_le most_procedures (length before)
+too_many d c (AThread x before) = nat_le most_threads (length before)
+too_many d c (ALocal k x before) = nat_le most_locals (length before)
 too_many d c (AStatement h ls at) = by_place at (passes_limit d c (seen d ls) at h) false
 
 -- 16: a call in a procedure of one that is it or reaches it by calls
@@ -332,7 +332,7 @@ judge d c (item ∷ more) = fault_or (rule_of d c item) c.items (judge d (after 
 
 -- what the counts may reach
 pub record IsWithin (statements sites sections calls : ℕ) : Type 0 where
-  pub few_statements : statements ≤ MOST_STATEMENTS
-  pub few_sites : sites ≤ MOST_SITES
-  pub few_sections : sections ≤ MOST_SECTIONS
-  pub few_calls : calls ≤ MOST_CALLS
+  pub few_statements : statements ≤ most_statements
+  pub few_sites : sites ≤ most_sites
+  pub few_sections : sections ≤ most_sections
+  pub few_calls : calls ≤ most_calls

@@ -8,9 +8,11 @@ ghost use Rattle.sect_types.specs.Items.{global_items, local_items};
 ghost use Rattle.sect_types.specs.Rules.{knows_kind as knows, declared_in};
 ghost use Rattle.sect_types.specs.steps.Walks.{Walks, rule_in, declared_rule};
 ghost use Rattle.sect_types.specs.steps.Listing.{Knows, all_known, fields_fine, globals_known};
+ghost use Rattle.sect_types.specs.Limits.{most_fields, most_globals, most_locals, most_procedures, most_records};
+ghost use Rattle.sect_types.specs.Limits.{most_sites, most_threads};
 
 use crate::limits::{
-    MOST_FIELDS, MOST_GLOBALS, MOST_LOCALS, MOST_PROCEDURES, MOST_RECORDS, MOST_SITES, MOST_THREADS,
+    MOST_FIELDS, MOST_GLOBALS, MOST_LOCALS, MOST_PROCEDURES, MOST_RECORDS, MOST_THREADS,
 };
 use crate::names::{NameSet, Names};
 use crate::rule::{Fault, Rule};
@@ -64,7 +66,7 @@ fn pass_field(
         (λ w. AField field.now.kind field.now.name names.old ∷ w) spot.old spot.new result }
     ensures names { OnOk result (names.new ≡ names.old ++ field.now.name ∷ []) }
     ensures sites { OnOk result (spot.new.sites ≡ spot.old.sites) }
-    ensures few { OnOk result (length names.old < MOST_FIELDS) }
+    ensures few { OnOk result (length names.old < most_fields) }
     ensures known { OnOk result (knows (names_of_records tree.now.records) field.now.kind ≡ true) }
 {
     let known = knows_kind(tree, known, &field.kind);
@@ -91,7 +93,7 @@ pub fn fields(
         spot.old spot.new result }
     ensures names { IfOk result (λ names. names ≡ names_of_declared list.now) }
     ensures sites { OnOk result (spot.new.sites ≡ spot.old.sites) }
-    ensures few { OnOk result (length list.now ≤ MOST_FIELDS) }
+    ensures few { OnOk result (length list.now ≤ most_fields) }
     ensures known { OnOk result (all_known (names_of_records tree.now.records) list.now ≡ true) }
 {
     let mut names = Names::new(alloc);
@@ -117,7 +119,7 @@ fn pass_record(tree: &Tree, names: &mut Names, spot: &mut Spot, of: &Record) -> 
         spot.old spot.new result }
     ensures names { OnOk result (names.new ≡ names.old ++ of.now.name ∷ []) }
     ensures sites { OnOk result (spot.new.sites ≡ spot.old.sites) }
-    ensures few { OnOk result (length names.old < MOST_RECORDS) }
+    ensures few { OnOk result (length names.old < most_records) }
 {
     match judge_declared(names, &of.name, true, false, MOST_RECORDS) {
         Ok(()) => {
@@ -143,8 +145,8 @@ fn whole_record(
     ensures names { OnOk result (names.new ≡ names.old ++ of.now.name ∷ []) }
     ensures fields { IfOk result (λ inner. inner ≡ names_of_declared of.now.fields) }
     ensures sites { OnOk result (spot.new.sites ≡ spot.old.sites) }
-    ensures few { OnOk result (length names.old < MOST_RECORDS) }
-    ensures few_fields { OnOk result (length of.now.fields ≤ MOST_FIELDS) }
+    ensures few { OnOk result (length names.old < most_records) }
+    ensures few_fields { OnOk result (length of.now.fields ≤ most_fields) }
     ensures known_fields { OnOk result (all_known (names_of_records tree.now.records)
         of.now.fields ≡ true) }
 {
@@ -165,7 +167,7 @@ pub fn records(
     ensures names { IfOk result (λ r. r.0 ≡ names_of_records tree.now.records) }
     ensures fields { IfOk result (λ r. r.1.items ≡ all_fields tree.now.records) }
     ensures sites { OnOk result (spot.new.sites ≡ spot.old.sites) }
-    ensures few { OnOk result (length tree.now.records ≤ MOST_RECORDS) }
+    ensures few { OnOk result (length tree.now.records ≤ most_records) }
     ensures fine { OnOk result (fields_fine (names_of_records tree.now.records) tree.now.records
         ≡ true) }
 {
@@ -188,12 +190,12 @@ fn pass_global(
     global: &GlobalObject,
 ) -> Result<(), Fault>
     requires known { Knows known.now tree.now.records }
-    requires sites { spot.old.sites < MOST_SITES }
+    requires sites { spot.old.sites < most_sites }
     ensures walks { Walks (declared_in tree.now)
         (λ w. AGlobal global.now.of global.now.name names.old ∷ w) spot.old spot.new result }
     ensures names { OnOk result (names.new ≡ names.old ++ global.now.name ∷ []) }
     ensures sites { OnOk result (spot.new.sites ≡ spot.old.sites + 1) }
-    ensures few { OnOk result (length names.old < MOST_GLOBALS) }
+    ensures few { OnOk result (length names.old < most_globals) }
     ensures known { OnOk result (has_name global.now.of (names_of_records tree.now.records)
         ≡ true) }
 {
@@ -221,7 +223,7 @@ pub fn globals(alloc: Global, tree: &Tree, known: &NameSet, spot: &mut Spot) -> 
         spot.old spot.new result }
     ensures names { IfOk result (λ names. names ≡ names_of_globals tree.now.globals) }
     ensures sites { OnOk result (spot.new.sites ≡ length tree.now.globals) }
-    ensures few { OnOk result (length tree.now.globals ≤ MOST_GLOBALS) }
+    ensures few { OnOk result (length tree.now.globals ≤ most_globals) }
     ensures known { OnOk result (globals_known (names_of_records tree.now.records)
         tree.now.globals ≡ true) }
 {
@@ -245,7 +247,7 @@ fn pass_local(
     ensures walks { Walks (declared_in tree.now)
         (λ w. ALocal local.now.kind local.now.name names.old ∷ w) spot.old spot.new result }
     ensures names { OnOk result (names.new ≡ names.old ++ local.now.name ∷ []) }
-    ensures few { OnOk result (length names.old < MOST_LOCALS) }
+    ensures few { OnOk result (length names.old < most_locals) }
     ensures known { OnOk result (knows (names_of_records tree.now.records) local.now.kind ≡ true) }
 {
     let known = knows_kind(tree, known, &local.kind);
@@ -279,7 +281,7 @@ pub fn locals(
     ensures walks { Walks (declared_in tree.now) (local_items [] list.now)
         spot.old spot.new result }
     ensures names { IfOk result (λ names. names ≡ names_of_declared list.now) }
-    ensures few { OnOk result (length list.now ≤ MOST_LOCALS) }
+    ensures few { OnOk result (length list.now ≤ most_locals) }
     ensures known { OnOk result (all_known (names_of_records tree.now.records) list.now ≡ true) }
 {
     let mut names = Names::new(alloc);
@@ -299,7 +301,7 @@ pub fn pass_procedure(
     ensures walks { Walks (declared_in tree.now) (λ w. AProcedure procedure.now.name names.old ∷ w)
         spot.old spot.new result }
     ensures names { OnOk result (names.new ≡ names.old ++ procedure.now.name ∷ []) }
-    ensures few { OnOk result (length names.old < MOST_PROCEDURES) }
+    ensures few { OnOk result (length names.old < most_procedures) }
 {
     match judge_declared(names, &procedure.name, true, false, MOST_PROCEDURES) {
         Ok(()) => {
@@ -321,7 +323,7 @@ pub fn pass_thread(
     ensures walks { Walks (declared_in tree.now) (λ w. AThread thread.now.name names.old ∷ w)
         spot.old spot.new result }
     ensures names { OnOk result (names.new ≡ names.old ++ thread.now.name ∷ []) }
-    ensures few { OnOk result (length names.old < MOST_THREADS) }
+    ensures few { OnOk result (length names.old < most_threads) }
 {
     match judge_declared(names, &thread.name, true, false, MOST_THREADS) {
         Ok(()) => {

@@ -28,7 +28,7 @@ mod walk;
 pub use action::{Action, Base, Condition, Field, Label, Value};
 pub use limits::{
     MOST_FIELDS, MOST_GLOBALS, MOST_LOCALS, MOST_RECORDS, MOST_SECTIONS, MOST_SITES,
-    MOST_STATEMENTS, MOST_THREADS,
+    MOST_STATEMENTS, MOST_THREADS, limits_of_programs,
 };
 pub use local_name::LocalName;
 pub use program::{Program, check_types};

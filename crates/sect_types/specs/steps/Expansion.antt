@@ -7,8 +7,8 @@ use Rattle.sect_front.specs.declared.tree.Thread.{Thread}
 use Rattle.sect_front.specs.TreeView.{TreeView}
 use Rattle.sect_front.specs.Syntax.{StatementView, BlockView}
 use Rattle.sect_front.specs.Trees.{block_size}
-use Rattle.sect_types.specs.declared.limits.TheConstants.{MOST_CALLS, MOST_LOCALS, MOST_ALL_LOCALS, MOST_SITES}
-use Rattle.sect_types.specs.declared.limits.TheConstants.{MOST_SECTIONS}
+use Rattle.sect_types.specs.Limits.{most_calls, most_locals, most_all_locals, most_sites}
+use Rattle.sect_types.specs.Limits.{most_sections}
 use Rattle.sect_types.specs.declared.sums.Sums.{Sums}
 use Rattle.sect_types.specs.declared.action.Value.{Value}
 use Rattle.sect_types.specs.declared.action.Value.TheVariants as value
@@ -35,9 +35,9 @@ pub record IsPast (old new : Ahead) (s : Sums) (sections : ℕ) : Type 0 where
 
 -- behind it the limits aren't passed
 pub record HasRoom (a : Ahead) (s : Sums) (sections : ℕ) : Type 0 where
-  pub for_sites : a.sites + s.sites ≤ MOST_SITES
-  pub for_sections : a.sections + sections ≤ MOST_SECTIONS
-  pub for_fresh : a.fresh + s.fresh ≤ MOST_ALL_LOCALS
+  pub for_sites : a.sites + s.sites ≤ most_sites
+  pub for_sections : a.sections + sections ≤ most_sections
+  pub for_fresh : a.fresh + s.fresh ≤ most_all_locals
 
 -- what a call comes to, and what is put in its place, where calls stand in one another at most n deep
 abbrev pub table_by : TreeView → ℕ → List Sums
@@ -87,7 +87,7 @@ at_thread a h = record a { fresh = length h.locals }
 abbrev pub RoomFor : TreeView → Ahead → List Thread → Type 0
 RoomFor t a [] = ⊤
 RoomFor t a (h ∷ hs) =
-    (length h.locals ≤ MOST_LOCALS)
+    (length h.locals ≤ most_locals)
     × HasRoom (at_thread a h) (block_sums t.procedures (sums t.procedures) h.body) (block_sections h.body)
     × RoomFor t (past_thread t a h) hs
 
@@ -105,7 +105,7 @@ fresh_known records (f ∷ fs) = knows_kind records f.declared.kind && fresh_kno
 pub record IsReadyForTypes (t : TreeView) (records : List (List ℕ)) (h : Thread) : Type 0 where
   pub known : all_known records h.locals ≡ true
   pub known_fresh : fresh_known records (fresh_in t h) ≡ true
-  pub room : (block_sums t.procedures (sums t.procedures) h.body).calls ≤ MOST_CALLS
+  pub room : (block_sums t.procedures (sums t.procedures) h.body).calls ≤ most_calls
 
 abbrev pub AllReadyForTypes : TreeView → List (List ℕ) → List Thread → Type 0
 AllReadyForTypes t records [] = ⊤

@@ -17,7 +17,7 @@ use Rattle.sect_front.specs.TreeView.{TreeView}
 use Rattle.sect_types.specs.Items.{variables}
 use Rattle.sect_types.specs.declared.sums.Sums.{Sums}
 use Rattle.sect_types.specs.Sums.{nothing, sums, sums_at, or_nothing, sums_within, procedure_sums, statement_sums}
-use Rattle.sect_types.specs.Sums.{block_sums, primitive_sums, number_of}
+use Rattle.sect_types.specs.Sums.{block_sums, primitive_sums, number_of, sums_of}
 use Rattle.sect_types.specs.Expanded.{Scene, Ahead, Expander, Freshens, of_call, past_statement, past_block}
 use Rattle.sect_types.specs.Expanded.{expanded_statement, expanded_block, expand_within, call_of, procedure_numbered}
 use Rattle.sect_types.specs.Expanded.{after_call, set_parameters, clear_locals, expanded_thread, statement_fresh}
@@ -81,10 +81,6 @@ set_count : (v : Scene) (x : ℕ) (ds : List Declaration) (vs : List Operand) (k
 set_count v x [] vs k = omega arith
 set_count v x (d ∷ ds) [] k = omega (arith, set_count v (x + 1) ds [] k)
 set_count v x (d ∷ ds) (u ∷ us) k = omega (arith, set_count v (x + 1) ds us k)
-
-abbrev pub sums_of : List Procedure → List Sums → Option Procedure → Sums
-sums_of ps table None = nothing
-sums_of ps table (Some p) = procedure_sums ps table p
 
 mapped : (ps qs : List Procedure) (table : List Sums) (q : ℕ)
     → or_nothing (slice_get (map (procedure_sums ps table) qs) q) ≡ sums_of ps table (slice_get qs q)

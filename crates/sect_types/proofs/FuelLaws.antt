@@ -8,7 +8,8 @@ use Rattle.sect_types.specs.declared.sums.Sums.{Sums}
 use Rattle.sect_types.specs.Sums.{nothing, both, around, call_sums, sums_at, number_of, statement_sums, block_sums}
 use Rattle.sect_types.specs.Sums.{sums_within, prepend, statement_calls, block_calls, calls_in}
 use Rattle.sect_types.specs.Expanded.{procedure_numbered}
-use Rattle.sect_types.proofs.CountLaws.{sums_of, looked}
+use Rattle.sect_types.proofs.CountLaws.{looked}
+use Rattle.sect_types.specs.Sums.{sums_of}
 
 pub or_false : (a b : Bool) → (a || b) ≡ false → (a ≡ false) × (b ≡ false)
 or_false false false h = (refl, refl)

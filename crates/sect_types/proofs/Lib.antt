@@ -58,9 +58,8 @@ pub mod TypeLaws
 pub mod CycleLaws
 pub mod FreshLaws
 pub mod Counting
+mod Unfolding
 pub mod WithinLimits
-pub mod TemplateLaws
-pub mod CopyLaws
 pub mod ProgramLemmas
 pub mod Threading
 pub mod Writing

@@ -108,43 +108,6 @@ ahead_after_local p t f n b =
     by (inl e) = ahead_standing p t (local_step p t f) e ∙ sym (up_to_standing f.work.fuel p t (local_step p t f) e)
     by (inr e) = ap (λ n. up_to n p t (local_step p t f)) e
 
--- a step of a thread that doesn't stand ends it, or takes a unit of fuel
-step_of_going : (p : ProgramView) (t : ℕ) (f : FrameView) → is_standing f ≡ false
-    → StandsOrSpent f.work.fuel (local_step p t f)
-step_of_going p t f going = by f.ended f.text going where
-  by : (e : Option End) (k : TextView) → (if has_ended e then true else begins_section k) ≡ false
-      → StandsOrSpent f.work.fuel (frame_after k (next p t k None f.work))
-  by (Some e) k h = absurd (true≢false h)
-  by None Stop h = inl refl
-  by None (Do a r) h = step_spends p t (Do a r) None f.work refl
-  by None (Choose c y n r) h = step_spends p t (Choose c y n r) None f.work refl
-  by None (Loop c b r) h = step_spends p t (Loop c b r) None f.work refl
-  by None (Section i b r) h = absurd (true≢false h)
-
--- local code that has been run on has ended, or is before a section
-pub ahead_stands : (p : ProgramView) (t : ℕ) (f : FrameView) → is_standing (ahead p t f) ≡ true
-ahead_stands p t f = at f.work.fuel f refl where
-  at : (n : ℕ) (f : FrameView) → f.work.fuel ≡ n → is_standing (ahead p t f) ≡ true
-  at zero f e = by (is_standing f) refl where
-    by : (b : Bool) → is_standing f ≡ b → is_standing (if b then f else up_to f.work.fuel p t (local_step p t f)) ≡ true
-    by true stands = stands
-    by false going = moved (step_of_going p t f going) where
-      moved : StandsOrSpent f.work.fuel (local_step p t f)
-          → is_standing (up_to f.work.fuel p t (local_step p t f)) ≡ true
-      moved (inl stands) = ap is_standing (up_to_standing f.work.fuel p t (local_step p t f) stands) ∙ stands
-      moved (inr spent) = absurd (omega (arith, spent, e))
-  at (suc n) f e = by (is_standing f) refl (at n) where
-    by : (b : Bool) → is_standing f ≡ b → ((g : FrameView) → g.work.fuel ≡ n → is_standing (ahead p t g) ≡ true)
-        → is_standing (if b then f else up_to f.work.fuel p t (local_step p t f)) ≡ true
-    by true stands rest = stands
-    by false going rest = moved (step_of_going p t f going) where
-      moved : StandsOrSpent f.work.fuel (local_step p t f)
-          → is_standing (up_to f.work.fuel p t (local_step p t f)) ≡ true
-      moved (inl stands) = ap is_standing (up_to_standing f.work.fuel p t (local_step p t f) stands) ∙ stands
-      moved (inr spent) =
-          ap (λ m. is_standing (up_to m p t (local_step p t f))) (sym spent)
-          ∙ rest (local_step p t f) (omega (arith, spent, e))
-
 -- each frame of the list is run on, with its own thread's number
 pub get-all_ahead : (p : ProgramView) (k : ℕ) (fs : List FrameView) (i : ℕ)
     → slice_get (all_ahead p k fs) i ≡ mapped (ahead p (k + i)) (slice_get fs i)

@@ -23,7 +23,8 @@ use Rattle.sect_types.specs.Expanded.{Scene, Ahead, Expander, past_statement, pa
 use Rattle.sect_types.specs.Expanded.{expanded_block, set_parameters, clear_locals, after_call, call_of}
 use Rattle.sect_types.specs.Expanded.{procedure_numbered, expand_within, expanded_thread, past_thread}
 use Rattle.sect_types.specs.Expanded.{expanded_threads, texts_of}
-use Rattle.sect_types.proofs.CountLaws.{sums_of, looked}
+use Rattle.sect_types.proofs.CountLaws.{looked}
+use Rattle.sect_types.specs.Sums.{sums_of}
 use Rattle.sect_types.proofs.Walked.{text_clean}
 use Rattle.sect_types.proofs.Resolved.{resolved, moved_made, moved_site}
 

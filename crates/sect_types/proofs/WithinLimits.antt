@@ -38,7 +38,8 @@ use Rattle.sect_types.proofs.Walked.{NoneBroken, first_clean, first_few, next_no
 use Rattle.sect_types.proofs.Walked.{statement_walked, block_walked, declared_after, locals_walked, thread_after}
 use Rattle.sect_types.proofs.Walked.{threads_after, records_after, records_walked, globals_walked, procedures_walked}
 use Rattle.sect_types.proofs.Walked.{before_procedures, before_threads}
-use Rattle.sect_types.proofs.CountLaws.{sums_of, looked, thread_freshens}
+use Rattle.sect_types.proofs.CountLaws.{looked, thread_freshens}
+use Rattle.sect_types.specs.Sums.{sums_of}
 use Rattle.sect_types.proofs.Counting.{end_of, before_add, typed_counts, thread_sums, threads_add}
 
 -- the counts of the expanded text so far

@@ -42,7 +42,8 @@ use Rattle.sect_types.specs.steps.Expansion.{block_by}
 use Rattle.sect_types.specs.steps.Expansion.{IsExpanding, total_size, argument_at}
 use Rattle.sect_types.proofs.Lists.{drop_next}
 use Rattle.sect_types.proofs.Joining.{joined_stop, joined_again}
-use Rattle.sect_types.proofs.CountLaws.{sums_of, looked}
+use Rattle.sect_types.proofs.CountLaws.{looked}
+use Rattle.sect_types.specs.Sums.{sums_of}
 
 -- one step more
 pub onto : (t : TextView) (s : Step) (k : TextView) → joined (joined t (step_then s Stop)) k ≡ joined t (step_then s k)

@@ -10,6 +10,7 @@ pub mod Texts
 pub mod Falls
 pub mod Numbered
 pub mod Expanded
+pub mod Unfolding
 pub mod LocalNames
 pub mod First
 pub mod Faults
@@ -26,4 +27,3 @@ pub mod Meaning
 pub mod Whole
 pub mod steps
 pub mod Clean
-pub mod Templates

@@ -79,6 +79,11 @@ call_sums variables b =
 abbrev pub procedure_sums : List Procedure → List Sums → Procedure → Sums
 procedure_sums ps table p = call_sums (length p.parameters + length p.locals) (block_sums ps table p.body)
 
+-- of a call of that procedure, where there is one
+abbrev pub sums_of : List Procedure → List Sums → Option Procedure → Sums
+sums_of ps table None = nothing
+sums_of ps table (Some p) = procedure_sums ps table p
+
 -- of each procedure, where calls stand in one another at most n deep
 abbrev pub sums_within : ℕ → List Procedure → List Sums
 sums_within zero ps = []

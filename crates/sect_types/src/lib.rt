@@ -6,6 +6,7 @@ mod called;
 mod declare;
 mod expand;
 mod inside;
+mod laws;
 mod limits;
 mod local_name;
 mod locking;
@@ -26,6 +27,7 @@ mod variables;
 mod walk;
 
 pub use action::{Action, Base, Condition, Field, Label, Value};
+pub use laws::calls_unfold;
 pub use limits::{
     MOST_FIELDS, MOST_GLOBALS, MOST_LOCALS, MOST_RECORDS, MOST_SECTIONS, MOST_SITES,
     MOST_STATEMENTS, MOST_THREADS, limits_of_programs,

@@ -7,7 +7,8 @@ use Rattle.std.proofs.lemmas.Bool.{eqb-true, eqb-false}
 use Rattle.std.proofs.lemmas.Option.{slice_get_within}
 use Rattle.std.proofs.lemmas.Map.Steps.{length-le_from_distinct_below}
 use Rattle.sect_front.specs.declared.tree.Procedure.{Procedure}
-use Rattle.sect_types.specs.Sums.{sums, sums_at, sums_within, calls_in, reaches, returns}
+use Rattle.sect_types.specs.Sums.{sums, sums_at, sums_within, calls_in}
+use Rattle.sect_types.specs.steps.Search.{reaches, returns}
 use Rattle.sect_types.proofs.FuelLaws.{chain, or_false, one_more}
 
 pub or_cases : (a b : Bool) → (a || b) ≡ true → (a ≡ true) ⊎ (b ≡ true)

@@ -32,8 +32,10 @@ use Rattle.sect_types.specs.Items.{Head, PrimitiveHead, TestHead, Item, AStateme
 use Rattle.sect_types.specs.steps.Spots.{full_for}
 use Rattle.sect_types.specs.steps.Standing.{declared_by}
 use Rattle.sect_types.specs.Rules.{knows_primitive, primitive_agrees, knows_test, compares, has_field, local_accepts}
-use Rattle.sect_types.specs.Rules.{local_is, local_gets, field_accepts, is_int, Declared, Counts, rule_of, shares}
-use Rattle.sect_types.specs.Rules.{by_place, after_item, after_primitive, passes_limit, after, judge, fault_or, Faulty}
+use Rattle.sect_types.specs.Rules.{local_is, local_gets, field_accepts, is_int, Declared, Counts, shares}
+use Rattle.sect_types.specs.steps.Judging.{rule_of}
+use Rattle.sect_types.specs.Rules.{by_place, after_item, after_primitive, passes_limit, after}
+use Rattle.sect_types.specs.steps.Judging.{judge, fault_or, Faulty}
 use Rattle.sect_types.specs.steps.Walks.{rule_in, then_rest}
 
 -- 10, else 12, else none

@@ -32,6 +32,7 @@ pub mod CountLaws
 pub mod FuelLaws
 pub mod EnoughLaws
 pub mod ReachLaws
+mod Ways
 pub mod Marking
 pub mod Numbering
 pub mod Filling

@@ -10,7 +10,7 @@ use Rattle.std.proofs.lemmas.List.Folds.{list_any-append}
 use Rattle.std.proofs.lemmas.Option.{slice_get_within}
 use Rattle.sect_front.specs.declared.tree.Procedure.{Procedure}
 use Rattle.sect_types.specs.Store.{put_at}
-use Rattle.sect_types.specs.Sums.{returns, reaches}
+use Rattle.sect_types.specs.steps.Search.{returns, reaches}
 use Rattle.sect_types.specs.steps.Called.{IsAmong, Calls, IsMarked, marks, AreMarked, AreFound, Grows, AreClosed}
 use Rattle.sect_types.specs.steps.Called.{Marks, AreCallersBefore, callers_of}
 use Rattle.sect_types.specs.steps.Standing.{AreReturning}

@@ -6,7 +6,8 @@ use Rattle.std.proofs.Common.{refl, sym, arith, subst, length, slice_get}
 use Rattle.std.proofs.lemmas.Bool.{eqb-true}
 use Rattle.std.proofs.lemmas.Map.Steps.{length-le_from_distinct_below}
 use Rattle.sect_front.specs.declared.tree.Procedure.{Procedure}
-use Rattle.sect_types.specs.Sums.{calls_in, reaches, returns}
+use Rattle.sect_types.specs.Sums.{calls_in}
+use Rattle.sect_types.specs.steps.Search.{reaches, returns}
 use Rattle.sect_types.proofs.EnoughLaws.{two, or_cases, or_left, or_right, witness, none_equal, Calls, same}
 use Rattle.sect_types.proofs.EnoughLaws.{reaches_step, reaches_up, calls_there, there}
 

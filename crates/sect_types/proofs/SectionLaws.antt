@@ -18,7 +18,7 @@ use Rattle.sect_types.specs.declared.sums.Sums.{Sums}
 use Rattle.sect_types.specs.Sums.{sums, sums_within, number_of}
 use Rattle.sect_types.specs.Rules.{Declared, declared_in}
 use Rattle.sect_types.specs.First.{IsTyped}
-use Rattle.sect_types.specs.Clean.{IsCleanStatement, IsCleanBlock, AreCleanThreads}
+use Rattle.sect_types.specs.steps.Clean.{IsCleanStatement, IsCleanBlock, AreCleanThreads}
 use Rattle.sect_types.specs.Expanded.{Scene, Ahead, Expander, past_statement, past_block, statement_sections}
 use Rattle.sect_types.specs.Expanded.{block_sections, expanded_statement, expanded_block, set_parameters}
 use Rattle.sect_types.specs.Expanded.{clear_locals, after_call, call_of, procedure_numbered, expand_within}

@@ -18,7 +18,7 @@ use Rattle.sect_types.specs.declared.sums.Sums.{Sums}
 use Rattle.sect_types.specs.Sums.{sums, sums_at, sums_within, statement_sums, block_sums, primitive_sums, number_of}
 use Rattle.sect_types.specs.Rules.{Declared, seen, declared_in}
 use Rattle.sect_types.specs.First.{IsTyped}
-use Rattle.sect_types.specs.Clean.{IsClean, IsCleanStatement, IsCleanBlock, AreCleanProcedures, AreCleanThreads}
+use Rattle.sect_types.specs.steps.Clean.{IsClean, IsCleanStatement, IsCleanBlock, AreCleanProcedures, AreCleanThreads}
 use Rattle.sect_types.specs.Expanded.{Scene, Ahead, Expander, past_statement, past_block, action_at, expanded_statement}
 use Rattle.sect_types.specs.Expanded.{expanded_block, set_parameters, clear_locals, after_call, call_of}
 use Rattle.sect_types.specs.Expanded.{procedure_numbered, expand_within, expanded_thread, past_thread}

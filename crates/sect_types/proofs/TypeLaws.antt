@@ -28,7 +28,7 @@ use Rattle.sect_types.specs.Sums.{sums, sums_within, statement_sums, block_sums,
 use Rattle.sect_types.specs.Rules.{Declared, seen, kind_accepts, all_accept, shares, knows_operands, as_many}
 use Rattle.sect_types.specs.Rules.{procedure_at, procedure_of, call_agrees, declared_in}
 use Rattle.sect_types.specs.First.{IsTyped}
-use Rattle.sect_types.specs.Clean.{IsClean, IsCleanStatement, IsCleanBlock, AreCleanThreads}
+use Rattle.sect_types.specs.steps.Clean.{IsClean, IsCleanStatement, IsCleanBlock, AreCleanThreads}
 use Rattle.sect_types.specs.Expanded.{Ahead, Expander, Freshens, of_call, past_statement, past_block}
 use Rattle.sect_types.specs.Expanded.{expanded_statement, expanded_block, cleared, argument_in, set_parameters}
 use Rattle.sect_types.specs.Expanded.{clear_locals, after_call, call_of, procedure_numbered, expand_within, fresh_of}

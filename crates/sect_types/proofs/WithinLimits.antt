@@ -28,7 +28,7 @@ use Rattle.sect_types.specs.declared.sums.Sums.{Sums}
 use Rattle.sect_types.specs.Sums.{sums, sums_at, sums_within, number_of, primitive_sums, statement_sums, block_sums}
 use Rattle.sect_types.specs.Rules.{Declared, Counts, seen, after, too_many, passes_by, sums_of_call, as_many}
 use Rattle.sect_types.specs.Rules.{after_item, procedure_of, knows_operands, declared_in}
-use Rattle.sect_types.specs.Clean.{IsClean}
+use Rattle.sect_types.specs.steps.Clean.{IsClean}
 use Rattle.sect_types.specs.First.{none_yet, IsTyped}
 use Rattle.sect_types.specs.declared.expand.Fresh.{Fresh}
 use Rattle.sect_types.specs.Expanded.{procedure_numbered, fresh_in, local_types_of, texts_of}

@@ -26,4 +26,3 @@ pub mod Store
 pub mod Meaning
 pub mod Whole
 pub mod steps
-pub mod Clean

@@ -1,6 +1,6 @@
--- The rules, and the first item that breaks one.
-use Rattle.std.specs.Prelude.{◌≤◌, ℕ, ◌+◌, Bool, true, false, not, ◌&&◌, ◌||◌, List, [], ◌∷◌, length, Option, Some}
-use Rattle.std.specs.Prelude.{None, is_some, nat_le, nat_lt, nat_eq, if◌then◌else◌, slice_get}
+-- The rules.
+use Rattle.std.specs.Prelude.{◌≡◌, ℕ, ◌+◌, Bool, true, false, not, ◌&&◌, ◌||◌, List, [], ◌∷◌, length, Option, Some}
+use Rattle.std.specs.Prelude.{None, is_some, nat_le, nat_lt, nat_eq, slice_get}
 use Rattle.sect_front.specs.declared.tree.Primitive as leaf
 use Rattle.sect_front.specs.declared.tree.Primitive.TheVariants as primitive
 use Rattle.sect_front.specs.declared.tree.Test.{Test}
@@ -30,7 +30,7 @@ use Rattle.sect_types.specs.declared.resolve.Looked.TheVariants as looked
 use Rattle.sect_types.specs.Sight.{Sight, has_name, names_of_records, names_of_globals, base_of, operand_of}
 use Rattle.sect_types.specs.Resolve.{same_kind, accepts, comparable, looked_of}
 use Rattle.sect_types.specs.declared.sums.Sums.{Sums}
-use Rattle.sect_types.specs.Sums.{sums, sums_at, number_of, returns}
+use Rattle.sect_types.specs.Sums.{sums, sums_at, number_of, Returns}
 use Rattle.sect_types.specs.Items.{Head, PrimitiveHead, TestHead, AtomicHead, CallHead, is_inside, Item, ARecord}
 use Rattle.sect_types.specs.Items.{AField}
 use Rattle.sect_types.specs.Items.{AGlobal, AProcedure, AThread, ALocal, AStatement}
@@ -278,61 +278,26 @@ too_many d c (ALocal k x before) = nat_le most_locals (length before)
 too_many d c (AStatement h ls at) = by_place at (passes_limit d c (seen d ls) at h) false
 
 -- 16: a call in a procedure of one that is it or reaches it by calls
-abbrev pub returns_to : List Procedure → Place → Option ℕ → Bool
-returns_to ps (InProcedure p) (Some q) = returns ps p q
-returns_to ps _ _ = false
+abbrev pub ReturnsTo : List Procedure → Place → Option ℕ → Type 0
+ReturnsTo ps (InProcedure p) (Some q) = Returns ps p q
+ReturnsTo ps _ _ = ⊥
 
-abbrev pub recursive : Declared → Item → Bool
-recursive d (AStatement (CallHead f vs) ls at) = returns_to d.procedures at (number_of d.procedures f)
-recursive d _ = false
+abbrev pub IsRecursive : Declared → Item → Type 0
+IsRecursive d (AStatement (CallHead f vs) ls at) = ReturnsTo d.procedures at (number_of d.procedures f)
+IsRecursive d _ = ⊥
 
 -- 17: another number of arguments than of parameters
 abbrev pub miscounted : Declared → Item → Bool
 miscounted d (AStatement (CallHead f vs) ls at) = not (as_many (procedure_of d.procedures f) vs)
 miscounted d _ = false
 
--- rule by rule
-abbrev pub breaks : Declared → Counts → Item → Rule → Bool
-breaks d c item Unknown = unknown d item
-breaks d c item Twice = twice d item
-breaks d c item WrongType = mistyped d item
-breaks d c item SharedOutside = outside item
-breaks d c item Nested = nested item
-breaks d c item TooMany = too_many d c item
-breaks d c item Recursion = recursive d item
-breaks d c item Arguments = miscounted d item
-
-abbrev pub least : (Rule → Bool) → Option Rule
-least b =
-    if b Unknown then Some Unknown else
-    (if b Twice then Some Twice else
-    (if b WrongType then Some WrongType else
-    (if b SharedOutside then Some SharedOutside else
-    (if b Nested then Some Nested else
-    (if b TooMany then Some TooMany else
-    (if b Recursion then Some Recursion else
-    (if b Arguments then Some Arguments else None)))))))
-
--- the least rule that an item breaks
-abbrev pub rule_of : Declared → Counts → Item → Option Rule
-rule_of d c item = least (breaks d c item)
-
--- the first fault of a list of items
-pub data Verdict : Type 0 where
-  Fine : Counts → Verdict
-  Faulty : ℕ → Rule → Verdict
-
-abbrev pub fault_or : Option Rule → ℕ → Verdict → Verdict
-fault_or None i rest = rest
-fault_or (Some r) i rest = Faulty i r
-
-abbrev pub judge : Declared → Counts → List Item → Verdict
-judge d c [] = Fine c
-judge d c (item ∷ more) = fault_or (rule_of d c item) c.items (judge d (after d c item) more)
-
--- what the counts may reach
-pub record IsWithin (statements sites sections calls : ℕ) : Type 0 where
-  pub few_statements : statements ≤ most_statements
-  pub few_sites : sites ≤ most_sites
-  pub few_sections : sections ≤ most_sections
-  pub few_calls : calls ≤ most_calls
+-- the item breaks the rule
+abbrev pub BreaksRule : Declared → Counts → Item → Rule → Type 0
+BreaksRule d c item Unknown = unknown d item ≡ true
+BreaksRule d c item Twice = twice d item ≡ true
+BreaksRule d c item WrongType = mistyped d item ≡ true
+BreaksRule d c item SharedOutside = outside item ≡ true
+BreaksRule d c item Nested = nested item ≡ true
+BreaksRule d c item TooMany = too_many d c item ≡ true
+BreaksRule d c item Recursion = IsRecursive d item
+BreaksRule d c item Arguments = miscounted d item ≡ true

@@ -1,4 +1,7 @@
 -- What the contracts of private functions speak of.
+pub mod Search
+pub mod Judging
+pub mod Clean
 pub mod Walks
 pub mod Capped
 pub mod Summaries

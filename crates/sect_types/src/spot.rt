@@ -29,7 +29,8 @@ pub struct Spot {
 }
 
 impl Model for Spot {
-    ghost use Rattle.sect_types.specs.Rules.{Counts, IsWithin};
+    ghost use Rattle.sect_types.specs.Rules.{Counts};
+    ghost use Rattle.sect_types.specs.steps.Judging.{IsWithin};
 
     ghost Value = { Counts };
 

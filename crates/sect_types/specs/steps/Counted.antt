@@ -4,7 +4,8 @@ use Rattle.sect_front.specs.TreeView.{TreeView}
 use Rattle.sect_types.specs.Limits.{most_globals, most_procedures, most_records, most_threads}
 use Rattle.sect_types.specs.Sight.{names_of_records}
 use Rattle.sect_types.specs.Items.{Item, items, record_items, global_items}
-use Rattle.sect_types.specs.Rules.{Counts, judge, Fine, declared_in}
+use Rattle.sect_types.specs.Rules.{Counts, declared_in}
+use Rattle.sect_types.specs.steps.Judging.{judge, Fine}
 use Rattle.sect_types.specs.First.{none_yet}
 use Rattle.sect_types.specs.steps.Listing.{fields_fine, globals_known, locals_fine}
 use Rattle.sect_types.specs.steps.Threads.{variables_fine}

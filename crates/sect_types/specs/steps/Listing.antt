@@ -8,7 +8,8 @@ use Rattle.sect_types.specs.Sight.{has_name, names_of_records, names_of_globals,
 use Rattle.sect_types.specs.declared.types.ValueType.{ValueType}
 use Rattle.sect_types.specs.Environments.{types_of, field_types, global_records}
 use Rattle.sect_types.specs.Items.{Item, record_items, field_items, global_items, local_items}
-use Rattle.sect_types.specs.Rules.{Declared, Counts, judge, knows_kind}
+use Rattle.sect_types.specs.Rules.{Declared, Counts, knows_kind}
+use Rattle.sect_types.specs.steps.Judging.{judge}
 use Rattle.sect_front.specs.declared.tree.Thread.{Thread}
 
 -- the set has the names of these records

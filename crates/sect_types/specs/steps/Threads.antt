@@ -6,7 +6,8 @@ use Rattle.sect_front.specs.declared.tree.Thread.{Thread}
 use Rattle.sect_types.specs.Limits.{most_locals, most_procedures, most_threads}
 use Rattle.sect_types.specs.Sight.{names_of_records, names_of_declared}
 use Rattle.sect_types.specs.Items.{Item, variables, procedure_items, thread_items}
-use Rattle.sect_types.specs.Rules.{Declared, Counts, judge}
+use Rattle.sect_types.specs.Rules.{Declared, Counts}
+use Rattle.sect_types.specs.steps.Judging.{judge}
 use Rattle.sect_types.specs.steps.Listing.{all_known, locals_fine}
 
 -- the variables of a procedure with their names

@@ -1,6 +1,7 @@
 use Rattle.std.proofs.Common.{[], ◌∷◌, ◌++◌, ◌+◌, drop, arith, ap, sym, ◌∙◌, append-nil}
 use Rattle.sect_types.specs.Items.{AGlobal, global_items}
-use Rattle.sect_types.specs.Rules.{declared_in, judge}
+use Rattle.sect_types.specs.Rules.{declared_in}
+use Rattle.sect_types.specs.steps.Judging.{judge}
 use Rattle.sect_types.specs.steps.Listing.{AreGlobals}
 use Rattle.sect_types.proofs.Lists.{drop_next}
 use Rattle.sect_types.proofs.Records.{fault_after}

@@ -1,5 +1,6 @@
 use Rattle.std.proofs.Common.{Ok, Err, [], ◌∷◌, ℕ, List, ap, subst, ◌≡◌, false}
-use Rattle.sect_types.specs.Rules.{declared_in, judge}
+use Rattle.sect_types.specs.Rules.{declared_in}
+use Rattle.sect_types.specs.steps.Judging.{judge}
 use Rattle.sect_types.specs.Items.{Item, AThread, local_items, block_items}
 use Rattle.sect_types.specs.declared.place.Place.TheVariants.{InThread}
 use Rattle.sect_types.specs.steps.Standing.{StandingView}

@@ -61,6 +61,8 @@ pub mod FreshLaws
 pub mod Counting
 mod Unfolding
 pub mod WithinLimits
+pub mod DepthLaws
+pub mod Shallow
 pub mod ProgramLemmas
 pub mod Threading
 pub mod Writing

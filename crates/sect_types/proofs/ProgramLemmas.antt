@@ -46,7 +46,8 @@ use Rattle.sect_types.proofs.SiteLaws.{typed_sites}
 use Rattle.sect_types.proofs.SectionLaws.{block_flat, inside_section, sections_in, typed_sections, typed_section_count}
 use Rattle.sect_types.proofs.TypeLaws.{typed_sound}
 use Rattle.sect_types.proofs.Counting.{fine_typed, fine_counts}
-use Rattle.sect_types.proofs.WithinLimits.{AreFewTypes, typed_few_types, typed_within}
+use Rattle.sect_types.proofs.WithinLimits.{AreFewTypes, typed_few_types, typed_within, typed_calls}
+use Rattle.sect_types.proofs.Shallow.{typed_shallow}
 
 at_most : (m n : ℕ) → nat_le m n ≡ true → m ≤ n
 at_most m n h = grind (arith, nat_tests)
@@ -294,6 +295,8 @@ own_parts t end h =
         few_statements = within.statements_within;
         few_sections = within.sections_within;
         few_sites = omega (arith, within.sites_within, long_sites, long_globals);
+        few_calls = typed_calls t typed;
+        shallow = typed_shallow t typed h.shallow;
       };
       numbered = typed_sections t typed;
       sited = subst (λ n. AllSited n (texts_of t)) (sym long_globals) (typed_sites t typed);

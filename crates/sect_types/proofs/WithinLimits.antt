@@ -1,7 +1,7 @@
 -- A text that breaks no rule stays within the limits.
 use Rattle.std.specs.Prelude.{Bool, true, false, ◌&&◌, ◌||◌, nat_le, nat_lt, is_some, ⊤}
 use Rattle.std.proofs.Common.{◌≡◌, ℕ, zero, suc, ◌+◌, ◌<◌, ◌≤◌, List, [], ◌∷◌, ◌++◌, map, Option, Some, None}
-use Rattle.std.proofs.Common.{refl, sym, ◌∙◌, arith, subst, length, length-append}
+use Rattle.std.proofs.Common.{refl, sym, ◌∙◌, ap, arith, subst, length, length-append}
 use Rattle.std.proofs.lemmas.List.{length-map}
 use Rattle.std.proofs.lemmas.Bool.Decides.{nat_tests}
 use Rattle.sect_front.specs.declared.tree.Primitive as leaf
@@ -15,7 +15,7 @@ use Rattle.sect_types.specs.declared.types.ValueType.{ValueType}
 use Rattle.sect_types.specs.Sight.{names_of_records}
 use Rattle.sect_types.specs.Environments.{type_of, types_of}
 use Rattle.sect_types.specs.Sections.{sections_of}
-use Rattle.sect_types.specs.Programs.{total_statements, all_made}
+use Rattle.sect_types.specs.Programs.{total_statements, calls_met, all_made}
 use Rattle.sect_front.specs.Syntax.{StatementView, Primitive, If, IfElse, While, Atomic, Call, BlockView, End, Then}
 use Rattle.sect_front.specs.declared.tree.Procedure.{Procedure}
 use Rattle.sect_front.specs.declared.tree.Thread.{Thread}
@@ -52,7 +52,7 @@ pub record IsFew (c : Counts) : Type 0 where
 under : (m n : ℕ) → nat_le m n ≡ false → n < m
 under m n h = grind (arith, nat_tests)
 
-at_most : (m n : ℕ) → nat_lt m n ≡ false → n ≤ m
+pub at_most : (m n : ℕ) → nat_lt m n ≡ false → n ≤ m
 at_most m n h = grind (arith, nat_tests)
 
 one_statement : (c : Counts) → nat_le most_statements c.statements ≡ false → IsFew c
@@ -92,7 +92,7 @@ section_few c h f =
       few_calls = f.few_calls;
     }
 
-last_false : (a b c e : Bool) → a ≡ true → b ≡ true → c ≡ true → ((a && (b && c)) && e) ≡ false → e ≡ false
+pub last_false : (a b c e : Bool) → a ≡ true → b ≡ true → c ≡ true → ((a && (b && c)) && e) ≡ false → e ≡ false
 last_false true true true e h i j k = k
 last_false false b c e h i j k = absurd (let off : false ≡ true = h in cc)
 last_false true false c e h i j k = absurd (let off : false ≡ true = i in cc)
@@ -285,6 +285,19 @@ typed_within t h =
       sites_within = omega (arith, c.sites_are, f.few_sites);
       sections_within = omega (arith, c.sections_are, f.few_sections);
     }
+
+calls_are : (d : Declared) (hs : List Thread) → d.table ≡ sums d.procedures
+    → calls_met d.procedures hs ≡ (thread_sums d hs).calls
+calls_are d [] e = refl
+calls_are d (h ∷ hs) e =
+    omega (arith, calls_are d hs e, ap (λ u. (block_sums d.procedures u h.body).calls) e)
+
+-- the calls that are met in expanding them too
+pub typed_calls : (t : TreeView) → IsTyped t → calls_met t.procedures t.threads ≤ most_calls
+typed_calls t h =
+    let x = threads_add (declared_in t) (before_threads t) [] t.threads in
+    let y = before_add t in
+    omega (arith, x.calls_add, y.calls_add, (typed_few t h).0.few_calls, calls_are (declared_in t) t.threads refl)
 
 -- each fresh local takes a statement, where calls do so
 abbrev TakesStatements : List Sums → Type 0

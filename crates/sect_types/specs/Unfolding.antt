@@ -3,9 +3,11 @@
 use Rattle.std.specs.Prelude.{◌≡◌, ℕ, List, Some, length, slice_get}
 use Rattle.sect_front.specs.declared.tree.Operand.{Operand}
 use Rattle.sect_front.specs.TreeView.{TreeView}
-use Rattle.sect_types.specs.Statements.{TextView}
-use Rattle.sect_types.specs.Sums.{sums, sums_at, sums_of}
+use Rattle.sect_front.specs.declared.tree.Thread.{Thread}
+use Rattle.sect_types.specs.Statements.{TextView, statement_count, text_depth}
+use Rattle.sect_types.specs.Sums.{sums, sums_at, sums_of, block_sums}
 use Rattle.sect_types.specs.Expanded.{Scene, Ahead, Expander, Freshens, call_of, expand_within, fresh_of, fresh_within}
+use Rattle.sect_types.specs.Expanded.{expanded_thread}
 
 -- what stands for a call in the text of a thread
 abbrev pub expander : TreeView → Expander
@@ -26,6 +28,12 @@ TextsUnfold t = (q : ℕ) (v : Scene) (a : Ahead) (vs : List Operand) (k : TextV
     → expander t (Some q) v a vs k
     ≡ call_of t.records t.globals t.procedures (sums t.procedures) (expander t) (slice_get t.procedures q) (Some q)
     v a vs k
+
+-- the text of a thread has as many statements as the sums say, and is as deep
+abbrev pub SumsCount : TreeView → Type 0
+SumsCount t = (a : Ahead) (h : Thread) →
+    (statement_count (expanded_thread t a h) ≡ (block_sums t.procedures (sums t.procedures) h.body).statements)
+    × (text_depth (expanded_thread t a h) ≡ (block_sums t.procedures (sums t.procedures) h.body).deep)
 
 -- a call has the fresh locals of its procedure, and then those of the calls in it
 abbrev pub FreshUnfold : TreeView → Type 0

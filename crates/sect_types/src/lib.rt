@@ -27,7 +27,7 @@ mod variables;
 mod walk;
 
 pub use action::{Action, Base, Condition, Field, Label, Value};
-pub use laws::calls_unfold;
+pub use laws::{calls_unfold, sums_are_of_texts};
 pub use limits::{
     MOST_FIELDS, MOST_GLOBALS, MOST_LOCALS, MOST_RECORDS, MOST_SECTIONS, MOST_SITES,
     MOST_STATEMENTS, MOST_THREADS, limits_of_programs,

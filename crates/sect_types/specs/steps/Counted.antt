@@ -1,6 +1,8 @@
 -- What a walk through a whole tree tells.
 use Rattle.std.specs.Prelude.{◌≡◌, ◌≤◌, List, [], true, length}
 use Rattle.sect_front.specs.TreeView.{TreeView}
+use Rattle.sect_front.specs.Depth.{threads_depth}
+use Rattle.sect_front.specs.Limits.{most_depth}
 use Rattle.sect_types.specs.Limits.{most_globals, most_procedures, most_records, most_threads}
 use Rattle.sect_types.specs.Sight.{names_of_records}
 use Rattle.sect_types.specs.Items.{Item, items, record_items, global_items}
@@ -20,7 +22,8 @@ pub record AreDeclared (t : TreeView) (behind : Counts) : Type 0 where
   pub few_globals : length t.globals ≤ most_globals
   pub known_globals : globals_known (names_of_records t.records) t.globals ≡ true
 
--- what a walk through all items has told: that none breaks a rule, the counts at the end, and that all is few and known
+-- what a walk through all items has told: that none breaks a rule, the counts at the end, and that all is few, known
+-- and shallow
 pub record IsCounted (t : TreeView) (end : Counts) : Type 0 where
   pub fine : judge (declared_in t) none_yet (items t) ≡ Fine end
   pub few_records : length t.records ≤ most_records
@@ -31,3 +34,4 @@ pub record IsCounted (t : TreeView) (end : Counts) : Type 0 where
   pub fine_variables : variables_fine (names_of_records t.records) t.procedures ≡ true
   pub few_threads : length t.threads ≤ most_threads
   pub fine_locals : locals_fine (names_of_records t.records) t.threads ≡ true
+  pub shallow : threads_depth t.threads ≤ most_depth

@@ -25,6 +25,7 @@ number_tree-requires-clause-counted c =
       fine_variables = c.in_ok-variables.ensures.fine_variables;
       few_threads = c.in_ok-variables.ensures.few_threads;
       fine_locals = c.in_ok-variables.ensures.fine_locals;
+      shallow = c.requires.shallow_threads;
     }
 
 pub returns-in_err-number_tree-clause-walks : goal.returns-in_err-number_tree-clause-walks

@@ -38,8 +38,8 @@ pub const MOST_SECTIONS: u16 = 256;
 /// The most calls that are met in expanding all threads, those in the bodies of the called procedures counted.
 pub const MOST_CALLS: u16 = 4096;
 
-/// The most items that are counted. A text has fewer.
-pub const MOST_ITEMS: u32 = u32::MAX;
+/// The most items that are counted. No memory holds a tree of more.
+pub const MOST_ITEMS: u64 = u64::MAX;
 
 /// The constants are the limits that the definitions state.
 pub fn limits_of_programs()

@@ -21,7 +21,7 @@ pub struct Uncounted;
 /// calls.
 #[derive(Drop)]
 pub struct Spot {
-    items: u32,
+    items: u64,
     statements: u32,
     sites: u16,
     sections: u16,
@@ -60,7 +60,7 @@ impl Spot {
     }
 
     /// The number of the next item.
-    pub fn item(&self) -> u32
+    pub fn item(&self) -> u64
         ensures { result ≡ self.now.items }
     {
         self.items

@@ -15,7 +15,7 @@ use Rattle.sect_types.specs.Statements.{TextView, Stop, Do, Choose, Loop, Sectio
 use Rattle.sect_types.specs.Items.{variables}
 use Rattle.sect_types.specs.Rules.{sight}
 use Rattle.sect_types.specs.Sums.{sums, sums_at, sums_of, sums_within, statement_sums, block_sums, number_of}
-use Rattle.sect_types.specs.Expanded.{Scene, Ahead, Expander, past_statement, past_block, expanded_statement}
+use Rattle.sect_types.specs.Expanded.{Scene, NextNumbers, Expander, past_statement, past_block, expanded_statement}
 use Rattle.sect_types.specs.Expanded.{expanded_block, expand_within, call_of, procedure_numbered, after_call}
 use Rattle.sect_types.specs.Expanded.{set_parameters, clear_locals, expanded_thread}
 use Rattle.sect_types.proofs.CountLaws.{primitive_comes, looked}
@@ -36,12 +36,12 @@ joined_deep (Section i p r) k =
 
 -- each call is as deep as the table says
 abbrev DeepCalls : List Sums → Expander → Type 0
-DeepCalls table call = (q : Option ℕ) (v : Scene) (a : Ahead) (vs : List Operand) (k : TextView) →
+DeepCalls table call = (q : Option ℕ) (v : Scene) (a : NextNumbers) (vs : List Operand) (k : TextView) →
     text_depth (call q v a vs k) ≡ max (sums_at table q).deep (text_depth k)
 
 mutual
   statement_deep : (ps : List Procedure) (table : List Sums) (call : Expander) → DeepCalls table call
-      → (v : Scene) (a : Ahead) (s : StatementView) (k : TextView)
+      → (v : Scene) (a : NextNumbers) (s : StatementView) (k : TextView)
       → text_depth (expanded_statement ps table call v a s k) ≡ max (statement_sums ps table s).deep (text_depth k)
   statement_deep ps table call h v a (Primitive p) k =
       sym (ap (λ (s : Sums). max s.deep (text_depth k)) (primitive_comes p) ∙ zero-max (text_depth k))
@@ -60,7 +60,7 @@ mutual
   statement_deep ps table call h v a (Call f vs) k = h (number_of ps f) v a vs k
 
   pub block_deep : (ps : List Procedure) (table : List Sums) (call : Expander) → DeepCalls table call
-      → (v : Scene) (a : Ahead) (b : BlockView)
+      → (v : Scene) (a : NextNumbers) (b : BlockView)
       → text_depth (expanded_block ps table call v a b) ≡ (block_sums ps table b).deep
   block_deep ps table call h v a End = refl
   block_deep ps table call h v a (Then s b) =
@@ -79,7 +79,7 @@ set_deep v x (d ∷ ds) (u ∷ us) k = set_deep v (x + 1) ds us k
 
 call_deep : (rs : List Record) (gs : List GlobalObject) (ps : List Procedure) (table : List Sums) (call : Expander)
     → DeepCalls table call →
-    (o : Option Procedure) (q : Option ℕ) (v : Scene) (a : Ahead) (vs : List Operand) (k : TextView)
+    (o : Option Procedure) (q : Option ℕ) (v : Scene) (a : NextNumbers) (vs : List Operand) (k : TextView)
     → text_depth (call_of rs gs ps table call o q v a vs k) ≡ max (sums_of ps table o).deep (text_depth k)
 call_deep rs gs ps table call h None q v a vs k = sym (zero-max (text_depth k))
 call_deep rs gs ps table call h (Some p) q v a vs k =
@@ -101,7 +101,7 @@ calls_deep (suc n) rs gs ps q v a vs k =
     ∙ ap (λ (s : Sums). max s.deep (text_depth k)) (sym (looked ps (sums_within n ps) q))
 
 -- the text of a thread is as deep as the sums say
-pub thread_deep : (t : TreeView) (a : Ahead) (h : Thread)
+pub thread_deep : (t : TreeView) (a : NextNumbers) (h : Thread)
     → text_depth (expanded_thread t a h) ≡ (block_sums t.procedures (sums t.procedures) h.body).deep
 thread_deep t a h =
     block_deep t.procedures (sums t.procedures) (expand_within (length t.procedures) t.records t.globals t.procedures)

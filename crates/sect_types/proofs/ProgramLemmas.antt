@@ -26,7 +26,7 @@ use Rattle.sect_types.specs.Items.{deeper, in_section, variables}
 use Rattle.sect_types.specs.Rules.{Declared, Counts, declared_in, knows_kind}
 use Rattle.sect_types.specs.Sums.{sums, sums_within, number_of, statement_sums, block_sums}
 use Rattle.sect_types.specs.declared.expand.Fresh.{Fresh}
-use Rattle.sect_types.specs.Expanded.{Ahead, Freshens, of_call, statement_fresh, block_fresh, fresh_of, fresh_within}
+use Rattle.sect_types.specs.Expanded.{NextNumbers, Freshens, of_call, statement_fresh, block_fresh, fresh_of, fresh_within}
 use Rattle.sect_types.specs.Expanded.{fresh_in, procedure_numbered, local_types_of, all_local_types}
 use Rattle.sect_types.specs.Expanded.{past_thread, expanded_threads, texts_of, block_sections, statement_sections}
 use Rattle.sect_types.specs.Statements.{TextView}
@@ -206,7 +206,7 @@ all_few : (types : List (List ValueType)) → AreFewTypes types
 all_few [] h = All-nil (λ (ls : List ValueType). length ls ≤ most_all_locals)
 all_few (ls ∷ more) h = All-cons (λ (ls : List ValueType). length ls ≤ most_all_locals) ls more h.0 (all_few more h.1)
 
-as_many_texts : (t : TreeView) (a : Ahead) (ts : List Thread) → length (expanded_threads t a ts) ≡ length ts
+as_many_texts : (t : TreeView) (a : NextNumbers) (ts : List Thread) → length (expanded_threads t a ts) ≡ length ts
 as_many_texts t a [] = refl
 as_many_texts t a (x ∷ ts) = omega (arith, as_many_texts t (past_thread t a x) ts)
 

@@ -20,7 +20,7 @@ use Rattle.sect_types.specs.Sums.{sums, number_of, statement_sums, block_sums}
 use Rattle.sect_types.specs.Rules.{Declared, Counts, seen, after, passes_by, sums_of_call, as_many, procedure_of}
 use Rattle.sect_types.specs.Rules.{knows_operands, declared_in}
 use Rattle.sect_types.specs.First.{none_yet, IsTyped}
-use Rattle.sect_types.specs.Expanded.{Ahead, past_thread, expanded_thread, expanded_threads, texts_of}
+use Rattle.sect_types.specs.Expanded.{NextNumbers, past_thread, expanded_thread, expanded_threads, texts_of}
 use Rattle.sect_types.proofs.FuelLaws.{or_false}
 use Rattle.sect_types.proofs.Resolved.{not_false}
 use Rattle.sect_types.proofs.Walked.{NoneBroken, first_clean, first_few, next_none, statement_after, block_after}
@@ -120,7 +120,7 @@ abbrev IsShallowText : TextView → Type 0
 IsShallowText text = 1 + text_depth text ≤ most_depth
 
 -- so of the threads of a text
-threads_shallow : (t : TreeView) (a : Ahead) (c : Counts) (before : List (List ℕ)) (hs : List Thread)
+threads_shallow : (t : TreeView) (a : NextNumbers) (c : Counts) (before : List (List ℕ)) (hs : List Thread)
     → NoneBroken (declared_in t) c (thread_items before hs []) → threads_depth hs ≤ most_depth
     → All IsShallowText (expanded_threads t a hs)
 threads_shallow t a c before [] h k = All-nil IsShallowText

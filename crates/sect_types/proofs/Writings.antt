@@ -12,7 +12,7 @@ use Rattle.sect_types.specs.Rules.{sight, declared_in}
 use Rattle.sect_types.specs.Sums.{sums, block_sums}
 use Rattle.sect_types.specs.Statements.{TextView}
 use Rattle.sect_types.specs.First.{IsTyped}
-use Rattle.sect_types.specs.Expanded.{Ahead, past_thread, expanded_threads, fresh_in}
+use Rattle.sect_types.specs.Expanded.{NextNumbers, past_thread, expanded_threads, fresh_in}
 use Rattle.sect_types.specs.steps.Expanding.{SettingView, FrontView, Fits, block_there, thread_start, thread_end}
 use Rattle.sect_types.specs.steps.Expanding.{thread_text}
 use Rattle.sect_types.specs.steps.Expanding.{AllFit, tree_of, AreWritten, AreFlat}
@@ -35,7 +35,7 @@ pub thread_written : (w : SettingView) (sites sections most : ℕ) (h : Thread) 
 thread_written w sites sections most h s f text e g i j =
     j ∙ (λ k. block_there w (e k) (view_of (g k) 0) (i k) h.body)
 
-place : ℕ → ℕ → Ahead
+place : ℕ → ℕ → NextNumbers
 place sites sections = record { sites = sites; sections = sections; fresh = 0 }
 
 pub starts : (w : SettingView) (threads : List Thread) (sites : ℕ) → sites ≡ length w.globals
@@ -55,8 +55,8 @@ goes_on : (w : SettingView) (all : List Thread) (h : Thread) (rest : List Thread
     → AreWritten w all rest more later (texts ++ text ∷ []) (fresh ++ own ∷ [])
 goes_on w all h rest sites sections more later texts fresh text own a e g i j =
     let t = tree_of w all in
-    let at : Ahead = record { sites = sites; sections = sections; fresh = 0 } in
-    let next : Ahead = record { sites = more; sections = later; fresh = 0 } in
+    let at : NextNumbers = record { sites = sites; sections = sections; fresh = 0 } in
+    let next : NextNumbers = record { sites = more; sections = later; fresh = 0 } in
     let same = sym (same_texts t (past_thread t at h) next rest
     (record { same_sites = sym i; same_sections = sym j })) in
     record {

@@ -6,7 +6,7 @@ use Rattle.sect_front.specs.TreeView.{TreeView}
 use Rattle.sect_front.specs.declared.tree.Thread.{Thread}
 use Rattle.sect_types.specs.Statements.{TextView, statement_count, text_depth}
 use Rattle.sect_types.specs.Sums.{sums, sums_at, sums_of, block_sums}
-use Rattle.sect_types.specs.Expanded.{Scene, Ahead, Expander, Freshens, call_of, expand_within, fresh_of, fresh_within}
+use Rattle.sect_types.specs.Expanded.{Scene, NextNumbers, Expander, Freshens, call_of, expand_within, fresh_of, fresh_within}
 use Rattle.sect_types.specs.Expanded.{expanded_thread}
 
 -- what stands for a call in the text of a thread
@@ -24,14 +24,14 @@ SumsUnfold t = (q : ℕ) → sums_at (sums t.procedures) (Some q)
 
 -- a call stands for the assignments and the body of its procedure, the calls in it likewise
 abbrev pub TextsUnfold : TreeView → Type 0
-TextsUnfold t = (q : ℕ) (v : Scene) (a : Ahead) (vs : List Operand) (k : TextView)
+TextsUnfold t = (q : ℕ) (v : Scene) (a : NextNumbers) (vs : List Operand) (k : TextView)
     → expander t (Some q) v a vs k
     ≡ call_of t.records t.globals t.procedures (sums t.procedures) (expander t) (slice_get t.procedures q) (Some q)
     v a vs k
 
 -- the text of a thread has as many statements as the sums say, and is as deep
 abbrev pub SumsCount : TreeView → Type 0
-SumsCount t = (a : Ahead) (h : Thread) →
+SumsCount t = (a : NextNumbers) (h : Thread) →
     (statement_count (expanded_thread t a h) ≡ (block_sums t.procedures (sums t.procedures) h.body).statements)
     × (text_depth (expanded_thread t a h) ≡ (block_sums t.procedures (sums t.procedures) h.body).deep)
 

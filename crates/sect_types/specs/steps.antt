@@ -2,6 +2,7 @@
 pub mod Search
 pub mod Judging
 pub mod Clean
+pub mod Declaring
 pub mod Walks
 pub mod Capped
 pub mod Summaries

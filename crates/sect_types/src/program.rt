@@ -28,7 +28,7 @@ ghost use Rattle.sect_types.specs.Programs.{numbered_by, sites_of, total_stateme
 ghost use Rattle.sect_types.specs.Limits.{most_sections, most_sites, most_statements, most_threads};
 
 use crate::called::Called;
-use crate::declare::{globals, known_records, locals, pass_procedure, pass_thread, records};
+use crate::declare::{Declared, globals, known_records, locals, pass, records};
 use crate::expand::{FreshLocals, Setting, expand};
 use crate::local_name::LocalName;
 use crate::locking::lockings;
@@ -205,7 +205,13 @@ fn pass_whole_procedure(
         (variables_by procedure.now) ≡ true) }
 {
     let number = names.len();
-    pass_procedure(tree, names, spot, procedure)?;
+    pass(
+        tree,
+        &shown.known,
+        names,
+        spot,
+        Declared::Procedure(procedure.name),
+    )?;
     let variables = pass_variables(alloc, tree, shown, spot, procedure)?;
     walk_procedure(
         alloc, tree, shown, called, number, &variables, spot, procedure,
@@ -266,7 +272,13 @@ fn whole_thread(
     ensures known_locals { OnOk result (all_known (names_of_records tree.now.records)
         thread.now.locals ≡ true) }
 {
-    pass_thread(tree, names, spot, thread)?;
+    pass(
+        tree,
+        &shown.known,
+        names,
+        spot,
+        Declared::Thread(thread.name),
+    )?;
     let list = thread.locals.as_slice();
     let local_names = locals(alloc, tree, &shown.known, &shown.global_names, spot, list)?;
     walk_body(

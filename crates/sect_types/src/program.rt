@@ -22,7 +22,7 @@ ghost use Rattle.sect_types.specs.Expanded.{fresh_in};
 ghost use Rattle.sect_types.specs.LocalNames.{all_local_names};
 ghost use Rattle.sect_types.specs.First.{Judges, none_yet, IsTyped};
 ghost use Rattle.sect_types.specs.steps.Threads.{variables_shown, variables_fine, local_names as names_of_locals};
-ghost use Rattle.sect_types.specs.steps.Counted.{AreDeclared, IsCounted};
+ghost use Rattle.sect_types.specs.steps.Counted.{IsCounted};
 ghost use Rattle.sect_types.specs.Programs.{IsWellNumbered, IsWithinLimits, AreRecordsThere, IsOfTree, environment_at};
 ghost use Rattle.sect_types.specs.Programs.{numbered_by, sites_of, total_statements};
 ghost use Rattle.sect_types.specs.Limits.{most_sections, most_sites, most_statements, most_threads};
@@ -416,63 +416,6 @@ fn bodies(
     Ok((variables, local_names))
 }
 
-/// Judges the procedures and threads of a tree whose declarations have been judged, and numbers its names.
-fn rest_of_tree(
-    alloc: Global,
-    tree: &Tree,
-    shown: &Shown,
-    called: &Called<'_>,
-    spot: &mut Spot,
-) -> Result<Parts, Fault>
-    requires shown { Shows shown.now tree.now }
-    requires procedures { called.now ≡ tree.now.procedures }
-    requires shallow_procedures { procedures_depth tree.now.procedures ≤ most_depth }
-    requires shallow_threads { threads_depth tree.now.threads ≤ most_depth }
-    requires declared { AreDeclared tree.now spot.old }
-    ensures walks { Walks (declared_in tree.now)
-        (λ w. procedure_items 0 [] tree.now.procedures (thread_items [] tree.now.threads w))
-        spot.old spot.new result }
-    ensures numbers { IfOk result (λ p. IsWellNumbered (numbered_by tree.now
-        p.records.items p.globals.items p.locals.items p.texts.items p.lockings.items)
-        p.section_count p.site_count p.statement_count) }
-    ensures fresh { IfOk result (λ p. p.fresh.items ≡ map (fresh_in tree.now) tree.now.threads) }
-{
-    let (variables, local_names) = bodies(alloc, tree, shown, called, spot)?;
-    Ok(number_tree(
-        alloc,
-        tree,
-        shown,
-        called,
-        variables.as_slice(),
-        local_names.as_slice(),
-        spot,
-    )?)
-}
-
-/// Judges all items of a tree with these procedures and numbers its names.
-fn judge_items(
-    alloc: Global,
-    tree: &Tree,
-    called: &Called<'_>,
-    spot: &mut Spot,
-) -> Result<Parts, Fault>
-    requires start { spot.old ≡ none_yet }
-    requires procedures { called.now ≡ tree.now.procedures }
-    requires shallow_procedures { procedures_depth tree.now.procedures ≤ most_depth }
-    requires shallow_threads { threads_depth tree.now.threads ≤ most_depth }
-    ensures walks { Walks (declared_in tree.now)
-        (λ w. record_items [] tree.now.records (global_items [] tree.now.globals
-        (procedure_items 0 [] tree.now.procedures (thread_items [] tree.now.threads w))))
-        spot.old spot.new result }
-    ensures parts { IfOk result (λ p. IsWellNumbered (numbered_by tree.now
-        p.records.items p.globals.items p.locals.items p.texts.items p.lockings.items)
-        p.section_count p.site_count p.statement_count) }
-    ensures fresh { IfOk result (λ p. p.fresh.items ≡ map (fresh_in tree.now) tree.now.threads) }
-{
-    let shown = declarations(alloc, tree, spot)?;
-    rest_of_tree(alloc, tree, &shown, called, spot)
-}
-
 /// Judges all items of a tree and numbers its names.
 fn judge_tree(alloc: Global, tree: &Tree, spot: &mut Spot) -> Result<Parts, Fault>
     requires { spot.old ≡ none_yet }
@@ -487,7 +430,18 @@ fn judge_tree(alloc: Global, tree: &Tree, spot: &mut Spot) -> Result<Parts, Faul
 {
     let _ = tree.is_empty();
     let called = Called::new(alloc, tree.procedures())?;
-    judge_items(alloc, tree, &called, spot)
+    let shown = declarations(alloc, tree, spot)?;
+    let (variables, local_names) = bodies(alloc, tree, &shown, &called, spot)?;
+    let parts = number_tree(
+        alloc,
+        tree,
+        &shown,
+        &called,
+        variables.as_slice(),
+        local_names.as_slice(),
+        spot,
+    )?;
+    Ok(parts)
 }
 
 /// A typed program: a tree whose items break no rule, with its declarations and its statements by number. Records,

@@ -12,16 +12,6 @@ use Rattle.sect_types.specs.First.{none_yet}
 use Rattle.sect_types.specs.steps.Listing.{fields_fine, globals_known, locals_fine}
 use Rattle.sect_types.specs.steps.Threads.{variables_fine}
 
--- what a walk through the declarations of records and globals has told: that none breaks a rule, the counts behind
--- them, and that all is few and known
-pub record AreDeclared (t : TreeView) (behind : Counts) : Type 0 where
-  pub lead : (w : List Item) → judge (declared_in t) none_yet (record_items [] t.records (global_items [] t.globals w))
-      ≡ judge (declared_in t) behind w
-  pub few_records : length t.records ≤ most_records
-  pub fine_fields : fields_fine (names_of_records t.records) t.records ≡ true
-  pub few_globals : length t.globals ≤ most_globals
-  pub known_globals : globals_known (names_of_records t.records) t.globals ≡ true
-
 -- what a walk through all items has told: that none breaks a rule, the counts at the end, and that all is few, known
 -- and shallow
 pub record IsCounted (t : TreeView) (end : Counts) : Type 0 where

@@ -6,7 +6,8 @@ use Rattle.sect_types.specs.declared.action.Field.{Field}
 use Rattle.sect_points.specs.declared.holders.Variable.{Variable}
 use Rattle.sect_points.specs.Paths.{PathView, var, dot}
 use Rattle.sect_points.specs.Partitions.{ClassesView}
-use Rattle.sect_names.specs.Carrying.{GoesOn, AreOfOneClass, BeforeStore, OverField}
+use Rattle.sect_names.specs.Carrying.{GoesOn, AreOfOneClass, BeforeStore}
+use Rattle.sect_names.specs.steps.OverStore.{OverField}
 use Rattle.sect_names.proofs.Making.{one_has}
 
 module _ (c : ClassesView) (z : Variable) (f : Field) (w : Option Variable) (p : PathView) (g : Field)

@@ -7,7 +7,6 @@ use Rattle.std.specs.Str.{bytes_eq}
 use Rattle.std.proofs.lemmas.Bool.{eqb-true, and_parts, not-true}
 use Rattle.std.proofs.lemmas.List.Folds.{length-prefix_len}
 use Rattle.std.proofs.lemmas.List.Sums.{prefix_len-le-length}
-use Rattle.sect_front.specs.declared.limits.TheConstants.{MOST_NAME_BYTES}
 use Rattle.sect_front.specs.Words.{is_letter, is_digit, is_name_byte}
 use Rattle.sect_front.specs.Gaps.{begins_with}
 use Rattle.sect_front.specs.steps.Recognition.{keyword_of, keyword_table, token_beside, or_name, word_token}
@@ -21,6 +20,7 @@ use Rattle.sect_front.proofs.Spellings.{spelling_back, spelled_proper}
 use Rattle.sect_front.proofs.Choices.{chosen, refused, if_some, if_some_so}
 use Rattle.sect_lemmas.proofs.Booleans.{neither, or_right}
 use Rattle.sect_lemmas.proofs.Options.{some_injective, none_or_some}
+use Rattle.sect_front.specs.Limits.{most_name_bytes}
 
 -- the token is recognised at the front, in the first n bytes
 pub record IsFront (t : Token) (n : ℕ) (bytes : List ℕ) : Type 0 where
@@ -82,11 +82,11 @@ record IsWord (bytes : List ℕ) (t : Token) : Type 0 where
   stands_so : (rest : List ℕ) → stands t rest ≡ not (begins_name rest)
 
 letter_word : (b : ℕ) (bs : List ℕ) (t : Token) → is_letter b ≡ true
-    → cond (list_all is_name_byte bs && nat_lt (length bs) MOST_NAME_BYTES) (Some (word_token (b ∷ bs))) None ≡ Some t
+    → cond (list_all is_name_byte bs && nat_lt (length bs) most_name_bytes) (Some (word_token (b ∷ bs))) None ≡ Some t
     → IsWord (b ∷ bs) t
 letter_word b bs t l h =
-    let c = chosen (list_all is_name_byte bs && nat_lt (length bs) MOST_NAME_BYTES) (Some (word_token (b ∷ bs))) t h in
-    let e = and_parts (list_all is_name_byte bs) (nat_lt (length bs) MOST_NAME_BYTES) c.0 in
+    let c = chosen (list_all is_name_byte bs && nat_lt (length bs) most_name_bytes) (Some (word_token (b ∷ bs))) t h in
+    let e = and_parts (list_all is_name_byte bs) (nat_lt (length bs) most_name_bytes) c.0 in
     let same : word_token (b ∷ bs) ≡ t = some_injective (word_token (b ∷ bs)) t c.1 in
     record {
       names = rw (l, e.0) refl;
@@ -104,7 +104,7 @@ is_word : (b : ℕ) (bs : List ℕ) (t : Token) → is_name_byte b ≡ true → 
 is_word b bs t h e = go (is_letter b) (is_digit b) refl refl h e
   where
     go : (l d : Bool) → is_letter b ≡ l → is_digit b ≡ d → (l || d) ≡ true →
-        cond l (cond (list_all is_name_byte bs && nat_lt (length bs) MOST_NAME_BYTES) (Some (word_token (b ∷ bs))) None)
+        cond l (cond (list_all is_name_byte bs && nat_lt (length bs) most_name_bytes) (Some (word_token (b ∷ bs))) None)
         (cond d (as_number (number_of (b ∷ bs))) (sign_token b bs)) ≡ Some t → IsWord (b ∷ bs) t
     go true d p q h e = letter_word b bs t p e
     go false true p q h e = digit_word b bs t e

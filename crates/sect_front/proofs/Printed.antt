@@ -5,7 +5,7 @@ use Rattle.std.specs.List.{list_all, flat_map}
 use Rattle.std.specs.Fmt.{decimal}
 use Rattle.std.proofs.Math.Seq.{take-append_seam}
 use Rattle.std.proofs.lemmas.Bool.Decides.{nat_tests}
-use Rattle.sect_front.specs.declared.limits.TheConstants.{MOST_BYTES, MOST_DEPTH}
+use Rattle.sect_front.specs.Limits.{most_bytes, most_depth}
 use Rattle.sect_front.specs.Words.{is_letter, is_digit, begins}
 use Rattle.sect_front.specs.Gaps.{is_blank, after_gap}
 use Rattle.sect_front.specs.TreeView.{TreeView}
@@ -271,9 +271,9 @@ spread_layout (t ∷ u ∷ w) h = ap (λ x. spelling_of t ++ separator t ∷ x) 
 pub record IsPrinted (tree : TreeView) (text : List ℕ) : Type 0 where
   pub layout : text ≡ layout_of (tokens_of tree)
   pub spells : IsTextOf text tree
-  pub reads_back : length text ≤ MOST_BYTES → IsSpelled text tree
+  pub reads_back : length text ≤ most_bytes → IsSpelled text tree
 
-printed_spread : (tree : TreeView) → list_all is_proper (tokens_of tree) ≡ true → depth tree ≤ MOST_DEPTH
+printed_spread : (tree : TreeView) → list_all is_proper (tokens_of tree) ≡ true → depth tree ≤ most_depth
     → IsPrinted tree (spread (tokens_of tree))
 printed_spread tree proper low =
     let list : List Token = tokens_of tree in
@@ -297,5 +297,5 @@ printed_spread tree proper low =
     }
 
 pub printed : (tree : TreeView) (text : List ℕ) → text ≡ spread (tokens_of tree)
-    → list_all is_proper (tokens_of tree) ≡ true → depth tree ≤ MOST_DEPTH → IsPrinted tree text
+    → list_all is_proper (tokens_of tree) ≡ true → depth tree ≤ most_depth → IsPrinted tree text
 printed tree text e proper low = subst (IsPrinted tree) (sym e) (printed_spread tree proper low)

@@ -8,7 +8,6 @@ use Rattle.std.specs.Fmt.{decimal}
 use Rattle.std.specs.Cmp.Lexicographic.{same_text}
 use Rattle.std.proofs.lemmas.Bool.{eqb-true, and_parts}
 use Rattle.std.proofs.lemmas.Bool.Decides.{nat_tests}
-use Rattle.sect_front.specs.declared.limits.TheConstants.{MOST_NAME_BYTES}
 use Rattle.sect_front.specs.Words.{is_letter, is_digit, is_name_byte, is_name}
 use Rattle.sect_front.specs.Spelling.{spelling_of, is_proper, IsSpelling}
 use Rattle.sect_front.specs.steps.Recognition.{keyword_of, keyword_table, token_beside, or_name, word_token, number_of}
@@ -19,6 +18,7 @@ use Rattle.sect_front.proofs.Choices.{chosen, if_some_so}
 use Rattle.sect_front.proofs.NamesLemmas.{named, is_named, keyword_known}
 use Rattle.sect_front.proofs.Numbers.{number_decimal, number_back, decimal_digits, decimal_some}
 use Rattle.sect_lemmas.proofs.Options.{some_injective, none_or_some}
+use Rattle.sect_front.specs.Limits.{most_name_bytes}
 
 -- what is known of a number that is below another, and the other way round
 below : (a b : ℕ) → a < b → nat_lt a b ≡ true
@@ -41,7 +41,7 @@ name_spelled (b ∷ bs) h =
     let m = named (b ∷ bs) h in
     let all = and_parts (is_name_byte b) (list_all is_name_byte bs) m.all in
     let none : keyword_of (b ∷ bs) ≡ None = no_keyword (keyword_of (b ∷ bs)) (keyword_known (b ∷ bs) ∙ m.free) in
-    let short = below (length bs) MOST_NAME_BYTES (omega (arith, m.fits)) in
+    let short = below (length bs) most_name_bytes (omega (arith, m.fits)) in
     rw (m.letter, all.1, short) (ap (λ o. Some (or_name o (b ∷ bs))) none)
 
 digits_spelled : (ds : List ℕ) (n : ℕ) → list_all is_digit ds ≡ true → 0 < length ds → number_of ds ≡ Some n
@@ -52,7 +52,7 @@ digits_spelled (d ∷ ds) n h some e =
     go (is_letter d) (is_digit d) (no_letter d digit.0) digit.0
   where
     go : (l g : Bool) → l ≡ false → g ≡ true →
-        cond l (cond (list_all is_name_byte ds && nat_lt (length ds) MOST_NAME_BYTES) (Some (word_token (d ∷ ds))) None)
+        cond l (cond (list_all is_name_byte ds && nat_lt (length ds) most_name_bytes) (Some (word_token (d ∷ ds))) None)
         (cond g (as_number (number_of (d ∷ ds))) (sign_token d ds)) ≡ Some (token.Number n)
     go false true p q = ap as_number e
     go true g p q = cc
@@ -160,7 +160,7 @@ word_back : (w : List ℕ) (o : Option Token) → keyword_of w ≡ o → (o ≡ 
 word_back w None e h = record { is = refl; proper = h refl }
 word_back w (Some t) e h = keyword_back w t e
 
-letter_back : (b : ℕ) (bs : List ℕ) → is_letter b ≡ true → list_all is_name_byte bs ≡ true → length bs < MOST_NAME_BYTES
+letter_back : (b : ℕ) (bs : List ℕ) → is_letter b ≡ true → list_all is_name_byte bs ≡ true → length bs < most_name_bytes
     → IsSpelling (word_token (b ∷ bs)) (b ∷ bs)
 letter_back b bs letter all fits =
     word_back (b ∷ bs) (keyword_of (b ∷ bs)) refl (λ none. is_named (b ∷ bs) (record {
@@ -221,13 +221,13 @@ spelling_back [] t h = absurd (none_or_some t h)
 spelling_back (b ∷ bs) t h = go (is_letter b) (is_digit b) refl h
   where
     go : (l d : Bool) → is_letter b ≡ l →
-        cond l (cond (list_all is_name_byte bs && nat_lt (length bs) MOST_NAME_BYTES) (Some (word_token (b ∷ bs))) None)
+        cond l (cond (list_all is_name_byte bs && nat_lt (length bs) most_name_bytes) (Some (word_token (b ∷ bs))) None)
         (cond d (as_number (number_of (b ∷ bs))) (sign_token b bs)) ≡ Some t → IsSpelling t (b ∷ bs)
     go true d letter e =
-        let short = nat_lt (length bs) MOST_NAME_BYTES in
+        let short = nat_lt (length bs) most_name_bytes in
         let c = chosen (list_all is_name_byte bs && short) (Some (word_token (b ∷ bs))) t e in
         let f = and_parts (list_all is_name_byte bs) short c.0 in
         subst (λ u. IsSpelling u (b ∷ bs)) (some_injective (word_token (b ∷ bs)) t c.1)
-        (letter_back b bs letter f.0 (below_back (length bs) MOST_NAME_BYTES f.1))
+        (letter_back b bs letter f.0 (below_back (length bs) most_name_bytes f.1))
     go false true letter e = number_spelling (b ∷ bs) (number_of (b ∷ bs)) refl t e
     go false false letter e = sign_back b bs t e

@@ -3,7 +3,7 @@ use Rattle.std.proofs.Common.{◌≡◌, ℕ, ◌+◌, ◌<◌, ◌≤◌, List,
 use Rattle.std.proofs.Common.{option_and_then, length, take, drop, refl, sym, ◌∙◌, ap, subst, arith, append_assoc}
 use Rattle.std.proofs.Common.{append-nil}
 use Rattle.std.proofs.lemmas.List.{take-append-drop}
-use Rattle.sect_front.specs.declared.limits.TheConstants.{MOST_DEPTH}
+use Rattle.sect_front.specs.Limits.{most_depth}
 use Rattle.sect_front.specs.TreeView.{TreeView}
 use Rattle.sect_front.specs.Grammar.{tokens_of}
 use Rattle.sect_front.specs.steps.Tokens.{source_tokens}
@@ -63,7 +63,7 @@ pub reads_nothing : ReadsTo [] start 0
 reads_nothing = record { is = refl; level = refl; shallow = omega arith }
 
 pub reads_more : (front : List Token) (r m : ReaderView) (k : ℕ) (t : Token) → ReadsTo front r k → read_one r t ≡ Some m
-    → brace k t ≤ MOST_DEPTH →
+    → brace k t ≤ most_depth →
     ReadsTo (front ++ t ∷ []) m (brace k t)
 reads_more front r m k t h e low = record {
   is = after_one front r t [] h.is ∙ ap (option_and_then (λ x. after x [])) e;
@@ -101,7 +101,7 @@ unexpected list i r k t h within e none = record {
 
 pub too_deep : (list : List Token) (i : ℕ) (r m : ReaderView) (k : ℕ) (t : Token) → ReadsTo (take i list) r k
     → i < length list →
-    take (i + 1) list ≡ take i list ++ t ∷ [] → read_one r t ≡ Some m → brace k t ≡ MOST_DEPTH + 1 → IsTooDeepAt list i
+    take (i + 1) list ≡ take i list ++ t ∷ [] → read_one r t ≡ Some m → brace k t ≡ most_depth + 1 → IsTooDeepAt list i
 too_deep list i r m k t h within e some deep = record {
   within = within;
   here = subst IsViable (sym e) (viable (take i list ++ t ∷ []) m

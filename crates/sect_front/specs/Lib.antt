@@ -2,6 +2,7 @@ pub mod Syntax
 pub mod Trees
 pub mod Coding
 pub mod Falls
+pub mod Limits
 pub mod Words
 pub mod Names
 pub mod TreeView

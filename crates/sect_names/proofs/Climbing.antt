@@ -14,7 +14,8 @@ use Rattle.sect_names.specs.declared.lock.Right.TheVariants as right
 use Rattle.sect_names.specs.declared.lock.Lock.{Lock}
 use Rattle.sect_names.specs.declared.lock.Lock.TheVariants as lock
 use Rattle.sect_names.specs.Schemes.{SchemeView}
-use Rattle.sect_names.specs.Climbing.{IsAbove, AreBehind, AreCoverers, over_class, over_path}
+use Rattle.sect_names.specs.Climbing.{IsAbove, AreBehind, AreCoverers}
+use Rattle.sect_names.specs.steps.Above.{over_class, over_path}
 
 module _ (s : SchemeView) where
   -- nothing stands above the lock on all

@@ -8,6 +8,7 @@ use Rattle.sect_points.specs.Paths.{PathView, var, dot}
 use Rattle.sect_points.specs.Partitions.{ClassesView}
 use Rattle.sect_names.specs.Carrying.{GoesOn, AreOfOneClass, BeforeStore, OverField}
 use Rattle.sect_lemmas.proofs.Making.{one_has}
+use Rattle.sect_names.specs.steps.OverStore.{OverField}
 
 module _ (c : ClassesView) (z : Variable) (f : Field) (w : Option Variable) (p : PathView) (g : Field)
     (paths : List PathView) where

@@ -71,13 +71,6 @@ BeforeStore c z f w (dot p g) q =
     ((r : PathView) × BeforeStore c z f w p r × GoesOn z f g r q)
     ⊎ ((g ≡ f) × AreOfOneClass c p (var z) × ((v : Variable) × (w ≡ Some v) × (q ≡ var v)))
 
--- the same for `p.g`, where these paths may denote what p denotes
-abbrev pub OverField : ClassesView → Variable → Field → Option Variable → PathView → Field → List PathView → PathView
-    → Type 0
-OverField c z f w p g paths q =
-    ((r : PathView) × Has paths r × GoesOn z f g r q)
-    ⊎ ((g ≡ f) × AreOfOneClass c p (var z) × ((v : Variable) × (w ≡ Some v) × (q ≡ var v)))
-
 -- q may denote before `x = value` what p denotes after it
 abbrev pub BeforeAssignment : ℕ → ℕ → Value → PathView → PathView → Type 0
 BeforeAssignment t x (value.Number n) p q = q ≡ p

@@ -8,7 +8,8 @@ ghost use Rattle.sect_names.specs.declared.lock.Lock.{Lock};
 ghost use Rattle.sect_names.specs.declared.lock.Lock.TheVariants as lock;
 ghost use Rattle.sect_names.specs.Locks.{depth};
 ghost use Rattle.sect_names.specs.Carrying.{Replaced, AreOfOneClass, BeforeStore, BeforeAssignment, Before, GoesOn};
-ghost use Rattle.sect_names.specs.Carrying.{OverField, LockOn, CarriedBack, right_for};
+ghost use Rattle.sect_names.specs.Carrying.{LockOn, CarriedBack, right_for};
+ghost use Rattle.sect_names.specs.steps.OverStore.{OverField};
 
 use crate::lock::{Effect, Lock, Right};
 use crate::path::Path;

@@ -10,6 +10,8 @@ use Rattle.sect_types.specs.declared.place.Place.TheVariants.{InProcedure}
 use Rattle.sect_types.specs.Sums.{number_of, prepend, statement_calls, block_calls, returns}
 use Rattle.sect_types.specs.Rules.{Declared, returns_to}
 use Rattle.sect_types.specs.Clean.{IsCleanStatement, IsCleanBlock}
+use Rattle.sect_types.specs.steps.Search.{returns, returns_to}
+use Rattle.sect_types.specs.steps.Clean.{IsCleanStatement, IsCleanBlock}
 
 -- a call is of a procedure that doesn't return
 called_ends : (ps : List Procedure) (i : ℕ) (q : Option ℕ) (w : List ℕ) (s : ℕ)

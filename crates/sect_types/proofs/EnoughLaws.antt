@@ -8,6 +8,7 @@ use Rattle.std.proofs.lemmas.Option.{slice_get_within}
 use Rattle.sect_front.specs.declared.tree.Procedure.{Procedure}
 use Rattle.sect_types.specs.Sums.{calls_in, reaches}
 use Rattle.sect_lemmas.proofs.Booleans.{neither, or_left, or_right}
+use Rattle.sect_types.specs.steps.Search.{reaches}
 
 pub same : (n : ℕ) → eqb n n ≡ true
 same n = elim (cases_Bool (eqb n n)) [ inl e ↦ e | inr e ↦ absurd (eqb-false n n e refl) ]

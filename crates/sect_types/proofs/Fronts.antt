@@ -9,7 +9,7 @@ use Rattle.sect_front.specs.declared.tree.Test.{Test}
 use Rattle.sect_front.specs.declared.tree.Statement.{Statement}
 use Rattle.sect_front.specs.Syntax.{StatementView, IfElse, Call, BlockView, End, Then}
 use Rattle.sect_front.specs.Trees.{statement_of, block_of, block_size}
-use Rattle.sect_types.specs.declared.limits.TheConstants.{MOST_ALL_LOCALS, MOST_CALLS}
+use Rattle.sect_types.specs.Limits.{most_all_locals, most_calls}
 use Rattle.sect_types.specs.declared.expand.Fresh.{Fresh}
 use Rattle.sect_types.specs.declared.sums.Sums.{Sums}
 use Rattle.sect_types.specs.Items.{variables}
@@ -181,8 +181,8 @@ call_front w n most f two new x vs q p ds flat e g h i j k =
 -- a call that fits: its body does, and its variables
 pub record CallFits (w : SettingView) (n : ℕ) (f two : FrontView) (p : Procedure) : Type 0 where
   pub body_fits : Fits (front_past_block w n two p.body)
-  pub few_own : f.at.fresh + (length p.parameters + length p.locals) ≤ MOST_ALL_LOCALS
-  pub few_before : f.calls < MOST_CALLS
+  pub few_own : f.at.fresh + (length p.parameters + length p.locals) ≤ most_all_locals
+  pub few_before : f.calls < most_calls
 
 pub call_fits : (w : SettingView) (n most : ℕ) (f two : FrontView) (x : List ℕ) (vs : List Operand) (q : ℕ)
     (p : Procedure)

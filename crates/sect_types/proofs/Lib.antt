@@ -38,7 +38,6 @@ mod CycleLaws
 mod FreshLaws
 mod Counting
 mod WithinLimits
-mod TemplateLaws
 mod ProgramLemmas
 mod Threading
 mod Writing
@@ -46,3 +45,7 @@ mod FreshKnown
 mod Fronts
 mod Writings
 pub mod shared
+mod Ways
+mod Unfolding
+mod DepthLaws
+mod Shallow

@@ -20,6 +20,7 @@ use Rattle.sect_lemmas.proofs.Replaced.{put_same, put_other, length-put_at, at-p
 use Rattle.sect_types.proofs.EnoughLaws.{same, there, calls_there}
 use Rattle.sect_types.proofs.ReachLaws.{returns_caller, closed_returns}
 use Rattle.sect_lemmas.proofs.Booleans.{or_left, or_right}
+use Rattle.sect_types.specs.steps.Search.{returns, reaches}
 
 -- one mark more
 marks_put : (n : ℕ) (bs : List Bool) → slice_get bs n ≡ Some false → marks (put_at n true bs) ≡ marks bs + 1

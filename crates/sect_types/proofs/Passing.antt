@@ -13,7 +13,8 @@ use Rattle.sect_types.specs.declared.place.Place.{Place}
 use Rattle.sect_types.specs.declared.rule.Fault.{Fault}
 use Rattle.sect_types.specs.declared.rule.Fault.TheVariants as fault
 use Rattle.sect_types.specs.Items.{Head, TestHead, deeper, Item, AStatement, statement_items, block_items}
-use Rattle.sect_types.specs.Rules.{Declared, Counts, judge}
+use Rattle.sect_types.specs.Rules.{Declared, Counts}
+use Rattle.sect_types.specs.steps.Judging.{judge}
 use Rattle.sect_types.specs.steps.Walks.{Walks}
 
 -- the statements `rest` of `all` are left

@@ -16,7 +16,6 @@ use Rattle.sect_front.specs.declared.tree.Thread.{Thread}
 use Rattle.sect_front.specs.declared.tree.Locking.{Locking}
 use Rattle.sect_front.specs.TreeView.{TreeView}
 use Rattle.sect_front.specs.Syntax.{StatementView, Primitive, If, IfElse, While, Atomic, Call, BlockView, End, Then}
-use Rattle.sect_types.specs.declared.limits.TheConstants.{MOST_ALL_LOCALS, MOST_FIELDS, MOST_LOCALS}
 use Rattle.sect_types.specs.declared.types.ValueType.{ValueType}
 use Rattle.sect_types.specs.declared.place.Place.{Place}
 use Rattle.sect_types.specs.declared.place.Place.TheVariants.{InThread}
@@ -26,9 +25,9 @@ use Rattle.sect_types.specs.Items.{deeper, in_section, variables}
 use Rattle.sect_types.specs.Rules.{Declared, Counts, declared_in, knows_kind}
 use Rattle.sect_types.specs.Sums.{sums, sums_within, number_of, statement_sums, block_sums}
 use Rattle.sect_types.specs.declared.expand.Fresh.{Fresh}
-use Rattle.sect_types.specs.Expanded.{Ahead, Freshens, of_call, statement_fresh, block_fresh, fresh_of, fresh_within}
+use Rattle.sect_types.specs.Expanded.{Freshens, of_call, statement_fresh, block_fresh, fresh_of, fresh_within}
 use Rattle.sect_types.specs.Expanded.{fresh_in, procedure_numbered, local_types_of, all_local_types, past_thread}
-use Rattle.sect_types.specs.Expanded.{expanded_threads, texts_of, block_sections, statement_sections}
+use Rattle.sect_types.specs.Expanded.{expanded_threads, texts_of, block_sections, statement_sections, NextNumbers}
 use Rattle.sect_types.specs.Statements.{TextView}
 use Rattle.sect_types.specs.steps.Listing.{all_known, fields_fine, locals_fine, globals_known}
 use Rattle.sect_types.specs.steps.Threads.{variables_fine}
@@ -46,8 +45,11 @@ use Rattle.sect_types.proofs.SiteLaws.{typed_sites}
 use Rattle.sect_types.proofs.SectionLaws.{block_flat, inside_section, sections_in, typed_sections, typed_section_count}
 use Rattle.sect_types.proofs.TypeLaws.{typed_sound}
 use Rattle.sect_types.proofs.Counting.{fine_typed, fine_counts}
-use Rattle.sect_types.proofs.WithinLimits.{AreFewTypes, typed_few_types, typed_within}
+use Rattle.sect_types.proofs.WithinLimits.{AreFewTypes, typed_few_types, typed_within, typed_calls}
 use Rattle.std.proofs.lemmas.Bool.{and_parts}
+use Rattle.sect_types.specs.Limits.{most_all_locals, most_fields, most_locals}
+use Rattle.sect_types.specs.steps.Clean.{IsCleanStatement, IsCleanBlock, AreCleanThreads}
+use Rattle.sect_types.proofs.Shallow.{typed_shallow}
 
 at_most : (m n : ℕ) → nat_le m n ≡ true → m ≤ n
 at_most m n h = grind (arith, nat_tests)
@@ -62,12 +64,12 @@ few_types records ds n h =
     )
 
 few_fields : (records : List (List ℕ)) (rs : List Record) → fields_fine records rs ≡ true
-    → All (λ (ts : List ValueType). length ts ≤ MOST_FIELDS) (field_types records rs)
-few_fields records [] h = All-nil (λ (ts : List ValueType). length ts ≤ MOST_FIELDS)
+    → All (λ (ts : List ValueType). length ts ≤ most_fields) (field_types records rs)
+few_fields records [] h = All-nil (λ (ts : List ValueType). length ts ≤ most_fields)
 few_fields records (r ∷ rs) h =
-    let parts = and_parts (all_known records r.fields && nat_le (length r.fields) MOST_FIELDS) (fields_fine records rs) h in
-    All-cons (λ (ts : List ValueType). length ts ≤ MOST_FIELDS) (types_of records r.fields) (field_types records rs)
-    (few_types records r.fields MOST_FIELDS parts.0) (few_fields records rs parts.1)
+    let parts = and_parts (all_known records r.fields && nat_le (length r.fields) most_fields) (fields_fine records rs) h in
+    All-cons (λ (ts : List ValueType). length ts ≤ most_fields) (types_of records r.fields) (field_types records rs)
+    (few_types records r.fields most_fields parts.0) (few_fields records rs parts.1)
 
 -- what is known has a record
 record_there : (x : List ℕ) (records : List (List ℕ)) → has_name x records ≡ true
@@ -95,10 +97,10 @@ fields_there : (records : List (List ℕ)) (rs : List Record) → fields_fine re
     → All (λ (ts : List ValueType). All (IsInRange (length records)) ts) (field_types records rs)
 fields_there records [] h = All-nil (λ (ts : List ValueType). All (IsInRange (length records)) ts)
 fields_there records (r ∷ rs) h =
-    let parts = and_parts (all_known records r.fields && nat_le (length r.fields) MOST_FIELDS) (fields_fine records rs) h in
+    let parts = and_parts (all_known records r.fields && nat_le (length r.fields) most_fields) (fields_fine records rs) h in
     All-cons (λ (ts : List ValueType). All (IsInRange (length records)) ts) (types_of records r.fields)
     (field_types records rs)
-    (types_there records r.fields (and_parts (all_known records r.fields) (nat_le (length r.fields) MOST_FIELDS) parts.0).0)
+    (types_there records r.fields (and_parts (all_known records r.fields) (nat_le (length r.fields) most_fields) parts.0).0)
     (fields_there records rs parts.1)
 
 globals_there : (records : List (List ℕ)) (gs : List GlobalObject) → globals_known records gs ≡ true
@@ -148,13 +150,13 @@ procedure_known : (records : List (List ℕ)) (ps : List Procedure) (q : ℕ) (p
 procedure_known records [] q p h e = absurd (cc)
 procedure_known records (x ∷ ps) zero p h e =
     let same : x ≡ p = cc in
-    let few = nat_le (length (variables x)) MOST_LOCALS in
+    let few = nat_le (length (variables x)) most_locals in
     let parts = and_parts (all_known records (variables x) && few) (variables_fine records ps) h in
     subst (λ y. all_known records (variables y) ≡ true) same
     (and_parts (all_known records (variables x)) few parts.0).0
 procedure_known records (x ∷ ps) (suc q) p h e =
     procedure_known records ps q p
-    (and_parts (all_known records (variables x) && nat_le (length (variables x)) MOST_LOCALS) (variables_fine records ps)
+    (and_parts (all_known records (variables x) && nat_le (length (variables x)) most_locals) (variables_fine records ps)
     h).1 e
 
 pub numbered_known : (records : List (List ℕ)) (ps : List Procedure) (q : Option ℕ) (p : Procedure)
@@ -192,7 +194,7 @@ locals_there t (x ∷ ts) h g =
     let n = length names in
     let ps = t.procedures in
     let d = declared_in t in
-    let few = nat_le (length x.locals) MOST_LOCALS in
+    let few = nat_le (length x.locals) most_locals in
     let parts = and_parts (all_known names x.locals && few) (locals_fine names ts) g in
     let own = types_there names x.locals (and_parts (all_known names x.locals) few parts.0).0 in
     let fresh = block_there d n ps (sums ps) (fresh_within (length ps) ps) (calls_there (length ps) d ps h) 0 x.body in
@@ -202,11 +204,11 @@ locals_there t (x ∷ ts) h g =
 
 -- and few
 all_few : (types : List (List ValueType)) → AreFewTypes types
-    → All (λ (ls : List ValueType). length ls ≤ MOST_ALL_LOCALS) types
-all_few [] h = All-nil (λ (ls : List ValueType). length ls ≤ MOST_ALL_LOCALS)
-all_few (ls ∷ more) h = All-cons (λ (ls : List ValueType). length ls ≤ MOST_ALL_LOCALS) ls more h.0 (all_few more h.1)
+    → All (λ (ls : List ValueType). length ls ≤ most_all_locals) types
+all_few [] h = All-nil (λ (ls : List ValueType). length ls ≤ most_all_locals)
+all_few (ls ∷ more) h = All-cons (λ (ls : List ValueType). length ls ≤ most_all_locals) ls more h.0 (all_few more h.1)
 
-as_many_texts : (t : TreeView) (a : Ahead) (ts : List Thread) → length (expanded_threads t a ts) ≡ length ts
+as_many_texts : (t : TreeView) (a : NextNumbers) (ts : List Thread) → length (expanded_threads t a ts) ≡ length ts
 as_many_texts t a [] = refl
 as_many_texts t a (x ∷ ts) = omega (arith, as_many_texts t (past_thread t a x) ts)
 
@@ -295,6 +297,8 @@ own_parts t end h =
         few_statements = within.statements_within;
         few_sections = within.sections_within;
         few_sites = omega (arith, within.sites_within, long_sites, long_globals);
+        few_calls = typed_calls t typed;
+        shallow = typed_shallow t typed h.shallow;
       };
       numbered = typed_sections t typed;
       sited = subst (λ n. AllSited n (texts_of t)) (sym long_globals) (typed_sites t typed);

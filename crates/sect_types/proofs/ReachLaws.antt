@@ -9,6 +9,7 @@ use Rattle.sect_types.specs.Sums.{calls_in, reaches, returns}
 use Rattle.sect_types.proofs.EnoughLaws.{witness, none_equal, Calls, same, reaches_step, reaches_up, calls_there}
 use Rattle.sect_types.proofs.EnoughLaws.{there}
 use Rattle.sect_lemmas.proofs.Booleans.{or_left, or_right}
+use Rattle.sect_types.specs.steps.Search.{reaches, returns}
 
 -- the procedures between q and p on a way of calls
 abbrev pub Way : List Procedure → List ℕ → ℕ → ℕ → Type 0

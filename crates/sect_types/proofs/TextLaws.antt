@@ -1,5 +1,5 @@
 -- The same of the expansion itself: more fuel than there are procedures changes no text.
-use Rattle.std.specs.Prelude.{Bool, false}
+use Rattle.std.specs.Prelude.{Bool, false, true, is_some}
 use Rattle.std.specs.List.{list_any}
 use Rattle.std.proofs.Common.{◌≡◌, ℕ, ◌+◌, List, Option, Some, None, refl, ◌∙◌, ap}
 use Rattle.sect_front.specs.declared.tree.Operand.{Operand}
@@ -11,13 +11,16 @@ use Rattle.sect_front.specs.Syntax.{StatementView, Primitive, If, IfElse, While,
 use Rattle.sect_front.specs.declared.tree.Procedure.{Procedure}
 use Rattle.sect_types.specs.declared.sums.Sums.{Sums}
 use Rattle.sect_types.specs.Sums.{number_of, prepend, statement_calls, block_calls}
-use Rattle.sect_types.specs.Expanded.{Scene, Ahead, Expander, past, past_statement, past_block, statement_sections}
+use Rattle.sect_types.specs.Expanded.{Scene, Expander, past, past_statement, past_block, statement_sections}
 use Rattle.sect_types.specs.Expanded.{block_sections, action_at, moved_condition, expanded_statement, expanded_block}
+use Rattle.sect_types.specs.Expanded.{NextNumbers, call_of}
 use Rattle.sect_types.proofs.FuelLaws.{Agree, same_statement, same_block}
 use Rattle.sect_lemmas.proofs.Booleans.{neither}
+use Rattle.sect_front.specs.declared.tree.Record.{Record}
+use Rattle.sect_front.specs.declared.tree.GlobalObject.{GlobalObject}
 
 abbrev pub SameAt : Expander → Expander → Option ℕ → Type 0
-SameAt f g q = (v : Scene) (a : Ahead) (vs : List Operand) (k : TextView) → f q v a vs k ≡ g q v a vs k
+SameAt f g q = (v : Scene) (a : NextNumbers) (vs : List Operand) (k : TextView) → f q v a vs k ≡ g q v a vs k
 
 -- the two expanders agree at what the test leaves out
 pub record AreSame (test : ℕ → Bool) (f g : Expander) : Type 0 where
@@ -32,7 +35,7 @@ call_text test f g h (Some r) w e = h.some r (neither (test r) (list_any test w)
 mutual
   pub statement_text : (test : ℕ → Bool) (ps : List Procedure) (t u : List Sums) (f g : Expander) → Agree test t u
       → AreSame test f g →
-      (v : Scene) (a : Ahead) (s : StatementView) (w : List ℕ) → list_any test (statement_calls ps s w) ≡ false
+      (v : Scene) (a : NextNumbers) (s : StatementView) (w : List ℕ) → list_any test (statement_calls ps s w) ≡ false
       → (k l : TextView)
       → k ≡ l →
       expanded_statement ps t f v a s k ≡ expanded_statement ps u g v a s l
@@ -61,7 +64,7 @@ mutual
 
   pub block_text : (test : ℕ → Bool) (ps : List Procedure) (t u : List Sums) (f g : Expander) → Agree test t u
       → AreSame test f g →
-      (v : Scene) (a : Ahead) (b : BlockView) (w : List ℕ) → list_any test (block_calls ps b w) ≡ false →
+      (v : Scene) (a : NextNumbers) (b : BlockView) (w : List ℕ) → list_any test (block_calls ps b w) ≡ false →
       expanded_block ps t f v a b ≡ expanded_block ps u g v a b
   block_text test ps t u f g h m v a End w e = refl
   block_text test ps t u f g h m v a (Then s b) w e =
@@ -74,3 +77,10 @@ mutual
             a.sections + statement_sections s;
       }) z) b) x.0 in
       statement_text test ps t u f g h m v a s (block_calls ps b w) e _ _ y
+
+-- where it isn't a procedure nothing is put in its place
+pub nothing_there : (rs : List Record) (gs : List GlobalObject) (ps : List Procedure) (t : List Sums) (f : Expander)
+    (o : Option Procedure) → is_some o ≡ false →
+    (q : Option ℕ) (v : Scene) (a : NextNumbers) (vs : List Operand) (k : TextView) → call_of rs gs ps t f o q v a vs k ≡ k
+nothing_there rs gs ps t f None e q v a vs k = refl
+nothing_there rs gs ps t f (Some p) e q v a vs k = absurd (let off : true ≡ false = e in cc)

@@ -1,4 +1,4 @@
--- What some programs come to, run by whole sections.
+-- What some programs come to, run by whole sections. Nothing cites these rows: they try the definitions.
 use Rattle.std.proofs.Common.{◌≡◌, List, [], ◌∷◌, Option, Some, None, refl}
 use Rattle.std.specs.Prelude.{map}
 use Rattle.sect_types.specs.declared.store.ObjectName.TheVariants.{Made}

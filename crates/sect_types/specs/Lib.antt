@@ -1,3 +1,4 @@
+pub mod Limits
 pub mod Sight
 pub mod Resolve
 pub mod Items
@@ -9,6 +10,7 @@ pub mod Texts
 pub mod Falls
 pub mod Numbered
 pub mod Expanded
+pub mod Unfolding
 pub mod LocalNames
 pub mod First
 pub mod Faults
@@ -23,5 +25,3 @@ pub mod Store
 pub mod Meaning
 pub mod Whole
 pub mod steps
-pub mod Clean
-pub mod Templates

@@ -6,7 +6,7 @@ use Rattle.std.proofs.lemmas.List.{get_or-map, length-map}
 use Rattle.std.proofs.lemmas.List.Elements.{All-get_or}
 use Rattle.std.proofs.lemmas.Option.{slice_get_within, get_or_from_slice_get}
 use Rattle.sect_front.specs.declared.tree.Record.{Record}
-use Rattle.sect_types.specs.declared.limits.TheConstants.{MOST_FIELDS}
+use Rattle.sect_types.specs.Limits.{most_fields}
 use Rattle.sect_types.specs.declared.types.ValueType.{ValueType}
 use Rattle.sect_types.specs.Sight.{place, names_of_records}
 use Rattle.sect_types.specs.Environments.{types_of, type_of}
@@ -30,7 +30,7 @@ place_missing x names i all before =
 
 -- a record has few fields
 pub few_fields : (p : ProgramView) → IsOfTree p → IsWithinLimits p → (r : ℕ) (shape : Record)
-    → slice_get p.source.records r ≡ Some shape → length shape.fields ≤ MOST_FIELDS
+    → slice_get p.source.records r ≡ Some shape → length shape.fields ≤ most_fields
 few_fields p tree limits r shape at =
     let names = names_of_records p.source.records in
     let f : Record → List ValueType = λ (z : Record). types_of names z.fields in
@@ -40,5 +40,5 @@ few_fields p tree limits r shape at =
     let same : get_or p.records r [] ≡ types_of names shape.fields = ap (λ l. get_or l r []) tree.records_are
     ∙ get_or-map f p.source.records r shape [] there
     ∙ ap f (get_or_from_slice_get p.source.records r shape shape at) in
-    let few = All-get_or (λ (ts : List ValueType). length ts ≤ MOST_FIELDS) p.records r [] within limits.few_fields in
+    let few = All-get_or (λ (ts : List ValueType). length ts ≤ most_fields) p.records r [] within limits.few_fields in
     omega (arith, few, ap length same, length-map shape.fields (λ d. type_of names d.kind))

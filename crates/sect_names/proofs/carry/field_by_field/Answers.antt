@@ -8,6 +8,7 @@ use Rattle.sect_names.specs.Carrying.{OverField}
 use Rattle.sect_lemmas.proofs.Making.{one_has}
 use Rattle.sect_names.proofs.Storing.{over_before}
 use Rattle.sect_names.proofs.carry.field_by_field.Goals as goal
+use Rattle.sect_names.specs.steps.OverStore.{OverField}
 
 pub loop-field-init : goal.loop-field-init
 loop-field-init c = record {

@@ -8,7 +8,8 @@ use Rattle.sect_types.specs.Items.{PrimitiveHead, TestHead, AtomicHead, CallHead
 use Rattle.sect_types.specs.Items.{AStatement, variables}
 use Rattle.sect_types.specs.declared.place.Place.{Place}
 use Rattle.sect_types.specs.declared.place.Place.TheVariants.{InThread, InProcedure}
-use Rattle.sect_types.specs.Rules.{Declared, unknown, twice, mistyped, outside, nested, recursive, miscounted}
+use Rattle.sect_types.specs.Rules.{Declared, unknown, twice, mistyped, outside, nested, miscounted}
+use Rattle.sect_types.specs.steps.Search.{recursive}
 
 pub record IsClean (d : Declared) (item : Item) : Type 0 where
   pub known : unknown d item ≡ false

@@ -6,7 +6,7 @@ use Rattle.sect_types.specs.declared.action.Field.{Field}
 use Rattle.sect_points.specs.declared.holders.Variable.{Variable}
 use Rattle.sect_points.specs.Paths.{PathView, var, dot}
 use Rattle.sect_points.specs.Partitions.{ClassesView}
-use Rattle.sect_names.specs.Carrying.{GoesOn, AreOfOneClass, BeforeStore, OverField}
+use Rattle.sect_names.specs.Carrying.{GoesOn, AreOfOneClass, BeforeStore}
 use Rattle.sect_lemmas.proofs.Making.{one_has}
 use Rattle.sect_names.specs.steps.OverStore.{OverField}
 

@@ -1,17 +1,24 @@
 -- No typed text has recursion.
 use Rattle.std.specs.Prelude.{true, false, eqb}
 use Rattle.std.specs.List.{list_any}
-use Rattle.std.proofs.Common.{◌≡◌, ◌⊎◌, inl, inr, ℕ, List, Option, Some, None, sym, subst}
-use Rattle.std.proofs.lemmas.Bool.{eqb-true, or_cases}
+use Rattle.std.proofs.Common.{◌≡◌, ◌⊎◌, inl, inr, ℕ, List, [], Option, Some, None}
+use Rattle.std.proofs.Common.{refl, sym, ◌∙◌, subst, slice_get}
+use Rattle.std.proofs.lemmas.Bool.{eqb-true}
 use Rattle.sect_front.specs.declared.tree.Declaration.{Declaration}
 use Rattle.sect_front.specs.Syntax.{StatementView, Primitive, If, IfElse, While, Atomic, Call, BlockView, End, Then}
 use Rattle.sect_front.specs.declared.tree.Procedure.{Procedure}
+use Rattle.sect_front.specs.TreeView.{TreeView}
 use Rattle.sect_types.specs.declared.place.Place.TheVariants.{InProcedure}
-use Rattle.sect_types.specs.Sums.{number_of, prepend, statement_calls, block_calls, returns}
-use Rattle.sect_types.specs.Rules.{Declared, returns_to}
-use Rattle.sect_types.specs.Clean.{IsCleanStatement, IsCleanBlock}
-use Rattle.sect_types.specs.steps.Search.{returns, returns_to}
+use Rattle.sect_types.specs.Items.{variables}
+use Rattle.sect_types.specs.Sums.{number_of, prepend, statement_calls, block_calls, calls_in}
+use Rattle.sect_types.specs.steps.Search.{returns}
+use Rattle.sect_types.specs.Rules.{Declared, declared_in}
+use Rattle.sect_types.specs.steps.Search.{returns_to}
+use Rattle.sect_types.specs.First.{IsTyped}
 use Rattle.sect_types.specs.steps.Clean.{IsCleanStatement, IsCleanBlock}
+use Rattle.std.proofs.lemmas.Bool.{or_cases}
+use Rattle.sect_types.proofs.EnoughLaws.{IsAcyclic}
+use Rattle.sect_types.proofs.SiteLaws.{AreClean, typed_clean}
 
 -- a call is of a procedure that doesn't return
 called_ends : (ps : List Procedure) (i : ℕ) (q : Option ℕ) (w : List ℕ) (s : ℕ)
@@ -47,3 +54,20 @@ mutual
     | inl e ↦ inl e
     | inr e ↦ block_ends d ls i b w s c.1 e
   ]
+
+calls_end : (d : Declared) (i : ℕ) (o : Option Procedure) (s : ℕ)
+    → ((p : Procedure) → o ≡ Some p → IsCleanBlock d (variables p) (InProcedure i) p.body)
+    → list_any (eqb s) (calls_in d.procedures o) ≡ true → returns d.procedures i s ≡ true → ⊥
+calls_end d i None s c h e = let off : false ≡ true = h in cc
+calls_end d i (Some p) s c h e = elim (block_ends d (variables p) i p.body [] s (c p refl) h) [
+  | inl g ↦ (let off : false ≡ true = sym g ∙ e in cc)
+  | inr g ↦ (let off : false ≡ true = g in cc)
+]
+
+-- where the bodies are clean, no procedure calls one that is it or reaches it
+pub clean_acyclic : (d : Declared) → AreClean d d.procedures → IsAcyclic d.procedures
+clean_acyclic d c p s h e = calls_end d p (slice_get d.procedures p) s (c p) h e
+
+-- so in a typed text
+pub typed_acyclic : (t : TreeView) → IsTyped t → IsAcyclic t.procedures
+typed_acyclic t h = clean_acyclic (declared_in t) (typed_clean t h)

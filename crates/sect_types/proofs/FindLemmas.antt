@@ -44,6 +44,9 @@ next_of n ss i x h e =
     ap (λ l. section_body n (statements_of l)) (drop_next ss i x h e)
     ∙ first_or_rest n x (statements_of (drop (i + 1) ss))
 
+pub begins : (n : ℕ) (text : TextView) (ss : List Step) → statements_of ss ≡ text → IsSought n text ss 0
+begins n text ss e = record { whole = e; same = ap (section_body n) (sym e) }
+
 pub not_here : (n : ℕ) (text : TextView) (ss : List Step) (i : ℕ) (x : Step) → i < length ss → x ≡ get_or ss i x
     → None ≡ section_body n (step_then x Stop)
     → IsSought n text ss i → IsSought n text ss (i + 1)

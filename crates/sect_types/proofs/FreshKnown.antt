@@ -18,7 +18,7 @@ use Rattle.sect_types.specs.steps.Listing.{all_known}
 use Rattle.sect_types.specs.steps.Threads.{variables_fine}
 use Rattle.sect_types.specs.steps.FreshTypes.{local_types, fresh_known, all_fresh_known}
 use Rattle.sect_types.proofs.ProgramLemmas.{numbered_known}
-use Rattle.std.proofs.lemmas.Bool.{and_parts, and_from}
+use Rattle.std.proofs.lemmas.Bool.{and_from, and_parts}
 
 both_known : (records : List (List ℕ)) (xs ys : List Fresh) → fresh_known records xs ≡ true
     → fresh_known records ys ≡ true

@@ -1,6 +1,6 @@
 -- How far an expansion has come, statement by statement.
 use Rattle.std.proofs.Common.{◌≡◌, ℕ, zero, suc, ◌+◌, ◌*◌, ◌<◌, ◌≤◌, List, [], ◌∷◌, ◌++◌, map, drop, get_or, Some, sym}
-use Rattle.std.proofs.Common.{◌∙◌, ap, arith, subst, length, append_assoc, slice_get, length-append}
+use Rattle.std.proofs.Common.{◌∙◌, ap, arith, subst, length, append_assoc, slice_get, length-append, None, refl}
 use Rattle.std.proofs.lemmas.List.{drop_all, append-nil}
 use Rattle.sect_front.specs.declared.tree.Declaration.{Declaration}
 use Rattle.sect_front.specs.declared.tree.Operand.{Operand}
@@ -127,6 +127,11 @@ ends_front w n v block all ss i old now before text le h =
     front_same now (front_past_block w n now End) (omega arith) (omega arith) (omega arith) (omega arith)
     (sym (append-nil now.fresh))
     ∙ (ended w n v block all ss i old now before text le h).past
+
+-- a call of what is no procedure, and one that is too deep, come to nothing
+nothing_numbered : (w : SettingView) (n : ℕ) (f : FrontView) → fresh_within n w.procedures None f.calls ≡ []
+nothing_numbered w zero f = refl
+nothing_numbered w (suc n) f = refl
 
 -- what a call comes to
 record CallIs (w : SettingView) (n most : ℕ) (f : FrontView) (x : List ℕ) (p : Procedure) : Type 0 where

@@ -49,3 +49,6 @@ mod Ways
 mod Unfolding
 mod DepthLaws
 mod Shallow
+mod Expanding
+mod Filling
+mod Naming

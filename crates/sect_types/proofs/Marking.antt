@@ -10,7 +10,6 @@ use Rattle.std.proofs.lemmas.List.Folds.{list_any-append}
 use Rattle.std.proofs.lemmas.Option.{slice_get_within}
 use Rattle.sect_front.specs.declared.tree.Procedure.{Procedure}
 use Rattle.sect_lemmas.specs.Lists.{put_at}
-use Rattle.sect_types.specs.Sums.{returns, reaches}
 use Rattle.sect_types.specs.steps.Called.{IsAmong, Calls, IsMarked, marks, AreMarked, AreFound, Grows, AreClosed}
 use Rattle.sect_types.specs.steps.Called.{Marks, AreCallersBefore, callers_of}
 use Rattle.sect_types.specs.steps.Standing.{AreReturning}
@@ -121,6 +120,15 @@ pub record AreCallersMarked (ps : List Procedure) (n : ℕ) (cs : List ℕ) (m :
   pub right : (p : ℕ) → AreMarked ps p m f → IsMarked m n → AreMarked ps p k g
   pub both : AreFound m f → AreFound k g
   pub callers : (c : ℕ) → IsAmong (take i cs) c → IsMarked k c
+
+pub none_yet : (ps : List Procedure) (n : ℕ) (cs : List ℕ) (m : List Bool) (f : List ℕ)
+    → AreCallersMarked ps n cs m f 0 m f
+none_yet ps n cs m f = record {
+  grows = record { as_many = refl; stays = λ q s. s; keeps = λ i q s. s };
+  right = λ p s t. s;
+  both = λ s. s;
+  callers = λ c s. absurd (let off : false ≡ true = s in cc);
+}
 
 pub one_more : (ps : List Procedure) (n : ℕ) (cs : List ℕ) (m : List Bool) (f : List ℕ) (i c : ℕ)
     (k : List Bool) (g : List ℕ) (l : List Bool) (h : List ℕ) → i < length cs → c ≡ slice_index_or cs i 0 → Calls ps c n

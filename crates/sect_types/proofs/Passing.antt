@@ -43,6 +43,18 @@ kept d ls at block ss i x old now then h e so_far walks = record {
       ∙ walks (block_items ls at (block_of (drop (i + 1) ss)) w));
 }
 
+-- a fault in the next statement is the fault of the block
+pub fails : (d : Declared) (ls : List Declaration) (at : Place) (block : BlockView) (ss : List Statement) (i : ℕ)
+    (x : Statement) (old now then : Counts) (e : Fault) → i < length ss → x ≡ get_or ss i x
+    → IsPassed d ls at block (block_of ss) (block_of (drop i ss)) old now
+    → Walks {A = ℕ} d (statement_items ls at (statement_of x)) now then (Err e)
+    → Walks {A = ℕ} d (block_items ls at block) old then (Err e)
+fails d ls at block ss i x old now then fault.Memory h e so_far walks = tt
+fails d ls at block ss i x old now then (fault.Broken n r) h e so_far walks = λ w.
+    so_far.walks w
+    ∙ (ap (λ b. judge d now (block_items ls at b w)) (next_of ss i x h e)
+    ∙ walks (block_items ls at (block_of (drop (i + 1) ss)) w))
+
 -- no statement is deeper than its block
 pub depth_at : (ss : List Statement) (i : ℕ) (d : Statement) → i < length ss
     → statement_depth (statement_of (get_or ss i d)) ≤ block_depth (block_of ss)

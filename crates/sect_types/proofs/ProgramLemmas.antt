@@ -36,7 +36,7 @@ use Rattle.sect_types.specs.Sections.{AllSited}
 use Rattle.sect_types.specs.Programs.{ProgramView, numbered_by, all_made, IsWellNumbered}
 use Rattle.sect_types.specs.steps.Counted.{IsCounted}
 use Rattle.sect_types.specs.Lockings.{statement_lockings, block_lockings, threads_lockings, lockings_of}
-use Rattle.sect_types.specs.Clean.{IsCleanStatement, IsCleanBlock, AreCleanThreads}
+use Rattle.sect_types.specs.steps.Clean.{IsCleanStatement, IsCleanBlock, AreCleanThreads}
 use Rattle.sect_types.proofs.Heads.{placed}
 use Rattle.sect_types.proofs.SoundLemmas.{place_within}
 use Rattle.sect_types.proofs.Standing.{fresh_types, call_types}

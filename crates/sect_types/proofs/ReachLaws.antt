@@ -5,7 +5,7 @@ use Rattle.std.proofs.Common.{◌≡◌, inl, inr, ℕ, zero, suc, List, [], ◌
 use Rattle.std.proofs.lemmas.Bool.{eqb-true, or_cases, cases_Bool}
 use Rattle.std.proofs.lemmas.Map.Steps.{length-le_from_distinct_below}
 use Rattle.sect_front.specs.declared.tree.Procedure.{Procedure}
-use Rattle.sect_types.specs.Sums.{calls_in, reaches, returns}
+use Rattle.sect_types.specs.Sums.{calls_in}
 use Rattle.sect_types.proofs.EnoughLaws.{witness, none_equal, Calls, same, reaches_step, reaches_up, calls_there}
 use Rattle.sect_types.proofs.EnoughLaws.{there}
 use Rattle.sect_lemmas.proofs.Booleans.{or_left, or_right}

@@ -10,7 +10,7 @@ use Rattle.sect_types.specs.declared.rule.Fault.{Fault}
 use Rattle.sect_types.specs.declared.rule.Fault.TheVariants as fault
 use Rattle.sect_types.specs.Sight.{names_of_records, names_of_declared, all_fields}
 use Rattle.sect_types.specs.Items.{Item, ARecord, field_items, record_items}
-use Rattle.sect_types.specs.Rules.{Declared, Counts, judge}
+use Rattle.sect_types.specs.Rules.{Declared, Counts}
 use Rattle.sect_types.specs.steps.Walks.{Walks}
 use Rattle.sect_types.specs.steps.Listing.{AreRecords, all_known, fields_fine}
 use Rattle.std.proofs.lemmas.Bool.{and_from}

@@ -1,20 +1,22 @@
 -- The callers of each procedure, as they are gathered.
-use Rattle.std.proofs.Common.{◌≡◌, ◌≢◌, ◌⊎◌, inl, inr, ℕ, zero, suc, ◌+◌, ◌<◌, ◌≤◌, true, false, List, [], ◌∷◌, ◌++◌}
-use Rattle.std.proofs.Common.{Option, Some, None, length, take, get_or, append-nil, refl, sym, ap, subst, ◌∙◌, arith}
-use Rattle.std.proofs.Common.{slice_get}
+use Rattle.std.proofs.Common.{◌≡◌, ◌≢◌, ◌⊎◌, inl, inr, ℕ, zero, suc, ◌+◌, ◌<◌, ◌≤◌, true, false, List, [], ◌∷◌}
+use Rattle.std.proofs.Common.{◌++◌, Option, Some, None, length, take, get_or, append-nil, refl, sym, ap, subst, ◌∙◌}
+use Rattle.std.proofs.Common.{arith, slice_get}
 use Rattle.std.specs.Prelude.{eqb, slice_index_or}
 use Rattle.std.specs.List.{list_any}
-use Rattle.std.proofs.lemmas.Bool.{eqb-true, or_cases}
-use Rattle.std.proofs.lemmas.List.{take_more, take_all, length-map}
+use Rattle.std.proofs.lemmas.Bool.{eqb-true}
+use Rattle.std.proofs.lemmas.List.{take_more, take_all}
 use Rattle.sect_front.specs.declared.tree.Procedure.{Procedure}
 use Rattle.sect_front.specs.Syntax.{StatementView, Primitive, If, IfElse, While, Atomic, Call, BlockView, End, Then}
 use Rattle.sect_lemmas.specs.Lists.{put_at}
 use Rattle.sect_types.specs.Sums.{number_of, names_of_procedures, calls_in, prepend, statement_calls, block_calls}
 use Rattle.sect_types.specs.steps.Called.{IsAmong, Calls, callers_of, AreCallersBefore}
+use Rattle.std.proofs.lemmas.Bool.{or_cases}
 use Rattle.sect_lemmas.proofs.Replaced.{this_or_other, length-put_at}
 use Rattle.sect_types.proofs.SoundLemmas.{place_within}
 use Rattle.std.proofs.lemmas.Option.{slice_get-get_or}
 use Rattle.sect_types.proofs.Marking.{among_last, among_first, among_new, among_at, read_at}
+use Rattle.std.proofs.lemmas.List.{length-map}
 
 -- a procedure that is called is there
 mutual
@@ -160,3 +162,11 @@ pub read_row : (callers : List (List ℕ)) (q : ℕ) (row : List ℕ) → q < le
 read_row [] q row lt at = absurd (omega (arith, lt))
 read_row (c ∷ callers) zero row lt at = at
 read_row (c ∷ callers) (suc q) row lt at = read_row callers q row (omega (arith, lt)) at
+
+-- one empty row more
+pub empty_row : (callers : List (List ℕ)) → ((q : ℕ) → callers_of callers q ≡ []) → (q : ℕ)
+    → callers_of (callers ++ [] ∷ []) q ≡ []
+empty_row [] h zero = refl
+empty_row [] h (suc q) = refl
+empty_row (c ∷ callers) h zero = h 0
+empty_row (c ∷ callers) h (suc q) = empty_row callers (λ r. h (suc r)) q

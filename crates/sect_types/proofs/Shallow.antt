@@ -21,7 +21,7 @@ use Rattle.sect_types.specs.Rules.{Declared, Counts, seen, after, passes_by, sum
 use Rattle.sect_types.specs.Rules.{knows_operands, declared_in}
 use Rattle.sect_types.specs.First.{none_yet, IsTyped}
 use Rattle.sect_types.specs.Expanded.{NextNumbers, past_thread, expanded_thread, expanded_threads, texts_of}
-use Rattle.sect_types.proofs.FuelLaws.{or_false}
+use Rattle.sect_lemmas.proofs.Booleans.{neither}
 use Rattle.sect_types.proofs.Resolved.{not_false}
 use Rattle.sect_types.proofs.Walked.{NoneBroken, first_clean, first_few, next_none, statement_after, block_after}
 use Rattle.sect_types.proofs.Walked.{statement_walked, block_walked, declared_after, locals_walked, thread_after}
@@ -41,9 +41,9 @@ passes_shallow c depth s h =
     let sites = nat_lt most_sites (c.sites + s.sites) in
     let calls = nat_lt most_calls (c.calls + s.calls) in
     let deep = nat_lt most_depth (depth + s.deep) in
-    let g = or_false statements (sites || (calls || deep)) h in
-    let i = or_false sites (calls || deep) g.1 in
-    at_most most_depth (depth + s.deep) (or_false calls deep i.1).1
+    let g = neither statements (sites || (calls || deep)) h in
+    let i = neither sites (calls || deep) g.1 in
+    at_most most_depth (depth + s.deep) (neither calls deep i.1).1
 
 call_shallow : (d : Declared) (ls : List Declaration) (inside : Bool) (depth : ℕ) (c : Counts) (x : List ℕ)
     (vs : List Operand) (w : List Item)

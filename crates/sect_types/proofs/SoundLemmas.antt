@@ -1,6 +1,7 @@
 -- What is typed is sound by number.
 use Rattle.std.proofs.Common.{◌≡◌, ℕ, nat_eq, Bool, true, false, not, ◌&&◌, List, map, Option, Some, None, IfOk}
-use Rattle.std.proofs.Common.{IfSome, slice_get, refl, sym, ap, ◌∙◌, true≢false, arith, ◌<◌, cond, nat_lt, length}
+use Rattle.std.proofs.Common.{IfSome, slice_get, refl, sym, ap, ◌∙◌, true≢false, arith, ◌<◌, cond, nat_lt, length, ◌⊎◌}
+use Rattle.std.proofs.Common.{inl, inr}
 use Rattle.std.proofs.lemmas.List.{length-map}
 use Rattle.std.specs.Bool.{⊤}
 use Rattle.std.specs.Cmp.Lexicographic.{pointwise}
@@ -364,6 +365,13 @@ condition_sound s None c w p q = tt
 pub test_sound : (s : Sight) (t : Test) → IfOk (test_of s t) (IsSoundCondition (environment s))
 test_sound s t = condition_sound s (operand_of s t.left) t.comparison (operand_of s t.right) (operand_there s t.left)
     (operand_there s t.right)
+
+-- an action that touches shared things only in a section stands right
+stands : (e : Environment) (b inside : Bool) (a : Action) → Fits e b a → ((b ≡ true) × (inside ≡ true)) ⊎ (b ≡ false)
+    → IsSound e inside (Do a Stop)
+stands e b true a (sound, same) h = (sound, tt, tt)
+stands e b false a (sound, same) (inr h) = (sound, same ∙ h, tt)
+stands e b false a (sound, same) (inl (h, g)) = absurd (true≢false (sym g))
 
 -- statements that are sound, one after another, are sound
 pub joined_sound : (e : Environment) (inside : Bool) (a b : TextView) → IsSound e inside a → IsSound e inside b

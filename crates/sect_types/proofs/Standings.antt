@@ -1,13 +1,29 @@
 -- What a place says of what is counted there.
-use Rattle.std.proofs.Common.{◌≡◌, ℕ, zero, suc, [], ◌∷◌, Bool, refl, ap, subst, ◌∙◌, arith, Some, List, map}
-use Rattle.std.specs.Prelude.{slice_index_or}
+use Rattle.std.proofs.Common.{◌≡◌, ℕ, zero, suc, [], ◌∷◌, Bool, refl, ap, subst, ◌∙◌, arith, Some, List, map, ◌≤◌}
+use Rattle.std.proofs.Common.{true, false, ◌&&◌}
+use Rattle.std.specs.Prelude.{slice_index_or, nat_lt}
 use Rattle.sect_front.specs.declared.tree.Procedure.{Procedure}
 use Rattle.sect_types.specs.declared.place.Place.{Place}
-use Rattle.sect_types.specs.declared.place.Place.TheVariants.{InThread}
+use Rattle.sect_types.specs.declared.place.Place.TheVariants.{InThread, InProcedure}
 use Rattle.sect_types.specs.declared.sums.Sums.{Sums}
 use Rattle.sect_types.specs.Sums.{nothing, sums, sums_at}
 use Rattle.sect_types.specs.steps.Capped.{capped, IsSmall}
 use Rattle.sect_types.specs.steps.Standing.{IsReady}
+use Rattle.std.proofs.lemmas.Bool.Decides.{nat_tests}
+use Rattle.sect_types.specs.Rules.{by_place}
+
+-- in a thread a test counts, in a procedure it doesn't
+pub counted : (at : Place) (b : Bool) → (by_place at true false && b) ≡ by_place at b false
+counted (InThread i d) b = refl
+counted (InProcedure p) b = refl
+
+pub here : {X : Type 0} (at : Place) (x y : X) → by_place at true false ≡ true → by_place at x y ≡ x
+here (InThread i d) x y e = refl
+here (InProcedure p) x y e = absurd cc
+
+pub elsewhere : {X : Type 0} (at : Place) (x y : X) → by_place at true false ≡ false → by_place at x y ≡ y
+elsewhere (InThread i d) x y e = absurd cc
+elsewhere (InProcedure p) x y e = refl
 
 pub small : (s : Sums) → IsSmall (capped s)
 small s = record {
@@ -17,6 +33,9 @@ small s = record {
   fresh = omega arith;
   deep = omega arith;
 }
+
+at_most : (m n : ℕ) → nat_lt m n ≡ false → n ≤ m
+at_most m n e = grind (arith, nat_tests)
 
 -- the table of a thread
 pub thread_table : (ps : List Procedure) (at : Place) (i : Bool) (d : ℕ) (table : List Sums) (returning : List Bool)

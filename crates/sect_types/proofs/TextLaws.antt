@@ -1,28 +1,33 @@
 -- The same of the expansion itself: more fuel than there are procedures changes no text.
-use Rattle.std.specs.Prelude.{Bool, false, true, is_some}
+use Rattle.std.specs.Prelude.{Bool, true, false, is_some}
 use Rattle.std.specs.List.{list_any}
-use Rattle.std.proofs.Common.{◌≡◌, ℕ, ◌+◌, List, Option, Some, None, refl, ◌∙◌, ap}
+use Rattle.std.proofs.Common.{◌≡◌, ℕ, zero, suc, ◌+◌, List, [], Option, Some, None, refl, ◌∙◌, ap, arith, inl, inr}
+use Rattle.std.proofs.Common.{length}
 use Rattle.sect_front.specs.declared.tree.Operand.{Operand}
-use Rattle.sect_types.specs.Statements.{TextView, Stop, Do, Choose, Loop, Section}
+use Rattle.sect_front.specs.declared.tree.Record.{Record}
+use Rattle.sect_front.specs.declared.tree.GlobalObject.{GlobalObject}
+use Rattle.sect_types.specs.Statements.{TextView, Stop, Do, Choose, Loop, Section, joined}
 use Rattle.sect_types.specs.Rules.{sight}
 use Rattle.sect_types.specs.Resolve.{test_of}
 use Rattle.sect_types.specs.Numbered.{condition_in}
 use Rattle.sect_front.specs.Syntax.{StatementView, Primitive, If, IfElse, While, Atomic, Call, BlockView, End, Then}
 use Rattle.sect_front.specs.declared.tree.Procedure.{Procedure}
+use Rattle.sect_types.specs.Items.{variables}
 use Rattle.sect_types.specs.declared.sums.Sums.{Sums}
-use Rattle.sect_types.specs.Sums.{number_of, prepend, statement_calls, block_calls}
-use Rattle.sect_types.specs.Expanded.{Scene, Expander, past, past_statement, past_block, statement_sections}
+use Rattle.sect_types.specs.Sums.{sums_within, number_of, prepend, statement_calls, block_calls, calls_in}
+use Rattle.sect_types.specs.Expanded.{Scene, NextNumbers, Expander, past, past_statement, past_block, statement_sections}
 use Rattle.sect_types.specs.Expanded.{block_sections, action_at, moved_condition, expanded_statement, expanded_block}
-use Rattle.sect_types.specs.Expanded.{NextNumbers, call_of}
-use Rattle.sect_types.proofs.FuelLaws.{Agree, same_statement, same_block}
+use Rattle.sect_types.specs.Expanded.{expand_within, call_of, procedure_numbered, after_call, set_parameters}
+use Rattle.sect_types.specs.Expanded.{clear_locals}
+use Rattle.sect_types.proofs.FuelLaws.{Agree, same_statement, same_block, chain, one_more}
 use Rattle.sect_lemmas.proofs.Booleans.{neither}
-use Rattle.sect_front.specs.declared.tree.Record.{Record}
-use Rattle.sect_front.specs.declared.tree.GlobalObject.{GlobalObject}
+use Rattle.sect_types.proofs.EnoughLaws.{IsAcyclic, ends, no_way}
+use Rattle.std.proofs.lemmas.Bool.{cases_Bool}
 
 abbrev pub SameAt : Expander → Expander → Option ℕ → Type 0
 SameAt f g q = (v : Scene) (a : NextNumbers) (vs : List Operand) (k : TextView) → f q v a vs k ≡ g q v a vs k
 
--- the two expanders agree at what the test leaves out
+-- the cases_Bool expanders agree at what the test leaves out
 pub record AreSame (test : ℕ → Bool) (f g : Expander) : Type 0 where
   pub some : (r : ℕ) → test r ≡ false → SameAt f g (Some r)
   pub none : SameAt f g None
@@ -78,9 +83,52 @@ mutual
       }) z) b) x.0 in
       statement_text test ps t u f g h m v a s (block_calls ps b w) e _ _ y
 
+pub one_text : (test : ℕ → Bool) (rs : List Record) (gs : List GlobalObject) (ps : List Procedure) (t u : List Sums)
+    (f g : Expander) → Agree test t u → AreSame test f g →
+    (o : Option Procedure) → list_any test (calls_in ps o) ≡ false → (q : Option ℕ)
+    → SameAt (call_of rs gs ps t f o) (call_of rs gs ps u g o) q
+one_text test rs gs ps t u f g h m None e q v a vs k = refl
+one_text test rs gs ps t u f g h m (Some p) e q v a vs k =
+    ap (λ (x : TextView). set_parameters v a.fresh p.parameters vs
+    (clear_locals (a.fresh + length p.parameters) p.locals (joined x k)))
+    (block_text test ps t u f g h m (record {
+      sight = sight rs gs (variables p);
+      first =
+          a.fresh;
+    }) (after_call a p) p.body [] e)
+
 -- where it isn't a procedure nothing is put in its place
 pub nothing_there : (rs : List Record) (gs : List GlobalObject) (ps : List Procedure) (t : List Sums) (f : Expander)
     (o : Option Procedure) → is_some o ≡ false →
     (q : Option ℕ) (v : Scene) (a : NextNumbers) (vs : List Operand) (k : TextView) → call_of rs gs ps t f o q v a vs k ≡ k
 nothing_there rs gs ps t f None e q v a vs k = refl
 nothing_there rs gs ps t f (Some p) e q v a vs k = absurd (let off : true ≡ false = e in cc)
+
+unnamed : (n : ℕ) (rs : List Record) (gs : List GlobalObject) (ps : List Procedure)
+    → SameAt (expand_within (suc n) rs gs ps) (expand_within n rs gs ps) None
+unnamed zero rs gs ps v a vs k = refl
+unnamed (suc n) rs gs ps v a vs k = refl
+
+-- where n calls in a row aren't there, one more changes no text
+pub one_more_text : (n : ℕ) (rs : List Record) (gs : List GlobalObject) (ps : List Procedure) (q : Option ℕ)
+    → chain n ps q ≡ false →
+    SameAt (expand_within (suc n) rs gs ps) (expand_within n rs gs ps) q
+one_more_text zero rs gs ps q e v a vs k =
+    nothing_there rs gs ps [] (expand_within zero rs gs ps) (procedure_numbered ps q) e q v a vs k
+one_more_text (suc n) rs gs ps q e v a vs k =
+    one_text (λ r. chain n ps (Some r)) rs gs ps (sums_within (suc n) ps) (sums_within n ps)
+    (expand_within (suc n) rs gs ps) (expand_within n rs gs ps)
+    (λ r h. one_more n ps (Some r) h) (record {
+      some = λ r h. one_more_text n rs gs ps (Some r) h;
+      none =
+          unnamed n rs gs ps;
+    })
+    (procedure_numbered ps q) e q v a vs k
+
+-- without recursion the fuel is enough: a call's text unfolds once more to the same
+pub enough_text : (rs : List Record) (gs : List GlobalObject) (ps : List Procedure) (q : ℕ) → IsAcyclic ps →
+    SameAt (expand_within (suc (length ps)) rs gs ps) (expand_within (length ps) rs gs ps) (Some q)
+enough_text rs gs ps q c v a vs k = elim (cases_Bool (chain (length ps) ps (Some q))) [
+  | inl e ↦ absurd (ends (length ps) ps [] q c (no_way ps q) (omega arith) e)
+  | inr e ↦ one_more_text (length ps) rs gs ps (Some q) e v a vs k
+]

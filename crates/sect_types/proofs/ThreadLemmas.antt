@@ -17,7 +17,7 @@ use Rattle.sect_types.specs.declared.rule.Fault.TheVariants as fault
 use Rattle.sect_types.specs.Sight.{Sight, names_of_records, names_of_declared}
 use Rattle.sect_types.specs.Items.{Item, AProcedure, AThread, variables, local_items, block_items, procedure_items}
 use Rattle.sect_types.specs.Items.{thread_items}
-use Rattle.sect_types.specs.Rules.{Declared, declared_in, Counts, judge, sight}
+use Rattle.sect_types.specs.Rules.{Declared, declared_in, Counts, sight}
 use Rattle.sect_types.specs.steps.Walks.{Walks}
 use Rattle.sect_types.specs.steps.Standing.{declared_by}
 use Rattle.sect_types.specs.steps.Threads.{VariablesView, variables_shown, variables_fine, local_names, AreProcedures}

@@ -1,15 +1,15 @@
 -- The expanded texts of all threads.
-use Rattle.std.proofs.Common.{◌≡◌, ◌+◌, List, [], ◌∷◌, refl, ap, length, ℕ, ◌<◌, ◌≤◌, ◌++◌, drop, get_or, sym, ◌∙◌}
-use Rattle.std.proofs.Common.{arith, subst, append_assoc}
+use Rattle.std.proofs.Common.{◌≡◌, ℕ, ◌+◌, ◌<◌, ◌≤◌, List, [], ◌∷◌, ◌++◌, drop, get_or}
+use Rattle.std.proofs.Common.{refl, sym, ◌∙◌, ap, arith, subst, length, append_assoc}
 use Rattle.sect_front.specs.declared.tree.Thread.{Thread}
 use Rattle.sect_front.specs.TreeView.{TreeView}
-use Rattle.sect_types.specs.Rules.{sight, declared_in}
-use Rattle.sect_types.specs.Sums.{sums, block_sums}
-use Rattle.sect_types.specs.Expanded.{block_sections, past_thread, expanded_thread, expanded_threads, NextNumbers}
-use Rattle.sect_types.specs.steps.Expansion.{block_by, at_thread, IsPast, HasRoom, RoomFor, AreExpanded}
 use Rattle.sect_types.specs.Limits.{most_locals, most_sections, most_sites, most_statements}
+use Rattle.sect_types.specs.Rules.{declared_in, sight}
+use Rattle.sect_types.specs.Sums.{sums, block_sums}
 use Rattle.sect_types.specs.Statements.{TextView}
 use Rattle.sect_types.specs.First.{IsTyped}
+use Rattle.sect_types.specs.Expanded.{NextNumbers, block_sections, past_thread, expanded_thread, expanded_threads}
+use Rattle.sect_types.specs.steps.Expansion.{IsPast, HasRoom, block_by, at_thread, RoomFor, AreExpanded}
 use Rattle.sect_lemmas.proofs.Elements.{drop_next}
 use Rattle.sect_types.proofs.SectionLaws.{sections_in}
 use Rattle.sect_types.proofs.Walked.{before_threads}
@@ -50,6 +50,12 @@ same_room t a b (h ∷ hs) e r = (
       (at_same a b h e) r.1,
   same_room t (past_thread t a h) (past_thread t b h) hs (same_thread t a b h e) r.2,
 )
+
+-- the position behind a thread
+behind : (t : TreeView) (a next : NextNumbers) (h : Thread)
+    → IsPast (at_thread a h) next (block_sums t.procedures (sums t.procedures) h.body) (block_sections h.body)
+    → SamePlace (past_thread t a h) next
+behind t a next h p = record { same_sites = sym p.of_sites; same_sections = sym p.of_sections }
 
 -- one thread more
 goes_on : (t : TreeView) (now next : NextNumbers) (h : Thread) (rest : List Thread) (texts : List TextView) (text : TextView)

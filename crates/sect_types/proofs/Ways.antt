@@ -10,14 +10,16 @@ use Rattle.sect_types.specs.declared.place.Place.TheVariants.{InThread, InProced
 use Rattle.sect_types.specs.declared.rule.Rule.{Rule}
 use Rattle.sect_types.specs.declared.rule.Rule.TheVariants.{Unknown, Twice, WrongType, SharedOutside, Nested, TooMany}
 use Rattle.sect_types.specs.declared.rule.Rule.TheVariants.{Recursion, Arguments}
-use Rattle.sect_types.specs.Lists.{Has}
+use Rattle.sect_lemmas.specs.Lists.{Has}
 use Rattle.sect_types.specs.Items.{Item, ARecord, AField, AGlobal, AProcedure, AThread, ALocal, AStatement, PrimitiveHead}
 use Rattle.sect_types.specs.Items.{TestHead, AtomicHead, CallHead}
 use Rattle.sect_types.specs.Sums.{calls_in, number_of, IsWay, Returns}
 use Rattle.sect_types.specs.Rules.{Declared, Counts, ReturnsTo, IsRecursive, BreaksRule}
 use Rattle.sect_types.specs.steps.Search.{reaches, returns, returns_to, recursive}
 use Rattle.sect_types.specs.steps.Judging.{breaks}
-use Rattle.sect_types.proofs.EnoughLaws.{or_cases, or_left, or_right, witness, same}
+use Rattle.std.proofs.lemmas.Bool.{or_cases}
+use Rattle.sect_lemmas.proofs.Booleans.{or_left, or_right}
+use Rattle.sect_types.proofs.EnoughLaws.{witness, same}
 use Rattle.sect_types.proofs.ReachLaws.{returns_caller}
 
 has_any : (xs : List ℕ) (r : ℕ) → list_any (eqb r) xs ≡ true → Has xs r

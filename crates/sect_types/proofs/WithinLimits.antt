@@ -26,7 +26,7 @@ use Rattle.sect_types.specs.declared.sums.Sums.{Sums}
 use Rattle.sect_types.specs.Sums.{sums, sums_at, sums_within, number_of, primitive_sums, statement_sums, block_sums}
 use Rattle.sect_types.specs.Rules.{Declared, Counts, seen, after, too_many, passes_by, sums_of_call, as_many}
 use Rattle.sect_types.specs.Rules.{after_item, procedure_of, knows_operands, declared_in}
-use Rattle.sect_types.specs.Clean.{IsClean}
+use Rattle.sect_types.specs.steps.Clean.{IsClean}
 use Rattle.sect_types.specs.First.{none_yet, IsTyped}
 use Rattle.sect_types.specs.declared.expand.Fresh.{Fresh}
 use Rattle.sect_types.specs.Expanded.{procedure_numbered, fresh_in, local_types_of, texts_of}
@@ -35,7 +35,8 @@ use Rattle.sect_types.proofs.Walked.{NoneBroken, first_clean, first_few, next_no
 use Rattle.sect_types.proofs.Walked.{statement_walked, block_walked, declared_after, locals_walked, thread_after}
 use Rattle.sect_types.proofs.Walked.{threads_after, records_after, records_walked, globals_walked, procedures_walked}
 use Rattle.sect_types.proofs.Walked.{before_procedures, before_threads}
-use Rattle.sect_types.proofs.CountLaws.{sums_of, looked, thread_freshens}
+use Rattle.sect_types.specs.Sums.{sums_of}
+use Rattle.sect_types.proofs.CountLaws.{looked, thread_freshens}
 use Rattle.sect_types.proofs.Counting.{end_of, before_add, typed_counts, thread_sums, threads_add}
 use Rattle.sect_lemmas.proofs.Booleans.{neither}
 use Rattle.sect_types.specs.Limits.{most_all_locals, most_calls, most_globals, most_locals, most_sections, most_sites}

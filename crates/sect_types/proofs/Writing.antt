@@ -1,6 +1,6 @@
 -- Writing an expansion, statement by statement.
 use Rattle.std.proofs.Common.{◌≡◌, ℕ, zero, suc, ◌+◌, ◌<◌, ◌≤◌, List, [], ◌∷◌, drop, get_or, Option, Some, None, refl}
-use Rattle.std.proofs.Common.{sym, ◌∙◌, ap, arith, length, slice_get, subst, length-append}
+use Rattle.std.proofs.Common.{sym, ◌∙◌, ap, arith, length, slice_get, subst, length-append, ◌*◌}
 use Rattle.std.proofs.lemmas.List.{drop_all}
 use Rattle.sect_front.specs.declared.tree.Declaration.{Declaration}
 use Rattle.sect_front.specs.declared.tree.Operand.{Operand}
@@ -25,7 +25,7 @@ use Rattle.sect_types.specs.declared.sums.Sums.{Sums}
 use Rattle.sect_types.specs.Sight.{Sight, operand_of}
 use Rattle.sect_types.specs.Rules.{sight}
 use Rattle.sect_types.specs.Items.{variables}
-use Rattle.sect_types.specs.Sums.{sums_at, sums_within, block_sums, number_of, statement_sums}
+use Rattle.sect_types.specs.Sums.{sums_at, sums_within, block_sums, number_of, statement_sums, sums_of}
 use Rattle.sect_types.specs.Statements.{TextView, Stop, Do, Choose, Loop, Section, joined}
 use Rattle.sect_types.specs.Texts.{step_then}
 use Rattle.sect_types.specs.Expanded.{Scene, Expander, block_sections, past_block, expanded_block, argument_in}
@@ -33,12 +33,12 @@ use Rattle.sect_types.specs.Expanded.{cleared, set_parameters, moved_action, mov
 use Rattle.sect_types.specs.Expanded.{call_of, procedure_numbered, expand_within, NextNumbers, statement_sections}
 use Rattle.sect_types.specs.Expanded.{past_statement}
 use Rattle.sect_types.specs.steps.Expansion.{Appends, IsPast, table_by, calls_by, view_of, statement_by, block_by}
-use Rattle.sect_types.specs.steps.Expansion.{argument_at, HasRoom, IsExpanding}
+use Rattle.sect_types.specs.steps.Expansion.{argument_at, HasRoom, IsExpanding, total_size}
 use Rattle.sect_lemmas.proofs.Elements.{drop_next}
 use Rattle.sect_types.proofs.shared.Joining.{joined_stop, joined_again}
-use Rattle.sect_types.proofs.CountLaws.{sums_of, looked}
+use Rattle.sect_types.proofs.CountLaws.{looked}
 use Rattle.sect_front.specs.declared.tree.Statement.{Statement}
-use Rattle.sect_front.specs.Trees.{statement_of, block_of}
+use Rattle.sect_front.specs.Trees.{statement_of, block_of, block_size}
 use Rattle.sect_types.specs.Limits.{most_all_locals}
 
 -- one step more
@@ -197,6 +197,10 @@ starts t n s first block all at text e room = record {
   room = subst (λ b. HasRoom at (block_sums t.procedures (table_by t n) b) (block_sections b)) (sym e) room;
 }
 
+next_of : (ss : List Statement) (i : ℕ) (x : Statement) → i < length ss → x ≡ get_or ss i x
+    → block_of (drop i ss) ≡ Then (statement_of x) (block_of (drop (i + 1) ss))
+next_of ss i x h e = ap block_of (drop_next ss i x h e)
+
 goes_on : (t : TreeView) (n : ℕ) (s : Sight) (first : ℕ) (block all : BlockView) (f : StatementView) (rest : BlockView)
     (old now next : NextNumbers) (before text new : TextView)
     → IsExpanding t n s first block all (Then f rest) old now before text
@@ -287,6 +291,18 @@ call_by_parts t n fuel q p s inner first own a b ps ls vs old one two new f e i 
     at : b ≡ after_call a p
     at = c ∙ (λ z. record a { fresh = a.fresh + (length (x z) + length (y z)) })
 
+-- what a call comes to
+record CallCounts (t : TreeView) (n fuel q : ℕ) (p : Procedure) : Type 0 where
+  sites_are : (sums_at (table_by t fuel) (Some q)).sites ≡ (block_sums t.procedures (table_by t n) p.body).sites
+  fresh_are : (sums_at (table_by t fuel) (Some q)).fresh
+      ≡ length p.parameters + length p.locals + (block_sums t.procedures (table_by t n) p.body).fresh
+
+call_counts : (t : TreeView) (n fuel q : ℕ) (p : Procedure) → fuel ≡ suc n → slice_get t.procedures q ≡ Some p
+    → CallCounts t n fuel q p
+call_counts t n fuel q p f e =
+    let same = ap (λ m. sums_at (table_by t m) (Some q)) f ∙ called t n q p e in
+    record { sites_are = ap (λ (s : Sums). s.sites) same; fresh_are = ap (λ (s : Sums). s.fresh) same }
+
 -- there are so many locals left for its variables
 pub call_own : (t : TreeView) (n fuel q : ℕ) (p : Procedure) (a : NextNumbers) → fuel ≡ suc n
     → slice_get t.procedures q ≡ Some p
@@ -294,6 +310,18 @@ pub call_own : (t : TreeView) (n fuel q : ℕ) (p : Procedure) (a : NextNumbers)
     → a.fresh + (length p.parameters + length p.locals) ≤ most_all_locals
 call_own t n fuel q p a f g h =
     let counts = call_counts t n fuel q p f g in omega (arith, h.for_fresh, counts.fresh_are)
+
+-- a body is no larger than all bodies
+pub size_within : (ps : List Procedure) (q : ℕ) (p : Procedure) → slice_get ps q ≡ Some p
+    → block_size p.body ≤ total_size ps
+size_within [] q p e = absurd (cc)
+size_within (x ∷ ps) zero p e = let same : x ≡ p = cc in omega (arith, ap (λ (y : Procedure). block_size y.body) same)
+size_within (x ∷ ps) (suc q) p e = omega (arith, size_within ps q p e)
+
+-- the measure of a body is less than that of a call
+pub falls : (n fuel total size : ℕ) → fuel ≡ suc n → size ≤ total
+    → n * (4 * total + 3) + 4 * size + 2 < fuel * (4 * total + 3)
+falls n fuel total size e le = omega (arith, e, le, ap (λ m. m * (4 * total + 3)) e)
 
 -- the variables of a procedure are as many as it takes
 pub own_locals : (t : TreeView) (n fuel q : ℕ) (p : Procedure) (a : NextNumbers) (s : Sight) (own : ℕ) → fuel ≡ suc n

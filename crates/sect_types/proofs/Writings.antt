@@ -23,6 +23,7 @@ use Rattle.sect_types.proofs.Counting.{thread_sums, before_add, threads_add}
 use Rattle.sect_types.proofs.WithinLimits.{HaveFewLocals, typed_few, block_takes, calls_take}
 use Rattle.sect_types.proofs.Threading.{same_texts}
 use Rattle.sect_types.specs.Limits.{most_calls, most_locals, most_sections, most_sites, most_statements}
+use Rattle.std.proofs.lemmas.List.{drop_all}
 
 -- the text of a thread
 pub thread_written : (w : SettingView) (sites sections most : ℕ) (h : Thread) (s : Sight) (f : FrontView)
@@ -94,6 +95,12 @@ pub one_thread : (w : SettingView) (all : List Thread) (i : ℕ) (h : Thread) (s
 one_thread w all i h sites sections more later texts fresh text own lt is a =
     goes_on w all h (drop (i + 1) all) sites sections more later texts fresh text own
     (next_thread w all i h sites sections texts fresh lt is a)
+
+ended : (w : SettingView) (all : List Thread) (i sites sections : ℕ) (texts : List TextView) (fresh : List (List Fresh))
+    → length all ≤ i → AreWritten w all (drop i all) sites sections texts fresh
+    → AreWritten w all [] sites sections texts fresh
+ended w all i sites sections texts fresh le a =
+    subst (λ l. AreWritten w all l sites sections texts fresh) (drop_all i all le) a
 
 fit_all : (t : TreeView) (w : SettingView) (sites section : ℕ) (hs : List Thread) → w.procedures ≡ t.procedures
     → sites + (thread_sums (declared_in t) hs).sites ≤ most_sites → section + sections_in hs ≤ most_sections

@@ -1,7 +1,7 @@
 -- Paths over a store, field by field.
 use Rattle.std.specs.Prelude.{◌≡◌, ◌⊎◌, List, Option, Some}
 use Rattle.sect_types.specs.declared.action.Field.{Field}
-use Rattle.sect_types.specs.Lists.{Has}
+use Rattle.sect_lemmas.specs.Lists.{Has}
 use Rattle.sect_points.specs.declared.holders.Variable.{Variable}
 use Rattle.sect_points.specs.Paths.{PathView, var}
 use Rattle.sect_points.specs.Partitions.{ClassesView}

@@ -4,7 +4,7 @@ use Rattle.std.specs.Prelude.{slice_index_or, eqb}
 use Rattle.std.specs.List.{list_any}
 use Rattle.sect_front.specs.declared.tree.Procedure.{Procedure}
 use Rattle.sect_lemmas.specs.Lists.{put_at}
-use Rattle.sect_types.specs.Sums.{calls_in, returns}
+use Rattle.sect_types.specs.Sums.{calls_in}
 use Rattle.sect_types.specs.steps.Search.{returns}
 
 abbrev pub IsAmong : List ℕ → ℕ → Type 0

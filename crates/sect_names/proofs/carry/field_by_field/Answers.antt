@@ -4,7 +4,6 @@ use Rattle.sect_types.specs.declared.action.Field.{Field}
 use Rattle.sect_lemmas.specs.Lists.{Has}
 use Rattle.sect_lemmas.proofs.Elements.{drop_next}
 use Rattle.sect_points.specs.Paths.{dots, path_of-fields}
-use Rattle.sect_names.specs.Carrying.{OverField}
 use Rattle.sect_lemmas.proofs.Making.{one_has}
 use Rattle.sect_names.proofs.Storing.{over_before}
 use Rattle.sect_names.proofs.carry.field_by_field.Goals as goal

@@ -1,0 +1,70 @@
+-- A block of which the first statements have been expanded.
+use Rattle.std.proofs.Common.{◌≡◌, ℕ, ◌+◌, ◌<◌, List, [], ◌∷◌, drop, get_or, length, refl, sym, ap, ◌∙◌, append-nil}
+use Rattle.std.proofs.Common.{arith, Result, Ok, Err, OnOk}
+use Rattle.sect_types.specs.declared.text.Step.{Step}
+use Rattle.sect_types.specs.Texts.{step_then}
+use Rattle.sect_front.specs.Syntax.{StatementView, BlockView, End, Then}
+use Rattle.sect_front.specs.Trees.{statement_of, block_of}
+use Rattle.sect_front.specs.declared.tree.Statement.{Statement}
+use Rattle.sect_front.specs.declared.tree.Operand.{Operand}
+use Rattle.sect_front.specs.declared.tree.Declaration.{Declaration}
+use Rattle.sect_types.specs.declared.action.Action.TheVariants as action
+use Rattle.sect_types.specs.declared.action.Value.TheVariants as value
+use Rattle.sect_types.specs.Sight.{operand_of}
+use Rattle.sect_types.specs.Statements.{TextView, Stop, Do, joined}
+use Rattle.sect_types.specs.Expanded.{Scene, argument_in, cleared, set_parameters, clear_locals}
+use Rattle.sect_types.specs.steps.Expanding.{SettingView, FrontView, front_past_block, expanded_there, block_there}
+use Rattle.sect_lemmas.proofs.Elements.{drop_next}
+use Rattle.sect_types.proofs.Filling.{joined_step}
+use Rattle.sect_types.proofs.shared.Joining.{joined_stop}
+
+set_on : (v : Scene) (x : ℕ) (ds : List Declaration) (us : List Operand) (b k : TextView)
+    → set_parameters v x ds us (joined b k) ≡ joined (set_parameters v x ds us b) k
+set_on v x [] us b k = refl
+set_on v x (d ∷ ds) [] b k = ap (Do (action.Assign x value.Null)) (set_on v (x + 1) ds [] b k)
+set_on v x (d ∷ ds) (u ∷ us) b k =
+    ap (Do (action.Assign x (argument_in v.first (operand_of v.sight u)))) (set_on v (x + 1) ds us b k)
+
+clear_on : (x : ℕ) (ds : List Declaration) (b k : TextView)
+    → clear_locals x ds (joined b k) ≡ joined (clear_locals x ds b) k
+clear_on x [] b k = refl
+clear_on x (d ∷ ds) b k = ap (Do (action.Assign x (cleared d.kind))) (clear_on (x + 1) ds b k)
+
+-- the statements `rest` of `all` are left
+pub record AreExpanded (w : SettingView) (n : ℕ) (v : Scene) (block all rest : BlockView) (old now : FrontView)
+    (start out : TextView) : Type 0 where
+  pub whole : all ≡ block
+  pub text : (k : TextView)
+      → joined out (joined (block_there w n v now rest) k) ≡ joined start (joined (block_there w n v old block) k)
+  pub front : front_past_block w n now rest ≡ front_past_block w n old block
+
+next_of : (ss : List Statement) (i : ℕ) (x : Statement) → i < length ss → x ≡ get_or ss i x
+    → block_of (drop i ss) ≡ Then (statement_of x) (block_of (drop (i + 1) ss))
+next_of ss i x h e = ap block_of (drop_next ss i x h e)
+
+past_end : (w : SettingView) (n : ℕ) (f : FrontView) → front_past_block w n f End ≡ f
+past_end w n f =
+    let the_sites : f.at.sites + 0 ≡ f.at.sites = omega arith in
+    let the_sections : f.at.sections + 0 ≡ f.at.sections = omega arith in
+    let the_fresh : f.at.fresh + 0 ≡ f.at.fresh = omega arith in
+    let the_calls : f.calls + 0 ≡ f.calls = omega arith in
+    λ i. record {
+      at = record { sites = the_sites i; sections = the_sections i; fresh = the_fresh i };
+      calls = the_calls i;
+      fresh = append-nil f.fresh i;
+    }
+
+-- one step more
+pub put_step : {A E : Type 0} (r : Result A E) (w : SettingView) (n : ℕ) (v : Scene) (f : FrontView) (s : StatementView)
+    (out new : TextView) (st : Step) → ((k : TextView) → step_then st k ≡ expanded_there w n v f s k)
+    → OnOk r (new ≡ joined out (step_then st Stop))
+    → OnOk r ((k : TextView) → joined new k ≡ joined out (expanded_there w n v f s k))
+put_step (Ok a) w n v f s out new st is pushed = λ k.
+    ap (λ t. joined t k) pushed ∙ (joined_step out st k ∙ ap (joined out) (is k))
+put_step (Err e) w n v f s out new st is pushed = tt
+
+-- the text of a block that was put into an empty one
+pub text_is : (start part b : TextView) → start ≡ Stop → ((k : TextView) → joined part k ≡ joined start (joined b k))
+    → part ≡ b
+text_is start part b e h =
+    sym (joined_stop part) ∙ (h Stop ∙ (ap (λ x. joined x (joined b Stop)) e ∙ joined_stop b))

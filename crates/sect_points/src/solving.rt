@@ -4,6 +4,7 @@ ghost use Rattle.std.specs.Prelude.{◌≡◌, ◌↔◌, ◌≤◌, ◌<◌, �
 ghost use Rattle.sect_points.specs.Sites.{HasSite};
 ghost use Rattle.sect_points.specs.Flow.{ValueHas, BaseHas, Moved, Within, IsLeastFlow};
 ghost use Rattle.sect_points.specs.Sets.{InSets, IsEmpty, HasSet, SameHolders, sets_room, sites_for, spread_to};
+ghost use Rattle.sect_points.specs.Sets.{AreSitesOf};
 ghost use Rattle.sect_points.specs.steps.Solving.{FitsValue, FitsBase, FitsAction, AllFit};
 ghost use Rattle.sect_points.specs.Sets.{AreBelow};
 ghost use Rattle.sect_points.specs.steps.Marks.{Suits, Grows, AreBases, IsBase, MovedBy, IsOnlyBase, IsThere};
@@ -25,8 +26,10 @@ use sect_types::{Action, Base, MOST_FIELDS, MOST_SITES, MOST_THREADS, Value};
 fn value_sites(sets: &PointsTo, thread: u16, value: Value) -> SiteSet
     requires fits { FitsValue sets.now thread value }
     requires most { sets.now.sites ≤ MOST_SITES }
-    ensures { (site : ℕ) → HasSite result.words site ↔ ValueHas (InSets sets.now) thread value site }
+    ensures sites { (site : ℕ) → HasSite result.words site ↔ ValueHas (InSets sets.now) thread value site }
+    ensures below { AreSitesOf sets.now result.words }
 {
+    sets.bounds();
     match value {
         Value::Local(local) => sets.local(thread, local),
         Value::Global(global) => SiteSet::of(global),
@@ -49,6 +52,7 @@ pub fn base_sites(sets: &PointsTo, thread: u16, base: Base) -> SiteSet
 /// Adds sites to a holder's set, and marks it where there were new ones.
 fn add(sets: &mut PointsTo, holder: Holder, sites: &SiteSet, marks: &mut Marks) -> bool
     requires place { HasSet sets.old holder }
+    requires sites { AreSitesOf sets.old sites.now.words }
     requires suits { Suits sets.old marks.old }
     ensures { Grows sets.old sets.new (sites_for holder sites.now.words) marks.old marks.new result }
 {
@@ -68,7 +72,8 @@ fn spread(
     marks: &mut Marks,
 ) -> bool
     requires field { field < MOST_FIELDS }
-    requires bases { (base : ℕ) → HasSite bases.now.words base → base < sets.old.sites }
+    requires bases { AreSitesOf sets.old bases.now.words }
+    requires sites { AreSitesOf sets.old sites.now.words }
     requires suits { Suits sets.old marks.old }
     ensures { Grows sets.old sets.new (spread_to bases.now.words field sites.now.words) marks.old marks.new result }
 {

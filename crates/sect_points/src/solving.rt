@@ -106,13 +106,13 @@ fn all_bases(sets: &PointsTo, placed: ThreadAction) -> SiteSet
 /// Moves what a statement moves by these of its bases, marks what grew, and tells whether some set grew.
 fn turn(sets: &mut PointsTo, placed: ThreadAction, bases: &SiteSet, marks: &mut Marks) -> bool
     requires fits { FitsAction sets.old placed.thread placed.action }
-    requires below { AreBelow sets.old }
     requires most { sets.old.sites ≤ MOST_SITES }
     requires suits { Suits sets.old marks.old }
     requires bases { AreBases (InSets sets.old) placed bases.now.words }
     ensures { Grows sets.old sets.new
         (MovedBy (InSets sets.old) bases.now.words placed.thread placed.action) marks.old marks.new result }
 {
+    sets.bounds();
     let thread = placed.thread;
     match placed.action {
         Action::Assign(target, value) => {
@@ -215,7 +215,6 @@ fn pass(
     marks: &mut Marks,
 ) -> bool
     requires fits { AllFit sets.old readers.now }
-    requires below { AreBelow sets.old }
     requires most { sets.old.sites ≤ MOST_SITES }
     requires suits { Suits sets.old marks.old }
     requires there { IsThere growth new.now.words sets.old }

@@ -20,6 +20,7 @@ mod variables;
 
 pub use covers::covering_is_an_order;
 pub use fault::SchemeFault;
+pub use generate::end_lock;
 pub use laws::needs::{
     beginnings_are_needed, beginnings_are_typed, needed_locks_are_the_threads, needed_step_by_step,
     texts_stay_in_their_thread,

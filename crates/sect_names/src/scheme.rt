@@ -16,7 +16,7 @@ use crate::fault::SchemeFault;
 use crate::path::Path;
 use sect_graph::{Graph, graph_of};
 use sect_hints::{Guards, guards};
-use sect_points::{Classes, Variable, class_of_path, laws_of_classes, points_to, classes};
+use sect_points::{Classes, Variable, class_of_path, classes, laws_of_classes, points_to};
 use sect_types::Program;
 use std::alloc::{AllocError, Global};
 use std::marker::Model;

@@ -26,7 +26,7 @@ Answers (Compile k workers Certificate) source bytes = AreOffered workers × IsC
 Answers (Explain k) source bytes = IsProgramExplanation source k bytes
 Answers (Serial fuel order) source bytes = IsOutcome source fuel order.items bytes
 Answers (Schedule k fuel schedule) source bytes = IsScheduled source k fuel schedule.items bytes
-Answers (Run k fuel) source bytes = IsOutcomeOfRun source fuel bytes
+Answers (Run k fuel) source bytes = IsOutcomeOfRun source k fuel bytes
 Answers (Check k) source bytes = IsValidInput source k × (bytes ≡ codes "valid\n")
 
 -- the refusal is due where this is requested of the source

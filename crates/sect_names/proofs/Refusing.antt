@@ -1,5 +1,6 @@
 -- Which refusals are due, and which are not.
 use Rattle.std.proofs.Common.{◌≡◌, ◌≤◌, ℕ, List, Result, Ok, Err, IfErr, IsErrAnd, inr, refl, sym, ap, ◌∙◌, subst}
+use Rattle.sect_front.proofs.Only.{only}
 use Rattle.sect_front.specs.TreeView.{TreeView}
 use Rattle.sect_front.specs.Front.{Gives}
 use Rattle.sect_front.specs.declared.parsing.FrontFault.{FrontFault}
@@ -54,9 +55,13 @@ is_numbered p is =
     ∙ ap (λ t. numbered_by p.source records globals locals t p.lockings) is.texts_are
     ∙ ap (numbered_by p.source records globals locals (texts_of p.source)) is.lockings_are
 
--- a text has one program
+-- a tree has one program, and so has a text
 pub one_program : (p q : ProgramView) → IsOfTree p → IsOfTree q → q.source ≡ p.source → q ≡ p
 one_program p q of_p of_q same = is_numbered q of_q ∙ ap numbered same ∙ sym (is_numbered p of_p)
+
+pub one_text : (bytes : List ℕ) (p q : ProgramView) → IsTypedText bytes p → IsTypedText bytes q → q ≡ p
+one_text bytes p q of_p of_q =
+    one_program p q of_p.numbers of_q.numbers (only bytes p.source of_p.spelled (Ok q.source) of_q.spelled)
 
 -- a text that spells a tree is refused for want of memory alone
 pub spelled_gives : (t : TreeView) (fault : FrontFault) → Gives t (Err fault) → of_front fault ≡ refusal.Memory

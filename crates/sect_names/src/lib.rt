@@ -31,6 +31,7 @@ pub use laws::records::{
 pub use laws::{
     carried_paths_keep_their_class, carrying_back_respects_covering, least_sets_are_one,
     locks_are_finitely_many, locks_stay_the_programs, schemes_are_one, steps_of_sections,
+    texts_have_one_program,
 };
 pub use link::Link;
 pub use lock::{Effect, Lock, Right, precedes};

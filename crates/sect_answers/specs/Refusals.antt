@@ -85,14 +85,14 @@ check_text check.Memory = no_memory
 check_text (check.Source why) = codes "40 Source " ++ source_text why
 check_text (check.Text why) = codes "41 Text " ++ cert_text why
 check_text check.WrongProgram = codes "42 WrongProgram"
-check_text (check.NotGenerated i j) = codes "43 NotGenerated section " ++ decimal i ++ codes " node " ++ decimal j
+check_text (check.NotGenerated i j) = codes "43 NotGenerated section " ++ (decimal i ++ (codes " node " ++ decimal j))
 check_text (check.NotCarried i j k) =
-    codes "44 NotCarried section " ++ decimal i ++ codes " edge " ++ decimal j ++ codes " " ++ decimal k
+    codes "44 NotCarried section " ++ (decimal i ++ (codes " edge " ++ (decimal j ++ (codes " " ++ decimal k))))
 check_text (check.EntryNotCovered i) = codes "45 EntryNotCovered section " ++ decimal i
 check_text (check.NotMaximal i) = codes "46 NotMaximal section " ++ decimal i
 check_text (check.BrokenChain i n j) =
-    codes "47 BrokenChain section " ++ decimal i ++ codes " lock " ++ decimal n ++ codes " step " ++ decimal j
-check_text (check.NoChain i n) = codes "48 NoChain section " ++ decimal i ++ codes " lock " ++ decimal n
+    codes "47 BrokenChain section " ++ (decimal i ++ (codes " lock " ++ (decimal n ++ (codes " step " ++ decimal j))))
+check_text (check.NoChain i n) = codes "48 NoChain section " ++ (decimal i ++ (codes " lock " ++ decimal n))
 
 abbrev pub world_text : WorldFault → List ℕ
 world_text (world.NoSuchThread t) = codes "70 NoSuchThread " ++ decimal t

@@ -1,5 +1,7 @@
 -- What the layers refuse, the program refuses.
-use Rattle.std.proofs.Common.{◌≡◌, ℕ, List, Err, refl, length}
+use Rattle.std.proofs.Common.{◌≡◌, ◌<◌, ◌∷◌, ◌++◌, ℕ, List, Err, refl, sym, subst, length, inl, arith}
+use Rattle.sect_lemmas.specs.Lists.{Has}
+use Rattle.sect_lemmas.proofs.Membership.{Has-right}
 use Rattle.sect_names.specs.Sources as sources
 use Rattle.sect_names.specs.declared.refusal.Refusal.{Refusal}
 use Rattle.sect_names.specs.declared.refusal.Refusal.TheVariants as source
@@ -52,7 +54,7 @@ ended_gives e (serial_fault.SectionsLeft t) g = absurd g
 -- the first fault of the input's certificate is due of `check`
 pub check_due : (input cert source : List ℕ) (k : ℕ) (why : CheckFault) → IsSplit input cert source
     → certificates.Judges {A = Unit {0}} source k cert (Err why) → IsCheckDue input k (of_check why)
-check_due input cert source k check_fault.Memory split h = tt
+check_due input cert source k check_fault.Memory split h = h
 check_due input cert source k (check_fault.Source r) split h =
     (λ e. cc, record { cert = cert; source = source; split = split; holds = h })
 check_due input cert source k (check_fault.Text f) split h =
@@ -75,7 +77,7 @@ check_due input cert source k (check_fault.NoChain i n) split h =
 -- and of `schedule`
 pub schedule_source_due : (bytes : List ℕ) (k : ℕ) (schedule : List ℕ) (why : Refusal) → sources.IsDue bytes k why
     → IsScheduleDue bytes k schedule (of_source why)
-schedule_source_due bytes k schedule source.Memory h = tt
+schedule_source_due bytes k schedule source.Memory h = h.0
 schedule_source_due bytes k schedule (source.Front fault) h = (λ e. cc, h)
 schedule_source_due bytes k schedule (source.Types fault) h = (λ e. cc, h)
 schedule_source_due bytes k schedule (source.Scheme fault) h = (λ e. cc, h)
@@ -84,5 +86,14 @@ schedule_source_due bytes k schedule (source.Scheme fault) h = (λ e. cc, h)
 pub schedule_due : (bytes : List ℕ) (k : ℕ) (schedule : List ℕ) (c : CompiledView) (why : WorldFault)
     → IsAccepted bytes k c.scheme
     → IsUnrun why schedule (length c.scheme.program.texts) → IsScheduleDue bytes k schedule (of_world why)
-schedule_due bytes k schedule c world_fault.Memory accepted h = tt
+schedule_due bytes k schedule c world_fault.Memory accepted h = omega (arith, accepted.most, accepted.scheme.most)
 schedule_due bytes k schedule c (world_fault.NoSuchThread t) accepted h = (c.scheme, accepted, h)
+
+-- a schedule of the program's threads alone is refused for want of memory alone
+pub schedule_runs : (schedule : List ℕ) (count : ℕ) (why : WorldFault) → ((t : ℕ) → Has schedule t → t < count)
+    → IsUnrun why schedule count → of_world why ≡ program.Memory
+schedule_runs schedule count world_fault.Memory there h = refl
+schedule_runs schedule count (world_fault.NoSuchThread u) there h =
+    let has : Has (h.before ++ u ∷ h.after) u = Has-right h.before (u ∷ h.after) u (inl refl) in
+    let within : u < count = there u (subst (λ ts. Has ts u) (sym h.split) has) in
+    absurd (omega (arith, within, h.missing))

@@ -60,6 +60,15 @@ by_lines bytes (fault.CertEnd n) j = j
 by_lines bytes (fault.BadCertLine n) j = j.0
 by_lines bytes (fault.NotCanonical n) j = j
 
+-- what reading line by line answers is right where the text isn't that of version 1
+pub judged : (bytes : List ℕ) (r : Result Cert CertFault) → is_old bytes ≡ false → JudgesLines bytes r → Judges bytes r
+judged bytes (Ok c) new j = j
+judged bytes (Err fault.Memory) new j = new
+judged bytes (Err fault.OldVersion) new j = absurd j
+judged bytes (Err (fault.CertEnd n)) new j = j
+judged bytes (Err (fault.BadCertLine n)) new j = (j, new)
+judged bytes (Err (fault.NotCanonical n)) new j = j
+
 given : (c : Cert) (f : CertFault) → Gives c (Err (line_fault f)) → Gives c (Err f)
 given c fault.Memory g = tt
 given c fault.OldVersion g = g

@@ -25,7 +25,8 @@ use crate::work::{Searched, Trail};
 use sect_front::Locking;
 use sect_infer::Locks;
 use sect_names::{
-    Lock, Scheme, carrying_back_respects_covering, locks_stay_the_programs, steps_of_sections,
+    Lock, Scheme, carrying_back_respects_covering, end_lock, locks_stay_the_programs,
+    steps_of_sections,
 };
 use std::alloc::{AllocError, Global};
 
@@ -64,13 +65,13 @@ pub fn chains(
     found(alloc, searched, locks.entry())
 }
 
-/// What the end of a section generates.
+/// What the end of a section generates, as a list.
 fn locks_of_end(alloc: Global, locking: Locking) -> Result<Vec<Lock>, AllocError>
     ensures { IfOk result (λ locks. locks.items ≡ end_locks locking) }
 {
     let mut locks = Vec::new(alloc);
-    if let Locking::All = locking {
-        locks.push(Lock::All)?;
+    if let Some(lock) = end_lock(locking) {
+        locks.push(lock)?;
     }
     Ok(locks)
 }

@@ -1,5 +1,5 @@
 -- The answers of the checker to bytes.
-use Rattle.std.proofs.Common.{◌≡◌, ℕ, List, Result, Ok, Err, IfOk, IsErrAnd, refl, sym, ◌∙◌, subst}
+use Rattle.std.proofs.Common.{◌≡◌, ℕ, List, Result, Ok, Err, IfOk, IsErrAnd, refl, sym, ◌∙◌, subst, arith}
 use Rattle.std.specs.Prelude.{IsOkUnless}
 use Rattle.sect_names.specs.Schemes.{SchemeView}
 use Rattle.sect_names.specs.Sources.{IsAccepted, IsDue}
@@ -26,7 +26,7 @@ module _ (A : Type 0) (source : List ℕ) (k : ℕ) (bytes : List ℕ) where
 
   -- a refusal of the source that is due is the fault
   source_judged : (f : Refusal) → IsDue source k f → Judges {A = A} source k bytes (Err (of_source f))
-  source_judged refusal.Memory h = tt
+  source_judged refusal.Memory h = h.0
   source_judged (refusal.Front x) h = (λ e. cc, h)
   source_judged (refusal.Types x) h = (λ e. cc, h)
   source_judged (refusal.Scheme x) h = (λ e. cc, h)
@@ -39,7 +39,7 @@ module _ (A : Type 0) (source : List ℕ) (k : ℕ) (bytes : List ℕ) where
   module _ (s : SchemeView) (accepted : IsAccepted source k s) where
     -- a fault of the certificate's text is the fault, where the source is accepted
     text_judged : (f : CertFault) → texts.Judges bytes (Err f) → Judges {A = A} source k bytes (Err (of_text f))
-    text_judged text.Memory h = tt
+    text_judged text.Memory h = omega (arith, accepted.most, accepted.scheme.most)
     text_judged (text.BadCertLine n) h = ((s, accepted), λ e. cc, h)
     text_judged (text.CertEnd n) h = ((s, accepted), λ e. cc, h)
     text_judged (text.NotCanonical n) h = ((s, accepted), λ e. cc, h)
@@ -58,7 +58,7 @@ module _ (A : Type 0) (source : List ℕ) (k : ℕ) (bytes : List ℕ) where
       -- the verdict on that certificate is the answer
       pub cert_judged : (r : Result A CheckFault) → JudgesCert s c r → Judges source k bytes r
       cert_judged (Ok x) h = read_so IsValid h
-      cert_judged (Err fault.Memory) h = tt
+      cert_judged (Err fault.Memory) h = omega (arith, accepted.most, accepted.scheme.most)
       cert_judged (Err (fault.Source x)) h = absurd h
       cert_judged (Err (fault.Text x)) h = absurd h
       cert_judged (Err fault.WrongProgram) h =

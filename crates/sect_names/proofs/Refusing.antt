@@ -1,5 +1,6 @@
 -- Which refusals are due, and which are not.
 use Rattle.std.proofs.Common.{◌≡◌, ◌≤◌, ℕ, List, Result, Ok, Err, IsErrAnd, inr, refl, ◌∙◌}
+use Rattle.sect_front.proofs.shared.Only.{only}
 use Rattle.sect_front.specs.TreeView.{TreeView}
 use Rattle.sect_front.specs.Front.{Gives}
 use Rattle.sect_front.specs.declared.parsing.FrontFault.{FrontFault}
@@ -12,6 +13,7 @@ use Rattle.sect_names.specs.Verdicts.{Judges}
 use Rattle.sect_names.specs.declared.refusal.Refusal.{Refusal}
 use Rattle.sect_names.specs.declared.refusal.Refusal.TheVariants as refusal
 use Rattle.sect_names.specs.Sources.{IsTypedText, GivesProgram, IsDue, of_front, of_scheme}
+use Rattle.sect_names.proofs.shared.Refusing.{one_program}
 
 -- a fault of the scheme of a typed text's program is due where k was found to be small
 pub scheme_due : (bytes : List ℕ) (k : ℕ) (p : ProgramView) → k ≤ 3 → IsTypedText bytes p → (fault : SchemeFault)
@@ -27,6 +29,10 @@ pub gives_memory : (p : ProgramView) (r : Result ProgramView Refusal) (e : Refus
     → IsErrAnd r (λ x. x ≡ e) → GivesProgram p r
 gives_memory p (Ok q) e memory is = absurd is
 gives_memory p (Err x) e memory is = is ∙ memory
+
+pub one_text : (bytes : List ℕ) (p q : ProgramView) → IsTypedText bytes p → IsTypedText bytes q → q ≡ p
+one_text bytes p q of_p of_q =
+    one_program p q of_p.numbers of_q.numbers (only bytes p.source of_p.spelled (Ok q.source) of_q.spelled)
 
 -- a text that spells a tree is refused for want of memory alone
 pub spelled_gives : (t : TreeView) (fault : FrontFault) → Gives t (Err fault) → of_front fault ≡ refusal.Memory

@@ -14,4 +14,4 @@ put_all-requires-clause-found g c =
     c.in-Some.handle c.in-Some.is c.next.ensures.steps in
     let at = get_there (length c.loop-handle.yielded) c.in-Some.handle started.items turn.0 turn.1 in
     subst (λ s. AreFound s c.in_ok-found.found.items)
-    (c.requires.each (length c.loop-handle.yielded) c.in-Some.handle at) c.in_ok-found.ensures
+    (c.requires.each (length c.loop-handle.yielded) c.in-Some.handle at) c.in_ok-found.ensures.each

@@ -9,3 +9,4 @@ pub mod Pointing
 pub mod Securing
 pub mod Sets
 pub mod Starting
+pub mod Crossing

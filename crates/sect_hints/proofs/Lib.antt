@@ -2,3 +2,4 @@ mod GlobalLaws
 mod HintLaws
 mod GuardLaws
 mod FaultLaws
+pub mod shared

@@ -4,3 +4,4 @@ pub mod Bounding
 pub mod Extending
 pub mod Sets
 pub mod Undone
+pub mod Crossing

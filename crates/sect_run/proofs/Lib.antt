@@ -1,3 +1,2 @@
 mod Completing
-mod Crossing
 mod Threads

@@ -4,6 +4,7 @@ use Rattle.sect_front.specs.contracts.tree.Tree as tree
 use Rattle.sect_front.specs.contracts.tree.Thread as thread
 use Rattle.sect_front.specs.contracts.tree.Procedure as procedure
 use Rattle.sect_front.specs.contracts.tree.Block as block
+use Rattle.sect_front.specs.contracts.tree.Locking as locking_shown
 use Rattle.sect_front.proofs.tree.Block.TheLaws.TheKnot as knot
 use Rattle.sect_front.proofs.tree.Declarations.TheSendSync as declarations
 use Rattle.sect_front.proofs.tree.Record.TheSendSync as records
@@ -15,6 +16,9 @@ use Rattle.sect_front.proofs.tree.Locking.TheSendSync as locking
 use Rattle.sect_front.proofs.name.Name.TheSendSync as name
 use Rattle.std.proofs.vec.Vec.TheSendSync as vec
 use Rattle.std.proofs.alloc.Global.TheSendSync as heap
+
+pub locking_sync : IsSync locking_shown.the_row
+locking_sync = locking.the_sync
 
 block_sync : IsSync block.the_row
 block_sync = search (

@@ -1,8 +1,7 @@
 -- A program may be read by several threads at a time.
 use denote.Struct.Declared.{shape}
 use denote.Param.Send.{AllSync, IsSync, sendable}
-use Rattle.sect_front.proofs.shared.Crossing.{tree_sync}
-use Rattle.sect_front.proofs.tree.Locking.TheSendSync as locking
+use Rattle.sect_front.proofs.shared.Crossing.{tree_sync, locking_sync}
 use Rattle.sect_types.specs.contracts.program.Program as program
 use Rattle.sect_types.specs.contracts.program.Program.TheInside as inside
 use Rattle.sect_types.specs.contracts.text.Text as text
@@ -39,7 +38,7 @@ parts = (
           (
             search (sendable, text_sync, vec.the_sync, heap.the_sync),
             (
-              search (sendable, locking.the_sync, vec.the_sync, heap.the_sync),
+              search (sendable, locking_sync, vec.the_sync, heap.the_sync),
               (
                 search sendable,
                 (

@@ -4,7 +4,7 @@ use denote.Param.Send.{AllSync, IsSync, sendable}
 use Rattle.std.proofs.alloc.Global.TheSendSync as heap
 use Rattle.std.proofs.vec.Vec.TheSendSync as vec
 use Rattle.sect_names.proofs.shared.Crossing.{scheme_sync}
-use Rattle.sect_infer.proofs.locks.Locks.TheSendSync as locks
+use Rattle.sect_infer.proofs.shared.Crossing.{locks_sync}
 use Rattle.sect_emit.proofs.plan.Grip.TheSendSync as grip
 use Rattle.sect_emit.specs.contracts.compiled.Compiled as compiled
 use Rattle.sect_emit.specs.contracts.compiled.Compiled.TheInside as inside
@@ -14,7 +14,7 @@ parts : AllSync (shape inside.the_type).fields
 parts = (
   search (sendable, scheme_sync),
   (
-    search (sendable, locks.the_sync, vec.the_sync, heap.the_sync),
+    search (sendable, locks_sync, vec.the_sync, heap.the_sync),
     (search (sendable, grip.the_sync, vec.the_sync, heap.the_sync), tt),
   ),
 )

@@ -2,7 +2,7 @@
 
 use crate::programs::{ACCOUNTS, APART, CHAIN, NEXT, NULL, SHARED, program_of};
 use Variable::{Global, Local};
-use sect_points::{Classes, Variable, class_of_path, points_to, classes};
+use sect_points::{Classes, Variable, class_of_path, classes, points_to};
 use std::process::Abort;
 use std::test::Fail;
 

@@ -8,7 +8,7 @@ use Rattle.std.specs.List.{range_with_len}
 use Rattle.std.proofs.lemmas.Bool.{eq-eqb, ne_eqb}
 use Rattle.std.proofs.lemmas.List.Elements.{filter-append}
 use Rattle.sect_types.specs.Sections.{sections_of}
-use Rattle.sect_lemmas.proofs.Options.{some_injective}
+use Rattle.sect_lemmas.proofs.Options.{some_injective, none_or_some}
 use Rattle.sect_lemmas.proofs.Places.{pushed_at}
 use Rattle.sect_names.specs.Schemes.{SchemeView}
 use Rattle.sect_infer.specs.Sets.{LocksView, AreInferredAt}

@@ -12,10 +12,11 @@ use Rattle.sect_points.specs.declared.holders.Variable.TheVariants.{Global, Loca
 use Rattle.sect_points.specs.Paths.{PathView, var, dot}
 use Rattle.sect_points.specs.Partitions.{ClassesView, HasClass}
 use Rattle.sect_points.specs.PathClasses.{Agree, ArePathClasses, KeepsClasses, variable_of, variable_in}
-use Rattle.sect_points.specs.Statements.{thread_action}
+use Rattle.sect_points.specs.Statements.{thread_action, thread_actions}
 use Rattle.sect_names.specs.Schemes.{SchemeView, IsScheme}
 use Rattle.sect_names.specs.Carrying.{Replaced, BeforeStore, BeforeAssignment, BeforeAction}
 use Rattle.sect_names.specs.Laws.{IsProgramStep, KeepsItsClass}
+use Rattle.sect_points.proofs.shared.ClassLaws.{path_classes, keeps_classes}
 
 -- paths go on by one field to one class, where they have one
 pub agree_field : (c : ClassesView) → ArePathClasses c → (q p : PathView) (f : Field) → Agree c q p
@@ -91,6 +92,7 @@ agree_before c laws t (action.Print v) keeps p q is = agree_itself c laws p q is
 pub keeps_its_class : (s : SchemeView) → IsScheme s → (t : ℕ) (step : Label) → IsProgramStep s t step
     → KeepsItsClass s t step
 keeps_its_class s scheme t (label.Act a) there p q h =
-    agree_before s.classes scheme.paths t a (scheme.kept (thread_action t a) there) p q h
-keeps_its_class s scheme t (label.Test d) there p q is = agree_itself s.classes scheme.paths p q is
-keeps_its_class s scheme t (label.Section i) there p q is = agree_itself s.classes scheme.paths p q is
+    agree_before s.classes (path_classes s.classes scheme.parted) t a
+    (keeps_classes s.classes (thread_actions s.program) scheme.parted scheme.flow.closed (thread_action t a) there) p q h
+keeps_its_class s scheme t (label.Test d) there p q is = agree_itself s.classes (path_classes s.classes scheme.parted) p q is
+keeps_its_class s scheme t (label.Section i) there p q is = agree_itself s.classes (path_classes s.classes scheme.parted) p q is

@@ -1,11 +1,8 @@
 -- What lock inference knows of a program.
 use Rattle.std.specs.Prelude.{◌≡◌, ◌≤◌, ℕ, List, Option, None, length, slice_index_or}
-use Rattle.sect_lemmas.specs.Lists.{Has}
 use Rattle.sect_types.specs.Programs.{ProgramView, sites_of}
 use Rattle.sect_points.specs.Partitions.{ClassesView, IsParted}
-use Rattle.sect_points.specs.PathClasses.{ArePathClasses, KeepsClasses}
 use Rattle.sect_points.specs.Sets.{InSets}
-use Rattle.sect_points.specs.declared.holders.ThreadAction.{ThreadAction}
 use Rattle.sect_points.specs.Flow.{IsLeastFlow}
 use Rattle.sect_points.specs.Statements.{thread_actions}
 use Rattle.sect_hints.specs.Hints.{AreGuards, AreUnguarded}
@@ -29,8 +26,6 @@ pub record IsScheme (s : SchemeView) : Type 0 where
   pub parted : IsParted s.classes
   pub sites : s.classes.sets.sites ≡ length (sites_of s.program.globals s.program.texts)
   pub flow : IsLeastFlow (InSets s.classes.sets) (thread_actions s.program)
-  pub paths : ArePathClasses s.classes
-  pub kept : (p : ThreadAction) → Has (thread_actions s.program) p → KeepsClasses s.classes p.thread p.action
   pub guarded : AreGuards s.program s.guards
   pub unguarded : AreUnguarded s.program s.guards
   pub graphed : AreGraphs s.program.texts s.graphs

@@ -16,7 +16,7 @@ use crate::fault::SchemeFault;
 use crate::path::Path;
 use sect_graph::{Graph, graph_of};
 use sect_hints::{Guards, guards};
-use sect_points::{Classes, Variable, class_of_path, classes, laws_of_classes, points_to};
+use sect_points::{Classes, Variable, class_of_path, classes, points_to};
 use sect_types::Program;
 use std::alloc::{AllocError, Global};
 use std::marker::Model;
@@ -121,7 +121,6 @@ fn parts_of(
     check_k(k)?;
     let guards = guards(alloc, program)?;
     let classes = classes_of(alloc, program)?;
-    laws_of_classes();
     let graph = graph_of(alloc, program)?;
     Ok((guards, classes, graph))
 }

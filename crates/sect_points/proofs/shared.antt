@@ -2,3 +2,4 @@
 pub mod SetLaws
 pub mod SolvingLaws
 pub mod Crossing
+pub mod ClassLaws

@@ -67,6 +67,7 @@ use Rattle.sect_types.proofs.shared.Starts.{first_frame, first_frames-length, se
 use Rattle.sect_world.specs.Held.{class_mode_in, mode_of_class}
 use Rattle.sect_names.proofs.shared.Sounding.{path_there}
 use Rattle.std.proofs.lemmas.Bool.{and_parts}
+use Rattle.sect_points.proofs.shared.ClassLaws.{path_classes}
 
 -- what is there stays there
 object_on : (t : ℕ) (s after : StoreView) → Grows t s after → (o : ObjectName) → IsObject s o → IsObject after o
@@ -341,7 +342,7 @@ module _ (c : CompiledView) (is : IsCompiled c) where
             let h = plan_holds_the_classes c.scheme (part_at i) (locks_at i) s w.locals part o n
             (λ p f d has r hd. let y = denotes p f o has r in
             let same : y.0 ≡ x = some_injective y.0 x (sym y.1 ∙ at) in
-            is.scheme.paths.one p d n hd (
+            (path_classes c.scheme.classes is.scheme.parted).one p d n hd (
               x.site,
               subst (λ (z : ObjectView). PathHas (InSets c.scheme.classes.sets) p z.site) same y.2,
               numbered,

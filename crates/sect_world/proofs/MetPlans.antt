@@ -48,6 +48,7 @@ use Rattle.sect_world.specs.Secured.{may_by, Secured, AllSecured}
 use Rattle.sect_emit.proofs.shared.Grips.{path_met, class_met, all_met}
 use Rattle.sect_world.proofs.Holding.{IsHeldBy, held_is, is_held_so, locked_is}
 use Rattle.std.proofs.lemmas.Bool.{or_cases}
+use Rattle.sect_points.proofs.shared.ClassLaws.{path_classes}
 
 -- the modes of a key and of a class that are enough for an effect
 abbrev pub key_test : Effect → Mode → Bool
@@ -169,7 +170,7 @@ module _ (c : CompiledView) (scheme : IsScheme c.scheme) (typed : IsTypedProgram
       → IsNeedable c.scheme t (lock.Path p e) → Secured c s w.locals held (lock.Path p e)
   class_allows_path n m p e class met enough (own, (r, to, free)) o is =
       let k = denoted c.scheme scheme typed t s w pointed p r o to own is in
-      let same : k.4.0 ≡ n = scheme.paths.one p k.4.0 n k.4.1 class in
+      let same : k.4.0 ≡ n = (path_classes c.scheme.classes scheme.parted).one p k.4.0 n k.4.1 class in
       may_by_class c s held e n m o k.0 k.1 (guard_of_site c k.0.site r k.3 ∙ free) (k.4.2 ∙ ap (λ z. Some z) same) met
       enough
 

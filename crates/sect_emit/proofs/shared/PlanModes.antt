@@ -25,14 +25,13 @@ use Rattle.sect_emit.specs.Plan.{object_wish, object_wishes, plan_of, held_mode,
 use Rattle.sect_emit.specs.ModeTests.{is_reading_object}
 use Rattle.sect_lemmas.proofs.Options.{some_injective}
 use Rattle.sect_emit.proofs.Modes.{intention_join, intended_is, join_reading_object, object_mode_reads}
-use Rattle.sect_emit.proofs.shared.Plans.{gathered-all, gathered_key, ascending_mode, fixed_wish_from}
-use Rattle.sect_emit.proofs.Plans.{gathered_meets}
-use Rattle.sect_emit.proofs.Plans.{fixed_wish_there, fixed_wish_all}
-use Rattle.sect_emit.proofs.shared.Plans.{fixed_part_keys, object_part_keys}
-use Rattle.sect_emit.proofs.shared.Plans.{object_wish_from, plan_ascends}
+use Rattle.sect_emit.proofs.shared.Plans.{gathered-all, gathered_key, ascending_mode, fixed_wish_from, fixed_part_keys}
+use Rattle.sect_emit.proofs.shared.Plans.{object_part_keys, object_wish_from, plan_ascends}
+use Rattle.sect_emit.proofs.Plans.{gathered_meets, fixed_wish_there, fixed_wish_all}
 use Rattle.sect_emit.proofs.shared.Keys.{nothing_below_all}
 use Rattle.sect_modes.specs.declared.mode.Mode.TheVariants.{Exclusive}
 use Rattle.std.proofs.lemmas.Bool.{and_parts, false≢true}
+use Rattle.sect_points.proofs.shared.ClassLaws.{path_classes}
 
 -- a plan that is met is held, key by key
 pub met : (held plan : List Grip) → meets held plan ≡ true → (g : Grip) → Has plan g
@@ -272,7 +271,7 @@ module _ (sch : SchemeView) (part : List Grip) (locks : List Lock) (s : StoreVie
   one_list scheme (lock.Class d r) xs ys a b = a ∙ sym b
   one_list scheme (lock.Path p e) xs ys a b =
       a.2 ∙ ap (λ d. grip key.All (intended e) ∷ grip (key.Class d) (intended e) ∷ [])
-      (scheme.paths.one p a.0 b.0 a.1 b.1) ∙ sym b.2
+      ((path_classes sch.classes scheme.parted).one p a.0 b.0 a.1 b.1) ∙ sym b.2
 
   -- each wish is met in the plan
   pub plan_meets : IsScheme sch → (g : Grip) → IsWish sch locks s locals g → Gives plan g.key g.mode

@@ -28,6 +28,7 @@ use Rattle.sect_names.proofs.shared.Respecting.{respects_cover}
 use Rattle.sect_names.proofs.Sounding.{global_classed}
 use Rattle.sect_names.specs.Along.{NeededBefore, NeededAlong, AreProgramSteps, GoesBy, read_for, reading_lock}
 use Rattle.sect_names.specs.Along.{ReadsBeginnings}
+use Rattle.sect_points.proofs.shared.ClassLaws.{path_classes}
 
 -- over an assignment: a beginning comes from one, or it begins what is put in the base's place
 replaced_goes : (x : Variable) (source : Option PathView) (p p' q' : PathView) (f : Field) → Replaced x source p p'
@@ -238,7 +239,7 @@ module _ (s : SchemeView) (scheme : IsScheme s) where
           → HasClass s.classes p' n → depth p' ≤ s.most
           → (m : Lock) × NeededBefore s t step After m × Covers s m (reading_lock s q' f)
       from p d n needs before class short =
-          let beginning = begins_classed s.classes scheme.paths p' q' f n class goes in
+          let beginning = begins_classed s.classes (path_classes s.classes scheme.parted) p' q' f n class goes in
           elim (before_goes s.classes t step p p' q' f before goes) [
             | inl (q, k, carried) ↦
                 let m = after p q f d needs k in

@@ -1,4 +1,3 @@
-use Rattle.sect_points.specs.Statements.{thread_actions}
 use Rattle.sect_names.proofs.scheme.parts_of.Goals as goal
 
 pub returns-clause-scheme : goal.returns-clause-scheme
@@ -9,9 +8,6 @@ returns-clause-scheme c =
       parted = classes.ensures.parted;
       sites = classes.ensures.sites;
       flow = classes.ensures.flow;
-      paths = c.laws_of_classes.ensures.paths classes.classes classes.ensures.parted;
-      kept = c.laws_of_classes.ensures.statements classes.classes (thread_actions c.args.program.now)
-          classes.ensures.parted classes.ensures.flow.closed;
       guarded = c.in_ok-guards.ensures.guards;
       unguarded = c.in_ok-guards.ensures.unguarded;
       graphed = c.in_ok-graph.ensures;

@@ -1,4 +1,4 @@
-use Rattle.sect_points.proofs.ClassLaws.{path_classes, keeps_classes}
+use Rattle.sect_points.proofs.shared.ClassLaws.{path_classes, keeps_classes}
 use Rattle.sect_points.proofs.path_classes.laws_of_classes.Goals as goal
 
 pub returns-clause-paths : goal.returns-clause-paths

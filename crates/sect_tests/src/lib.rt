@@ -46,3 +46,5 @@ mod typing;
 mod wanted;
 #[cfg(test)]
 mod workers;
+#[cfg(test)]
+mod worlds;

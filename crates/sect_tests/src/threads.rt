@@ -1,5 +1,7 @@
 //! Compiled programs run by threads: who is started, what the gate is told, and who is woken.
 
+ghost use Rattle.std.specs.Prelude.{◌<◌};
+
 use sect_emit::{Compiled, compile};
 use sect_run::{Gate, run_threads};
 use sect_world::{Deed, Event, Kind, Run};
@@ -40,7 +42,9 @@ const KINDS: usize = 7;
 const LOOKS: u32 = 10_000;
 
 /// The place of a kind among all.
-fn place_of(kind: Kind) -> usize {
+fn place_of(kind: Kind) -> usize
+    ensures { result < KINDS }
+{
     match kind {
         Kind::Local => 0,
         Kind::Enter => 1,
@@ -227,19 +231,15 @@ impl<'a> Gate for KeepsReaders<'a> {
     }
 }
 
-/// How many events of the others are in the turn in which thread 0 leaves: those that follow at once.
+/// How many keys others take in the turn in which thread 0 leaves: the events that follow at once.
 fn let_in(events: &[Event]) -> usize {
-    let mut count = 0;
-    let mut left = false;
-    for event in events {
-        if left && kind_of(event) == Kind::Take {
-            count += 1;
-        } else if left {
-            return count;
-        }
-        left = left || event.thread == 0 && kind_of(event) == Kind::Leave;
-    }
-    count
+    let mut after = events
+        .iter()
+        .skip_while(|event| event.thread != 0 || kind_of(event) != Kind::Leave);
+    let _leave = after.next();
+    after
+        .take_while(|event| kind_of(event) == Kind::Take)
+        .count()
 }
 
 #[test]

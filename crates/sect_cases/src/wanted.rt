@@ -16,33 +16,42 @@ fn is_line(print: &Print<'_>, line: &str) -> bool {
     }
 }
 
-/// The lines behind the first that is what is printed next, which has to be the first of all unless lines may be left
-/// out.
-fn behind<'a, 'b>(print: &Print<'_>, lines: &'b [&'a str], skips: bool) -> Option<&'b [&'a str]> {
-    let at = lines.iter().position(|line| is_line(print, *line))?;
+/// Where the lines go on behind the first from here on that is what is printed next, which has to be the very first
+/// unless lines may be left out.
+fn behind(print: &Print<'_>, lines: &[&str], from: usize, skips: bool) -> Option<usize> {
+    let rest = lines.get(from..)?;
+    let at = rest.iter().position(|line| is_line(print, *line))?;
     if at == 0 || skips {
-        lines.get(at + 1..)
+        Some(from.saturating_add(at).saturating_add(1))
     } else {
         None
     }
 }
 
+/// Whether nothing but the empty line behind the last line feed is left from here on.
+fn is_end(lines: &[&str], from: usize) -> bool {
+    match lines.last() {
+        Some(line) => line.is_empty() && from.saturating_add(1) == lines.len(),
+        None => false,
+    }
+}
+
 /// Whether these lines are what is printed, to the end.
 fn are_printed(prints: &[Print<'_>], lines: &[&str]) -> bool {
-    let mut rest = lines;
+    let mut from = 0usize;
     let mut skips = false;
     for print in prints {
         if matches!(print, Print::AnyLines) {
             skips = true;
-        } else {
-            match behind(print, rest, skips) {
-                Some(behind) => rest = behind,
-                None => return false,
-            }
-            skips = false;
+            continue;
         }
+        let Some(next) = behind(print, lines, from, skips) else {
+            return false;
+        };
+        from = next;
+        skips = false;
     }
-    skips || (rest.len() == 1 && rest[0].is_empty())
+    skips || is_end(lines, from)
 }
 
 /// Whether an answer is as the case says.

@@ -6,8 +6,8 @@ use Rattle.std.specs.List.{slice_range}
 use Rattle.std.proofs.Math.ListN.{drop_of_length-le}
 use Rattle.std.proofs.Math.Seq.{take-add}
 use Rattle.std.proofs.lemmas.List.{append-nil, get_or-drop, length-drop, take_all, take_more, take-append-drop}
-use Rattle.sect_types.specs.Lists.{Has}
-use Rattle.sect_types.proofs.Membership.{Has-cases, Has-right}
+use Rattle.sect_lemmas.specs.Lists.{Has}
+use Rattle.sect_lemmas.proofs.Membership.{Has-cases, Has-right}
 use Rattle.sect_cert.specs.Texts.{fed}
 use Rattle.sect_answers.specs.Splitting.{with_end, EndsOnce, HasEnd, IsSplit}
 

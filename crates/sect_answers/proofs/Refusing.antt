@@ -1,7 +1,8 @@
 -- What the layers refuse, the program refuses.
-use Rattle.std.proofs.Common.{◌≡◌, ℕ, List, Err, refl, length}
+use Rattle.std.proofs.Common.{◌≡◌, ◌<◌, ◌∷◌, ◌++◌, ℕ, List, Err, refl, sym, subst, length, inl, arith}
+use Rattle.sect_lemmas.specs.Lists.{Has}
+use Rattle.sect_lemmas.proofs.Membership.{Has-right}
 use Rattle.sect_names.specs.Sources as sources
-use Rattle.sect_names.specs.Sources.{IsRefused}
 use Rattle.sect_names.specs.declared.refusal.Refusal.{Refusal}
 use Rattle.sect_names.specs.declared.refusal.Refusal.TheVariants as source
 use Rattle.sect_types.specs.Whole.{SerialEndView}
@@ -17,7 +18,7 @@ use Rattle.sect_answers.specs.Compiling.{IsCompileDue, of_compile}
 use Rattle.sect_emit.specs.Faults.{IsDueBy}
 use Rattle.sect_emit.specs.declared.fault.CompileFault.{CompileFault}
 use Rattle.sect_emit.specs.declared.fault.CompileFault.TheVariants as compile_fault
-use Rattle.sect_answers.specs.Serial.{IsSerialDue, of_serial}
+use Rattle.sect_answers.specs.Serial.{of_serial}
 use Rattle.sect_answers.specs.Splitting.{IsSplit}
 use Rattle.sect_answers.specs.Checking.{IsCheckDue, of_check}
 use Rattle.sect_answers.specs.Scheduling.{IsScheduleDue, of_world}
@@ -44,14 +45,6 @@ compile_due bytes k workers (compile_fault.Source (source.Front f)) h = (h.0, du
 compile_due bytes k workers (compile_fault.Source (source.Types f)) h = (h.0, due bytes k (source.Types f) h.2)
 compile_due bytes k workers (compile_fault.Source (source.Scheme f)) h = (h.0, due bytes k (source.Scheme f) h.2)
 
--- a text that is refused is refused by `serial`
-pub serial_due : (bytes : List ℕ) (fuel : ℕ) (order : List ℕ) (why : Refusal) → IsRefused bytes why
-    → IsSerialDue bytes fuel order (of_source why)
-serial_due bytes fuel order source.Memory h = tt
-serial_due bytes fuel order (source.Front fault) h = (λ e. cc, h)
-serial_due bytes fuel order (source.Types fault) h = (λ e. cc, h)
-serial_due bytes fuel order (source.Scheme fault) h = absurd h
-
 -- an order that comes to an end is refused for want of memory alone
 pub ended_gives : (e : SerialEndView) (why : SerialFault) → serial.Gives e (Err why) → of_serial why ≡ program.Memory
 ended_gives e serial_fault.Memory g = refl
@@ -61,7 +54,7 @@ ended_gives e (serial_fault.SectionsLeft t) g = absurd g
 -- the first fault of the input's certificate is due of `check`
 pub check_due : (input cert source : List ℕ) (k : ℕ) (why : CheckFault) → IsSplit input cert source
     → certificates.Judges {A = Unit {0}} source k cert (Err why) → IsCheckDue input k (of_check why)
-check_due input cert source k check_fault.Memory split h = tt
+check_due input cert source k check_fault.Memory split h = h
 check_due input cert source k (check_fault.Source r) split h =
     (λ e. cc, record { cert = cert; source = source; split = split; holds = h })
 check_due input cert source k (check_fault.Text f) split h =
@@ -84,7 +77,7 @@ check_due input cert source k (check_fault.NoChain i n) split h =
 -- and of `schedule`
 pub schedule_source_due : (bytes : List ℕ) (k : ℕ) (schedule : List ℕ) (why : Refusal) → sources.IsDue bytes k why
     → IsScheduleDue bytes k schedule (of_source why)
-schedule_source_due bytes k schedule source.Memory h = tt
+schedule_source_due bytes k schedule source.Memory h = h.0
 schedule_source_due bytes k schedule (source.Front fault) h = (λ e. cc, h)
 schedule_source_due bytes k schedule (source.Types fault) h = (λ e. cc, h)
 schedule_source_due bytes k schedule (source.Scheme fault) h = (λ e. cc, h)
@@ -93,5 +86,14 @@ schedule_source_due bytes k schedule (source.Scheme fault) h = (λ e. cc, h)
 pub schedule_due : (bytes : List ℕ) (k : ℕ) (schedule : List ℕ) (c : CompiledView) (why : WorldFault)
     → IsAccepted bytes k c.scheme
     → IsUnrun why schedule (length c.scheme.program.texts) → IsScheduleDue bytes k schedule (of_world why)
-schedule_due bytes k schedule c world_fault.Memory accepted h = tt
+schedule_due bytes k schedule c world_fault.Memory accepted h = omega (arith, accepted.most, accepted.scheme.most)
 schedule_due bytes k schedule c (world_fault.NoSuchThread t) accepted h = (c.scheme, accepted, h)
+
+-- a schedule of the program's threads alone is refused for want of memory alone
+pub schedule_runs : (schedule : List ℕ) (count : ℕ) (why : WorldFault) → ((t : ℕ) → Has schedule t → t < count)
+    → IsUnrun why schedule count → of_world why ≡ program.Memory
+schedule_runs schedule count world_fault.Memory there h = refl
+schedule_runs schedule count (world_fault.NoSuchThread u) there h =
+    let has : Has (h.before ++ u ∷ h.after) u = Has-right h.before (u ∷ h.after) u (inl refl) in
+    let within : u < count = there u (subst (λ ts. Has ts u) (sym h.split) has) in
+    absurd (omega (arith, within, h.missing))

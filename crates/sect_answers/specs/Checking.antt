@@ -1,5 +1,5 @@
 -- What the command `check` answers to a certificate and the source text behind it. `verdict` cites it.
-use Rattle.std.specs.Prelude.{◌≢◌, ℕ, ⊤, List, Err}
+use Rattle.std.specs.Prelude.{◌≢◌, ◌≤◌, ℕ, ⊤, List, Err}
 use Rattle.sect_check.specs.Valid.{IsValid}
 use Rattle.sect_check.specs.Verdicts.{IsRead, Judges}
 use Rattle.sect_check.specs.declared.fault.CheckFault.{CheckFault}
@@ -26,7 +26,7 @@ of_check why = refusal.Check why
 
 -- the refusal is due: it is the first fault of the input's certificate, where its source is judged first
 abbrev pub IsCheckDue : List ℕ → ℕ → Refusal → Type 0
-IsCheckDue input k refusal.Memory = ⊤
+IsCheckDue input k refusal.Memory = k ≤ 3
 IsCheckDue input k (refusal.Check why) =
     (why ≢ fault.Memory) × OfParts input (λ cert source. Judges {A = ⊤} source k cert (Err why))
 IsCheckDue input k (refusal.Source why) = ⊥

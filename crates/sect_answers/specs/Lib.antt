@@ -1,6 +1,7 @@
 pub mod Listing
 pub mod Running
 pub mod Answers
+pub mod Refusals
 pub mod Serial
 pub mod Splitting
 pub mod Checking

@@ -1,5 +1,6 @@
 -- What the command `schedule` answers to a source text. `schedule_outcome` cites it.
-use Rattle.std.specs.Prelude.{◌≡◌, ◌≢◌, ⊤, ℕ, List, ◌++◌, length}
+use Rattle.std.specs.Prelude.{◌≡◌, ◌≢◌, ◌≤◌, ◌<◌, ℕ, List, ◌++◌, length}
+use Rattle.sect_lemmas.specs.Lists.{Has}
 use Rattle.sect_names.specs.Schemes.{SchemeView}
 use Rattle.sect_names.specs.Sources as sources
 use Rattle.sect_names.specs.Sources.{IsAccepted}
@@ -32,6 +33,10 @@ pub record IsScheduled (source : List ℕ) (k fuel : ℕ) (schedule bytes : List
   pub from : IsCompiledFrom source k compiled
   pub turns : AreTurnsOf compiled fuel schedule bytes
 
+-- each number of the schedule is one of a program's threads
+abbrev pub AreThreads : SchemeView → List ℕ → Type 0
+AreThreads s schedule = (t : ℕ) → Has schedule t → t < length s.program.texts
+
 -- a refusal of the schedule is the program's; want of memory is never inside another
 abbrev pub of_world : WorldFault → Refusal
 of_world fault.Memory = refusal.Memory
@@ -45,7 +50,7 @@ IsNoThread bytes k schedule fault.Memory = ⊥
 
 -- the refusal is due: the text is judged first, and then the schedule
 abbrev pub IsScheduleDue : List ℕ → ℕ → List ℕ → Refusal → Type 0
-IsScheduleDue bytes k schedule refusal.Memory = ⊤
+IsScheduleDue bytes k schedule refusal.Memory = k ≤ 3
 IsScheduleDue bytes k schedule (refusal.Source why) = (why ≢ source_refusal.Memory) × sources.IsDue bytes k why
 IsScheduleDue bytes k schedule (refusal.Schedule why) = IsNoThread bytes k schedule why
 IsScheduleDue bytes k schedule (refusal.Workers why) = ⊥

@@ -1,6 +1,6 @@
 -- A certificate and the source text behind it, in one input. `split` cites it.
 use Rattle.std.specs.Prelude.{◌≡◌, ◌⊎◌, ℕ, List, [], ◌∷◌, ◌++◌, codes}
-use Rattle.sect_types.specs.Lists.{Has}
+use Rattle.sect_lemmas.specs.Lists.{Has}
 use Rattle.sect_cert.specs.Texts.{fed}
 
 -- the text begins with these lines, each with its line feed and none inside, and the rest follows

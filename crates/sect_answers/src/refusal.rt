@@ -16,28 +16,21 @@ use sect_run::RunFault;
 use sect_serial::SerialFault;
 use sect_world::WorldFault;
 use std::alloc::AllocError;
-use thiserror::Error;
 
-/// Why a command doesn't do what was asked. `Display` is the line that the program prints.
-#[derive(Debug, Drop, Error)]
+/// Why a command doesn't do what was asked. `put_refusal` writes the line that the program prints.
+#[derive(Debug, Drop)]
 pub enum Refusal {
     /// Want of memory.
-    #[error("out of memory")]
     Memory,
     /// The source text is refused.
-    #[error("refused {0}")]
     Source(SourceRefusal),
     /// The number of workers is refused.
-    #[error("refused {0}")]
     Workers(InferFault),
     /// The order of the threads is refused.
-    #[error("refused {0}")]
     Serial(SerialFault),
     /// The certificate is refused, or the source behind it.
-    #[error("refused {0}")]
     Check(CheckFault),
     /// The schedule is refused.
-    #[error("refused {0}")]
     Schedule(WorldFault),
 }
 

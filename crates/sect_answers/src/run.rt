@@ -29,8 +29,9 @@ pub fn run_outcome<R: Threads + Wait + Sync, G: Gate>(
     fuel: u32,
     gate: &G,
 ) -> Result<String, Refusal>
-    // The program comes to the same by whole sections in some order, and this is the outcome with that order.
-    ensures answers { IfOk result (λ text. IsOutcomeOfRun source.now fuel (string_bytes text)) }
+    // The text is accepted, and this is the outcome of a complete run of its compiled program. It comes to the same by
+    // whole sections in the order of that run.
+    ensures answers { IfOk result (λ text. IsOutcomeOfRun source.now k fuel (string_bytes text)) }
     // A text that is accepted is run to its end, unless memory runs out.
     ensures only { (s : SchemeView) → IsAccepted source.now k s → IsOkUnless result Memory }
     // A refusal is due, and it is the first that is.

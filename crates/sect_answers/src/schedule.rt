@@ -1,16 +1,20 @@
 //! The command `schedule`.
 
-ghost use Rattle.std.specs.Prelude.{◌≡◌, ◌++◌, IfOk, IfErr, length};
+ghost use Rattle.std.specs.Prelude.{◌≡◌, ◌++◌, IfOk, IfErr, IsOkUnless, length};
 ghost use Rattle.std.specs.String.{string_bytes};
+ghost use Rattle.sect_names.specs.Schemes.{SchemeView};
+ghost use Rattle.sect_names.specs.Sources.{IsAccepted};
 ghost use Rattle.sect_store.specs.Printing.{outcome_text as printed};
 ghost use Rattle.sect_world.specs.Schedules.{IsUnrun};
-ghost use Rattle.sect_answers.specs.Scheduling.{AreTurnsOf, IsScheduled, IsScheduleDue};
+ghost use Rattle.sect_answers.specs.declared.refusal.Refusal.TheVariants.{Memory};
+ghost use Rattle.sect_answers.specs.Scheduling.{AreTurnsOf, AreThreads, IsScheduled, IsScheduleDue};
 ghost use Rattle.sect_answers.specs.Turns.{turn_lines};
 ghost use Rattle.sect_answers.specs.steps.Blocks.{AreEnough, blocks_of};
 
 use crate::refusal::Refusal;
 use crate::turns::put_turns;
 use sect_emit::{Compiled, compile};
+use sect_names::texts_have_one_program;
 use sect_store::put_outcome;
 use sect_types::Program;
 use sect_world::{Progress, WorldFault, run_schedule};
@@ -27,9 +31,14 @@ pub fn schedule_outcome(
 ) -> Result<String, Refusal>
     // The source is accepted, and these are the turns of its compiled program.
     ensures answers { IfOk result (λ text. IsScheduled source.now k fuel schedule.items (string_bytes text)) }
+    // Where a text is accepted and the schedule has numbers of its threads alone, the turns are made, unless memory runs
+    // out.
+    ensures only { (s : SchemeView) → IsAccepted source.now k s → AreThreads s schedule.items
+        → IsOkUnless result Memory }
     // A refusal is due: the text is judged first, and then the schedule.
     ensures refuses { IfErr result (IsScheduleDue source.now k schedule.items) }
 {
+    texts_have_one_program();
     let compiled = compile(alloc, source, k)?;
     Ok(turns_text(alloc, &compiled, fuel, schedule.as_slice())?)
 }

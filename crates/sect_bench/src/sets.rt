@@ -2,7 +2,7 @@
 
 use crate::failure::Failure;
 use sect_front::parse;
-use sect_points::{points_to, site_classes};
+use sect_points::{points_to, classes};
 use sect_types::{Program, check_types};
 use std::alloc::Global;
 
@@ -26,7 +26,7 @@ pub fn classes_found(alloc: Global, source: &[u8], times: u32) -> Result<u16, Fa
     let program = program_of(alloc, source)?;
     let mut found = 0;
     for _ in 0..times {
-        found = site_classes(alloc, points_to(alloc, &program)?)?.class_count();
+        found = classes(alloc, points_to(alloc, &program)?)?.class_count();
     }
     Ok(found)
 }

@@ -1,24 +1,24 @@
-pub mod Counts
-pub mod PartsLemmas
-pub mod ZerosLemmas
-pub mod WriteLaws
-pub mod NumberLaws
-pub mod PartsLaws
-pub mod PathLaws
-pub mod SubjectLaws
-pub mod ListLaws
-pub mod TakeLaws
-pub mod StepLaws
-pub mod ExactLaws
-pub mod WordLaws
-pub mod LineLaws
-pub mod TextLaws
-pub mod Passes
-pub mod Keeps
-pub mod Finish
-pub mod Readings
-pub mod Allowed
-pub mod Verdict
-pub mod Only
-pub mod Alone
-pub mod Versions
+mod Counts
+mod PartsLemmas
+mod ZerosLemmas
+mod WriteLaws
+mod NumberLaws
+mod PartsLaws
+mod PathLaws
+mod SubjectLaws
+mod ListLaws
+mod TakeLaws
+mod StepLaws
+mod ExactLaws
+mod WordLaws
+mod LineLaws
+mod TextLaws
+mod Passes
+mod Keeps
+mod Finish
+mod Readings
+mod Allowed
+mod Verdict
+mod Only
+mod Alone
+mod Versions

@@ -4,7 +4,7 @@ use Rattle.std.proofs.Common.{true, refl, sym, ◌∙◌, ap, arith}
 use Rattle.std.specs.List.{list_all}
 use Rattle.std.specs.Fmt.{decimal}
 use Rattle.sect_front.specs.Words.{is_digit}
-use Rattle.sect_front.proofs.Numerals.{numeral_from, numeral, numeral_decimal, numeral_back, decimal_digits}
+use Rattle.sect_front.proofs.shared.Numerals.{numeral_from, numeral, numeral_decimal, numeral_back, decimal_digits}
 use Rattle.sect_cert.specs.steps.Numbers.{decimal_from, number_of}
 
 -- numbers are numerals below 2 ^ 32

@@ -63,7 +63,7 @@ by_lines bytes (fault.NotCanonical n) j = j
 -- what reading line by line answers is right where the text isn't that of version 1
 pub judged : (bytes : List ℕ) (r : Result Cert CertFault) → is_old bytes ≡ false → JudgesLines bytes r → Judges bytes r
 judged bytes (Ok c) new j = j
-judged bytes (Err fault.Memory) new j = tt
+judged bytes (Err fault.Memory) new j = new
 judged bytes (Err fault.OldVersion) new j = absurd j
 judged bytes (Err (fault.CertEnd n)) new j = j
 judged bytes (Err (fault.BadCertLine n)) new j = (j, new)

@@ -90,10 +90,10 @@ pub record IsMoreAt (all : List (List ℕ)) (number : ℕ) : Type 0 where
 abbrev pub is_old : List ℕ → Bool
 is_old bytes = starts_with nat_eq bytes (codes "sect-cert 1\n")
 
--- the answer to a text
+-- the answer to a text; for one of version 1 memory cannot run out
 abbrev pub Judges : List ℕ → Result Cert CertFault → Type 0
 Judges bytes (Ok c) = HasText c × (bytes ≡ certificate_text c)
-Judges bytes (Err fault.Memory) = ⊤
+Judges bytes (Err fault.Memory) = is_old bytes ≡ false
 Judges bytes (Err fault.OldVersion) = is_old bytes ≡ true
 Judges bytes (Err (fault.CertEnd n)) = IsEndAt (parts 10 bytes) n
 Judges bytes (Err (fault.BadCertLine n)) = IsFaultAt HasNoForm (parts 10 bytes) n × (is_old bytes ≡ false)

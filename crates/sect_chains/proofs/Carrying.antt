@@ -5,9 +5,9 @@ use Rattle.std.specs.Prelude.{slice_get}
 use Rattle.std.proofs.lemmas.Bool.{cases_lt}
 use Rattle.std.proofs.lemmas.List.{take_all}
 use Rattle.std.proofs.lemmas.Option.{slice_get_within}
-use Rattle.sect_types.specs.Lists.{Has}
-use Rattle.sect_types.proofs.Membership.{Has-get_or}
-use Rattle.sect_types.proofs.Places.{one_at}
+use Rattle.sect_lemmas.specs.Lists.{Has}
+use Rattle.sect_lemmas.proofs.Membership.{Has-get_or}
+use Rattle.sect_lemmas.proofs.Places.{one_at}
 use Rattle.sect_graph.specs.declared.flow.Node.{Node}
 use Rattle.sect_graph.specs.Paths.{LeadsTo}
 use Rattle.sect_names.specs.declared.link.Link.{Link}
@@ -15,10 +15,10 @@ use Rattle.sect_names.specs.declared.lock.Lock.{Lock}
 use Rattle.sect_names.specs.Schemes.{SchemeView}
 use Rattle.sect_names.specs.Carrying.{Generated, CarriedBack}
 use Rattle.sect_names.specs.Chains.{link, IsGeneratedAt, LinksTo}
-use Rattle.sect_names.proofs.Making.{last_of}
+use Rattle.sect_lemmas.proofs.Making.{last_of}
 use Rattle.sect_infer.specs.Numberings.{NumberingView, HasLock, IsNumbered, Finds}
-use Rattle.sect_infer.specs.steps.Listing.{lock_at}
-use Rattle.sect_infer.proofs.Bounding.{named}
+use Rattle.sect_infer.specs.Numberings.{lock_at}
+use Rattle.sect_infer.proofs.shared.Bounding.{named}
 use Rattle.sect_chains.specs.steps.Keeping.{KeptView, step_of, keep_one, keep_each}
 use Rattle.sect_graph.specs.Predecessors.{AreBefore}
 use Rattle.sect_chains.specs.steps.Working.{links_of, IsFoundAt, IsKept, Grows, IsGeneratedBy, IsGeneratedBelow}

@@ -5,23 +5,23 @@ use Rattle.std.specs.Prelude.{slice_get, slice_index_or, slice_set, if◌then◌
 use Rattle.std.proofs.lemmas.List.{append-nil, map-append, length-set}
 use Rattle.std.specs.Option.{option_map}
 use Rattle.std.proofs.lemmas.Option.{slice_get_within, get_or_from_slice_get, slice_get-map}
-use Rattle.sect_types.specs.Lists.{Has}
-use Rattle.sect_types.proofs.Membership.{Has-cases, Has-left, Has-right, Has-slice_get, Has-unmap}
-use Rattle.sect_types.proofs.Places.{one_at}
+use Rattle.sect_lemmas.specs.Lists.{Has}
+use Rattle.sect_lemmas.proofs.Membership.{Has-cases, Has-left, Has-right, Has-slice_get, Has-unmap}
+use Rattle.sect_lemmas.proofs.Places.{one_at}
 use Rattle.sect_graph.specs.declared.flow.Node.{Node}
 use Rattle.sect_names.specs.declared.link.Link.{Link}
 use Rattle.sect_names.specs.declared.lock.Lock.{Lock}
 use Rattle.sect_names.specs.declared.lock.Lock.TheVariants as lock
 use Rattle.sect_names.specs.Schemes.{SchemeView}
 use Rattle.sect_names.specs.Chains.{link}
-use Rattle.sect_names.proofs.Covering.{covers_refl, covers_trans}
+use Rattle.sect_names.proofs.shared.Covering.{covers_refl, covers_trans}
 use Rattle.sect_infer.specs.Numbers.{AreApart, has_number, with_number}
 use Rattle.sect_infer.specs.Numberings.{NumberingView, HasLock, AreNumbers, IsNumbering, Extends, is_under}
-use Rattle.sect_infer.specs.steps.Listing.{lock_at}
-use Rattle.sect_infer.proofs.Apart.{apart_push, apart_one, number_tells, number_absent}
-use Rattle.sect_infer.proofs.Bounding.{named}
-use Rattle.sect_infer.proofs.Extending.{extends_none, extends_then, extends_at, extends_back, extends_numbers}
-use Rattle.sect_infer.proofs.Undone.{under_is}
+use Rattle.sect_infer.specs.Numberings.{lock_at}
+use Rattle.sect_infer.proofs.shared.Apart.{apart_push, apart_one, number_tells, number_absent}
+use Rattle.sect_infer.proofs.shared.Bounding.{named}
+use Rattle.sect_infer.proofs.shared.Extending.{extends_none, extends_then, extends_at, extends_back, extends_numbers}
+use Rattle.sect_infer.proofs.shared.Undone.{under_is}
 use Rattle.sect_chains.specs.declared.keep.KeptLink.{KeptLink}
 use Rattle.sect_chains.specs.steps.Keeping.{KeptView, kept, step_of, is_new, keep_one, keep_each}
 use Rattle.sect_chains.specs.steps.Trails.{HasTrail, LeadOn}

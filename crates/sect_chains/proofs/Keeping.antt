@@ -4,9 +4,9 @@ use Rattle.std.proofs.Common.{get_or, set, take, inl, inr, refl, sym, ap, ◌∙
 use Rattle.std.specs.Prelude.{slice_index_or, slice_set, ◌&&◌}
 use Rattle.std.proofs.lemmas.Bool.{cases_eq}
 use Rattle.std.proofs.lemmas.List.{get_or-set_same, get_or-set_other, length-set, take_more}
-use Rattle.sect_types.specs.Lists.{Has}
+use Rattle.sect_lemmas.specs.Lists.{Has}
 use Rattle.sect_infer.specs.Numbers.{with_number}
-use Rattle.sect_infer.proofs.Apart.{with_has}
+use Rattle.sect_infer.proofs.shared.Apart.{with_has}
 use Rattle.sect_chains.specs.steps.Keeping.{KeptView, step_of, keep_one, keep_each}
 
 -- what was found at the nodes, once a number is put at one of them

@@ -1,9 +1,9 @@
-pub mod Places
-pub mod Keeping
-pub mod Growing
-pub mod Carrying
-pub mod Working
-pub mod Meaning
-pub mod Trails
-pub mod Starting
-pub mod Chaining
+mod Places
+mod Keeping
+mod Growing
+mod Carrying
+mod Working
+mod Meaning
+mod Trails
+mod Starting
+mod Chaining

@@ -1,10 +1,7 @@
 -- What the traces of a section need at its entry is found along steps of its graph.
 use Rattle.std.proofs.Common.{◌≡◌, ℕ, List, [], ◌∷◌, ◌++◌, length, inl, inr, refl, sym, ap, subst, arith}
-use Rattle.std.specs.Prelude.{slice_index_or}
 use Rattle.std.proofs.lemmas.Option.{slice_get_within}
-use Rattle.sect_front.specs.declared.tree.Locking.{Locking}
-use Rattle.sect_front.specs.declared.tree.Locking.TheVariants as locking
-use Rattle.sect_types.specs.Lists.{Has}
+use Rattle.sect_lemmas.specs.Lists.{Has}
 use Rattle.sect_types.specs.Statements.{TextView}
 use Rattle.sect_types.specs.Sections.{SectionView}
 use Rattle.sect_types.specs.Traces.{Visit, visit}
@@ -15,12 +12,11 @@ use Rattle.sect_names.specs.declared.link.Link.{Link}
 use Rattle.sect_names.specs.declared.lock.Lock.{Lock}
 use Rattle.sect_names.specs.Schemes.{SchemeView}
 use Rattle.sect_names.specs.Carrying.{Generated, CarriedBack}
-use Rattle.sect_names.specs.Locks.{IsLockOf}
-use Rattle.sect_names.specs.Needed.{CarriedOver, GeneratedFirst, IsNeededOn, IsNeeded, IsNeededFrom, end_locks, end_of}
+use Rattle.sect_names.specs.Needed.{CarriedOver, GeneratedFirst, IsNeededOn, IsNeeded, IsNeededFrom}
 use Rattle.sect_names.specs.Chains.{link, AreLinked}
-use Rattle.sect_names.proofs.Telling.{lock_cases}
+use Rattle.sect_names.proofs.shared.Telling.{lock_cases}
 use Rattle.sect_infer.specs.Sets.{LocksView, AreLocksOf}
-use Rattle.sect_infer.proofs.Meaning.{path_begins}
+use Rattle.sect_graph.proofs.shared.Paths.{path_begins}
 use Rattle.sect_chains.specs.steps.Trails.{HasTrail, AreTops}
 
 module _ (s : SchemeView) (t : ℕ) (last : List Lock) (g : List Node) where
@@ -53,7 +49,7 @@ module _ (s : SchemeView) (t : ℕ) (last : List Lock) (g : List Node) where
       → (steps : List Visit) × IsPath g x.node steps (length g) × IsNeededOn s t last steps x.lock
   trail_along con x [] (inl h) =
       let p = con.exits x.node (slice_get_within g x.node h.0 h.1) in
-      let b = path_begins s t g x.node h.0 p.0 h.1 p.1 in
+      let b = path_begins g x.node h.0 p.0 h.1 p.1 in
       (p.0, p.1, ([], p.0, x.lock, refl, subst (λ st. GeneratedFirst s t last st x.lock) (sym b.1) h.2, refl))
   trail_along con x [] (inr h) = ([], h.0, ([], [], x.lock, refl, h.1, refl))
   trail_along con x (b ∷ links) (c, h) =
@@ -79,11 +75,3 @@ are_tops s last of g graph locks are = record {
         | inr n ↦ absurd ((((are.needed.each 0 locks.entry are.first).kept_are l).0 h).1 (big, needed, c, n))
       ];
 }
-
--- what the end of a section generates is the lock on all, if anything
-pub ended_lawful : (s : SchemeView) (t i : ℕ) (l : Lock) → Has (end_of s i) l → IsLockOf s t l
-ended_lawful s t i l h = go (slice_index_or s.program.lockings i locking.Inferred) h
-  where
-    go : (k : Locking) → Has (end_locks k) l → IsLockOf s t l
-    go locking.Inferred h = absurd h
-    go locking.All h = elim h [ inl e ↦ subst (IsLockOf s t) e tt | inr none ↦ absurd none ]

@@ -3,7 +3,7 @@ use Rattle.std.proofs.Common.{◌≡◌, ℕ, List, [], ◌∷◌, ◌++◌, Opt
 use Rattle.std.proofs.Common.{subst, arith, append_assoc}
 use Rattle.std.specs.Prelude.{slice_get}
 use Rattle.std.proofs.lemmas.Option.{slice_get_within}
-use Rattle.sect_types.proofs.Places.{at_of, pushed_at}
+use Rattle.sect_lemmas.proofs.Places.{at_of, pushed_at}
 use Rattle.sect_graph.specs.declared.flow.Node.{Node}
 use Rattle.sect_names.specs.declared.link.Link.{Link}
 use Rattle.sect_names.specs.declared.lock.Lock.{Lock}

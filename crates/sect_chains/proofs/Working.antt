@@ -6,7 +6,7 @@ use Rattle.std.specs.List.{flat_map}
 use Rattle.std.proofs.lemmas.Bool.{cases_lt}
 use Rattle.std.proofs.lemmas.List.{length-map}
 use Rattle.std.proofs.lemmas.Option.{slice_get_within}
-use Rattle.sect_types.proofs.Places.{Has-index, at_of, one_at}
+use Rattle.sect_lemmas.proofs.Places.{Has-index, at_of, one_at}
 use Rattle.sect_graph.specs.declared.flow.Node.{Node}
 use Rattle.sect_names.specs.declared.link.Link.{Link}
 use Rattle.sect_names.specs.contracts.link.LinkEq.TheImpl.Laws.{laws-law as the_link_laws}
@@ -14,13 +14,15 @@ use Rattle.sect_names.specs.declared.lock.Lock.{Lock}
 use Rattle.sect_names.specs.Schemes.{SchemeView}
 use Rattle.sect_names.specs.Locks.{IsLockOf}
 use Rattle.sect_names.specs.Chains.{link, IsGeneratedAt, LinksTo, AreLinked}
-use Rattle.sect_names.proofs.Covering.{covers_trans}
-use Rattle.sect_names.proofs.Finiteness.{Has-map, Has-flat_map, below, Has-below, all_locks, finite_locks}
-use Rattle.sect_names.proofs.Telling.{link_tells}
+use Rattle.sect_names.proofs.shared.Covering.{covers_trans}
+use Rattle.sect_lemmas.proofs.Listing.{Has-map, Has-flat_map, below, Has-below}
+use Rattle.sect_names.proofs.shared.Finiteness.{all_locks, finite_locks}
+use Rattle.sect_names.proofs.shared.Telling.{link_tells}
 use Rattle.sect_infer.specs.Numberings.{NumberingView}
-use Rattle.sect_infer.proofs.Apart.{apart_short}
+use Rattle.sect_infer.proofs.shared.Apart.{apart_short}
 use Rattle.sect_chains.specs.steps.Keeping.{KeptView}
-use Rattle.sect_chains.specs.steps.Trails.{AreLawful, RespectCover}
+use Rattle.sect_names.specs.Laws.{AreLawful}
+use Rattle.sect_chains.specs.steps.Trails.{RespectCover}
 use Rattle.sect_chains.specs.steps.Working.{link_of, links_of, IsFoundAt, IsCoveredAt, IsKept, Grows}
 use Rattle.sect_chains.proofs.Growing.{kept_trail, grows_found, grows_at}
 

@@ -1,7 +1,7 @@
 //! Steps that are kept, one after another.
 
 ghost use Rattle.std.specs.Prelude.{◌≡◌, ◌<◌, ℕ, length, OnOk};
-ghost use Rattle.sect_types.specs.Lists.{Has};
+ghost use Rattle.sect_lemmas.specs.Lists.{Has};
 ghost use Rattle.sect_chains.specs.steps.Keeping.{kept, is_new, keep_one, keep_each};
 
 use sect_infer::{Numbering, Numbers};

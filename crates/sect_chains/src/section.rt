@@ -1,7 +1,7 @@
 //! The chains of a section.
 
 ghost use Rattle.std.specs.Prelude.{◌≡◌, ◌<◌, List, length, slice_get, Some, IfOk};
-ghost use Rattle.sect_types.specs.Lists.{Has};
+ghost use Rattle.sect_lemmas.specs.Lists.{Has};
 ghost use Rattle.sect_types.specs.Sections.{SectionView, sections_of};
 ghost use Rattle.sect_graph.specs.declared.flow.Node.{Node};
 ghost use Rattle.sect_names.specs.declared.lock.Lock.{Lock};
@@ -9,7 +9,8 @@ ghost use Rattle.sect_names.specs.Needed.{end_locks, end_of};
 ghost use Rattle.sect_names.specs.Chains.{link};
 ghost use Rattle.sect_infer.specs.Sets.{AreLocksOf};
 ghost use Rattle.sect_chains.specs.Chains.{AreChains};
-ghost use Rattle.sect_chains.specs.steps.Trails.{AreLawful, RespectCover, AreTops};
+ghost use Rattle.sect_names.specs.Laws.{AreLawful};
+ghost use Rattle.sect_chains.specs.steps.Trails.{RespectCover, AreTops};
 ghost use Rattle.sect_graph.specs.Predecessors.{StaysWithin};
 ghost use Rattle.sect_chains.specs.steps.Trails.{GoBack, AreFromEntry};
 ghost use Rattle.sect_chains.specs.steps.Starting.{AreStarts};
@@ -24,7 +25,8 @@ use crate::work::{Searched, Trail};
 use sect_front::Locking;
 use sect_infer::Locks;
 use sect_names::{
-    Lock, Scheme, carrying_back_respects_covering, locks_stay_the_programs, steps_of_sections,
+    Lock, Scheme, carrying_back_respects_covering, end_lock, locks_stay_the_programs,
+    steps_of_sections,
 };
 use std::alloc::{AllocError, Global};
 
@@ -63,13 +65,13 @@ pub fn chains(
     found(alloc, searched, locks.entry())
 }
 
-/// What the end of a section generates.
+/// What the end of a section generates, as a list.
 fn locks_of_end(alloc: Global, locking: Locking) -> Result<Vec<Lock>, AllocError>
     ensures { IfOk result (λ locks. locks.items ≡ end_locks locking) }
 {
     let mut locks = Vec::new(alloc);
-    if let Locking::All = locking {
-        locks.push(Lock::All)?;
+    if let Some(lock) = end_lock(locking) {
+        locks.push(lock)?;
     }
     Ok(locks)
 }

@@ -1,9 +1,10 @@
 //! What is needed at the nodes of a section's graph, with where each lock was carried back from.
 
 ghost use Rattle.std.specs.Prelude.{◌≡◌, ◌<◌, length, slice_get, Some, IfOk};
-ghost use Rattle.sect_types.specs.Lists.{Has};
+ghost use Rattle.sect_lemmas.specs.Lists.{Has};
 ghost use Rattle.sect_chains.specs.declared.keep.KeptLink.{KeptLink};
-ghost use Rattle.sect_chains.specs.steps.Trails.{AreLawful, RespectCover, GoBack, AreFrom};
+ghost use Rattle.sect_names.specs.Laws.{AreLawful};
+ghost use Rattle.sect_chains.specs.steps.Trails.{RespectCover, GoBack, AreFrom};
 ghost use Rattle.sect_graph.specs.Predecessors.{StaysWithin};
 ghost use Rattle.sect_chains.specs.steps.Working.{links_of, nexts_of, IsSearched};
 

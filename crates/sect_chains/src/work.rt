@@ -1,7 +1,7 @@
 //! The search for what is needed at the nodes of a section's graph (Kildall).
 
 ghost use Rattle.std.specs.Prelude.{◌≡◌, ◌<◌, ℕ, [], length, slice_get, Some, slice_index_or, IfOk, OnOk};
-ghost use Rattle.sect_types.specs.Lists.{Has};
+ghost use Rattle.sect_lemmas.specs.Lists.{Has};
 ghost use Rattle.sect_graph.specs.declared.flow.Node.{Node};
 ghost use Rattle.sect_graph.specs.Paths.{LeadsTo};
 ghost use Rattle.sect_names.specs.declared.link.Link.{Link};
@@ -9,7 +9,7 @@ ghost use Rattle.sect_names.specs.declared.lock.Lock.{Lock};
 ghost use Rattle.sect_names.specs.Carrying.{CarriedBack};
 ghost use Rattle.sect_names.specs.Chains.{link, IsGeneratedAt, LinksTo};
 ghost use Rattle.sect_chains.specs.declared.keep.KeptLink.{KeptLink};
-ghost use Rattle.sect_chains.specs.steps.Trails.{AreLawful};
+ghost use Rattle.sect_names.specs.Laws.{AreLawful};
 ghost use Rattle.sect_graph.specs.Predecessors.{AreBefore};
 ghost use Rattle.sect_chains.specs.steps.Working.{links_of, IsWork, GoesOn, IsGeneratedBy};
 ghost use Rattle.sect_chains.specs.steps.Working.{IsGeneratedBelow, HasAllGenerated};

@@ -1,14 +1,10 @@
 -- The answers of the checker to bytes.
-use Rattle.std.proofs.Common.{◌≡◌, ℕ, List, Result, Ok, Err, IfOk, IsErrAnd, refl, sym, ◌∙◌, subst}
+use Rattle.std.proofs.Common.{◌≡◌, ℕ, List, Result, Ok, Err, IfOk, IsErrAnd, refl, sym, ◌∙◌, subst, arith}
 use Rattle.std.specs.Prelude.{IsOkUnless}
-use Rattle.sect_front.proofs.Only.{only}
-use Rattle.sect_types.specs.Programs.{ProgramView}
 use Rattle.sect_names.specs.Schemes.{SchemeView}
-use Rattle.sect_names.specs.Sources.{IsTypedText, IsAccepted, IsDue}
+use Rattle.sect_names.specs.Sources.{IsAccepted, IsDue}
 use Rattle.sect_names.specs.declared.refusal.Refusal.{Refusal}
 use Rattle.sect_names.specs.declared.refusal.Refusal.TheVariants as refusal
-use Rattle.sect_names.proofs.Refusing.{one_program}
-use Rattle.sect_names.proofs.OneScheme.{one_scheme}
 use Rattle.sect_cert.specs.declared.certificate.Cert.{Cert}
 use Rattle.sect_cert.specs.declared.fault.CertFault.{CertFault}
 use Rattle.sect_cert.specs.declared.fault.CertFault.TheVariants as text
@@ -20,12 +16,6 @@ use Rattle.sect_check.specs.Valid.{IsValid, AreEntriesLeast}
 use Rattle.sect_check.specs.Verdicts.{of_source, of_text, IsRead, Judges}
 use Rattle.sect_check.specs.steps.Parts.{JudgesCert}
 use Rattle.sect_check.proofs.Least.{entries_least}
-use Rattle.sect_check.proofs.Either.{valid_either}
-
--- a text has one program
-same_program : (bytes : List ℕ) (p q : ProgramView) → IsTypedText bytes p → IsTypedText bytes q → q ≡ p
-same_program bytes p q of_p of_q =
-    one_program p q of_p.numbers of_q.numbers (only bytes p.source of_p.spelled (Ok q.source) of_q.spelled)
 
 module _ (A : Type 0) (source : List ℕ) (k : ℕ) (bytes : List ℕ) where
   -- an answer that passes on a fault that is judged is judged
@@ -36,7 +26,7 @@ module _ (A : Type 0) (source : List ℕ) (k : ℕ) (bytes : List ℕ) where
 
   -- a refusal of the source that is due is the fault
   source_judged : (f : Refusal) → IsDue source k f → Judges {A = A} source k bytes (Err (of_source f))
-  source_judged refusal.Memory h = tt
+  source_judged refusal.Memory h = h.0
   source_judged (refusal.Front x) h = (λ e. cc, h)
   source_judged (refusal.Types x) h = (λ e. cc, h)
   source_judged (refusal.Scheme x) h = (λ e. cc, h)
@@ -49,7 +39,7 @@ module _ (A : Type 0) (source : List ℕ) (k : ℕ) (bytes : List ℕ) where
   module _ (s : SchemeView) (accepted : IsAccepted source k s) where
     -- a fault of the certificate's text is the fault, where the source is accepted
     text_judged : (f : CertFault) → texts.Judges bytes (Err f) → Judges {A = A} source k bytes (Err (of_text f))
-    text_judged text.Memory h = tt
+    text_judged text.Memory h = omega (arith, accepted.most, accepted.scheme.most)
     text_judged (text.BadCertLine n) h = ((s, accepted), λ e. cc, h)
     text_judged (text.CertEnd n) h = ((s, accepted), λ e. cc, h)
     text_judged (text.NotCanonical n) h = ((s, accepted), λ e. cc, h)
@@ -68,7 +58,7 @@ module _ (A : Type 0) (source : List ℕ) (k : ℕ) (bytes : List ℕ) where
       -- the verdict on that certificate is the answer
       pub cert_judged : (r : Result A CheckFault) → JudgesCert s c r → Judges source k bytes r
       cert_judged (Ok x) h = read_so IsValid h
-      cert_judged (Err fault.Memory) h = tt
+      cert_judged (Err fault.Memory) h = omega (arith, accepted.most, accepted.scheme.most)
       cert_judged (Err (fault.Source x)) h = absurd h
       cert_judged (Err (fault.Text x)) h = absurd h
       cert_judged (Err fault.WrongProgram) h =
@@ -105,11 +95,3 @@ text_given c (text.BadCertLine n) g = absurd g
 text_given c (text.CertEnd n) g = absurd g
 text_given c (text.NotCanonical n) g = absurd g
 text_given c text.OldVersion g = absurd g
-
--- a certificate that is valid for a text is valid for the scheme that the text was given
-pub valid_for : (source : List ℕ) (k : ℕ) (bytes : List ℕ) (s : SchemeView) → IsAccepted source k s → (c : Cert)
-    → (v : IsRead source k bytes IsValid) → c ≡ v.cert → IsValid s c
-valid_for source k bytes s accepted c v same =
-    let program = same_program source s.program v.s.program accepted.text v.accepted.text in
-    let one = one_scheme v.s s v.accepted.scheme accepted.scheme program in
-    subst (IsValid s) (sym same) (valid_either v.s s one program (v.accepted.most ∙ sym accepted.most) v.cert v.holds)

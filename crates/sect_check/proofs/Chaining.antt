@@ -3,7 +3,7 @@ use Rattle.std.proofs.Common.{◌≡◌, ℕ, ◌+◌, ◌<◌, ◌≤◌, List,
 use Rattle.std.proofs.Common.{sym, subst, inl, inr, arith}
 use Rattle.std.specs.Prelude.{slice_get, MatchOption}
 use Rattle.std.proofs.lemmas.Option.{slice_get_within}
-use Rattle.sect_types.specs.Lists.{Has}
+use Rattle.sect_lemmas.specs.Lists.{Has}
 use Rattle.sect_graph.specs.declared.flow.Node.{Node}
 use Rattle.sect_names.specs.declared.lock.Lock.{Lock}
 use Rattle.sect_names.specs.declared.link.Link.{Link}
@@ -17,7 +17,7 @@ use Rattle.sect_check.specs.Valid.{IsClaimed, HasChain, HasItsChain}
 use Rattle.sect_check.specs.Faults.{IsFirst, IsStepRight, IsBroken, HaveChainsBefore, BreaksChain}
 use Rattle.sect_check.specs.steps.Shapes.{DoRise, HaveNumbersBelow}
 use Rattle.sect_check.specs.steps.Parts.{JudgesChain, JudgesChains}
-use Rattle.sect_types.proofs.Places.{at_of, one_at}
+use Rattle.sect_lemmas.proofs.Places.{at_of, one_at}
 use Rattle.sect_check.proofs.Numbering.{no_more, stray}
 use Rattle.sect_check.proofs.Scanning.{below_next}
 

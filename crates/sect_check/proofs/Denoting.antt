@@ -3,9 +3,9 @@ use Rattle.std.proofs.Common.{◌≡◌, ℕ, zero, suc, List, [], ◌∷◌, So
 use Rattle.std.specs.Prelude.{slice_get, slice_index_or}
 use Rattle.std.specs.List.{AllZip}
 use Rattle.std.proofs.lemmas.Option.{slice_get_within}
-use Rattle.sect_types.specs.Lists.{Has}
+use Rattle.sect_lemmas.specs.Lists.{Has}
 use Rattle.sect_types.specs.Sections.{SectionView}
-use Rattle.sect_types.proofs.Places.{Has-index, at_of, zipped_at}
+use Rattle.sect_lemmas.proofs.Places.{Has-index, at_of, zipped_at}
 use Rattle.sect_graph.specs.declared.flow.Node.{Node}
 use Rattle.sect_names.specs.Schemes.{SchemeView}
 use Rattle.sect_cert.specs.declared.certificate.Cert.{Cert}

@@ -3,7 +3,7 @@ use Rattle.std.proofs.Common.{length, ◌≡◌, ◌↔◌, ◌⊎◌, ℕ, ◌�
 use Rattle.std.proofs.Common.{arith}
 use Rattle.std.specs.Prelude.{slice_get, option_map}
 use Rattle.std.proofs.lemmas.Bool.{cases_eq}
-use Rattle.sect_types.specs.Lists.{Has}
+use Rattle.sect_lemmas.specs.Lists.{Has}
 use Rattle.sect_types.specs.declared.action.Label.{Label}
 use Rattle.sect_graph.specs.declared.flow.Node.{Node}
 use Rattle.sect_graph.specs.declared.flow.Successors.{Successors}
@@ -15,7 +15,7 @@ use Rattle.sect_check.specs.declared.claims.Claims.{Claims}
 use Rattle.sect_check.specs.Valid.{list_at, AreCarriedInto, CoversCarried}
 use Rattle.sect_check.specs.Faults.{IsFirst}
 use Rattle.sect_check.specs.steps.Shapes.{StaysWithin}
-use Rattle.sect_types.proofs.Places.{told_at, told_of}
+use Rattle.sect_lemmas.proofs.Places.{told_at, told_of}
 
 -- control goes on from a node to one of the graph, or to its exit
 pub stays : (g : List Node) → StaysWithin g → (i : ℕ) (next : Successors)

@@ -20,8 +20,8 @@ use Rattle.sect_check.specs.declared.claims.ChainClaim.{ChainClaim}
 use Rattle.sect_check.specs.Names.{Denotes}
 use Rattle.sect_check.specs.Meaning.{DenotesStep, DenotesChain, DenotesSection, DenotesAll}
 use Rattle.sect_check.specs.Valid.{list_at, IsValidSection, IsValid}
-use Rattle.sect_names.proofs.Alike.{classes_with, scheme_with, class_to, but_for_sets, lock_to, generated_at_to}
-use Rattle.sect_names.proofs.Alike.{carried_to, chain_to, covers_to, covered_to}
+use Rattle.sect_names.proofs.shared.Alike.{classes_with, scheme_with, class_to, but_for_sets, lock_to, generated_at_to}
+use Rattle.sect_names.proofs.shared.Alike.{carried_to, chain_to, covers_to, covered_to}
 
 -- lists that are related one by one are so by a weaker relation
 zip_to : {A B : Type 0} (R S : A → B → Type 0) → ((x : A) (y : B) → R x y → S x y) → (xs : List A) (ys : List B)

@@ -10,7 +10,7 @@ use Rattle.sect_check.specs.declared.fault.SectionFault.TheVariants as fault
 use Rattle.sect_check.specs.Valid.{IsValidSection}
 use Rattle.sect_check.specs.Faults.{IsFaultOf, IsStepRight}
 use Rattle.sect_check.specs.steps.Shapes.{DoRise}
-use Rattle.sect_types.proofs.Places.{at_of}
+use Rattle.sect_lemmas.proofs.Places.{at_of}
 use Rattle.sect_check.proofs.Numbering.{one_number}
 use Rattle.sect_check.proofs.Stepping.{steps_right}
 

@@ -23,7 +23,7 @@ use Rattle.sect_check.specs.Faults.{IsFaultAt}
 use Rattle.sect_check.specs.Verdicts.{of_section}
 use Rattle.sect_check.specs.steps.Resolving.{Resolves, DenotesAt}
 use Rattle.sect_check.specs.steps.Parts.{IsFaultHere, JudgesAt, JudgesCert}
-use Rattle.sect_types.proofs.Places.{at_of, one_at, pushed_at}
+use Rattle.sect_lemmas.proofs.Places.{at_of, one_at, pushed_at}
 
 module _ (s : SchemeView) (i : ℕ) (of other : SectionView) (g h : List Node) (a : IsSectionAt s i of g)
     (b : IsSectionAt s i other h) (P : SectionView → List Node → Type 0) where

@@ -1,8 +1,8 @@
 -- What a valid certificate says of needed locks.
-use Rattle.std.proofs.Common.{◌≡◌, ℕ, List, [], ◌∷◌, ◌++◌, Some, length, refl, sym, ap, ◌∙◌, subst, arith, inl, inr}
+use Rattle.std.proofs.Common.{◌≡◌, ℕ, List, [], ◌∷◌, ◌++◌, Some, length, refl, sym, ap, subst, arith, inl, inr}
 use Rattle.std.specs.Prelude.{slice_get}
 use Rattle.std.proofs.lemmas.Option.{slice_get_within}
-use Rattle.sect_types.specs.Lists.{Has}
+use Rattle.sect_lemmas.specs.Lists.{Has}
 use Rattle.sect_types.specs.Sections.{SectionView, sections_of}
 use Rattle.sect_types.specs.Traces.{Visit, visit}
 use Rattle.sect_graph.specs.declared.flow.Node.{Node}
@@ -15,30 +15,24 @@ use Rattle.sect_names.specs.Carrying.{Generated, CarriedBack}
 use Rattle.sect_names.specs.Needed.{CarriedOver, GeneratedFirst, IsNeededOn, IsLeast, end_of}
 use Rattle.sect_names.specs.Chains.{AreLinked, IsChain}
 use Rattle.sect_names.specs.Laws.{RespectsCover}
-use Rattle.sect_names.proofs.Covering.{covers_trans}
-use Rattle.sect_names.proofs.Respecting.{respects_cover}
-use Rattle.sect_names.proofs.SectionSteps.{section_step}
+use Rattle.sect_names.proofs.shared.Covering.{covers_trans}
+use Rattle.sect_names.proofs.shared.Respecting.{respects_cover}
+use Rattle.sect_names.proofs.shared.SectionSteps.{section_step}
 use Rattle.sect_cert.specs.declared.certificate.Cert.{Cert}
 use Rattle.sect_check.specs.declared.claims.Claims.{Claims}
 use Rattle.sect_check.specs.Meaning.{IsSectionAt}
 use Rattle.sect_check.specs.Valid.{list_at, IsValidSection, IsValid, AreEntriesLeast}
-use Rattle.sect_types.proofs.Places.{Has-index, at_of}
+use Rattle.sect_lemmas.proofs.Places.{Has-index, at_of}
+use Rattle.sect_graph.proofs.shared.Paths.{path_begins}
 
 module _ (s : SchemeView) (t : ℕ) (last : List Lock) (g : List Node) where
-  -- a path from a node begins with what the node does
-  path_begins : (j : ℕ) (y : Node) (steps : List Visit) → slice_get g j ≡ Some y → IsPath g j steps (length g)
-      → (post : List Visit) × (steps ≡ visit j y.label ∷ post)
-  path_begins j y [] at p = absurd (let w = slice_get_within g j y at in omega (arith, w, p))
-  path_begins j y (a ∷ steps) at p = let same : p.0 ≡ y = (let e = p.1 in cc) in
-      (steps, ap (λ b. b ∷ steps) (p.2 ∙ ap (λ z. visit j z.label) same))
-
   -- the first lock of linked steps is needed along some path from the first node to the exit
   linked_needed : IsConnected g → (a : Link) (links : List Link) → AreLinked s t last g a links
       → (steps : List Visit) × IsPath g a.node steps (length g) × IsNeededOn s t last steps a.lock
   linked_needed con a [] h = elim h [
     | inl n ↦
         let p = con.exits a.node (slice_get_within g a.node n.0 n.1) in
-        let b = path_begins a.node n.0 p.0 n.1 p.1 in
+        let b = path_begins g a.node n.0 p.0 n.1 p.1 in
         (p.0, p.1, ([], p.0, a.lock, refl, subst (λ st. GeneratedFirst s t last st a.lock) (sym b.1) n.2, refl))
     | inr e ↦ ([], e.0, ([], [], a.lock, refl, e.1, refl))
   ]

@@ -1,19 +1,19 @@
-pub mod Scanning
-pub mod Standing
-pub mod Resolving
-pub mod Generating
-pub mod Edges
-pub mod Stepping
-pub mod Numbering
-pub mod Entries
-pub mod Judging
-pub mod Excluding
-pub mod Unique
-pub mod Least
-pub mod Either
-pub mod Chaining
-pub mod Answering
-pub mod Rows
-pub mod LocalLaws
-pub mod Calling
-pub mod Denoting
+mod Scanning
+mod Standing
+mod Resolving
+mod Generating
+mod Edges
+mod Stepping
+mod Numbering
+mod Entries
+mod Judging
+mod Excluding
+mod Unique
+mod Least
+mod Either
+mod Chaining
+mod Answering
+mod Rows
+mod LocalLaws
+mod Denoting
+pub mod shared

@@ -10,11 +10,12 @@ use Rattle.sect_types.specs.First.{IsTyped}
 use Rattle.sect_types.specs.Sight.{same_name, names_of_globals}
 use Rattle.sect_types.specs.Programs.{ProgramView, IsOfTree}
 use Rattle.sect_types.specs.declared.types.ValueType.{ValueType}
-use Rattle.sect_types.proofs.SoundLemmas.{same_names}
+use Rattle.sect_types.proofs.shared.SoundLemmas.{same_names}
 use Rattle.sect_types.specs.declared.local_name.LocalName.{LocalName}
 use Rattle.sect_types.specs.LocalNames.{all_local_names, place_of_local, is_same_local, is_same_call}
-use Rattle.sect_types.proofs.Positions.{first_position, no_position}
-use Rattle.sect_types.proofs.LocalFacts.{locals_differ, no_global, as_many_names}
+use Rattle.sect_lemmas.proofs.Positions.{first_position, no_position}
+use Rattle.sect_types.proofs.shared.LocalRows.{as_many_names}
+use Rattle.sect_types.proofs.shared.LocalFacts.{locals_differ, no_global}
 
 -- what stands past the end
 abbrev pub unnamed : LocalName

@@ -6,8 +6,8 @@ use Rattle.std.specs.List.{AllZip}
 use Rattle.std.proofs.lemmas.Bool.{cases_lt, cases_eq}
 use Rattle.std.proofs.lemmas.Slice.Zip.{AllZip-long}
 use Rattle.std.proofs.lemmas.Option.{slice_get_within}
-use Rattle.sect_types.specs.Lists.{Has}
-use Rattle.sect_types.proofs.Membership.{Has-slice_get}
+use Rattle.sect_lemmas.specs.Lists.{Has}
+use Rattle.sect_lemmas.proofs.Membership.{Has-slice_get}
 use Rattle.sect_types.specs.Sections.{SectionView}
 use Rattle.sect_graph.specs.declared.flow.Node.{Node}
 use Rattle.sect_names.specs.Schemes.{SchemeView}
@@ -20,7 +20,7 @@ use Rattle.sect_check.specs.Meaning.{IsSectionAt, DenotesChain, DenotesAll}
 use Rattle.sect_check.specs.Names.{Denotes}
 use Rattle.sect_check.specs.Faults.{IsStray}
 use Rattle.sect_check.specs.steps.Shapes.{DoRise, HasNumber, HaveNumbersBelow, HaveShape}
-use Rattle.sect_types.proofs.Places.{Has-index, at_of, one_at, zipped_at, each_at}
+use Rattle.sect_lemmas.proofs.Places.{Has-index, at_of, one_at, zipped_at, each_at}
 
 module _ (chains : List ChainClaim) (rise : DoRise chains) where
   -- a chain's number isn't below its place

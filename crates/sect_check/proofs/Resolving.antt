@@ -5,8 +5,8 @@ use Rattle.std.specs.Prelude.{slice_get, slice_index, is_some}
 use Rattle.std.specs.Option.{option_map}
 use Rattle.std.specs.List.{AllZip}
 use Rattle.std.proofs.lemmas.Option.{slice_get_within, get_or_from_slice_get}
-use Rattle.sect_types.specs.Lists.{Has}
-use Rattle.sect_types.proofs.Membership.{Has-slice_get}
+use Rattle.sect_lemmas.specs.Lists.{Has}
+use Rattle.sect_lemmas.proofs.Membership.{Has-slice_get}
 use Rattle.sect_points.specs.Paths.{PathView}
 use Rattle.sect_points.specs.Partitions.{HasClass}
 use Rattle.sect_names.specs.declared.lock.Effect.{Effect}
@@ -19,7 +19,7 @@ use Rattle.sect_check.specs.declared.unresolved.Unresolved.{Unresolved}
 use Rattle.sect_check.specs.declared.unresolved.Unresolved.TheVariants.{Memory, Wrong}
 use Rattle.sect_check.specs.Names.{path_named}
 use Rattle.sect_check.specs.steps.Resolving.{Resolves}
-use Rattle.sect_types.proofs.Places.{Has-index}
+use Rattle.sect_lemmas.proofs.Places.{Has-index}
 use Rattle.sect_check.proofs.Standing.{path_stands}
 
 -- where one element is related to nothing, so is the list

@@ -28,7 +28,7 @@ use Rattle.sect_check.specs.Meaning.{DenotesStep, DenotesChain, DenotesSection, 
 use Rattle.sect_check.specs.Valid.{IsValid}
 use Rattle.sect_check.specs.Faults.{IsFaultAt}
 use Rattle.sect_check.specs.steps.Parts.{JudgesCert}
-use Rattle.sect_types.proofs.Places.{at_of}
+use Rattle.sect_lemmas.proofs.Places.{at_of}
 use Rattle.sect_check.proofs.Numbering.{all_shaped}
 use Rattle.sect_check.proofs.Excluding.{no_fault}
 

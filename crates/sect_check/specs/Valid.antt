@@ -1,7 +1,7 @@
 -- Valid certificates.
 use Rattle.std.specs.Prelude.{◌≡◌, ◌<◌, ℕ, List, [], Some, length, slice_get, slice_index_or}
 use Rattle.std.specs.List.{AllZip}
-use Rattle.sect_types.specs.Lists.{Has}
+use Rattle.sect_lemmas.specs.Lists.{Has}
 use Rattle.sect_types.specs.Sections.{SectionView, sections_of}
 use Rattle.sect_types.specs.declared.action.Label.{Label}
 use Rattle.sect_graph.specs.declared.flow.Node.{Node}

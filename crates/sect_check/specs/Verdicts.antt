@@ -1,5 +1,5 @@
 -- What a source text and the bytes of a certificate are answered with.
-use Rattle.std.specs.Prelude.{◌≡◌, ◌≢◌, ℕ, ⊤, List, Result, Ok, Err}
+use Rattle.std.specs.Prelude.{◌≡◌, ◌≢◌, ◌≤◌, ℕ, List, Result, Ok, Err}
 use Rattle.sect_names.specs.Schemes.{SchemeView}
 use Rattle.sect_names.specs.Sources.{IsAccepted, IsDue}
 use Rattle.sect_names.specs.declared.refusal.Refusal.{Refusal}
@@ -62,10 +62,11 @@ pub record IsRead (source : List ℕ) (k : ℕ) (bytes : List ℕ) (P : SchemeVi
   pub spelled : bytes ≡ certificate_text cert
   pub holds : P s cert
 
--- the source is accepted, the bytes are the text of a certificate, and that is valid; or this is the first fault
+-- the source is accepted, the bytes are the text of a certificate, and that is valid; or this is the first fault; where
+-- k is too large memory cannot run out
 abbrev pub Judges : {A : Type 0} → List ℕ → ℕ → List ℕ → Result A CheckFault → Type 0
 Judges source k bytes (Ok x) = IsRead source k bytes IsValid
-Judges source k bytes (Err fault.Memory) = ⊤
+Judges source k bytes (Err fault.Memory) = k ≤ 3
 Judges source k bytes (Err (fault.Source r)) = (r ≢ refusal.Memory) × IsDue source k r
 Judges source k bytes (Err (fault.Text f)) =
     ((s : SchemeView) × IsAccepted source k s) × (f ≢ text.Memory) × texts.Judges bytes (Err f)

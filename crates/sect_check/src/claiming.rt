@@ -15,7 +15,7 @@ use sect_names::{Link, Lock};
 use std::alloc::Global;
 
 /// The locks of a list.
-#[tactic(auto, using(sect_types::proofs::Places::zip_more))]
+#[tactic(auto, using(sect_lemmas::proofs::Places::zip_more))]
 fn locks_of(alloc: Global, naming: &Naming, list: &[CertLock]) -> Result<Items<Lock>, Unresolved>
     ensures { Resolves result (AllZip (Denotes naming.now.scheme naming.now.thread) list.now) }
 {
@@ -53,7 +53,7 @@ fn link_of(alloc: Global, naming: &Naming, step: &CertStep) -> Result<Link, Unre
 }
 
 /// The steps of a chain.
-#[tactic(auto, using(sect_types::proofs::Places::zip_more))]
+#[tactic(auto, using(sect_lemmas::proofs::Places::zip_more))]
 fn links_of(alloc: Global, naming: &Naming, steps: &[CertStep]) -> Result<Items<Link>, Unresolved>
     ensures { Resolves result (AllZip (DenotesStep naming.now.scheme naming.now.thread) steps.now) }
 {
@@ -76,7 +76,7 @@ fn chain_claim(alloc: Global, naming: &Naming, chain: &Chain) -> Result<ChainCla
 }
 
 /// The chains of a section.
-#[tactic(auto, using(sect_types::proofs::Places::zip_more))]
+#[tactic(auto, using(sect_lemmas::proofs::Places::zip_more))]
 fn chain_claims(
     alloc: Global,
     naming: &Naming,

@@ -1,7 +1,7 @@
 //! Locks that are covered by those of a list.
 
 ghost use Rattle.std.specs.Prelude.{◌≡◌, ◌<◌, ◌↔◌, length, IfOk, IsTrue};
-ghost use Rattle.sect_types.specs.Lists.{Has};
+ghost use Rattle.sect_lemmas.specs.Lists.{Has};
 ghost use Rattle.sect_names.specs.declared.lock.Lock.{Lock};
 ghost use Rattle.sect_names.specs.Locks.{CoveredBy};
 ghost use Rattle.sect_check.specs.Valid.{list_at, AreCovered};

@@ -1,7 +1,7 @@
 //! Whether the lists of a section's nodes are right.
 
 ghost use Rattle.std.specs.Prelude.{◌≡◌, ◌≤◌, ◌<◌, ◌+◌, ◌⊎◌, ◌↔◌, ℕ, length, Some, IfOk, IfSome, IfNone, IsTrue};
-ghost use Rattle.sect_types.specs.Lists.{Has};
+ghost use Rattle.sect_lemmas.specs.Lists.{Has};
 ghost use Rattle.sect_graph.specs.Paths.{IsSuccessor};
 ghost use Rattle.sect_names.specs.declared.lock.Lock.{Lock};
 ghost use Rattle.sect_names.specs.Needed.{end_locks};
@@ -17,19 +17,9 @@ use crate::covering::{are_covered, is_covered, list_at, set_of};
 use indexmap::IndexSet;
 use sect_front::Locking;
 use sect_graph::{Flow, Successors};
-use sect_names::{Lock, Scheme, stays};
+use sect_names::{Lock, Scheme, end_lock, stays};
 use sect_types::Label;
 use std::alloc::{AllocError, Global};
-
-/// What the end of a section generates: the lock on all where the section takes that.
-fn end_lock(locking: Locking) -> Option<Lock>
-    ensures { (l : Lock) → (result ≡ Some l) ↔ Has (end_locks locking) l }
-{
-    match locking {
-        Locking::Inferred => None,
-        Locking::All => Some(Lock::All),
-    }
-}
 
 /// What a node generates; the exit, what the end of the section does.
 pub fn generated_at(

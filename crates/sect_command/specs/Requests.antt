@@ -1,11 +1,12 @@
 -- What a run answers to its words and its input. `command` cites it.
-use Rattle.std.specs.Prelude.{◌≡◌, ◌≢◌, ◌⊎◌, ℕ, Option, List, IfSome, codes}
+use Rattle.std.specs.Prelude.{◌≡◌, ◌≢◌, ◌⊎◌, ◌++◌, ℕ, Option, List, IfSome, codes}
 use Rattle.std.specs.Io.KnownBytes.{Appends}
 use Rattle.sect_infer.specs.Workers.{AreOffered}
 use Rattle.sect_answers.specs.Answers.{IsAnswer, IsDue}
 use Rattle.sect_answers.specs.Checking.{IsValidInput, IsCheckDue}
 use Rattle.sect_answers.specs.Compiling.{IsCertified, IsProgramListing, IsCompileDue}
 use Rattle.sect_answers.specs.Explaining.{IsProgramExplanation}
+use Rattle.sect_answers.specs.Refusals.{refusal_text}
 use Rattle.sect_answers.specs.Running.{IsOutcomeOfRun}
 use Rattle.sect_answers.specs.Scheduling.{IsScheduled, IsScheduleDue}
 use Rattle.sect_answers.specs.Serial.{IsOutcome, IsSerialDue}
@@ -26,7 +27,7 @@ Answers (Compile k workers Certificate) source bytes = AreOffered workers × IsC
 Answers (Explain k) source bytes = IsProgramExplanation source k bytes
 Answers (Serial fuel order) source bytes = IsOutcome source fuel order.items bytes
 Answers (Schedule k fuel schedule) source bytes = IsScheduled source k fuel schedule.items bytes
-Answers (Run k fuel) source bytes = IsOutcomeOfRun source fuel bytes
+Answers (Run k fuel) source bytes = IsOutcomeOfRun source k fuel bytes
 Answers (Check k) source bytes = IsValidInput source k × (bytes ≡ codes "valid\n")
 
 -- the refusal is due where this is requested of the source
@@ -39,11 +40,16 @@ IsRefusalDue (Schedule k fuel schedule) source = IsScheduleDue source k schedule
 IsRefusalDue (Run k fuel) source = IsDue source k
 IsRefusalDue (Check k) source = IsCheckDue source k
 
--- the answer is done with what is requested of the source, or it is refused, and a refusal is due
+-- what is written for a refusal
+abbrev pub line_of : Refusal → List ℕ
+line_of why = refusal_text why ++ codes "\n"
+
+-- the answer is done with what is requested of the source, or it is the line of a refusal that is due
 abbrev pub IsRight : Request → List ℕ → Answer → Type 0
 IsRight request source answer =
     ((answer.status ≡ DONE) × Answers request source answer.text.items)
-    ⊎ ((answer.status ≡ REFUSED) × ((why : Refusal) × (why ≢ refusal.Memory) × IsRefusalDue request source why))
+    ⊎ ((answer.status ≡ REFUSED) × ((why : Refusal) × (why ≢ refusal.Memory) × IsRefusalDue request source why
+    × (answer.text.items ≡ line_of why)))
 
 -- the words are wrong, or the answer is right for what they ask of the input, where its bytes are known
 abbrev pub IsRightForWords : Option (List ℕ) → Answer → Type 0

@@ -4,12 +4,13 @@ ghost use Rattle.std.specs.Prelude.{◌≡◌, ◌⊎◌, IfOk, IfErr, IfSome};
 ghost use Rattle.std.specs.Io.KnownBytes.{Appends};
 ghost use Rattle.sect_command.specs.declared.dispatch.Failure.TheVariants.{Memory};
 ghost use Rattle.sect_command.specs.declared.dispatch.TheConstants.{FAILED, WRONG_WORDS};
-ghost use Rattle.sect_command.specs.Requests.{Answers, IsRefusalDue, IsRight, IsRightForWords, IsTold};
+ghost use Rattle.sect_command.specs.Requests.{Answers, IsRefusalDue, IsRight, IsRightForWords, IsTold, line_of};
+ghost use Rattle.std.specs.String.{string_bytes};
 
 use crate::options::{Form, Request, UsageFault, request_of};
 use sect_answers::{
-    Refusal, locks, program_certificate, program_explanation, program_listing, run_outcome,
-    schedule_outcome, serial_outcome, verdict,
+    Refusal, locks, program_certificate, program_explanation, program_listing, put_refusal,
+    run_outcome, schedule_outcome, serial_outcome, verdict,
 };
 use sect_run::OpenGate;
 use std::alloc::{AllocError, Global};
@@ -157,9 +158,19 @@ fn worked<R: Threads + Wait + Sync>(
         Err(Refusal::Memory) => Err(Failure::Memory),
         Err(refusal) => Ok(Answer {
             status: REFUSED,
-            text: format!(in alloc; "{refusal}\n")?.into_bytes(),
+            text: refusal_line(alloc, &refusal)?.into_bytes(),
         }),
     }
+}
+
+/// The line of a refusal.
+fn refusal_line(alloc: Global, refusal: &Refusal) -> Result<String, AllocError>
+    ensures { IfOk result (λ line. string_bytes line ≡ line_of refusal.now) }
+{
+    let mut line = String::new(alloc);
+    put_refusal(&mut line, refusal)?;
+    line.push_str("\n")?;
+    Ok(line)
 }
 
 /// What is printed for a request that is not refused.

@@ -5,7 +5,7 @@ use Rattle.std.specs.Prelude.{if◌then◌else◌, Result, Ok, Err, OnOk}
 use Rattle.std.specs.List.{insert}
 use Rattle.std.proofs.lemmas.List.{take-append-drop, take-set, drop-set, append_assoc}
 use Rattle.std.proofs.Math.Seq.{take-suc}
-use Rattle.sect_types.proofs.Lists.{drop_next}
+use Rattle.sect_lemmas.proofs.Elements.{drop_next}
 use Rattle.sect_points.specs.Paths.{PathView}
 use Rattle.sect_points.specs.Partitions.{HasClass}
 use Rattle.sect_names.specs.declared.lock.Effect.{Effect}

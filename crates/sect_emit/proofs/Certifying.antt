@@ -5,13 +5,13 @@ use Rattle.std.proofs.lemmas.Option.{slice_get_within}
 use Rattle.sect_types.specs.First.{IsTyped}
 use Rattle.sect_types.specs.Programs.{IsOfTree}
 use Rattle.sect_types.specs.Sections.{SectionView, sections_of}
-use Rattle.sect_types.proofs.Places.{at_of, one_at, chosen}
+use Rattle.sect_lemmas.proofs.Places.{at_of, one_at, chosen}
 use Rattle.sect_graph.specs.declared.flow.Node.{Node}
 use Rattle.sect_names.specs.Needed.{end_of}
 use Rattle.sect_names.specs.Schemes.{SchemeView, IsScheme}
 use Rattle.sect_infer.specs.Sets.{LocksView, AreLocksOf}
 use Rattle.sect_chains.specs.Chains.{AreChains}
-use Rattle.sect_chains.specs.steps.Trails.{AreLawful}
+use Rattle.sect_names.specs.Laws.{AreLawful}
 use Rattle.sect_cert.specs.declared.certificate.CertSection.{CertSection}
 use Rattle.sect_cert.specs.declared.certificate.Cert.{Cert}
 use Rattle.sect_check.specs.declared.claims.Claims.{Claims}

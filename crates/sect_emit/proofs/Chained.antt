@@ -1,7 +1,7 @@
 -- What the chains of a section name is there.
 use Rattle.std.proofs.Common.{◌≡◌, ◌≢◌, ℕ, List, [], ◌∷◌, Some, subst, inl, inr}
 use Rattle.std.specs.Prelude.{slice_get}
-use Rattle.sect_types.specs.Lists.{Has}
+use Rattle.sect_lemmas.specs.Lists.{Has}
 use Rattle.sect_types.specs.Sections.{SectionView, sections_of}
 use Rattle.sect_types.specs.declared.action.Label.{Label}
 use Rattle.sect_graph.specs.declared.flow.Node.{Node}
@@ -13,10 +13,10 @@ use Rattle.sect_names.specs.Chains.{AreLinked, IsChain}
 use Rattle.sect_names.specs.Carrying.{Generated, CarriedBack}
 use Rattle.sect_names.specs.Laws.{IsSoundStep, StandsIn}
 use Rattle.sect_names.specs.Needed.{end_of}
-use Rattle.sect_names.proofs.Named.{named_lock}
-use Rattle.sect_chains.proofs.Meaning.{ended_lawful}
+use Rattle.sect_names.proofs.shared.Named.{named_lock}
+use Rattle.sect_names.proofs.shared.Ends.{ended_lawful}
 use Rattle.sect_chains.specs.Chains.{AreChains}
-use Rattle.sect_chains.specs.steps.Trails.{AreLawful}
+use Rattle.sect_names.specs.Laws.{AreLawful}
 use Rattle.sect_emit.specs.Words.{IsChainNamed}
 
 module _ (s : SchemeView) (t : ℕ) (last : List Lock) (g : List Node) (lawful : AreLawful s t last g) where

@@ -10,7 +10,7 @@ use Rattle.sect_cert.specs.declared.certificate.Cert.{Cert}
 use Rattle.sect_check.specs.Names.{Denotes}
 use Rattle.sect_check.specs.Valid.{IsValid, AreEntriesLeast}
 use Rattle.sect_check.specs.Verdicts.{IsRead}
-use Rattle.sect_check.proofs.Answering.{valid_for}
+use Rattle.sect_check.proofs.shared.Answering.{valid_for}
 use Rattle.sect_emit.specs.Certificates.{HasTheSets}
 use Rattle.sect_emit.specs.Compiled.{CompiledView, IsCompiledFrom}
 

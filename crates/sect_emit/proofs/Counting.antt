@@ -8,8 +8,8 @@ use Rattle.std.proofs.lemmas.List.Elements.{All-get_or}
 use Rattle.std.proofs.lemmas.Bool.{cases_lt}
 use Rattle.std.proofs.lemmas.Option.{slice_get_within, get_or_from_slice_get}
 use Rattle.sect_types.specs.declared.limits.TheConstants.{MOST_ALL_LOCALS, MOST_FIELDS, MOST_GLOBALS, MOST_SITES}
-use Rattle.sect_types.specs.Lists.{Has}
-use Rattle.sect_types.proofs.Membership.{Has-left, Has-right}
+use Rattle.sect_lemmas.specs.Lists.{Has}
+use Rattle.sect_lemmas.proofs.Membership.{Has-left, Has-right}
 use Rattle.sect_types.specs.Programs.{ProgramView, IsWithinLimits, sites_of}
 use Rattle.sect_types.specs.Sound.{type_in}
 use Rattle.sect_types.specs.declared.action.Field.{Field}
@@ -25,9 +25,9 @@ use Rattle.sect_names.specs.declared.lock.Lock.TheVariants as lock
 use Rattle.sect_names.specs.Schemes.{SchemeView, IsScheme}
 use Rattle.sect_names.specs.Order.{AreInOrder, LockBefore}
 use Rattle.sect_names.specs.Locks.{depth, IsField, PathTo, IsOwn, IsPathIn, IsLockOf}
-use Rattle.sect_names.proofs.Finiteness.{Has-map, Has-flat_map, below, Has-below}
-use Rattle.sect_names.proofs.Sounding.{path_there}
-use Rattle.sect_names.proofs.Uniqueness.{lock_once}
+use Rattle.sect_lemmas.proofs.Listing.{Has-map, Has-flat_map, below, Has-below}
+use Rattle.sect_names.proofs.shared.Sounding.{path_there}
+use Rattle.sect_names.proofs.shared.Uniqueness.{lock_once}
 
 -- a list without one of its elements
 without : {X : Type 0} (xs : List X) (x : X) → Has xs x → (rest : List X) × (length xs ≡ length rest + 1)

@@ -4,10 +4,10 @@ use Rattle.std.specs.Prelude.{slice_get}
 use Rattle.std.specs.List.{AllZip}
 use Rattle.std.specs.Option.{option_map}
 use Rattle.std.proofs.lemmas.List.{length-map}
-use Rattle.sect_types.specs.Lists.{Has}
+use Rattle.sect_lemmas.specs.Lists.{Has}
 use Rattle.sect_types.specs.First.{IsTyped}
 use Rattle.sect_types.specs.Programs.{IsOfTree}
-use Rattle.sect_types.proofs.Places.{Has-index}
+use Rattle.sect_lemmas.proofs.Places.{Has-index}
 use Rattle.sect_graph.specs.declared.flow.Node.{Node}
 use Rattle.sect_names.specs.declared.link.Link.{Link}
 use Rattle.sect_names.specs.declared.lock.Effect.TheVariants as effect
@@ -19,7 +19,7 @@ use Rattle.sect_names.specs.Locks.{IsLockOf}
 use Rattle.sect_infer.specs.Sets.{LocksView}
 use Rattle.sect_check.specs.Names.{Denotes}
 use Rattle.sect_check.specs.Meaning.{DenotesStep, DenotesChain, DenotesSection}
-use Rattle.sect_check.proofs.Calling.{path_called}
+use Rattle.sect_check.proofs.shared.Calling.{path_called}
 use Rattle.sect_emit.specs.Claimed.{chain_claims, claims_of}
 use Rattle.sect_emit.specs.Words.{lock_words, list_words, step_words, chains_words, section_words}
 use Rattle.sect_infer.specs.Sets.{AreOfProgram}

@@ -1,25 +1,21 @@
-pub mod Tests
-pub mod Grips
-pub mod Keys
-pub mod Modes
-pub mod NeedingAccesses
-pub mod PlanModes
-pub mod Plans
-pub mod Pointing
-pub mod Securing
-pub mod Starting
-pub mod Valuing
-pub mod Wholes
-pub mod Adding
-pub mod Counting
-pub mod Spelling
-pub mod Chained
-pub mod Validity
-pub mod Denoting
-pub mod Certifying
-pub mod Checked
-pub mod Working
-pub mod Labelled
-pub mod Numbered
-pub mod Graphed
-pub mod Explained
+mod Keys
+mod Modes
+mod PlanModes
+mod Plans
+mod Pointing
+mod Valuing
+mod Wholes
+mod Adding
+mod Counting
+mod Spelling
+mod Chained
+mod Validity
+mod Denoting
+mod Certifying
+mod Checked
+mod Working
+mod Labelled
+mod Numbered
+mod Graphed
+mod Explained
+pub mod shared

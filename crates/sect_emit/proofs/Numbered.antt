@@ -4,7 +4,7 @@ use Rattle.std.proofs.Common.{append-nil, arith, Result, Ok, Err, OnOk}
 use Rattle.std.specs.Prelude.{slice_get}
 use Rattle.std.proofs.lemmas.List.{drop_all}
 use Rattle.std.proofs.lemmas.Option.{slice_get_within, get_or_from_slice_get}
-use Rattle.sect_types.proofs.Lists.{drop_next}
+use Rattle.sect_lemmas.proofs.Elements.{drop_next}
 use Rattle.sect_emit.specs.Listing.{by_number}
 
 -- one more has been added

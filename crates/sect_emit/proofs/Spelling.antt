@@ -14,7 +14,7 @@ use Rattle.sect_cert.specs.declared.certificate.CertSection.{CertSection}
 use Rattle.sect_cert.specs.Texts.{IsSection, AreRising}
 use Rattle.sect_names.specs.Schemes.{SchemeView}
 use Rattle.sect_infer.specs.Sets.{LocksView}
-use Rattle.sect_types.proofs.Places.{one_at, pushed_at}
+use Rattle.sect_lemmas.proofs.Places.{one_at, pushed_at}
 use Rattle.sect_emit.specs.steps.Spelled.{IsSectionSpelled}
 use Rattle.sect_emit.specs.Words.{list_words, chain_words, chains_words}
 use Rattle.sect_emit.proofs.Adding.{take_next}
@@ -69,10 +69,6 @@ zip_length R [] [] h = refl
 zip_length R [] (y ∷ ys) h = absurd h
 zip_length R (x ∷ xs) [] h = absurd h
 zip_length R (x ∷ xs) (y ∷ ys) h = let e = zip_length R xs ys h.1 in omega (arith, e)
-
-pub if_ok : {A E : Type 0} {P Q : A → Type 0} (r : Result A E) → ((x : A) → P x → Q x) → IfOk r P → IfOk r Q
-if_ok (Ok x) f p = f x p
-if_ok (Err e) f p = tt
 
 -- so many sections are spelled
 pub record AreSpelledBelow (s : SchemeView) (all : List LocksView) (n : ℕ) (sections : List CertSection) : Type 0 where

@@ -3,7 +3,7 @@ use Rattle.std.proofs.Common.{◌≡◌, ◌⊎◌, ◌↔◌, ℕ, zero, suc, �
 use Rattle.std.proofs.Common.{◌∙◌, subst, inl, inr, arith}
 use Rattle.std.specs.Prelude.{slice_get, slice_index_or}
 use Rattle.std.proofs.lemmas.Option.{slice_get_within, slice_get-get_or, get_or_from_slice_get}
-use Rattle.sect_types.specs.Lists.{Has}
+use Rattle.sect_lemmas.specs.Lists.{Has}
 use Rattle.sect_types.specs.Statements.{TextView, Stop, Do, Choose, Loop, Section}
 use Rattle.sect_types.specs.Sections.{SectionView}
 use Rattle.sect_types.specs.declared.action.Label.{Label}
@@ -19,7 +19,7 @@ use Rattle.sect_names.specs.Locks.{CoveredBy}
 use Rattle.sect_names.specs.Carrying.{CarriedBack}
 use Rattle.sect_names.specs.Needed.{IsNeededFrom}
 use Rattle.sect_names.specs.Chains.{link, IsGeneratedAt, IsChain}
-use Rattle.sect_names.proofs.Covering.{covers_refl}
+use Rattle.sect_names.proofs.shared.Covering.{covers_refl}
 use Rattle.sect_names.specs.Walks.{Leads}
 use Rattle.sect_names.specs.Along.{NeededBefore, NeededIn}
 use Rattle.sect_infer.specs.Sets.{LocksView, AreLocksOf}

@@ -27,7 +27,8 @@ use Rattle.sect_types.specs.declared.store.ObjectName.{ObjectName}
 use Rattle.sect_types.specs.declared.store.ObjectName.TheVariants as object
 use Rattle.sect_types.specs.declared.store.Datum.{Datum}
 use Rattle.sect_types.specs.declared.store.Datum.TheVariants.{Number, Null, Refers}
-use Rattle.sect_types.specs.Store.{ObjectView, StoreView, object_at, row, count, put_at, with_field, write, add}
+use Rattle.sect_types.specs.Store.{ObjectView, StoreView, object_at, row, count, with_field, write, add}
+use Rattle.sect_lemmas.specs.Lists.{put_at}
 use Rattle.sect_types.specs.Store.{same_name}
 use Rattle.sect_types.specs.Meaning.{WorkView, local_datum, datum_or_null, value_datum, fresh}
 use Rattle.sect_emit.specs.Plan.{field_datum, field_of, variable_datum, path_datum}
@@ -35,15 +36,16 @@ use Rattle.sect_names.specs.Locks.{VariableTo, PathTo}
 use Rattle.sect_names.specs.Records.{IsTypedProgram, SiteOf}
 use Rattle.sect_emit.specs.Pointed.{IsPointed, StepsTo, DenotedBefore}
 use Rattle.sect_names.specs.Locks.{IsOwn}
-use Rattle.sect_names.proofs.Placing.{statement_sound}
-use Rattle.sect_names.proofs.Typing.{base_to}
-use Rattle.sect_types.proofs.Replaced.{mapped}
-use Rattle.sect_types.proofs.Stores.{object_at-write, object_at-add, same_name-true, same_name-eq}
-use Rattle.sect_types.proofs.Basics.{is_past}
-use Rattle.sect_names.proofs.Owning.{own_base}
-use Rattle.sect_emit.proofs.Pointing.{base_variable, is_reference, same_object, put_or_kept, HasDone, action_done}
-use Rattle.sect_emit.proofs.Pointing.{step_pointed, denoted}
-use Rattle.sect_types.proofs.Data.{fresh_refers}
+use Rattle.sect_names.proofs.shared.Placing.{statement_sound}
+use Rattle.sect_names.proofs.shared.Typing.{base_to}
+use Rattle.sect_lemmas.proofs.Options.{mapped}
+use Rattle.sect_types.proofs.shared.Stores.{object_at-write, object_at-add, same_name-true, same_name-eq}
+use Rattle.sect_lemmas.proofs.Elements.{is_past}
+use Rattle.sect_names.proofs.shared.Owning.{own_base}
+use Rattle.sect_emit.proofs.Pointing.{base_variable}
+use Rattle.sect_emit.proofs.shared.Pointing.{is_reference, same_object, put_or_kept, HasDone, action_done}
+use Rattle.sect_emit.proofs.shared.Pointing.{step_pointed, denoted}
+use Rattle.sect_types.proofs.shared.Data.{fresh_refers}
 
 -- over an assignment of d to the local x: where `source` denotes d, and fields of objects are as before
 module _ (t x : ℕ) (source : Option PathView) (d : Datum) (store after : StoreView) (locals : List Datum)

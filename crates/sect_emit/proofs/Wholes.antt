@@ -2,22 +2,21 @@
 use Rattle.std.proofs.Common.{◌≡◌, ◌⊎◌, ℕ, ◌+◌, ◌<◌, List, [], ◌∷◌, ◌++◌, Some, length, length-append, get_or, sym, ap}
 use Rattle.std.proofs.Common.{◌∙◌, subst, arith, slice_get, inl, inr}
 use Rattle.std.proofs.lemmas.List.{length-map}
-use Rattle.std.proofs.lemmas.Option.{slice_get_within, slice_get-get_or}
-use Rattle.std.proofs.lemmas.Option.{slice_get-map as slice_get-mapped}
+use Rattle.std.proofs.lemmas.Option.{slice_get_within, slice_get-get_or, slice_get-map as slice_get-mapped}
 use Rattle.std.specs.Option.{option_map}
 use Rattle.sect_cert.specs.declared.certificate.CertSection.{CertSection}
 use Rattle.sect_cert.specs.declared.certificate.Cert.{Cert}
 use Rattle.sect_cert.specs.Texts.{HasText}
 use Rattle.sect_emit.specs.Certificates.{IsCertificateOf}
 use Rattle.sect_emit.specs.steps.Spelled.{IsSpelled}
-use Rattle.sect_types.specs.Lists.{Has}
+use Rattle.sect_lemmas.specs.Lists.{Has}
 use Rattle.sect_types.specs.Sections.{SectionView, sections_of}
 use Rattle.sect_types.specs.Programs.{ProgramView, IsWellNumbered, sites_of, total_statements}
-use Rattle.sect_types.proofs.Places.{at_of, one_at, pushed_at, Has-index}
-use Rattle.sect_types.proofs.Membership.{Has-slice_get}
+use Rattle.sect_lemmas.proofs.Places.{at_of, one_at, pushed_at, Has-index}
+use Rattle.sect_lemmas.proofs.Membership.{Has-slice_get}
 use Rattle.sect_names.specs.Printing.{AreNamed}
-use Rattle.sect_names.proofs.Named.{named_lock}
-use Rattle.sect_types.proofs.Replaced.{slice_get-map}
+use Rattle.sect_names.proofs.shared.Named.{named_lock}
+use Rattle.sect_lemmas.proofs.Replaced.{slice_get-map}
 use Rattle.sect_graph.specs.declared.flow.Node.{Node}
 use Rattle.sect_names.specs.declared.lock.Lock.{Lock}
 use Rattle.sect_names.specs.declared.lock.Lock.TheVariants as lock
@@ -25,11 +24,10 @@ use Rattle.sect_names.specs.Locks.{IsLockOf}
 use Rattle.sect_names.specs.Needed.{end_of, Protects, IsLeast}
 use Rattle.sect_names.specs.Order.{AreInOrder}
 use Rattle.sect_names.specs.Schemes.{SchemeView, IsScheme}
-use Rattle.sect_infer.specs.Sets.{LocksView}
+use Rattle.sect_infer.specs.Sets.{LocksView, AreInferredAt, AreAllInferred}
 use Rattle.sect_emit.specs.declared.plan.Grip.{Grip}
 use Rattle.sect_emit.specs.Plan.{IsFixedPart}
 use Rattle.sect_emit.specs.Compiled.{CompiledView, IsCompiled, AreSetsLeast}
-use Rattle.sect_infer.specs.Sets.{AreInferredAt, AreAllInferred}
 use Rattle.sect_emit.specs.steps.Inferred.{entries_of, AreFixedParts, IsWhole}
 use Rattle.sect_emit.specs.steps.Wishes.{IsClassedLock}
 
@@ -167,14 +165,6 @@ module _ (s : SchemeView) (all : List LocksView) (parts : List (List Grip)) (sch
     lawful = laws;
     planned = whole.planned.each;
   }
-
--- what the locks of a section's set name is there
-pub set_named : (c : CompiledView) → IsCompiled c → (i : ℕ) (set : List Lock) → slice_get c.sets i ≡ Some set
-    → AreNamed c.scheme.program set
-set_named c compiled i set at l has =
-    let of = at_of (sections_of c.scheme.program.texts) i
-    (let w = slice_get_within c.sets i set at in omega (arith, w, compiled.set_count)) in
-    named_lock c.scheme of.0.thread l (compiled.lawful i of.0 set l of.1 at has)
 
 -- what is spelled of the locks that are kept is the certificate
 pub is_certificate : (s : SchemeView) (all : List LocksView) (parts : List (List Grip)) → AreAllInferred s all

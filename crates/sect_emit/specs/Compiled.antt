@@ -1,6 +1,6 @@
 -- What a compiled program is to the machine.
 use Rattle.std.specs.Prelude.{◌≡◌, ℕ, List, Some, length, slice_get}
-use Rattle.sect_types.specs.Lists.{Has}
+use Rattle.sect_lemmas.specs.Lists.{Has}
 use Rattle.sect_types.specs.Sections.{SectionView, sections_of}
 use Rattle.sect_types.specs.Programs.{ProgramView, IsWellNumbered}
 use Rattle.sect_names.specs.declared.lock.Lock.{Lock}

@@ -1,6 +1,6 @@
 -- What holds of plans.
 use Rattle.std.specs.Prelude.{◌≡◌, ◌⊎◌, ℕ, Bool, true, List, ◌∷◌}
-use Rattle.sect_types.specs.Lists.{Has}
+use Rattle.sect_lemmas.specs.Lists.{Has}
 use Rattle.sect_types.specs.declared.store.ObjectName.{ObjectName}
 use Rattle.sect_types.specs.declared.store.Datum.{Datum}
 use Rattle.sect_types.specs.declared.store.Datum.TheVariants.{Refers}

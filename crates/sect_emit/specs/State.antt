@@ -4,7 +4,8 @@ use Rattle.sect_types.specs.Statements.{TextView}
 use Rattle.sect_types.specs.declared.store.Fault.{Fault}
 use Rattle.sect_types.specs.declared.store.Datum.{Datum}
 use Rattle.sect_emit.specs.declared.plan.Grip.{Grip}
-use Rattle.sect_types.specs.Store.{StoreView, put_at}
+use Rattle.sect_types.specs.Store.{StoreView}
+use Rattle.sect_lemmas.specs.Lists.{put_at}
 use Rattle.sect_types.specs.Whole.{FrameView, first_store, first_frames}
 use Rattle.sect_emit.specs.Plan.{plan_of}
 use Rattle.sect_emit.specs.Compiled.{CompiledView, program_of}

@@ -2,7 +2,7 @@
 
 ghost use Rattle.std.specs.Prelude.{◌≡◌, ◌<◌, ◌++◌, List, length, replicate, IfOk, OnOk};
 ghost use Rattle.std.specs.String.{string_bytes};
-ghost use Rattle.sect_types.specs.Lists.{Has};
+ghost use Rattle.sect_lemmas.specs.Lists.{Has};
 ghost use Rattle.sect_types.specs.Sections.{sections_of};
 ghost use Rattle.sect_names.specs.declared.link.Link.{Link};
 ghost use Rattle.sect_names.specs.Printing.{IsNamed};

@@ -1,7 +1,7 @@
 //! The part of a section's plan that is the same in all states.
 
 ghost use Rattle.std.specs.Prelude.{◌≡◌, IfOk, OnOk};
-ghost use Rattle.sect_types.specs.Lists.{Has};
+ghost use Rattle.sect_lemmas.specs.Lists.{Has};
 ghost use Rattle.sect_modes.specs.declared.key.Key.TheVariants as key;
 ghost use Rattle.sect_modes.specs.Mode.{intention_of};
 ghost use Rattle.sect_names.specs.declared.lock.Lock.{Lock};

@@ -7,18 +7,17 @@ ghost use Rattle.sect_types.specs.Statements.{TextView};
 ghost use Rattle.sect_types.specs.Sections.{SectionView, sections_of};
 ghost use Rattle.sect_graph.specs.declared.flow.Node.{Node};
 ghost use Rattle.sect_names.specs.Printing.{IsNamed, AreNamed};
-ghost use Rattle.sect_emit.specs.Plan.{object_mode as mode_of_object};
 ghost use Rattle.sect_emit.specs.Labels.{thread_name};
 ghost use Rattle.sect_emit.specs.Listing.{successors_text, node_line, exit_line, graph_lines, grip_line, path_line};
 ghost use Rattle.sect_emit.specs.Listing.{thread_lines, section_lines, thread_listed, section_listed, listing_text};
 ghost use Rattle.sect_emit.specs.steps.Naming.{AreNodesOf};
 
 use crate::compiled::Compiled;
-use crate::plan::Grip;
+use crate::plan::{Grip, object_mode};
 use crate::statements::put_label;
 use sect_graph::{Flow, Successors};
-use sect_modes::{Key, Mode};
-use sect_names::{Effect, Lock, put_path};
+use sect_modes::Key;
+use sect_names::{Lock, put_path};
 use sect_types::Program;
 use std::alloc::{AllocError, Global};
 use std::fmt::Write;
@@ -176,16 +175,6 @@ fn put_path_lock(text: &mut String, program: &Program, lock: &Lock) -> Result<()
     text.push_str("lock ")?;
     put_path(text, program, path)?;
     Ok(write!(text, " {}\n", object_mode(*effect))?)
-}
-
-/// The mode in which the object of a path is held.
-fn object_mode(effect: Effect) -> Mode
-    ensures { result ≡ mode_of_object effect }
-{
-    match effect {
-        Effect::Read => Mode::Shared,
-        Effect::Write => Mode::Exclusive,
-    }
 }
 
 /// Adds a line for each node of a graph, which begins with a word; that of the exit ends in another one.

@@ -4,7 +4,7 @@ use Rattle.std.proofs.Common.{Result, Ok, Err, length, take, drop, refl, sym, �
 use Rattle.std.proofs.Common.{inl, inr}
 use Rattle.std.specs.Prelude.{unwrap_or, slice_get, option_map}
 use Rattle.std.proofs.lemmas.List.{take-append-drop}
-use Rattle.sect_front.specs.declared.limits.TheConstants.{MOST_BYTES}
+use Rattle.sect_front.specs.Limits.{most_bytes}
 use Rattle.sect_front.specs.TreeView.{TreeView}
 use Rattle.sect_front.specs.Words.{is_letter, is_digit, begins}
 use Rattle.sect_front.specs.Braces.{open_after, IsShallow}
@@ -18,7 +18,7 @@ use Rattle.sect_front.specs.declared.parsing.FrontFault.TheVariants as fault
 use Rattle.sect_front.proofs.TokenFaults.{TokenFault, IsTokenFault}
 use Rattle.sect_front.proofs.TokenFaults as token_fault
 use Rattle.sect_front.proofs.Reach.{one_lexing, one_bad, bad_or_lexed}
-use Rattle.sect_front.proofs.Only.{only}
+use Rattle.sect_front.proofs.shared.Only.{only}
 
 take_take : {A : Type 0} (i j : ℕ) (xs : List A) → i ≤ j → take i (take j xs) ≡ take i xs
 take_take zero j xs h = refl
@@ -128,9 +128,9 @@ bad_at bytes at = bad_answer (begins is_letter (drop at bytes)) (begins is_digit
 
 -- which kind of fault it is
 data Kind (bytes : List ℕ) (e : FrontFault) : Type 0 where
-  Large : MOST_BYTES < length bytes → e ≡ fault.TooLarge → Kind bytes e
-  Bad : length bytes ≤ MOST_BYTES → (at : ℕ) → IsBadAt bytes at → e ≡ bad_at bytes at → Kind bytes e
-  Tokens : length bytes ≤ MOST_BYTES → (ps : List TokenAt) → Spells bytes ps → (t : TokenFault)
+  Large : most_bytes < length bytes → e ≡ fault.TooLarge → Kind bytes e
+  Bad : length bytes ≤ most_bytes → (at : ℕ) → IsBadAt bytes at → e ≡ bad_at bytes at → Kind bytes e
+  Tokens : length bytes ≤ most_bytes → (ps : List TokenAt) → Spells bytes ps → (t : TokenFault)
       → IsTokenFault (tokens_in ps) t → e ≡ token_answer bytes ps t → Kind bytes e
 
 bad_kind : (bytes : List ℕ) (line : ℕ) (l d : Bool) → IsBadOn bytes line l d → Kind bytes (bad_answer l d line)

@@ -1,16 +1,10 @@
 -- Lemmas on bodies.
-use Rattle.std.proofs.Common.{◌≡◌, ℕ, zero, suc, ◌<◌, ◌≤◌, List, [], ◌∷◌, ◌++◌, length, get_or, refl, ap, arith}
+use Rattle.std.proofs.Common.{◌≡◌, List, [], ◌∷◌, ◌++◌, refl, ap}
 use Rattle.sect_front.specs.Syntax.{Then}
-use Rattle.sect_front.specs.Trees.{statement_of, block_of, append, statement_size, block_size}
+use Rattle.sect_front.specs.Trees.{statement_of, block_of, append}
 use Rattle.sect_front.specs.declared.tree.Statement.{Statement}
 
 pub body_of_push : (ss : List Statement) (s : Statement)
     → block_of (ss ++ s ∷ []) ≡ append (block_of ss) (statement_of s)
 body_of_push [] s = refl
 body_of_push (t ∷ ss) s = ap (Then (statement_of t)) (body_of_push ss s)
-
-pub size_at : (ss : List Statement) (i : ℕ) (d : Statement) → i < length ss
-    → statement_size (statement_of (get_or ss i d)) ≤ block_size (block_of ss)
-size_at [] i d h = absurd (omega arith)
-size_at (s ∷ ss) zero d h = omega arith
-size_at (s ∷ ss) (suc i) d h = omega (arith, size_at ss i d (omega arith))

@@ -1,25 +1,26 @@
 -- Which token stands at the front of a text.
-use Rattle.std.proofs.Common.{◌≡◌, ℕ, zero, suc, ◌+◌, ◌-◌, ◌*◌, ◌<◌, ◌≤◌, Bool, true, false, not, ◌||◌, ◌&&◌, cond, eqb}
-use Rattle.std.proofs.Common.{nat_lt, List, [], ◌∷◌, Option, Some, None, length, take, drop, refl, sym, ◌∙◌, ap, subst}
-use Rattle.std.proofs.Common.{arith}
+use Rattle.std.proofs.Common.{◌≡◌, ℕ, zero, suc, ◌+◌, ◌-◌, ◌*◌, ◌<◌, ◌≤◌, Bool, true, false, not, ◌||◌, ◌&&◌, cond}
+use Rattle.std.proofs.Common.{eqb, nat_lt, List, [], ◌∷◌, Option, Some, None, length, take, drop, refl, sym, ◌∙◌, ap}
+use Rattle.std.proofs.Common.{subst, arith}
 use Rattle.std.specs.List.{list_all, take_while, prefix_len}
 use Rattle.std.specs.Str.{bytes_eq}
-use Rattle.std.proofs.lemmas.Bool.{eqb-true}
+use Rattle.std.proofs.lemmas.Bool.{eqb-true, and_parts, not-true}
 use Rattle.std.proofs.lemmas.List.Folds.{length-prefix_len}
 use Rattle.std.proofs.lemmas.List.Sums.{prefix_len-le-length}
-use Rattle.sect_front.specs.declared.limits.TheConstants.{MOST_NAME_BYTES}
 use Rattle.sect_front.specs.Words.{is_letter, is_digit, is_name_byte}
 use Rattle.sect_front.specs.Gaps.{begins_with}
 use Rattle.sect_front.specs.steps.Recognition.{keyword_of, keyword_table, token_beside, or_name, word_token}
-use Rattle.sect_front.specs.steps.Recognition.{decimal_from, number_of, as_number, single_sign, double_sign, sign_token}
-use Rattle.sect_front.specs.steps.Recognition.{spelled}
-use Rattle.sect_front.specs.Lexeme.{with_length, longest, sign_at, lexeme_of, begins_name}
+use Rattle.sect_front.specs.steps.Recognition.{decimal_from, number_of, as_number, single_sign, double_sign}
+use Rattle.sect_front.specs.steps.Recognition.{sign_token, spelled}
+use Rattle.sect_front.specs.steps.Lexeme.{with_length, longest, sign_at, lexeme_of, begins_name}
 use Rattle.sect_front.specs.Lexing.{stands, IsFirst, IsBad}
 use Rattle.sect_front.specs.declared.token.Token.{Token}
 use Rattle.sect_front.specs.declared.token.Token.TheVariants as token
 use Rattle.sect_front.proofs.Spellings.{spelling_back, spelled_proper}
-use Rattle.sect_front.proofs.Choices.{some_inj, no_some, chosen, refused, both, either_right, neither, not_true}
-use Rattle.sect_front.proofs.Choices.{if_some, if_some_so}
+use Rattle.sect_front.proofs.Choices.{chosen, refused, if_some, if_some_so}
+use Rattle.sect_lemmas.proofs.Booleans.{neither, or_right}
+use Rattle.sect_lemmas.proofs.Options.{some_injective, none_or_some}
+use Rattle.sect_front.specs.Limits.{most_name_bytes}
 
 -- the token is recognised at the front, in the first n bytes
 pub record IsFront (t : Token) (n : ℕ) (bytes : List ℕ) : Type 0 where
@@ -35,7 +36,7 @@ EachToken P (row ∷ rows) = P row.1 × EachToken P rows
 
 beside_holds : (P : Token → Type 0) (w : List ℕ) (rows : List (List ℕ × Token)) → EachToken P rows → (t : Token)
     → token_beside w rows ≡ Some t → P t
-beside_holds P w [] h t e = absurd (no_some t e)
+beside_holds P w [] h t e = absurd (none_or_some t e)
 beside_holds P w (row ∷ rows) h t e =
     if_some P (bytes_eq w row.0) row.1 (token_beside w rows) h.0 (beside_holds P w rows h.1) t e
 
@@ -64,8 +65,8 @@ digits_are_names : (n : ℕ) (ds : List ℕ) (k : ℕ) → decimal_from n ds ≡
 digits_are_names n [] k h = refl
 digits_are_names n (d ∷ ds) k h =
     let c = chosen _ _ _ h in
-    let e = both _ _ c.0 in
-    rw (either_right (is_letter d) (is_digit d) e.0) (digits_are_names (n * 10 + (d - 48)) ds k c.1)
+    let e = and_parts _ _ c.0 in
+    rw (or_right (is_letter d) (is_digit d) e.0) (digits_are_names (n * 10 + (d - 48)) ds k c.1)
 
 numbers_are_names : (ds : List ℕ) (t : Token) → as_number (number_of ds) ≡ Some t → (k : ℕ) × (number_of ds ≡ Some k)
     × (t ≡ token.Number k)
@@ -81,12 +82,12 @@ record IsWord (bytes : List ℕ) (t : Token) : Type 0 where
   stands_so : (rest : List ℕ) → stands t rest ≡ not (begins_name rest)
 
 letter_word : (b : ℕ) (bs : List ℕ) (t : Token) → is_letter b ≡ true
-    → cond (list_all is_name_byte bs && nat_lt (length bs) MOST_NAME_BYTES) (Some (word_token (b ∷ bs))) None ≡ Some t
+    → cond (list_all is_name_byte bs && nat_lt (length bs) most_name_bytes) (Some (word_token (b ∷ bs))) None ≡ Some t
     → IsWord (b ∷ bs) t
 letter_word b bs t l h =
-    let c = chosen (list_all is_name_byte bs && nat_lt (length bs) MOST_NAME_BYTES) (Some (word_token (b ∷ bs))) t h in
-    let e = both (list_all is_name_byte bs) (nat_lt (length bs) MOST_NAME_BYTES) c.0 in
-    let same : word_token (b ∷ bs) ≡ t = some_inj (word_token (b ∷ bs)) t c.1 in
+    let c = chosen (list_all is_name_byte bs && nat_lt (length bs) most_name_bytes) (Some (word_token (b ∷ bs))) t h in
+    let e = and_parts (list_all is_name_byte bs) (nat_lt (length bs) most_name_bytes) c.0 in
+    let same : word_token (b ∷ bs) ≡ t = some_injective (word_token (b ∷ bs)) t c.1 in
     record {
       names = rw (l, e.0) refl;
       stands_so =
@@ -103,7 +104,7 @@ is_word : (b : ℕ) (bs : List ℕ) (t : Token) → is_name_byte b ≡ true → 
 is_word b bs t h e = go (is_letter b) (is_digit b) refl refl h e
   where
     go : (l d : Bool) → is_letter b ≡ l → is_digit b ≡ d → (l || d) ≡ true →
-        cond l (cond (list_all is_name_byte bs && nat_lt (length bs) MOST_NAME_BYTES) (Some (word_token (b ∷ bs))) None)
+        cond l (cond (list_all is_name_byte bs && nat_lt (length bs) most_name_bytes) (Some (word_token (b ∷ bs))) None)
         (cond d (as_number (number_of (b ∷ bs))) (sign_token b bs)) ≡ Some t → IsWord (b ∷ bs) t
     go true d p q h e = letter_word b bs t p e
     go false true p q h e = digit_word b bs t e
@@ -119,7 +120,7 @@ word_end [] zero h all ends = refl
 word_end [] (suc m) h all ends = absurd (omega arith)
 word_end (b ∷ bs) zero h all ends = rw ends refl
 word_end (b ∷ bs) (suc m) h all ends =
-    let e = both (is_name_byte b) (list_all is_name_byte (take m bs)) all in
+    let e = and_parts (is_name_byte b) (list_all is_name_byte (take m bs)) all in
     rw e.0 (omega (arith, word_end bs m (omega arith) e.1 ends))
 
 word_names : (bytes : List ℕ) → begins_name (drop (prefix_len is_name_byte bytes) bytes) ≡ false
@@ -138,7 +139,7 @@ first_word b bs t zero h f = absurd (omega (arith, f.some))
 first_word b bs t (suc m) h f =
     let w = is_word b (take m bs) t h f.spells in
     word_end (b ∷ bs) (suc m) f.within w.names
-    (not_true (begins_name (drop m bs)) (sym (w.stands_so (drop m bs)) ∙ f.free))
+    (not-true (begins_name (drop m bs)) (sym (w.stands_so (drop m bs)) ∙ f.free))
 
 -- the word at the front stands there, where it is a token
 pub word_first : (b : ℕ) (bs : List ℕ) (t : Token) → is_name_byte b ≡ true
@@ -178,14 +179,14 @@ single_stands b rest equal less =
     if_some P (eqb b 46) token.Dot _ refl (if_some_so P (eqb b 61) token.Equal _ equal (
     if_some P (eqb b 43) token.Plus _ refl (
     if_some P (eqb b 45) token.Minus _ refl (if_some P (eqb b 42) token.Star _ refl (
-    if_some_so P (eqb b 60) token.Less _ less (λ u f. absurd (no_some u f)))))))))))))
+    if_some_so P (eqb b 60) token.Less _ less (λ u f. absurd (none_or_some u f)))))))))))))
 
 double_stands : (b : ℕ) (rest : List ℕ) (t : Token) → double_sign b ≡ Some t → stands t rest ≡ true
 double_stands b rest =
     let P : Token → Type 0 = λ u. stands u rest ≡ true in
     if_some P (eqb b 61) token.EqualEqual _ refl
     (if_some P (eqb b 33) token.NotEqual _ refl
-    (if_some P (eqb b 60) token.LessEqual _ refl (λ u f. absurd (no_some u f))))
+    (if_some P (eqb b 60) token.LessEqual _ refl (λ u f. absurd (none_or_some u f))))
 
 -- a sign of one byte that may stand before `=` makes no other sign with it
 no_double : (b : ℕ) (rest : List ℕ) (t : Token) → single_sign b ≡ Some t → stands t rest ≡ true
@@ -194,14 +195,14 @@ no_double b rest t e free next = go (eqb b 61) (eqb b 33) (eqb b 60) refl refl r
   where
     clash : (u : Token) → single_sign b ≡ Some u → stands u rest ≡ not (begins_with 61 rest) → ⊥
     clash u f g =
-        let same : t ≡ u = some_inj t u (sym e ∙ f) in
+        let same : t ≡ u = some_injective t u (sym e ∙ f) in
         let yes : not (begins_with 61 rest) ≡ true = sym g ∙ (subst (λ x. stands x rest ≡ true) same free) in
         let no : not (begins_with 61 rest) ≡ false = ap not next in cc
 
     go : (p q r : Bool) → eqb b 61 ≡ p → eqb b 33 ≡ q → eqb b 60 ≡ r
         → cond p (Some token.EqualEqual) (cond q (Some token.NotEqual) (cond r (Some token.LessEqual) None)) ≡ None
     go true q r f g h = absurd (clash token.Equal (ap single_sign (eqb-true b 61 f)) refl)
-    go false true r f g h = absurd (no_some t (sym (ap single_sign (eqb-true b 33 g)) ∙ e))
+    go false true r f g h = absurd (none_or_some t (sym (ap single_sign (eqb-true b 33 g)) ∙ e))
     go false false true f g h = absurd (clash token.Less (ap single_sign (eqb-true b 60 h)) refl)
     go false false false f g h = refl
 
@@ -214,7 +215,7 @@ sign_first : (b : ℕ) (bs : List ℕ) (t : Token) (n : ℕ) → is_name_byte b 
 sign_first b bs t n h e = go (begins_with 61 bs) refl (double_sign b) refl (single_sign b) refl e
   where
     is : (u : Token) (k : ℕ) → Some (pair u k) ≡ Some (t, n) → IsFront u k (b ∷ bs) → IsFront t n (b ∷ bs)
-    is u k e f = subst (λ y. IsFront y.0 y.1 (b ∷ bs)) (some_inj (pair u k) (t, n) e) f
+    is u k e f = subst (λ y. IsFront y.0 y.1 (b ∷ bs)) (some_injective (pair u k) (t, n) e) f
 
     two : (u : Token) (cs : List ℕ) → begins_with 61 cs ≡ true → double_sign b ≡ Some u → IsFront u 2 (b ∷ cs)
     two u [] p q = cc
@@ -238,16 +239,16 @@ sign_first b bs t n h e = go (begins_with 61 bs) refl (double_sign b) refl (sing
     }
 
     not_double : double_sign b ≡ None → (k : ℕ) → (u : Token) → double_sign k ≡ Some u → eqb b k ≡ true → ⊥
-    not_double none k u some same = no_some u (sym none ∙ (ap double_sign (eqb-true b k same) ∙ some))
+    not_double none k u some same = none_or_some u (sym none ∙ (ap double_sign (eqb-true b k same) ∙ some))
 
     go : (c : Bool) → begins_with 61 bs ≡ c → (o : Option Token) → double_sign b ≡ o → (u : Option Token)
         → single_sign b ≡ u → longest (cond c o None) u ≡ Some (t, n) → IsFront t n (b ∷ bs)
     go true p (Some x) q u r e = is x 2 e (two x bs p q)
-    go true p None q None r e = absurd (no_some (t, n) e)
+    go true p None q None r e = absurd (none_or_some (t, n) e)
     go true p None q (Some x) r e =
         is x 1 e (one x r (λ k. absurd (not_double q 61 token.EqualEqual refl k))
         (λ k. absurd (not_double q 60 token.LessEqual refl k)))
-    go false p o q None r e = absurd (no_some (t, n) e)
+    go false p o q None r e = absurd (none_or_some (t, n) e)
     go false p o q (Some x) r e = is x 1 e (one x r (λ k. ap not p) (λ k. ap not p))
 
 sign_only : (b : ℕ) (bs : List ℕ) (t : Token) (n : ℕ) → is_name_byte b ≡ false → IsFront t n (b ∷ bs)
@@ -267,7 +268,7 @@ sign_only b (c ∷ cs) t (suc (suc zero)) h f =
     rw (e.0, e.1) refl
 sign_only b (c ∷ []) t (suc (suc (suc n))) h f = absurd (omega (arith, f.within))
 sign_only b (c ∷ d ∷ cs) t (suc (suc (suc n))) h f =
-    absurd (no_some t (sym (sign_spelled b (c ∷ d ∷ take n cs) h) ∙ f.spells))
+    absurd (none_or_some t (sym (sign_spelled b (c ∷ d ∷ take n cs) h) ∙ f.spells))
 
 pub names_pass : (bytes : List ℕ) → list_all is_name_byte (take_while is_name_byte bytes) ≡ true
 names_pass [] = refl
@@ -281,15 +282,15 @@ names_pass (b ∷ bs) = go (is_name_byte b) refl (names_pass bs)
 
 -- what lexeme_of gives stands at the front, and where it gives nothing, nothing does
 lexeme_front : (bytes : List ℕ) (t : Token) (n : ℕ) → lexeme_of bytes ≡ Some (t, n) → IsFront t n bytes
-lexeme_front [] t n e = absurd (no_some (t, n) e)
+lexeme_front [] t n e = absurd (none_or_some (t, n) e)
 lexeme_front (b ∷ bs) t n e = go (is_name_byte b) refl (spelled (take_while is_name_byte (b ∷ bs))) refl e
   where
     go : (c : Bool) → is_name_byte b ≡ c → (o : Option Token) → spelled (take_while is_name_byte (b ∷ bs)) ≡ o →
         cond c (with_length (length (take_while is_name_byte (b ∷ bs))) o) (sign_at b bs) ≡ Some (t, n)
         → IsFront t n (b ∷ bs)
-    go true p None q e = absurd (no_some (t, n) e)
+    go true p None q e = absurd (none_or_some (t, n) e)
     go true p (Some u) q e =
-        subst (λ y. IsFront y.0 y.1 (b ∷ bs)) (some_inj (u, length (take_while is_name_byte (b ∷ bs))) (t, n) e)
+        subst (λ y. IsFront y.0 y.1 (b ∷ bs)) (some_injective (u, length (take_while is_name_byte (b ∷ bs))) (t, n) e)
         (word_first b bs u p q)
     go false p o q e = sign_first b bs t n p e
 
@@ -320,4 +321,4 @@ lexeme_only bytes t n f =
     })
 
 pub lexeme_bad : (bytes : List ℕ) → lexeme_of bytes ≡ None → IsBad bytes
-lexeme_bad bytes e t n f = no_some (pair t n) (sym e ∙ lexeme_only bytes t n f)
+lexeme_bad bytes e t n f = none_or_some (pair t n) (sym e ∙ lexeme_only bytes t n f)

@@ -3,45 +3,44 @@ use Rattle.std.proofs.Common.{◌≡◌, ℕ, suc, ◌+◌, ◌<◌, ◌≤◌, 
 use Rattle.std.proofs.Common.{[], ◌∷◌, ◌++◌, map, Option, Some, None, length, replicate, refl, sym, ◌∙◌, ap, arith}
 use Rattle.std.proofs.Common.{length-append, length-drop}
 use Rattle.std.proofs.Math.Seq.{take-append_seam}
-use Rattle.std.proofs.lemmas.Bool.{leb-true, le-leb, eq-eqb}
+use Rattle.std.proofs.lemmas.Bool.{leb-true, le-leb, eq-eqb, and_parts, not-true}
 use Rattle.std.proofs.lemmas.Bool.Decides.{nat_tests}
 use Rattle.std.proofs.lemmas.List.Folds.{length-prefix_len, list_all_at}
 use Rattle.std.proofs.Math.Dec.{leb}
 use Rattle.std.proofs.Math.Bool.{and-false}
 use Rattle.std.specs.List.{list_all, list_any, take_while, prefix_len}
-use Rattle.sect_front.specs.declared.limits.TheConstants.{MOST_NAME_BYTES}
 use Rattle.sect_front.specs.declared.token.Token.{Token}
 use Rattle.std.specs.Str.{bytes_eq}
 use Rattle.std.specs.Prelude.{is_some, is_none, nat_lt, nat_eq}
 use Rattle.sect_front.specs.Names.{IsPadded, zeros_from}
 use Rattle.sect_front.specs.Words.{is_name, is_letter, is_name_byte, is_keyword, begins}
 use Rattle.sect_front.specs.steps.Recognition.{keyword_of, keyword_table, token_beside}
-use Rattle.sect_front.proofs.Choices.{both, not_true}
+use Rattle.sect_front.specs.Limits.{most_name_bytes}
 
 -- what a name is
 pub record IsNamed (bytes : List ℕ) : Type 0 where
   pub letter : begins is_letter bytes ≡ true
   pub all : list_all is_name_byte bytes ≡ true
-  pub fits : length bytes ≤ MOST_NAME_BYTES
+  pub fits : length bytes ≤ most_name_bytes
   pub free : is_keyword bytes ≡ false
 
 pub named : (bytes : List ℕ) → is_name bytes ≡ true → IsNamed bytes
 named bytes h =
     let letter : Bool = begins is_letter bytes in
     let all : Bool = list_all is_name_byte bytes in
-    let fits : Bool = leb (length bytes) MOST_NAME_BYTES in
-    let a = both (letter && all && fits) (not (is_keyword bytes)) h in
-    let b = both (letter && all) fits a.0 in
-    let c = both letter all b.0 in
+    let fits : Bool = leb (length bytes) most_name_bytes in
+    let a = and_parts (letter && all && fits) (not (is_keyword bytes)) h in
+    let b = and_parts (letter && all) fits a.0 in
+    let c = and_parts letter all b.0 in
     record {
       letter = c.0;
       all = c.1;
-      fits = leb-true (length bytes) MOST_NAME_BYTES b.1;
-      free = not_true (is_keyword bytes) a.1;
+      fits = leb-true (length bytes) most_name_bytes b.1;
+      free = not-true (is_keyword bytes) a.1;
     }
 
 pub is_named : (bytes : List ℕ) → IsNamed bytes → is_name bytes ≡ true
-is_named bytes n = rw (n.letter, n.all, le-leb (length bytes) MOST_NAME_BYTES n.fits, n.free) refl
+is_named bytes n = rw (n.letter, n.all, le-leb (length bytes) most_name_bytes n.fits, n.free) refl
 
 pub padded_name : (b : List ℕ) (len : ℕ) → length b ≡ len → is_name b ≡ true → IsPadded (b ++ zeros_from len) len
 padded_name b len e h =
@@ -52,7 +51,7 @@ padded_name b len e h =
         arith,
         (named b h).fits,
         length-append b (zeros_from len),
-        length-drop {A = ℕ} len (replicate MOST_NAME_BYTES 0),
+        length-drop {A = ℕ} len (replicate most_name_bytes 0),
       );
       padded = rw (← e) (ap (λ x. x ++ zeros_from (length b)) (sym front));
       name = rw (← e) (ap is_name front ∙ h);
@@ -89,7 +88,7 @@ one_other b (c ∷ d ∷ key) h = and-false (nat_eq b c)
 one_beside : (b : ℕ) (rows : List (List ℕ × Token)) → list_all (λ r. nat_lt 1 (length r.0)) rows ≡ true
     → token_beside (b ∷ []) rows ≡ None
 one_beside b [] h = refl
-one_beside b (row ∷ rows) h = let each = both _ _ h in rw (one_other b row.0 each.0) (one_beside b rows each.1)
+one_beside b (row ∷ rows) h = let each = and_parts _ _ h in rw (one_other b row.0 each.0) (one_beside b rows each.1)
 
 -- no keyword is one byte
 pub one_byte : (w : List ℕ) → length w ≡ 1 → keyword_of w ≡ None
@@ -98,14 +97,14 @@ one_byte (b ∷ []) h = one_beside b keyword_table refl
 one_byte (b ∷ c ∷ w) h = absurd (omega arith)
 
 -- a short word that is no keyword is a name
-pub short_name : (w : List ℕ) → (begins is_letter w && list_all is_name_byte w) ≡ true → length w ≤ MOST_NAME_BYTES
+pub short_name : (w : List ℕ) → (begins is_letter w && list_all is_name_byte w) ≡ true → length w ≤ most_name_bytes
     → is_none (keyword_of w) ≡ is_name w
-short_name w h fits = rw (h, le-leb (length w) MOST_NAME_BYTES fits) (keyword_free w)
+short_name w h fits = rw (h, le-leb (length w) most_name_bytes fits) (keyword_free w)
 
 all_length : (xs : List ℕ) → list_all is_name_byte xs ≡ true → prefix_len is_name_byte xs ≡ length xs
 all_length [] h = refl
 all_length (x ∷ xs) h =
-    let e = both (is_name_byte x) (list_all is_name_byte xs) h in rw e.0 (omega (arith, all_length xs e.1))
+    let e = and_parts (is_name_byte x) (list_all is_name_byte xs) h in rw e.0 (omega (arith, all_length xs e.1))
 
 some_length : (xs : List ℕ) → list_all is_name_byte xs ≡ false → prefix_len is_name_byte xs < length xs
 some_length [] h = cc

@@ -5,7 +5,7 @@ use Rattle.std.specs.List.{list_all}
 use Rattle.std.specs.Fmt.{decimal}
 use Rattle.sect_front.specs.Words.{is_digit}
 use Rattle.sect_front.specs.steps.Recognition.{decimal_from, number_of}
-use Rattle.sect_front.proofs.Numerals as numerals
+use Rattle.sect_front.proofs.shared.Numerals as numerals
 
 -- numbers are numerals below 2 ^ 63
 from_is : (n : ℕ) (ds : List ℕ) → decimal_from n ds ≡ numerals.numeral_from 9223372036854775808 n ds

@@ -1,7 +1,7 @@
 -- The most braces that are open is the depth.
 use Rattle.std.proofs.Common.{◌≡◌, ℕ, ◌+◌, ◌-◌, ◌≤◌, List, [], ◌∷◌, ◌++◌, max, refl, sym, ◌∙◌, ap, arith, take, drop}
 use Rattle.std.proofs.lemmas.List.{take-append-drop}
-use Rattle.sect_front.specs.declared.limits.TheConstants.{MOST_DEPTH}
+use Rattle.sect_front.specs.Limits.{most_depth}
 use Rattle.sect_front.specs.Syntax.{StatementView, BlockView, Primitive, If, IfElse, While, Atomic, Call, End, Then}
 use Rattle.sect_front.specs.TreeView.{TreeView}
 use Rattle.sect_front.specs.Grammar.{operand_token, operator_token, comparison_token, kind_token, tokens_of}
@@ -204,7 +204,7 @@ depth_peak s =
     )
 
 -- where the peak is low, every count is
-pub shallow_from : (list : List Token) → peak 0 list ≤ MOST_DEPTH → IsShallow list
+pub shallow_from : (list : List Token) → peak 0 list ≤ most_depth → IsShallow list
 shallow_from list h j lt =
     omega (
       arith,

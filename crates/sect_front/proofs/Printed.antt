@@ -5,7 +5,7 @@ use Rattle.std.specs.List.{list_all, flat_map}
 use Rattle.std.specs.Fmt.{decimal}
 use Rattle.std.proofs.Math.Seq.{take-append_seam}
 use Rattle.std.proofs.lemmas.Bool.Decides.{nat_tests}
-use Rattle.sect_front.specs.declared.limits.TheConstants.{MOST_BYTES, MOST_DEPTH}
+use Rattle.sect_front.specs.Limits.{most_bytes, most_depth}
 use Rattle.sect_front.specs.Words.{is_letter, is_digit, begins}
 use Rattle.sect_front.specs.Gaps.{is_blank, after_gap}
 use Rattle.sect_front.specs.TreeView.{TreeView}
@@ -24,9 +24,9 @@ use Rattle.sect_front.specs.TokenAt.{TokenAt}
 use Rattle.sect_front.specs.declared.tree.Record.{Record}
 use Rattle.sect_front.specs.declared.tree.Procedure.{Procedure}
 use Rattle.sect_front.specs.declared.tree.Thread.{Thread}
-use Rattle.sect_front.proofs.Choices.{both}
 use Rattle.sect_front.proofs.NamesLemmas.{named}
 use Rattle.sect_front.proofs.Numbers.{decimal_digits, decimal_some}
+use Rattle.std.proofs.lemmas.Bool.{and_parts}
 
 -- a spelling begins with a byte that is no blank and no slash
 record IsSolid (bytes : List ℕ) : Type 0 where
@@ -50,7 +50,7 @@ name_solid (b ∷ bs) h = record {
 digits_solid : (ds : List ℕ) → list_all is_digit ds ≡ true → 0 < length ds → IsSolid ds
 digits_solid [] h some = absurd (omega arith)
 digits_solid (d ∷ ds) h some =
-    let digit = (both (is_digit d) (list_all is_digit ds) h).0 in
+    let digit = (and_parts (is_digit d) (list_all is_digit ds) h).0 in
     record {
       first = d;
       others = ds;
@@ -149,7 +149,7 @@ solid_gap bytes w s = rw s.is (rw (s.no_blank, s.no_slash) refl)
 spread_gap : (w : List Token) → list_all is_proper w ≡ true → after_gap (spread w) ≡ spread w
 spread_gap [] h = refl
 spread_gap (t ∷ w) h = solid_gap (spelling_of t) (separator t ∷ spread w)
-    (solid t (both (is_proper t) (list_all is_proper w) h).0)
+    (solid t (and_parts (is_proper t) (list_all is_proper w) h).0)
 
 blank_gap : (b : ℕ) (w : List ℕ) → is_blank b ≡ true → after_gap (b ∷ w) ≡ after_gap w
 blank_gap b w h = rw h refl
@@ -189,7 +189,7 @@ reach : (total : ℕ) (bytes : List ℕ) (w : List Token) → list_all is_proper
     → length (spread w) ≤ total → IsReached total bytes w
 reach total bytes [] h gap fits = record { rest = bytes; reaches = refl; gap = gap }
 reach total bytes (t ∷ w) h gap fits =
-    let proper = both (is_proper t) (list_all is_proper w) h in
+    let proper = and_parts (is_proper t) (list_all is_proper w) h in
     let next : drop (length (spelling_of t)) (after_gap bytes) ≡ separator t ∷ spread w =
     ap (drop (length (spelling_of t))) gap ∙ drop_front (spelling_of t) (separator t ∷ spread w) in
     let more = reach total (drop (length (spelling_of t)) (after_gap bytes)) w proper.1
@@ -271,9 +271,9 @@ spread_layout (t ∷ u ∷ w) h = ap (λ x. spelling_of t ++ separator t ∷ x) 
 pub record IsPrinted (tree : TreeView) (text : List ℕ) : Type 0 where
   pub layout : text ≡ layout_of (tokens_of tree)
   pub spells : IsTextOf text tree
-  pub reads_back : length text ≤ MOST_BYTES → IsSpelled text tree
+  pub reads_back : length text ≤ most_bytes → IsSpelled text tree
 
-printed_spread : (tree : TreeView) → list_all is_proper (tokens_of tree) ≡ true → depth tree ≤ MOST_DEPTH
+printed_spread : (tree : TreeView) → list_all is_proper (tokens_of tree) ≡ true → depth tree ≤ most_depth
     → IsPrinted tree (spread (tokens_of tree))
 printed_spread tree proper low =
     let list : List Token = tokens_of tree in
@@ -297,5 +297,5 @@ printed_spread tree proper low =
     }
 
 pub printed : (tree : TreeView) (text : List ℕ) → text ≡ spread (tokens_of tree)
-    → list_all is_proper (tokens_of tree) ≡ true → depth tree ≤ MOST_DEPTH → IsPrinted tree text
+    → list_all is_proper (tokens_of tree) ≡ true → depth tree ≤ most_depth → IsPrinted tree text
 printed tree text e proper low = subst (IsPrinted tree) (sym e) (printed_spread tree proper low)

@@ -1,14 +1,13 @@
 -- How the tokens of a text follow one another.
-use Rattle.std.proofs.Common.{◌≡◌, ◌≢◌, ℕ, suc, ◌+◌, ◌≤◌, Bool, true, false, not, ◌&&◌, cond, eqb, List, []}
-use Rattle.std.proofs.Common.{◌∷◌, ◌++◌, Some, None, length, drop, refl, sym, ◌∙◌, ap, subst, arith}
-use Rattle.std.proofs.Common.{length-drop}
+use Rattle.std.proofs.Common.{◌≡◌, ◌≢◌, ℕ, suc, ◌+◌, ◌≤◌, Bool, true, false, not, ◌&&◌, cond, eqb, List, [], ◌∷◌, ◌++◌}
+use Rattle.std.proofs.Common.{Some, None, length, drop, refl, sym, ◌∙◌, ap, subst, arith, length-drop}
 use Rattle.sect_front.specs.Gaps.{begins_with, after_gap, skip, is_blank}
-use Rattle.sect_front.specs.Lexeme.{lexeme_of}
+use Rattle.sect_front.specs.steps.Lexeme.{lexeme_of}
 use Rattle.sect_front.specs.Lexing.{IsFirst, IsBad, Reaches, Spells, IsBadAt}
 use Rattle.sect_front.specs.steps.Verdicts.{Reached}
-use Rattle.sect_front.proofs.Choices.{some_inj}
 use Rattle.sect_front.proofs.Lexemes.{lexeme_first, lexeme_only, lexeme_bad, pair}
 use Rattle.sect_front.specs.TokenAt.{TokenAt}
+use Rattle.sect_lemmas.proofs.Options.{some_injective}
 
 skip_fits : (c : Bool) (bytes : List ℕ) → length (skip c bytes) ≤ length bytes
 skip_fits c [] = omega arith
@@ -77,7 +76,7 @@ same_reach total bytes (p ∷ ps) [] r s h k x y =
 same_reach total bytes (p ∷ ps) (q ∷ qs) r s h k x y =
     let e : Some (pair p.token h.0) ≡ Some (pair q.token k.0) = sym (lexeme_only _ p.token h.0 h.2)
     ∙ lexeme_only _ q.token k.0 k.2 in
-    let one : pair p.token h.0 ≡ pair q.token k.0 = some_inj (pair p.token h.0) (pair q.token k.0) e in
+    let one : pair p.token h.0 ≡ pair q.token k.0 = some_injective (pair p.token h.0) (pair q.token k.0) e in
     let place : p.at ≡ q.at = omega (arith, h.1, k.1) in
     let len : k.0 ≡ h.0 = sym (ap (λ z. z.1) one) in
     let rest = same_reach total (drop h.0 (after_gap bytes)) ps qs r s h.3

@@ -6,18 +6,19 @@ use Rattle.std.specs.List.{list_all}
 use Rattle.std.specs.Str.{bytes_eq}
 use Rattle.std.specs.Fmt.{decimal}
 use Rattle.std.specs.Cmp.Lexicographic.{same_text}
-use Rattle.std.proofs.lemmas.Bool.{eqb-true}
+use Rattle.std.proofs.lemmas.Bool.{eqb-true, and_parts}
 use Rattle.std.proofs.lemmas.Bool.Decides.{nat_tests}
-use Rattle.sect_front.specs.declared.limits.TheConstants.{MOST_NAME_BYTES}
 use Rattle.sect_front.specs.Words.{is_letter, is_digit, is_name_byte, is_name}
 use Rattle.sect_front.specs.Spelling.{spelling_of, is_proper, IsSpelling}
 use Rattle.sect_front.specs.steps.Recognition.{keyword_of, keyword_table, token_beside, or_name, word_token, number_of}
 use Rattle.sect_front.specs.steps.Recognition.{as_number, single_sign, double_sign, sign_token, spelled}
 use Rattle.sect_front.specs.declared.token.Token.{Token}
 use Rattle.sect_front.specs.declared.token.Token.TheVariants as token
-use Rattle.sect_front.proofs.Choices.{some_inj, no_some, chosen, both, if_some_so}
+use Rattle.sect_front.proofs.Choices.{chosen, if_some_so}
 use Rattle.sect_front.proofs.NamesLemmas.{named, is_named, keyword_known}
 use Rattle.sect_front.proofs.Numbers.{number_decimal, number_back, decimal_digits, decimal_some}
+use Rattle.sect_lemmas.proofs.Options.{some_injective, none_or_some}
+use Rattle.sect_front.specs.Limits.{most_name_bytes}
 
 -- what is known of a number that is below another, and the other way round
 below : (a b : ℕ) → a < b → nat_lt a b ≡ true
@@ -38,20 +39,20 @@ name_spelled : (n : List ℕ) → is_name n ≡ true → spelled n ≡ Some (tok
 name_spelled [] h = cc
 name_spelled (b ∷ bs) h =
     let m = named (b ∷ bs) h in
-    let all = both (is_name_byte b) (list_all is_name_byte bs) m.all in
+    let all = and_parts (is_name_byte b) (list_all is_name_byte bs) m.all in
     let none : keyword_of (b ∷ bs) ≡ None = no_keyword (keyword_of (b ∷ bs)) (keyword_known (b ∷ bs) ∙ m.free) in
-    let short = below (length bs) MOST_NAME_BYTES (omega (arith, m.fits)) in
+    let short = below (length bs) most_name_bytes (omega (arith, m.fits)) in
     rw (m.letter, all.1, short) (ap (λ o. Some (or_name o (b ∷ bs))) none)
 
 digits_spelled : (ds : List ℕ) (n : ℕ) → list_all is_digit ds ≡ true → 0 < length ds → number_of ds ≡ Some n
     → spelled ds ≡ Some (token.Number n)
 digits_spelled [] n h some e = absurd (omega arith)
 digits_spelled (d ∷ ds) n h some e =
-    let digit = both (is_digit d) (list_all is_digit ds) h in
+    let digit = and_parts (is_digit d) (list_all is_digit ds) h in
     go (is_letter d) (is_digit d) (no_letter d digit.0) digit.0
   where
     go : (l g : Bool) → l ≡ false → g ≡ true →
-        cond l (cond (list_all is_name_byte ds && nat_lt (length ds) MOST_NAME_BYTES) (Some (word_token (d ∷ ds))) None)
+        cond l (cond (list_all is_name_byte ds && nat_lt (length ds) most_name_bytes) (Some (word_token (d ∷ ds))) None)
         (cond g (as_number (number_of (d ∷ ds))) (sign_token d ds)) ≡ Some (token.Number n)
     go false true p q = ap as_number e
     go true g p q = cc
@@ -102,7 +103,7 @@ EachSo P w (row ∷ rows) = (w ≡ row.0 → P row.1) × EachSo P w rows
 
 beside_so : (P : Token → Type 0) (w : List ℕ) (rows : List (List ℕ × Token)) → EachSo P w rows → (t : Token)
     → token_beside w rows ≡ Some t → P t
-beside_so P w [] h t e = absurd (no_some t e)
+beside_so P w [] h t e = absurd (none_or_some t e)
 beside_so P w (row ∷ rows) h t e =
     if_some_so P (bytes_eq w row.0) row.1 (token_beside w rows) (λ same. h.0 (same_text w row.0 (sym same)))
     (beside_so P w rows h.1) t e
@@ -159,7 +160,7 @@ word_back : (w : List ℕ) (o : Option Token) → keyword_of w ≡ o → (o ≡ 
 word_back w None e h = record { is = refl; proper = h refl }
 word_back w (Some t) e h = keyword_back w t e
 
-letter_back : (b : ℕ) (bs : List ℕ) → is_letter b ≡ true → list_all is_name_byte bs ≡ true → length bs < MOST_NAME_BYTES
+letter_back : (b : ℕ) (bs : List ℕ) → is_letter b ≡ true → list_all is_name_byte bs ≡ true → length bs < most_name_bytes
     → IsSpelling (word_token (b ∷ bs)) (b ∷ bs)
 letter_back b bs letter all fits =
     word_back (b ∷ bs) (keyword_of (b ∷ bs)) refl (λ none. is_named (b ∷ bs) (record {
@@ -170,10 +171,10 @@ letter_back b bs letter all fits =
     }))
 
 number_spelling : (ds : List ℕ) (o : Option ℕ) → number_of ds ≡ o → (t : Token) → as_number o ≡ Some t → IsSpelling t ds
-number_spelling ds None e t h = absurd (no_some t h)
+number_spelling ds None e t h = absurd (none_or_some t h)
 number_spelling ds (Some n) e t h =
     let back = number_back ds n e in
-    subst (λ u. IsSpelling u ds) (some_inj (token.Number n) t h)
+    subst (λ u. IsSpelling u ds) (some_injective (token.Number n) t h)
     (record { is = back.0; proper = below n 9223372036854775808 back.1 })
 
 single_back : (b : ℕ) (t : Token) → single_sign b ≡ Some t → IsSpelling t (b ∷ [])
@@ -194,7 +195,7 @@ single_back b =
     if_some_so P (eqb b 45) token.Minus _ (λ e. record { is = ap (λ x. x ∷ []) (eqb-true b 45 e); proper = refl }) (
     if_some_so P (eqb b 42) token.Star _ (λ e. record { is = ap (λ x. x ∷ []) (eqb-true b 42 e); proper = refl }) (
     if_some_so P (eqb b 60) token.Less _ (λ e. record { is = ap (λ x. x ∷ []) (eqb-true b 60 e); proper = refl }) (
-    λ t e. absurd (no_some t e)))))))))))))
+    λ t e. absurd (none_or_some t e)))))))))))))
 
 double_back : (b : ℕ) (t : Token) → double_sign b ≡ Some t → IsSpelling t (b ∷ 61 ∷ [])
 double_back b =
@@ -205,28 +206,28 @@ double_back b =
     (λ e. record { is = ap (λ x. x ∷ 61 ∷ []) (eqb-true b 33 e); proper = refl }) (
     if_some_so P (eqb b 60) token.LessEqual _
     (λ e. record { is = ap (λ x. x ∷ 61 ∷ []) (eqb-true b 60 e); proper = refl }) (
-    λ t e. absurd (no_some t e))))
+    λ t e. absurd (none_or_some t e))))
 
 sign_back : (b : ℕ) (bs : List ℕ) (t : Token) → sign_token b bs ≡ Some t → IsSpelling t (b ∷ bs)
 sign_back b [] t h = single_back b t h
 sign_back b (c ∷ []) t h =
     let e = chosen (eqb c 61) (double_sign b) t h in
     subst (λ x. IsSpelling t (b ∷ x ∷ [])) (sym (eqb-true c 61 e.0)) (double_back b t e.1)
-sign_back b (c ∷ d ∷ cs) t h = absurd (no_some t h)
+sign_back b (c ∷ d ∷ cs) t h = absurd (none_or_some t h)
 
 -- what is recognised is spelled so
 pub spelling_back : (bytes : List ℕ) (t : Token) → spelled bytes ≡ Some t → IsSpelling t bytes
-spelling_back [] t h = absurd (no_some t h)
+spelling_back [] t h = absurd (none_or_some t h)
 spelling_back (b ∷ bs) t h = go (is_letter b) (is_digit b) refl h
   where
     go : (l d : Bool) → is_letter b ≡ l →
-        cond l (cond (list_all is_name_byte bs && nat_lt (length bs) MOST_NAME_BYTES) (Some (word_token (b ∷ bs))) None)
+        cond l (cond (list_all is_name_byte bs && nat_lt (length bs) most_name_bytes) (Some (word_token (b ∷ bs))) None)
         (cond d (as_number (number_of (b ∷ bs))) (sign_token b bs)) ≡ Some t → IsSpelling t (b ∷ bs)
     go true d letter e =
-        let short = nat_lt (length bs) MOST_NAME_BYTES in
+        let short = nat_lt (length bs) most_name_bytes in
         let c = chosen (list_all is_name_byte bs && short) (Some (word_token (b ∷ bs))) t e in
-        let f = both (list_all is_name_byte bs) short c.0 in
-        subst (λ u. IsSpelling u (b ∷ bs)) (some_inj (word_token (b ∷ bs)) t c.1)
-        (letter_back b bs letter f.0 (below_back (length bs) MOST_NAME_BYTES f.1))
+        let f = and_parts (list_all is_name_byte bs) short c.0 in
+        subst (λ u. IsSpelling u (b ∷ bs)) (some_injective (word_token (b ∷ bs)) t c.1)
+        (letter_back b bs letter f.0 (below_back (length bs) most_name_bytes f.1))
     go false true letter e = number_spelling (b ∷ bs) (number_of (b ∷ bs)) refl t e
     go false false letter e = sign_back b bs t e

@@ -8,7 +8,7 @@ use Rattle.sect_front.specs.TreeView.{TreeView}
 use Rattle.sect_front.specs.TokenAt.{TokenAt}
 use Rattle.sect_front.specs.Braces.{brace}
 use Rattle.sect_front.specs.Gaps.{after_gap}
-use Rattle.sect_front.specs.Lexeme.{lexeme_of}
+use Rattle.sect_front.specs.steps.Lexeme.{lexeme_of}
 use Rattle.sect_front.specs.Lexing.{Spells}
 use Rattle.sect_front.specs.Faults.{tokens_in, IsUnexpectedAt, IsTooDeepAt}
 use Rattle.sect_front.specs.steps.ReaderView.{ReaderView}

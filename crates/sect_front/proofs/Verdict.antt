@@ -3,7 +3,7 @@ use Rattle.std.proofs.Common.{◌≡◌, ℕ, ◌+◌, ◌<◌, ◌≤◌, List,
 use Rattle.std.proofs.Common.{option_and_then, length, take, drop, refl, sym, ◌∙◌, ap, subst, arith, append_assoc}
 use Rattle.std.proofs.Common.{append-nil}
 use Rattle.std.proofs.lemmas.List.{take-append-drop}
-use Rattle.sect_front.specs.declared.limits.TheConstants.{MOST_DEPTH}
+use Rattle.sect_front.specs.Limits.{most_depth}
 use Rattle.sect_front.specs.TreeView.{TreeView}
 use Rattle.sect_front.specs.Grammar.{tokens_of}
 use Rattle.sect_front.specs.steps.Tokens.{source_tokens}
@@ -18,12 +18,12 @@ use Rattle.sect_front.specs.declared.reader.Stage.{Stage}
 use Rattle.sect_front.specs.declared.reader.Stage.TheVariants as stage
 use Rattle.sect_front.proofs.TokenFaults.{TokenFault, JudgesTokens}
 use Rattle.sect_front.proofs.TokenFaults as fault
-use Rattle.sect_front.proofs.Choices.{some_inj, no_some}
 use Rattle.sect_front.proofs.Keeps.{reading_tokens}
 use Rattle.sect_front.proofs.Finish.{start, finishes, kept_from}
 use Rattle.sect_front.proofs.Passes.{source_passes, last_part}
 use Rattle.sect_front.proofs.Listed.{tokens_same}
 use Rattle.sect_front.proofs.Peaks.{peak, peak_from, peak_append, peak_cons, depth_peak, shallow_from}
+use Rattle.sect_lemmas.proofs.Options.{some_injective, none_or_some}
 
 -- the tokens of a tree lead to it
 tree_passes : (tree : TreeView) → after start (tokens_of tree) ≡ Some (reading tree (outside.Between (last_part tree)))
@@ -63,7 +63,7 @@ pub reads_nothing : ReadsTo [] start 0
 reads_nothing = record { is = refl; level = refl; shallow = omega arith }
 
 pub reads_more : (front : List Token) (r m : ReaderView) (k : ℕ) (t : Token) → ReadsTo front r k → read_one r t ≡ Some m
-    → brace k t ≤ MOST_DEPTH →
+    → brace k t ≤ most_depth →
     ReadsTo (front ++ t ∷ []) m (brace k t)
 reads_more front r m k t h e low = record {
   is = after_one front r t [] h.is ∙ ap (option_and_then (λ x. after x [])) e;
@@ -101,7 +101,7 @@ unexpected list i r k t h within e none = record {
 
 pub too_deep : (list : List Token) (i : ℕ) (r m : ReaderView) (k : ℕ) (t : Token) → ReadsTo (take i list) r k
     → i < length list →
-    take (i + 1) list ≡ take i list ++ t ∷ [] → read_one r t ≡ Some m → brace k t ≡ MOST_DEPTH + 1 → IsTooDeepAt list i
+    take (i + 1) list ≡ take i list ++ t ∷ [] → read_one r t ≡ Some m → brace k t ≡ most_depth + 1 → IsTooDeepAt list i
 too_deep list i r m k t h within e some deep = record {
   within = within;
   here = subst IsViable (sym e) (viable (take i list ++ t ∷ []) m
@@ -116,19 +116,19 @@ unfinished list r k h e = record {
   viable = viable list r h.is;
   none = λ tree same. let one : Some r ≡ Some (reading tree (outside.Between (last_part tree))) =
       sym h.is ∙ (ap (after start) (sym same) ∙ tree_passes tree) in
-      let two : finish_of r ≡ Some tree = ap (λ o. option_and_then finish_of o) one in no_some tree (sym e ∙ two);
+      let two : finish_of r ≡ Some tree = ap (λ o. option_and_then finish_of o) one in none_or_some tree (sym e ∙ two);
   shallow = shallow_from list h.shallow;
 }
 
 finished_at : (s : TreeView) (g : Stage) (tree : TreeView) → finish_at s g ≡ Some tree
     → reading_tokens (record { source = s; stage = g }) [] ≡ source_tokens tree []
-finished_at s (stage.Outside (outside.Between p)) tree e = ap (λ x. source_tokens x []) (some_inj s tree e)
-finished_at s (stage.Outside (outside.Record r)) tree e = absurd (no_some tree e)
-finished_at s (stage.Outside (outside.Global g)) tree e = absurd (no_some tree e)
-finished_at s (stage.Outside (outside.Procedure p)) tree e = absurd (no_some tree e)
-finished_at s (stage.Outside (outside.Thread t)) tree e = absurd (no_some tree e)
-finished_at s (stage.Outside (outside.Body b)) tree e = absurd (no_some tree e)
-finished_at s (stage.Inside o ls x) tree e = absurd (no_some tree e)
+finished_at s (stage.Outside (outside.Between p)) tree e = ap (λ x. source_tokens x []) (some_injective s tree e)
+finished_at s (stage.Outside (outside.Record r)) tree e = absurd (none_or_some tree e)
+finished_at s (stage.Outside (outside.Global g)) tree e = absurd (none_or_some tree e)
+finished_at s (stage.Outside (outside.Procedure p)) tree e = absurd (none_or_some tree e)
+finished_at s (stage.Outside (outside.Thread t)) tree e = absurd (none_or_some tree e)
+finished_at s (stage.Outside (outside.Body b)) tree e = absurd (none_or_some tree e)
+finished_at s (stage.Inside o ls x) tree e = absurd (none_or_some tree e)
 
 kept : (list : List Token) (r : ReaderView) → after start list ≡ Some r → list ≡ reading_tokens r []
 kept list r h = sym (append-nil list) ∙ (kept_from list [] r h).is

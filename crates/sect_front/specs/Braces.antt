@@ -1,6 +1,6 @@
 -- How many braces are open in a list of tokens.
 use Rattle.std.specs.Prelude.{ℕ, ◌+◌, ◌-◌, ◌≤◌, List, [], ◌∷◌, take, length}
-use Rattle.sect_front.specs.declared.limits.TheConstants.{MOST_DEPTH}
+use Rattle.sect_front.specs.Limits.{most_depth}
 use Rattle.sect_front.specs.declared.token.Token.{Token}
 use Rattle.sect_front.specs.declared.token.Token.TheVariants as token
 
@@ -17,4 +17,4 @@ open_after n (t ∷ w) = open_after (brace n t) w
 
 -- never more braces than the limit are open
 abbrev pub IsShallow : List Token → Type 0
-IsShallow list = (j : ℕ) → j ≤ length list → open_after 0 (take j list) ≤ MOST_DEPTH
+IsShallow list = (j : ℕ) → j ≤ length list → open_after 0 (take j list) ≤ most_depth

@@ -1,6 +1,6 @@
 -- Where tokens stop to be those of a tree.
 use Rattle.std.specs.Prelude.{◌≡◌, ◌≢◌, ℕ, ◌+◌, ◌<◌, ◌≤◌, List, ◌++◌, take, length, map}
-use Rattle.sect_front.specs.declared.limits.TheConstants.{MOST_DEPTH}
+use Rattle.sect_front.specs.Limits.{most_depth}
 use Rattle.sect_front.specs.Grammar.{tokens_of}
 use Rattle.sect_front.specs.TreeView.{TreeView}
 use Rattle.sect_front.specs.Depth.{depth}
@@ -20,7 +20,7 @@ IsViable front = (tree : TreeView) × (rest : List Token) × (tokens_of tree ≡
 -- these are the tokens of the tree, and no block is deeper than the limit
 pub record IsTree (list : List Token) (tree : TreeView) : Type 0 where
   pub tokens : tokens_of tree ≡ list
-  pub shallow : depth tree ≤ MOST_DEPTH
+  pub shallow : depth tree ≤ most_depth
 
 -- up to this token the list is viable and with it it isn't, and no token before it opened a brace too many
 pub record IsUnexpectedAt (list : List Token) (i : ℕ) : Type 0 where
@@ -33,7 +33,7 @@ pub record IsUnexpectedAt (list : List Token) (i : ℕ) : Type 0 where
 pub record IsTooDeepAt (list : List Token) (i : ℕ) : Type 0 where
   pub within : i < length list
   pub here : IsViable (take (i + 1) list)
-  pub deep : open_after 0 (take (i + 1) list) ≡ MOST_DEPTH + 1
+  pub deep : open_after 0 (take (i + 1) list) ≡ most_depth + 1
   pub shallow : IsShallow (take i list)
 
 -- the list is viable and no tree's, and no token opened a brace too many

@@ -1,7 +1,7 @@
 -- What a source text is, and where it stops to be one.
 use Rattle.std.specs.Prelude.{◌≡◌, ℕ, ◌+◌, ◌-◌, ◌<◌, ◌≤◌, ◌==◌, Bool, true, false, List, Result, Ok, Err, ⊤, length}
 use Rattle.std.specs.Prelude.{take, drop, count_by, slice_get, Some}
-use Rattle.sect_front.specs.declared.limits.TheConstants.{MOST_BYTES}
+use Rattle.sect_front.specs.Limits.{most_bytes}
 use Rattle.sect_front.specs.Words.{is_letter, is_digit, begins}
 use Rattle.sect_front.specs.Gaps.{line_feed}
 use Rattle.sect_front.specs.Lexing.{Spells, IsBadAt}
@@ -13,7 +13,7 @@ use Rattle.sect_front.specs.declared.parsing.FrontFault.TheVariants as fault
 
 -- the text spells this tree
 pub record IsSpelled (bytes : List ℕ) (tree : TreeView) : Type 0 where
-  pub fits : length bytes ≤ MOST_BYTES
+  pub fits : length bytes ≤ most_bytes
   pub places : List TokenAt
   pub spells : Spells bytes places
   pub parses : IsTree (tokens_in places) tree
@@ -24,7 +24,7 @@ line_of bytes at = count_by (λ b. b == line_feed) (take at bytes) + 1
 
 -- there is a first bad lexeme, it begins so, and it stands on this line
 pub record IsBadOn (bytes : List ℕ) (line : ℕ) (letter digit : Bool) : Type 0 where
-  pub fits : length bytes ≤ MOST_BYTES
+  pub fits : length bytes ≤ most_bytes
   pub at : ℕ
   pub bad : IsBadAt bytes at
   pub letter_first : begins is_letter (drop at bytes) ≡ letter
@@ -33,7 +33,7 @@ pub record IsBadOn (bytes : List ℕ) (line : ℕ) (letter digit : Bool) : Type 
 
 -- the text spells tokens, this holds of one of them by its number, and that one stands on this line
 pub record IsTokenOn (holds : List TokenAt → ℕ → Type 0) (bytes : List ℕ) (line : ℕ) : Type 0 where
-  pub fits : length bytes ≤ MOST_BYTES
+  pub fits : length bytes ≤ most_bytes
   pub places : List TokenAt
   pub spells : Spells bytes places
   pub index : ℕ
@@ -44,7 +44,7 @@ pub record IsTokenOn (holds : List TokenAt → ℕ → Type 0) (bytes : List ℕ
 
 -- the text spells tokens that end too early, and this is the line of its last byte
 pub record IsEndOn (bytes : List ℕ) (line : ℕ) : Type 0 where
-  pub fits : length bytes ≤ MOST_BYTES
+  pub fits : length bytes ≤ most_bytes
   pub places : List TokenAt
   pub spells : Spells bytes places
   pub fault : IsUnfinished (tokens_in places)
@@ -52,7 +52,7 @@ pub record IsEndOn (bytes : List ℕ) (line : ℕ) : Type 0 where
 
 -- the fault is the text's first, and it stands on its line
 abbrev pub IsFault : List ℕ → FrontFault → Type 0
-IsFault bytes fault.TooLarge = MOST_BYTES < length bytes
+IsFault bytes fault.TooLarge = most_bytes < length bytes
 IsFault bytes (fault.BadByte line) = IsBadOn bytes line false false
 IsFault bytes (fault.BadNumber line) = IsBadOn bytes line false true
 IsFault bytes (fault.LongName line) = IsBadOn bytes line true false

@@ -2,6 +2,7 @@ pub mod Syntax
 pub mod Trees
 pub mod Coding
 pub mod Falls
+pub mod Limits
 pub mod Words
 pub mod Names
 pub mod TreeView
@@ -10,7 +11,6 @@ pub mod Grammar
 pub mod Gaps
 pub mod Spelling
 pub mod Layout
-pub mod Lexeme
 pub mod TokenAt
 pub mod Lexing
 pub mod Braces

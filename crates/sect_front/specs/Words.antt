@@ -2,7 +2,7 @@
 use Rattle.std.specs.Prelude.{ℕ, Bool, false, not, ◌||◌, ◌&&◌, ◌==◌, nat_le, List, [], ◌∷◌, length, codes}
 use Rattle.std.specs.List.{list_all, list_any}
 use Rattle.std.specs.Str.{bytes_eq}
-use Rattle.sect_front.specs.declared.limits.TheConstants.{MOST_NAME_BYTES}
+use Rattle.sect_front.specs.Limits.{most_name_bytes}
 
 -- a to z, A to Z or `_`
 abbrev pub is_letter : ℕ → Bool
@@ -33,5 +33,5 @@ is_keyword bytes = list_any (bytes_eq bytes) keywords
 -- one name: a letter or `_`, then letters, `_` and digits, at most 32 bytes, and no keyword
 abbrev pub is_name : List ℕ → Bool
 is_name bytes =
-    begins is_letter bytes && list_all is_name_byte bytes && nat_le (length bytes) MOST_NAME_BYTES
+    begins is_letter bytes && list_all is_name_byte bytes && nat_le (length bytes) most_name_bytes
     && not (is_keyword bytes)

@@ -9,3 +9,4 @@ pub mod Tokens
 pub mod Writes
 pub mod Spread
 pub mod Verdicts
+pub mod Lexeme

@@ -6,7 +6,8 @@ ghost use Rattle.sect_front.specs.Words.{is_name_byte as name_byte, begins, is_l
 ghost use Rattle.sect_front.specs.Gaps.{is_blank as blank_of, begins_with as begins_so, after_gap as gap_of};
 ghost use Rattle.sect_front.specs.steps.Recognition.{word_token as word_of, number_of, decimal_from, spelled};
 ghost use Rattle.sect_front.specs.steps.Recognition.{single_sign, double_sign};
-ghost use Rattle.sect_front.specs.Lexeme.{sign_at, with_length, lexeme_of, begins_name};
+ghost use Rattle.sect_front.specs.steps.Lexeme.{sign_at, with_length, lexeme_of, begins_name};
+ghost use Rattle.sect_front.specs.Limits.{most_name_bytes};
 
 use crate::limits::MOST_NAME_BYTES;
 use crate::literal::Literal;
@@ -83,7 +84,7 @@ fn number(word: &[u8]) -> Option<u64>
 
 /// The keyword or the name that a word is.
 fn word_token(word: &[u8]) -> Token
-    requires fits { length word.now ≤ MOST_NAME_BYTES }
+    requires fits { length word.now ≤ most_name_bytes }
     requires all { list_all name_byte word.now ≡ true }
     requires letter { begins letter_of word.now ≡ true }
     ensures { result ≡ word_of word.now }

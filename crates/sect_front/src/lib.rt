@@ -17,7 +17,7 @@ mod tree;
 mod within;
 mod words;
 
-pub use limits::{MOST_BYTES, MOST_DEPTH, MOST_NAME_BYTES};
+pub use limits::{MOST_BYTES, MOST_DEPTH, MOST_NAME_BYTES, limits_of_texts};
 pub use listing::tokens_of;
 pub use literal::Literal;
 pub use name::Name;

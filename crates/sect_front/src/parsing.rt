@@ -8,6 +8,7 @@ ghost use Rattle.std.specs.Prelude.{◌≡◌, ◌≢◌, ◌≤◌, length};
 ghost use Rattle.sect_front.specs.Front.{IsSpelled, IsFault, Judges, Gives, Refuses, line_of as line};
 ghost use Rattle.sect_front.specs.Lexing.{IsBadAt};
 ghost use Rattle.sect_front.specs.TreeView.{TreeView};
+ghost use Rattle.sect_front.specs.Limits.{most_bytes};
 
 use crate::limits::MOST_BYTES;
 use crate::reading::{ReadFault, read};
@@ -48,7 +49,7 @@ pub enum FrontFault {
 /// The line of a place.
 fn line_of(bytes: &[u8], at: usize) -> usize
     requires at_in { at ≤ length bytes.now }
-    requires fits { length bytes.now ≤ MOST_BYTES }
+    requires fits { length bytes.now ≤ most_bytes }
     ensures { result ≡ line bytes.now at }
 {
     bytes[..at].iter().filter(|byte| **byte == b'\n').count() + 1
@@ -57,7 +58,7 @@ fn line_of(bytes: &[u8], at: usize) -> usize
 /// The fault of a bad lexeme.
 fn bad(bytes: &[u8], at: usize) -> FrontFault
     requires bad { IsBadAt bytes.now at }
-    requires fits { length bytes.now ≤ MOST_BYTES }
+    requires fits { length bytes.now ≤ most_bytes }
     ensures { IsFault bytes.now result }
 {
     let line = line_of(bytes, at);

@@ -6,7 +6,7 @@ ghost use Rattle.sect_front.specs.Spelling.{spelling_of, is_proper};
 ghost use Rattle.sect_front.specs.Layout.{separator as separator_of, layout_of, IsTextOf};
 ghost use Rattle.sect_front.specs.Grammar.{tokens_of as grammar_tokens};
 ghost use Rattle.sect_front.specs.Front.{IsSpelled};
-ghost use Rattle.sect_front.specs.declared.limits.TheConstants.{MOST_BYTES};
+ghost use Rattle.sect_front.specs.Limits.{most_bytes};
 ghost use Rattle.sect_front.specs.steps.Recognition.{fixed_of};
 ghost use Rattle.sect_front.specs.steps.Spread.{spread};
 ghost use Rattle.std.specs.List.{list_all};
@@ -105,7 +105,7 @@ pub fn print(alloc: Global, tree: &Tree) -> Result<Vec<u8>, AllocError>
     ensures layout { IfOk result (λ text. text.items ≡ layout_of (grammar_tokens tree.now)) }
     ensures spells { IfOk result (λ text. IsTextOf text.items tree.now) }
     // Where the text is within the size, it reads back as the same tree.
-    ensures reads_back { IfOk result (λ text. length text.items ≤ MOST_BYTES → IsSpelled text.items tree.now) }
+    ensures reads_back { IfOk result (λ text. length text.items ≤ most_bytes → IsSpelled text.items tree.now) }
 {
     let mut text = Vec::new(alloc);
     if tree.is_empty() {

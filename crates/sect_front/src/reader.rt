@@ -2,8 +2,8 @@
 
 ghost use Rattle.std.specs.Prelude.{◌≡◌, ◌≤◌, []};
 ghost use Rattle.std.specs.Option.{ForSome};
+ghost use Rattle.sect_front.specs.Limits.{most_depth};
 
-use crate::limits::MOST_DEPTH;
 use crate::name::Name;
 use crate::partial::PartialHead;
 use crate::token::Token;
@@ -592,7 +592,7 @@ impl Reader {
 
     /// The tree, unless a declaration is begun and not ended.
     pub fn finish(self) -> Option<Tree>
-        requires { ForSome (finish_of self) (λ tree. depth tree ≤ MOST_DEPTH) }
+        requires { ForSome (finish_of self) (λ tree. depth tree ≤ most_depth) }
         ensures { result ≡ finish_of self }
     {
         if self.stage.is_between() {

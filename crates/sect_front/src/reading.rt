@@ -11,6 +11,7 @@ ghost use Rattle.sect_front.specs.declared.reader.Part.TheVariants as Part;
 ghost use Rattle.sect_front.specs.declared.reading.ReadFault.TheVariants.{Unfinished};
 ghost use Rattle.sect_front.specs.Depth.{depth};
 ghost use Rattle.std.specs.Option.{ForSome, ok_or};
+ghost use Rattle.sect_front.specs.Limits.{most_depth};
 
 use crate::lexer::{after_gap, behind, lexeme};
 use crate::limits::MOST_DEPTH;
@@ -66,7 +67,7 @@ fn unless_bad(bytes: &[u8], here: &[u8], fault: ReadFault) -> ReadFault
 fn take_all(alloc: Global, bytes: &[u8], reader: &mut Reader) -> Result<(), ReadFault>
     requires { reader.old ≡ reading empty (Outside.Between Part.Records) }
     ensures ends { OnOk result (JudgesText bytes.now (ok_or (finish_of reader.new) Unfinished)) }
-    ensures shallow { OnOk result (ForSome (finish_of reader.new) (λ tree. depth tree ≤ MOST_DEPTH)) }
+    ensures shallow { OnOk result (ForSome (finish_of reader.new) (λ tree. depth tree ≤ most_depth)) }
     ensures fault { IfErr result (IsReadFault bytes.now) }
 {
     let mut level = 0;

@@ -2,8 +2,8 @@
 
 ghost use Rattle.std.specs.Prelude.{◌≡◌, OnOk, OnErr};
 ghost use Rattle.sect_front.specs.Syntax.{End};
+ghost use Rattle.sect_front.specs.Limits.{most_depth};
 
-use crate::limits::MOST_DEPTH;
 use crate::literal::Literal;
 use crate::name::Name;
 use std::alloc::{AllocError, Global};
@@ -354,14 +354,14 @@ impl Model for Tree {
 
     ghost use Rattle.std.specs.Prelude.{◌≤◌};
     ghost use Rattle.sect_front.specs.Depth.{depth};
-    ghost use Rattle.sect_front.specs.declared.limits.TheConstants.{MOST_DEPTH};
+    ghost use Rattle.sect_front.specs.Limits.{most_depth};
 
     ghost invariant = { λ t. depth (record {
       records = t.records.items;
       globals = t.globals.items;
       procedures = t.procedures.items;
       threads = t.threads.items;
-    }) ≤ MOST_DEPTH };
+    }) ≤ most_depth };
 }
 
 impl Tree {
@@ -381,7 +381,7 @@ impl Tree {
           globals = globals.items;
           procedures = procedures.items;
           threads = threads.items;
-        }) ≤ MOST_DEPTH }
+        }) ≤ most_depth }
         ensures { result ≡ record {
           records = records.items;
           globals = globals.items;
@@ -430,7 +430,7 @@ impl Tree {
         ensures empty { IsTrue result ↔ ((self.now.records ≡ []) × (self.now.globals ≡ []) × (self.now.procedures ≡ [])
             × (self.now.threads ≡ [])) }
         // No tree has a deeper block.
-        ensures shallow { depth self.now ≤ MOST_DEPTH }
+        ensures shallow { depth self.now ≤ most_depth }
     {
         self.records.is_empty()
             && self.globals.is_empty()

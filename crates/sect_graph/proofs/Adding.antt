@@ -1,26 +1,12 @@
 -- Lists of lists to which elements are added.
-use Rattle.std.proofs.Common.{◌≡◌, ◌↔◌, ◌⊎◌, ℕ, zero, suc, ◌<◌, List, [], ◌∷◌, ◌++◌, map, set, length, get_or, inl, inr}
-use Rattle.std.proofs.Common.{refl, sym, ap, ◌∙◌, subst}
+use Rattle.std.proofs.Common.{◌≡◌, ◌↔◌, ◌⊎◌, ℕ, ◌<◌, List, [], ◌∷◌, ◌++◌, set, length, get_or, inl, inr, sym, ap, ◌∙◌}
+use Rattle.std.proofs.Common.{subst}
 use Rattle.std.specs.Prelude.{slice_index_or}
 use Rattle.std.proofs.lemmas.Bool.{cases_eq}
 use Rattle.std.proofs.lemmas.List.{get_or-set_same, get_or-set_other}
-use Rattle.sect_types.specs.Lists.{Has}
-use Rattle.sect_types.proofs.Membership.{Has-cases, Has-left, Has-right}
+use Rattle.sect_lemmas.specs.Lists.{Has}
+use Rattle.sect_lemmas.proofs.Membership.{Has-cases, Has-left, Has-right}
 use Rattle.sect_graph.specs.Predecessors.{IsAdded}
-
--- an element that is set, seen through a map
-pub map-set : {X Y : Type 0} (f : X → Y) (xs : List X) (i : ℕ) (x : X) → map f (set xs i x) ≡ set (map f xs) i (f x)
-map-set f [] i x = refl
-map-set f (y ∷ xs) zero x = refl
-map-set f (y ∷ xs) (suc i) x = ap (λ l. f y ∷ l) (map-set f xs i x)
-
--- one empty list more
-pub empty_more : {X : Type 0} (xs : List (List X)) (m : ℕ) → ((m : ℕ) → slice_index_or xs m [] ≡ [])
-    → slice_index_or (xs ++ [] ∷ []) m [] ≡ []
-empty_more [] zero h = refl
-empty_more [] (suc m) h = refl
-empty_more (x ∷ xs) zero h = h 0
-empty_more (x ∷ xs) (suc m) h = empty_more xs m (λ n. h (suc n))
 
 -- one element more in the list at a place
 pub put_at : {X : Type 0} (lists : List (List X)) (to : ℕ) (x : X) (new : List X) → to < length lists

@@ -1,8 +1,9 @@
-pub mod Paths
-pub mod Bounds
-pub mod Rests
-pub mod Emitting
-pub mod Running
-pub mod Graphs
-pub mod Adding
-pub mod Preceding
+mod Paths
+mod Bounds
+mod Rests
+mod Emitting
+mod Running
+mod Graphs
+mod Adding
+mod Preceding
+pub mod shared

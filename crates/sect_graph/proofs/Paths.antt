@@ -1,6 +1,6 @@
 -- The paths of the graph are the traces of the text, and each node is on one.
-use Rattle.std.proofs.Common.{◌≡◌, ℕ, zero, suc, ◌+◌, ◌<◌, ◌≤◌, ◌⊎◌, ◌↔◌, List, [], ◌∷◌, ◌++◌, length, Some, None, refl}
-use Rattle.std.proofs.Common.{sym, ap, ◌∙◌, subst, inl, inr, arith, append_assoc, length-append}
+use Rattle.std.proofs.Common.{◌≡◌, ℕ, zero, suc, ◌+◌, ◌<◌, ◌≤◌, ◌⊎◌, ◌↔◌, List, [], ◌∷◌, ◌++◌, length, Some, None}
+use Rattle.std.proofs.Common.{refl, sym, ap, ◌∙◌, subst, inl, inr, arith, append_assoc, length-append}
 use Rattle.std.specs.Prelude.{slice_get}
 use Rattle.std.proofs.Math.Seq.{get_or-append_seam}
 use Rattle.std.proofs.lemmas.List.{append-nil}
@@ -15,6 +15,7 @@ use Rattle.sect_types.specs.Traces.{Visit, visit, IsTrace, Rounds, node_count}
 use Rattle.sect_graph.specs.Layout.{entry_of, nodes_of}
 use Rattle.sect_graph.specs.Paths.{node, LeadsTo, IsPath, PathsAreTraces, IsConnected}
 use Rattle.std.proofs.lemmas.Bool.{cases_lt, cases_eq}
+use Rattle.sect_graph.proofs.shared.Paths.{path_join}
 
 -- the nodes stand in the graph from this place on
 abbrev pub HasAt : List Node → ℕ → List Node → Type 0
@@ -70,11 +71,6 @@ pub behind : (g : List Node) (c : TextView) (n next : ℕ) (zs : List Node) → 
     → HasAt g (n + node_count c) zs
 behind g c n next zs h = subst (λ k. HasAt g (n + k) zs) (length-nodes_of c n next)
     (has_back g n (nodes_of c n next) zs h)
-
-pub path_join : (g : List Node) (xs ys : List Visit) (i j k : ℕ) → IsPath g i xs j → IsPath g j ys k
-    → IsPath g i (xs ++ ys) k
-path_join g [] ys i j k p q = subst (λ n. IsPath g n ys k) (sym p) q
-path_join g (s ∷ xs) ys i j k p q = (p.0, p.1, p.2, p.3, p.4, path_join g xs ys p.3 j k p.5 q)
 
 module _ (g : List Node) where
   -- a trace is a path

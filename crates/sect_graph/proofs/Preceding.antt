@@ -3,13 +3,13 @@ use Rattle.std.proofs.Common.{◌≡◌, ◌↔◌, ◌⊎◌, ℕ, ◌+◌, ◌
 use Rattle.std.specs.Prelude.{slice_index_or, slice_get, option_map}
 use Rattle.std.proofs.lemmas.Bool.{cases_lt}
 use Rattle.std.proofs.lemmas.Option.{slice_get_within}
-use Rattle.sect_types.specs.Lists.{Has}
+use Rattle.sect_lemmas.specs.Lists.{Has}
 use Rattle.sect_graph.specs.declared.flow.Node.{Node}
 use Rattle.sect_graph.specs.declared.flow.Successors.{Successors}
 use Rattle.sect_graph.specs.Paths.{LeadsTo, IsSuccessor}
 use Rattle.sect_graph.specs.Predecessors.{IsAdded}
 use Rattle.sect_graph.specs.Predecessors.{StaysWithin, AreAllBefore}
-use Rattle.sect_types.proofs.Places.{told_at}
+use Rattle.sect_lemmas.proofs.Places.{told_at}
 
 -- each list has the predecessors that are below a node
 pub record AreBeforeSo (g : List Node) (j : ℕ) (lists : List (List ℕ)) : Type 0 where

@@ -6,7 +6,8 @@ use Rattle.sect_types.specs.Traces.{Visit, node_count}
 use Rattle.sect_graph.specs.declared.flow.Node.{Node}
 use Rattle.sect_graph.specs.Layout.{nodes_of}
 use Rattle.sect_graph.specs.Paths.{IsPath, BeginsAt, PathsAreRests, PathsAreTraces}
-use Rattle.sect_graph.proofs.Paths.{path_join, paths_from_zero, is_connected, leads_over}
+use Rattle.sect_graph.proofs.shared.Paths.{path_join}
+use Rattle.sect_graph.proofs.Paths.{paths_from_zero, is_connected, leads_over}
 
 -- a path in two parts
 path_split : (g : List Node) (xs ys : List Visit) (i k : ℕ) → IsPath g i (xs ++ ys) k

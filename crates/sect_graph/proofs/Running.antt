@@ -8,7 +8,7 @@ use Rattle.std.proofs.lemmas.Bool.Decides.{nat_tests}
 use Rattle.sect_types.specs.declared.action.Condition.{Condition}
 use Rattle.sect_types.specs.Statements.{TextView, Stop, Do, Choose, Loop, Section, joined}
 use Rattle.sect_types.specs.Traces.{node_count}
-use Rattle.sect_types.proofs.Joining.{joined_stop}
+use Rattle.sect_types.proofs.shared.Joining.{joined_stop}
 use Rattle.sect_graph.specs.declared.flow.Node.{Node}
 use Rattle.sect_graph.specs.Layout.{entry_of, nodes_of}
 use Rattle.sect_graph.specs.Rests.{rest_before, rest_at, Begins, RunsRests}

@@ -8,7 +8,7 @@ use Rattle.sect_front.specs.declared.tree.GlobalObject.{GlobalObject}
 use Rattle.sect_front.specs.TreeView.{TreeView}
 use Rattle.sect_types.specs.Sight.{has_name, same_name, names_of_globals}
 use Rattle.sect_types.specs.First.{IsTyped}
-use Rattle.sect_types.proofs.Repeating.{globals_apart}
+use Rattle.sect_types.proofs.shared.Repeating.{globals_apart}
 use Rattle.indexmap.specs.IndexSet.{insert_key}
 use Rattle.sect_hints.specs.Names.{AreDifferent}
 

@@ -10,7 +10,7 @@ use Rattle.sect_front.specs.declared.tree.Record.{Record}
 use Rattle.sect_front.specs.declared.tree.GlobalObject.{GlobalObject}
 use Rattle.sect_types.specs.Environments.{record_number, types_of}
 use Rattle.sect_types.specs.Sight.{same_name, names_of_globals, names_of_records}
-use Rattle.sect_types.specs.Lists.{Has}
+use Rattle.sect_lemmas.specs.Lists.{Has}
 use Rattle.sect_types.specs.Programs.{ProgramView, IsOfTree, AreRecordsThere}
 use Rattle.sect_hints.specs.declared.fault.Rule.{Rule}
 use Rattle.sect_hints.specs.declared.fault.Rule.TheVariants.{HintTwice, NoSuchGlobal, GuardIsGuarded}

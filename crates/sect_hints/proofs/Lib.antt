@@ -1,4 +1,5 @@
-pub mod GlobalLaws
-pub mod HintLaws
-pub mod GuardLaws
-pub mod FaultLaws
+mod GlobalLaws
+mod HintLaws
+mod GuardLaws
+mod FaultLaws
+pub mod shared

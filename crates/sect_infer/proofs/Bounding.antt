@@ -1,31 +1,28 @@
 -- The worklist ends, since the lists that only grow have bounded lengths.
 use Rattle.std.proofs.Common.{◌≡◌, ℕ, zero, suc, ◌+◌, ◌-◌, ◌*◌, ◌<◌, ◌≤◌, List, [], ◌∷◌, ◌++◌, Some, Bool, true, false}
 use Rattle.std.proofs.Common.{map, set, length, length-append, refl, sym, ap, ◌∙◌, subst, arith, inl, inr}
-use Rattle.std.specs.Prelude.{slice_get, slice_index_or}
+use Rattle.std.specs.Prelude.{slice_index_or}
 use Rattle.std.specs.List.{All}
 use Rattle.std.specs.List.Sorted.{IsStrictlySortedBy}
 use Rattle.std.specs.Ordering.{nat_cmp}
 use Rattle.std.proofs.lemmas.List.{length-map}
 use Rattle.std.proofs.lemmas.Map.Views.{length-le_from_below}
-use Rattle.std.proofs.lemmas.Option.{get_or_from_slice_get}
 use Rattle.std.proofs.Math.Nat.{mul-le-mul_left}
-use Rattle.sect_types.specs.Lists.{Has}
-use Rattle.sect_types.proofs.Places.{at_of}
-use Rattle.sect_types.proofs.Membership.{Has-unmap, Has-get_or}
+use Rattle.sect_lemmas.specs.Lists.{Has}
+use Rattle.sect_lemmas.proofs.Membership.{Has-unmap, Has-get_or}
 use Rattle.sect_graph.specs.declared.flow.Node.{Node}
 use Rattle.sect_names.specs.declared.lock.Lock.{Lock}
-use Rattle.sect_names.specs.declared.lock.Lock.TheVariants as lock
 use Rattle.sect_names.specs.contracts.lock.LockEq.TheImpl.Laws.{laws-law as the_lock_laws}
 use Rattle.sect_names.specs.Schemes.{SchemeView}
-use Rattle.sect_names.proofs.Finiteness.{all_locks, finite_locks}
-use Rattle.sect_names.proofs.Telling.{lock_tells}
+use Rattle.sect_names.proofs.shared.Finiteness.{all_locks, finite_locks}
+use Rattle.sect_names.proofs.shared.Telling.{lock_tells}
 use Rattle.sect_infer.specs.Numbers.{AreApart}
 use Rattle.sect_infer.specs.steps.Needs.{AreLawful}
-use Rattle.sect_infer.specs.Numberings.{NumberingView, AreNumbers}
-use Rattle.sect_infer.specs.steps.Listing.{lock_at}
+use Rattle.sect_infer.specs.Numberings.{NumberingView, AreNumbers, lock_at}
 use Rattle.sect_infer.specs.steps.Working.{IsVisit, IsWorking}
-use Rattle.sect_infer.proofs.Apart.{apart_one, apart_short}
+use Rattle.sect_infer.proofs.shared.Apart.{apart_one, apart_short}
 use Rattle.sect_infer.proofs.Settling.{lawful_at}
+use Rattle.sect_infer.proofs.shared.Bounding.{named}
 
 -- how long the lists are together
 total : {X : Type 0} → List (List X) → ℕ
@@ -55,11 +52,6 @@ total_most (xs ∷ lists) most each =
     let first : length xs ≤ most = each 0 in
     let rest = total_most lists most (λ j. each (suc j)) in
     omega (arith, first, rest)
-
--- the lock with a number
-pub named : (keys : List Lock) (n : ℕ) → n < length keys → slice_get keys n ≡ Some (lock_at keys n)
-named keys n within = let l = at_of keys n within in
-    l.1 ∙ ap (λ x. Some x) (sym (get_or_from_slice_get keys n l.0 lock.All l.1))
 
 -- locks of numbers that are apart are apart
 named_apart : (keys : List Lock) (ns : List ℕ) → AreApart keys → AreNumbers keys ns → AreApart ns

@@ -4,19 +4,21 @@ use Rattle.std.proofs.Common.{refl, sym, ap, ◌∙◌, subst, append_assoc, ari
 use Rattle.std.specs.Prelude.{slice_get}
 use Rattle.std.proofs.lemmas.List.{append-nil, take_all}
 use Rattle.std.proofs.lemmas.Option.{slice_get_within}
-use Rattle.sect_types.specs.Lists.{Has}
-use Rattle.sect_types.proofs.Membership.{Has-left, Has-get_or}
-use Rattle.sect_types.proofs.Places.{at_of, one_at}
+use Rattle.sect_lemmas.specs.Lists.{Has}
+use Rattle.sect_lemmas.proofs.Membership.{Has-left, Has-get_or}
+use Rattle.sect_lemmas.proofs.Places.{at_of, one_at}
 use Rattle.sect_types.specs.declared.action.Label.{Label}
 use Rattle.sect_names.specs.declared.lock.Lock.{Lock}
 use Rattle.sect_names.specs.Schemes.{SchemeView}
 use Rattle.sect_names.specs.Carrying.{CarriedBack}
-use Rattle.sect_names.proofs.Making.{last_of, so_far}
+use Rattle.sect_lemmas.proofs.Making.{last_of, so_far}
 use Rattle.sect_infer.specs.Numbers.{with_number}
 use Rattle.sect_infer.specs.Numberings.{NumberingView, HasLock, AreNumbers, IsNumbered, IsFinding, Finds}
-use Rattle.sect_infer.proofs.Apart.{with_has, with_apart, with_behind}
-use Rattle.sect_infer.proofs.Extending.{extends_none, extends_then, extends_at, extends_lock, extends_back}
-use Rattle.sect_infer.proofs.Extending.{extends_numbers}
+use Rattle.sect_infer.proofs.shared.Apart.{with_has}
+use Rattle.sect_infer.proofs.Apart.{with_apart, with_behind}
+use Rattle.sect_infer.proofs.shared.Extending.{extends_none, extends_then, extends_at, extends_back}
+use Rattle.sect_infer.proofs.Extending.{extends_lock}
+use Rattle.sect_infer.proofs.shared.Extending.{extends_numbers}
 
 module _ (s : SchemeView) where
   -- nothing is found

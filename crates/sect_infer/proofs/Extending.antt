@@ -1,46 +1,25 @@
 -- Numberings that are extended.
 use Rattle.std.proofs.Common.{◌≡◌, ◌↔◌, inl, inr, ℕ, zero, suc, ◌+◌, ◌<◌, List, [], ◌∷◌, ◌++◌, Some, Bool, true, false}
-use Rattle.std.proofs.Common.{length, get_or, take, refl, sym, ap, ◌∙◌, subst, append_assoc, length-append, arith}
+use Rattle.std.proofs.Common.{length, get_or, take, refl, sym, ap, ◌∙◌, subst, length-append, arith}
 use Rattle.std.specs.Prelude.{slice_get, slice_index_or, if◌then◌else◌}
 use Rattle.std.specs.List.{list_any}
-use Rattle.std.proofs.lemmas.List.{append-nil}
 use Rattle.std.proofs.lemmas.Option.{slice_get_within}
-use Rattle.sect_types.specs.Lists.{Has}
-use Rattle.sect_types.proofs.Membership.{Has-left, Has-slice_get}
-use Rattle.sect_types.proofs.Places.{pushed_at}
+use Rattle.sect_lemmas.specs.Lists.{Has}
+use Rattle.sect_lemmas.proofs.Membership.{Has-left, Has-slice_get}
+use Rattle.sect_lemmas.proofs.Places.{pushed_at}
 use Rattle.sect_names.specs.declared.lock.Lock.{Lock}
 use Rattle.sect_names.specs.contracts.lock.LockPartialEq.TheImpl.{ghosts as the_lock_eq}
 use Rattle.sect_names.specs.Schemes.{SchemeView}
 use Rattle.sect_names.specs.Climbing.{IsAbove, AreCoverers}
-use Rattle.sect_names.proofs.Making.{last_of, so_far}
-use Rattle.sect_names.proofs.Inserting.{behind}
-use Rattle.sect_names.proofs.Telling.{lock_tells, any_tells}
+use Rattle.sect_lemmas.proofs.Making.{last_of, so_far}
+use Rattle.sect_lemmas.proofs.Inserting.{behind}
+use Rattle.sect_names.proofs.shared.Telling.{lock_tells}
+use Rattle.sect_lemmas.proofs.Finding.{any_tells}
 use Rattle.sect_infer.specs.Numbers.{AreApart}
-use Rattle.sect_infer.specs.Numberings.{
-  NumberingView,
-  HasLock,
-  AreNumbers,
-  AreOf,
-  AreAbove,
-  IsNumbering,
-  Extends,
-  IsNumbered,
-}
+use Rattle.sect_infer.specs.Numberings.{NumberingView, HasLock, AreOf, AreAbove, IsNumbering, Extends, IsNumbered}
 use Rattle.sect_infer.specs.Numberings.{AreAllPut}
-use Rattle.sect_infer.proofs.Apart.{apart_push}
-
--- what stands in the front of a list
-pub get_left : {X : Type 0} (xs ys : List X) (i : ℕ) (x : X) → slice_get xs i ≡ Some x → slice_get (xs ++ ys) i ≡ Some x
-get_left [] ys i x at = absurd cc
-get_left (z ∷ xs) ys zero x at = at
-get_left (z ∷ xs) ys (suc i) x at = get_left xs ys i x at
-
--- and that it stands there alone
-pub get_front : {X : Type 0} (xs ys : List X) (i : ℕ) (x : X) → i < length xs → slice_get (xs ++ ys) i ≡ Some x
-    → slice_get xs i ≡ Some x
-get_front [] ys i x within at = absurd (omega (arith, within))
-get_front (z ∷ xs) ys zero x within at = at
-get_front (z ∷ xs) ys (suc i) x within at = get_front xs ys i x (omega (arith, within)) at
+use Rattle.sect_infer.proofs.shared.Apart.{apart_push}
+use Rattle.sect_infer.proofs.shared.Extending.{get_left, extends_none, extends_then, extends_at}
 
 -- what stands behind a list, and before that
 get_last : {X : Type 0} (xs : List X) (x d : X) (i : ℕ) → i ≡ length xs → slice_index_or (xs ++ x ∷ []) i d ≡ x
@@ -94,36 +73,12 @@ put_last keys l absent = go (list_any (the_lock_eq.eq l) keys) (any_tells the_lo
     go true tells = absurd (absent (tells.0 refl))
     go false tells = refl
 
--- a numbering goes on from itself
-pub extends_none : (t : NumberingView) → Extends t t
-extends_none t = ([], sym (append-nil t.keys))
-
--- one extension after another
-pub extends_then : (a b c : NumberingView) → Extends a b → Extends b c → Extends a c
-extends_then a b c h k = (h.0 ++ k.0, k.1 ∙ ap (λ l. l ++ k.0) h.1 ∙ append_assoc a.keys h.0 k.0)
-
--- a numbering that is extended keeps its locks and their numbers
-pub extends_at : (old new : NumberingView) → Extends old new → (n : ℕ) (l : Lock) → slice_get old.keys n ≡ Some l
-    → slice_get new.keys n ≡ Some l
-extends_at old new e n l at = subst (λ ks. slice_get ks n ≡ Some l) (sym e.1) (get_left old.keys e.0 n l at)
-
 pub extends_has : (old new : NumberingView) → Extends old new → (l : Lock) → Has old.keys l → Has new.keys l
 extends_has old new e l h = subst (λ ks. Has ks l) (sym e.1) (Has-left old.keys e.0 l h)
 
 pub extends_lock : (old new : NumberingView) → Extends old new → (ns : List ℕ) (l : Lock) → HasLock old.keys ns l
     → HasLock new.keys ns l
 extends_lock old new e ns l h = (h.0, h.1, extends_at old new e h.0 l h.2)
-
--- the numbers that there were keep their locks
-pub extends_back : (old new : NumberingView) → Extends old new → (ns : List ℕ) → AreNumbers old.keys ns → (l : Lock)
-    → HasLock new.keys ns l → HasLock old.keys ns l
-extends_back old new e ns there l h =
-    (h.0, h.1, get_front old.keys e.0 h.0 l (there h.0 h.1) (subst (λ ks. slice_get ks h.0 ≡ Some l) e.1 h.2))
-
-pub extends_numbers : (old new : NumberingView) → Extends old new → (ns : List ℕ) → AreNumbers old.keys ns
-    → AreNumbers new.keys ns
-extends_numbers old new e ns there n h = let w = there n h in
-    omega (arith, w, ap length e.1, length-append old.keys e.0)
 
 module _ (s : SchemeView) where
   -- what is above a lock stays so

@@ -5,8 +5,10 @@ use Rattle.std.specs.Prelude.{slice_get, slice_index_or}
 use Rattle.std.proofs.lemmas.Bool.{cases_lt}
 use Rattle.std.proofs.lemmas.List.{length-map}
 use Rattle.std.proofs.lemmas.Option.{slice_get_within, get_or_from_slice_get}
-use Rattle.sect_types.proofs.Places.{one_at}
-use Rattle.sect_types.specs.Lists.{Has}
+use Rattle.sect_lemmas.proofs.Places.{one_at}
+use Rattle.sect_lemmas.specs.Lists.{Has}
+use Rattle.sect_front.specs.declared.tree.Locking.{Locking}
+use Rattle.sect_front.specs.declared.tree.Locking.TheVariants as locking
 use Rattle.sect_types.specs.Statements.{TextView}
 use Rattle.sect_types.specs.Traces.{Visit}
 use Rattle.sect_graph.specs.declared.flow.Node.{Node}
@@ -16,9 +18,9 @@ use Rattle.sect_names.specs.declared.lock.Lock.{Lock}
 use Rattle.sect_names.specs.declared.lock.Lock.TheVariants as lock
 use Rattle.sect_names.specs.Schemes.{SchemeView}
 use Rattle.sect_names.specs.Locks.{IsLockOf}
-use Rattle.sect_names.specs.Needed.{CarriedOver, IsNeededOn, IsNeeded, IsNeededFrom}
+use Rattle.sect_names.specs.Needed.{end_locks, CarriedOver, IsNeededOn, IsNeeded, IsNeededFrom}
 use Rattle.sect_names.specs.Order.{AreMaximal}
-use Rattle.sect_names.proofs.Maximals.{maximal_as, maximal_least}
+use Rattle.sect_names.proofs.shared.Maximals.{maximal_as, maximal_least}
 use Rattle.sect_infer.specs.steps.Needs.{need, IsDerived, AreLawful}
 use Rattle.sect_infer.specs.Numberings.{NumberingView, HasLock, AreNumbers, IsNumbering}
 use Rattle.sect_infer.specs.steps.Working.{IsSettled}
@@ -35,6 +37,11 @@ mapped_at : {X Y : Type 0} (f : X → Y) (xs : List X) (j : ℕ) (y : Y) → sli
 mapped_at f [] j y at = absurd cc
 mapped_at f (x ∷ xs) zero y at = (x, refl, cc)
 mapped_at f (x ∷ xs) (suc j) y at = mapped_at f xs j y at
+
+-- a lock that the end of a section generates is on all
+pub end_is_all : (l : Locking) (x : Lock) → end_locks l ≡ x ∷ [] → x ≡ lock.All
+end_is_all locking.Inferred x is = absurd cc
+end_is_all locking.All x is = cc
 
 module _ (s : SchemeView) (t : ℕ) (g : List Node) where
   -- where the work has settled, each node's list has the maximal locks of those that are derived there

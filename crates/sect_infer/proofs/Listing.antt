@@ -1,28 +1,32 @@
 -- The maximal locks among those with some numbers, in canonical order.
 use Rattle.std.proofs.Common.{◌≡◌, ◌↔◌, ◌⊎◌, inl, inr, ℕ, ◌+◌, ◌<◌, List, [], ◌∷◌, ◌++◌, Some, Bool, true, false, not}
-use Rattle.std.proofs.Common.{map, take, length, get_or, refl, sym, ap, ◌∙◌, subst, true≢false}
-use Rattle.std.specs.Prelude.{slice_get, cond, ◌&&◌}
+use Rattle.std.proofs.Common.{map, take, length, get_or, sym, ap, ◌∙◌, subst, true≢false}
+use Rattle.std.specs.Prelude.{slice_get, cond}
 use Rattle.std.specs.List.{filter}
 use Rattle.std.proofs.lemmas.List.{append-nil, map-append, take_more}
 use Rattle.std.proofs.lemmas.List.Elements.{filter_more}
 use Rattle.std.proofs.lemmas.Option.{slice_get_within, get_or_from_slice_get}
-use Rattle.sect_types.specs.Lists.{Has}
-use Rattle.sect_types.proofs.Membership.{Has-unmap, Has-slice_get}
+use Rattle.sect_lemmas.specs.Lists.{Has}
+use Rattle.sect_lemmas.proofs.Membership.{Has-unmap, Has-slice_get}
 use Rattle.sect_names.specs.declared.lock.Lock.{Lock}
 use Rattle.sect_names.specs.declared.lock.Lock.TheVariants as lock
 use Rattle.sect_names.specs.Schemes.{SchemeView}
 use Rattle.sect_names.specs.Locks.{Covers, IsOutdone}
 use Rattle.sect_names.specs.Order.{AreInOrder, AreMaximal}
-use Rattle.sect_names.proofs.Covering.{covers_antisym, covers_trans}
-use Rattle.sect_names.proofs.Finiteness.{Has-map}
-use Rattle.sect_names.proofs.Maximals.{covered}
-use Rattle.sect_names.proofs.Telling.{lock_cases}
+use Rattle.sect_names.proofs.shared.Covering.{covers_antisym, covers_trans}
+use Rattle.sect_lemmas.proofs.Listing.{Has-map}
+use Rattle.sect_names.proofs.shared.Maximals.{covered}
+use Rattle.sect_names.proofs.shared.Telling.{lock_cases}
 use Rattle.sect_infer.specs.Numbers.{AreApart, has_number, with_numbers}
 use Rattle.sect_infer.specs.Numberings.{NumberingView, HasLock, AreNumbers, IsNumbering, is_under}
-use Rattle.sect_infer.specs.steps.Listing.{lock_at, IsOrder, is_kept, listed}
-use Rattle.sect_infer.proofs.Apart.{Has-filter, number_tells, with_all_has, apart_one}
-use Rattle.sect_infer.proofs.Undone.{told_by, under_is, is_under_is}
-use Rattle.sect_infer.proofs.Bounding.{named}
+use Rattle.sect_infer.specs.Numberings.{lock_at}
+use Rattle.sect_infer.specs.steps.Listing.{IsOrder, is_kept, listed}
+use Rattle.sect_infer.proofs.Apart.{Has-filter, with_all_has}
+use Rattle.sect_infer.proofs.shared.Apart.{number_tells, apart_one}
+use Rattle.sect_infer.proofs.Undone.{told_by}
+use Rattle.sect_infer.proofs.shared.Undone.{under_is, is_under_is}
+use Rattle.sect_infer.proofs.shared.Bounding.{named}
+use Rattle.std.proofs.lemmas.Bool.{and_parts, and_from}
 
 -- the maximal locks with one property are those with another, where each that has the first has the second, and covers
 -- of the second have the first
@@ -65,14 +69,6 @@ order_filter f p (x ∷ xs) o = go (p x) (order_filter f p xs o.1)
     )
     go false rest = rest
 
--- two tests that both hold
-both : (a b : Bool) → (a && b) ≡ true → (a ≡ true) × (b ≡ true)
-both true b e = (refl, e)
-both false b e = absurd (true≢false (sym e))
-
-and : (a b : Bool) → a ≡ true → b ≡ true → (a && b) ≡ true
-and a b p q = ap (λ x. x && b) p ∙ q
-
 -- a test and its negation
 negated : (b : Bool) → not b ≡ true → b ≡ true → ⊥
 negated true e f = true≢false (sym e)
@@ -100,7 +96,7 @@ module _ (s : SchemeView) (t : NumberingView) (is : IsNumbering s t) (order : Li
   list_is l = (
     λ h. (let n = Has-unmap (lock_at t.keys) (filter (is_kept t.above once) order) l h in
         let kept = (Has-filter (is_kept t.above once) order n.0).0 n.1 in
-        let tests = both (has_number once n.0) (not (is_under t.above once n.0)) kept.1 in
+        let tests = and_parts (has_number once n.0) (not (is_under t.above once n.0)) kept.1 in
         let has = (number_tells once n.0).0 tests.0 in
         let at : slice_get t.keys n.0 ≡ Some l = named t.keys n.0 (there n.0 ((same_has n.0).0 has))
         ∙ ap (λ x. Some x) n.2 in
@@ -112,7 +108,7 @@ module _ (s : SchemeView) (t : NumberingView) (is : IsNumbering s t) (order : Li
         [ inl under ↦ absurd (h.1 (under_is s t is once n.0 l n.2 under)) | inr f ↦ f ] in
         let kept = (Has-filter (is_kept t.above once) order n.0).1 (
           o.all n.0 within,
-          and (has_number once n.0) (not (is_under t.above once n.0))
+          and_from (has_number once n.0) (not (is_under t.above once n.0))
               ((number_tells once n.0).1 n.1) free,
         ) in
         subst (Has (listed t order ns)) (get_or_from_slice_get t.keys n.0 l lock.All n.2)

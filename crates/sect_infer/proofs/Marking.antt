@@ -1,14 +1,14 @@
 -- Marks that say which numbers are there.
-use Rattle.std.proofs.Common.{◌≡◌, ◌↔◌, ℕ, zero, suc, ◌+◌, ◌<◌, ◌≤◌, List, [], ◌∷◌, ◌++◌, Bool, true, false, nat_eq}
-use Rattle.std.proofs.Common.{length, get_or, set, take, drop, refl, sym, ap, ◌∙◌, subst, arith, true≢false, inl, inr}
+use Rattle.std.proofs.Common.{◌≡◌, ◌↔◌, ℕ, zero, suc, ◌+◌, ◌<◌, List, [], ◌∷◌, ◌++◌, Bool, true, false, nat_eq, length}
+use Rattle.std.proofs.Common.{get_or, set, take, drop, refl, sym, ap, ◌∙◌, subst, arith, true≢false, inl, inr}
 use Rattle.std.specs.Prelude.{slice_index_or, ◌||◌}
 use Rattle.std.specs.Cmp.{unsigned_Decides}
 use Rattle.std.proofs.lemmas.Bool.{cases_eq}
 use Rattle.std.proofs.lemmas.List.{get_or-set_same, get_or-set_other, take_more}
-use Rattle.sect_types.specs.Lists.{Has}
-use Rattle.sect_types.proofs.Lists.{drop_next}
+use Rattle.sect_lemmas.specs.Lists.{Has}
+use Rattle.sect_lemmas.proofs.Elements.{drop_next}
 use Rattle.sect_infer.specs.Numbers.{has_number, with_number, with_numbers, AreApart, AreMarked}
-use Rattle.sect_infer.proofs.Apart.{apart_push, number_tells, number_absent}
+use Rattle.sect_infer.proofs.shared.Apart.{apart_push, number_tells, number_absent}
 
 -- a test is off where what it tells doesn't hold
 off : {P : Type 0} (b : Bool) → (b ≡ true) ↔ P → (P → ⊥) → b ≡ false
@@ -52,18 +52,6 @@ unmark_next ns marks i x apart within is told n =
       | inr other ↦ get_or-set_other marks x n false false other ∙ told n ∙ ap (λ ms. has_number ms n) next
           ∙ has_other x n (drop (i + 1) ns) other
     ]
-
--- none is left
-pub unmarked : (ns : List ℕ) (marks : List Bool) (i : ℕ) → length ns ≤ i
-    → ((n : ℕ) → slice_index_or marks n false ≡ has_number (drop i ns) n) → AreMarked [] marks
-unmarked ns marks i past told =
-    record { told = λ n. told n ∙ ap (λ ms. has_number ms n) (drop_past ns i past); apart = tt }
-  where
-    drop_past : (ns : List ℕ) (i : ℕ) → length ns ≤ i → drop i ns ≡ []
-    drop_past [] zero h = refl
-    drop_past [] (suc i) h = refl
-    drop_past (n ∷ ns) zero h = absurd (omega (arith, h))
-    drop_past (n ∷ ns) (suc i) h = drop_past ns i (omega (arith, h))
 
 -- what is there with one number more
 has_behind : (ns : List ℕ) (x n : ℕ) → has_number (ns ++ x ∷ []) n ≡ (has_number ns n || nat_eq n x)

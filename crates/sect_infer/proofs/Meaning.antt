@@ -1,7 +1,5 @@
 -- What is derived over the graph is what the traces need.
-use Rattle.std.proofs.Common.{◌≡◌, ◌↔◌, ℕ, zero, suc, ◌≤◌, List, [], ◌∷◌, ◌++◌, Some, length, refl, sym, ap, ◌∙◌, subst}
-use Rattle.std.proofs.Common.{arith}
-use Rattle.std.specs.Prelude.{slice_get}
+use Rattle.std.proofs.Common.{◌≡◌, ◌↔◌, ℕ, zero, suc, ◌≤◌, List, [], ◌∷◌, ◌++◌, length, refl, sym, ap, subst}
 use Rattle.std.proofs.lemmas.Option.{slice_get_within}
 use Rattle.sect_types.specs.Statements.{TextView}
 use Rattle.sect_types.specs.Traces.{Visit, visit}
@@ -13,23 +11,17 @@ use Rattle.sect_names.specs.Schemes.{SchemeView}
 use Rattle.sect_names.specs.Carrying.{Generated, CarriedBack}
 use Rattle.sect_names.specs.Needed.{CarriedOver, GeneratedFirst, IsNeededOn, IsNeededFrom}
 use Rattle.sect_infer.specs.steps.Needs.{Need, need, Derived, IsDerived}
+use Rattle.sect_graph.proofs.shared.Paths.{path_begins}
 
 module _ (s : SchemeView) (t : ℕ) (g : List Node) where
   -- needed along some path from the node to the exit
   abbrev pub IsNeededAlong : ℕ → Lock → Type 0
   IsNeededAlong j l = (steps : List Visit) × IsPath g j steps (length g) × IsNeededOn s t [] steps l
 
-  -- a path from a node begins with what the node does
-  pub path_begins : (j : ℕ) (y : Node) (steps : List Visit) → slice_get g j ≡ Some y → IsPath g j steps (length g)
-      → (post : List Visit) × (steps ≡ visit j y.label ∷ post)
-  path_begins j y [] at p = absurd (let w = slice_get_within g j y at in omega (arith, w, p))
-  path_begins j y (a ∷ steps) at p = let same : p.0 ≡ y = (let e = p.1 in cc) in
-      (steps, ap (λ b. b ∷ steps) (p.2 ∙ ap (λ z. visit j z.label) same))
-
   derived_along : IsConnected g → (k : ℕ) (x : Need) → Derived s t g k x → IsNeededAlong x.node x.lock
   derived_along con zero x h =
       let p = con.exits x.node (slice_get_within g x.node h.0 h.1) in
-      let b = path_begins x.node h.0 p.0 h.1 p.1 in
+      let b = path_begins g x.node h.0 p.0 h.1 p.1 in
       (p.0, p.1, ([], p.0, x.lock, refl, subst (λ st. GeneratedFirst s t [] st x.lock) (sym b.1) h.2, refl))
   derived_along con (suc k) x h =
       let c = h.2 in

@@ -5,22 +5,23 @@ use Rattle.std.specs.Prelude.{slice_get, slice_index_or}
 use Rattle.std.proofs.lemmas.Bool.{cases_eq}
 use Rattle.std.proofs.lemmas.List.{append-nil}
 use Rattle.std.proofs.lemmas.Option.{slice_get_within}
-use Rattle.sect_types.specs.Lists.{Has}
-use Rattle.sect_types.proofs.Membership.{Has-left, Has-right}
+use Rattle.sect_lemmas.specs.Lists.{Has}
+use Rattle.sect_lemmas.proofs.Membership.{Has-left, Has-right}
 use Rattle.sect_graph.specs.declared.flow.Node.{Node}
 use Rattle.sect_graph.specs.Paths.{LeadsTo}
 use Rattle.sect_names.specs.declared.lock.Lock.{Lock}
 use Rattle.sect_names.specs.Schemes.{SchemeView}
 use Rattle.sect_names.specs.Locks.{IsLockOf}
-use Rattle.sect_names.proofs.Covering.{covers_trans}
-use Rattle.sect_names.proofs.Inserting.{behind}
+use Rattle.sect_names.proofs.shared.Covering.{covers_trans}
+use Rattle.sect_lemmas.proofs.Inserting.{behind}
 use Rattle.sect_infer.specs.Numbers.{AreApart}
 use Rattle.sect_infer.specs.steps.Needs.{Need, need, Derived, IsDerived, AreLawful}
 use Rattle.sect_graph.specs.Predecessors.{AreBefore}
 use Rattle.sect_infer.specs.Numberings.{NumberingView, HasLock}
 use Rattle.sect_infer.specs.steps.Working.{IsFoundAt, IsCoveredAt, IsDue, AreLawfulAt, IsVisit, IsWorking, IsBegun}
 use Rattle.sect_infer.specs.steps.Working.{IsSettled}
-use Rattle.sect_infer.proofs.Extending.{extends_lock, extends_back}
+use Rattle.sect_infer.proofs.Extending.{extends_lock}
+use Rattle.sect_infer.proofs.shared.Extending.{extends_back}
 
 -- whether a number is there
 is_there : (xs : List ℕ) (i : ℕ) → Has xs i ⊎ (Has xs i → ⊥)

@@ -1,30 +1,19 @@
 -- Locks of sections that workers have found, put in their places.
-use Rattle.std.proofs.Common.{◌≡◌, ◌⊎◌, ℕ, zero, suc, ◌+◌, ◌<◌, List, [], ◌∷◌, ◌++◌, Option, Some, length}
-use Rattle.std.proofs.Common.{length-append, slice_get, slice_set, refl, sym, ap, ◌∙◌, subst, arith, inl, inr}
-use Rattle.std.proofs.lemmas.List.{length-set}
+use Rattle.std.proofs.Common.{◌≡◌, ◌⊎◌, ℕ, zero, suc, ◌+◌, ◌<◌, List, [], ◌∷◌, ◌++◌, Option, Some, length, slice_get}
+use Rattle.std.proofs.Common.{slice_set, refl, sym, ap, ◌∙◌, subst, arith, inl, inr, ◌%◌, Bool, append-nil, add-zero}
+use Rattle.std.proofs.Common.{add-one, zero-add}
+use Rattle.std.proofs.lemmas.List.{length-set, map-append}
+use Rattle.std.specs.Prelude.{◌==◌, filter}
+use Rattle.std.specs.List.{range_with_len}
+use Rattle.std.proofs.lemmas.Bool.{eq-eqb, ne_eqb}
+use Rattle.std.proofs.lemmas.List.Elements.{filter-append}
 use Rattle.sect_types.specs.Sections.{sections_of}
-use Rattle.sect_types.proofs.Basics.{some_injective, none_or_some}
-use Rattle.sect_types.proofs.Places.{pushed_at}
+use Rattle.sect_lemmas.proofs.Options.{some_injective}
+use Rattle.sect_lemmas.proofs.Places.{pushed_at}
 use Rattle.sect_names.specs.Schemes.{SchemeView}
 use Rattle.sect_infer.specs.Sets.{LocksView, AreInferredAt}
 use Rattle.sect_infer.specs.declared.workers.SectionLocks.{SectionLocks}
-use Rattle.sect_infer.specs.steps.Sharing.{AreFound, AreInPlace}
-
--- the locks of so many sections
-pub record AreInferredBelow (s : SchemeView) (n : ℕ) (all : List LocksView) : Type 0 where
-  pub count : length all ≡ n
-  pub each : (i : ℕ) (locks : LocksView) → slice_get all i ≡ Some locks → AreInferredAt s i locks
-
--- one section more
-pub one_inferred : (s : SchemeView) (n : ℕ) (all : List LocksView) (locks : LocksView) → AreInferredBelow s n all
-    → AreInferredAt s n locks → AreInferredBelow s (n + 1) (all ++ locks ∷ [])
-one_inferred s n all locks before here = record {
-  count = (let e = before.count in omega (arith, e, length-append all (locks ∷ [])));
-  each = λ i x at. elim (pushed_at all locks x i at) [
-    | inl e ↦ subst (AreInferredAt s i) e.1 (subst (λ m. AreInferredAt s m locks) (sym (e.0 ∙ before.count)) here)
-    | inr h ↦ before.each i x h
-  ];
-}
+use Rattle.sect_infer.specs.steps.Sharing.{AreFound, AreInPlace, dealt, sections_in}
 
 -- one more is found
 pub one_found : (s : SchemeView) (found : List SectionLocks) (x : SectionLocks) → AreFound s found
@@ -37,6 +26,39 @@ one_found s found x before within is = record {
     | inr h ↦ before.each k y h
   ];
 }
+
+-- the first numbers, and one more
+range_more : (a n : ℕ) → range_with_len a (suc n) ≡ range_with_len a n ++ (a + n) ∷ []
+range_more a zero = rw add-zero refl
+range_more a (suc n) =
+    let next : (a + 1) + n ≡ a + suc n = omega arith in
+    ap (λ ns. a ∷ ns) (range_more (a + 1) n ∙ ap (λ m. range_with_len (a + 1) n ++ m ∷ []) next)
+
+dealt_next : (workers worker n : ℕ) → dealt workers worker (n + 1) ≡ dealt workers worker n
+    ++ filter (λ i. i % workers == worker) (n ∷ [])
+dealt_next workers worker n =
+    let p : ℕ → Bool = λ i. i % workers == worker in
+    let here : range_with_len 0 (n + 1) ≡ range_with_len 0 n ++ n ∷ [] = ap (range_with_len 0) (add-one n)
+    ∙ range_more 0 n ∙ ap (λ m. range_with_len 0 n ++ m ∷ []) (zero-add n) in
+    ap (filter p) here ∙ filter-append p (range_with_len 0 n) (n ∷ [])
+
+-- one more section that falls to the worker
+pub dealt_one : (workers worker n : ℕ) (found : List SectionLocks) (x : SectionLocks) → x.section ≡ n
+    → n % workers ≡ worker → sections_in found ≡ dealt workers worker n
+    → sections_in (found ++ x ∷ []) ≡ dealt workers worker (n + 1)
+dealt_one workers worker n found x is falls before =
+    let here : filter (λ i. i % workers == worker) (n ∷ []) ≡ n ∷ [] = rw (eq-eqb (n % workers) worker falls) refl in
+    map-append (λ (y : SectionLocks). y.section) found (x ∷ [])
+    ∙ ap (λ ns. ns ++ x.section ∷ []) before ∙ ap (λ m. dealt workers worker n ++ m ∷ []) is
+    ∙ sym (dealt_next workers worker n ∙ ap (λ ns. dealt workers worker n ++ ns) here)
+
+-- one that doesn't
+pub dealt_past : (workers worker n : ℕ) (found : List SectionLocks) → (n % workers ≡ worker → ⊥)
+    → sections_in found ≡ dealt workers worker n → sections_in found ≡ dealt workers worker (n + 1)
+dealt_past workers worker n found other before =
+    let here : filter (λ i. i % workers == worker) (n ∷ []) ≡ [] = rw (ne_eqb (n % workers) worker other) refl in
+    before ∙ sym (dealt_next workers worker n ∙ ap (λ ns. dealt workers worker n ++ ns) here
+    ∙ append-nil (dealt workers worker n))
 
 -- none so far
 pub none_found : (s : SchemeView) → AreFound s []

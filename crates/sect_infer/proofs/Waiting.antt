@@ -3,8 +3,8 @@ use Rattle.std.proofs.Common.{◌≡◌, ◌↔◌, ◌⊎◌, ℕ, ◌<◌, Lis
 use Rattle.std.specs.BTreeSet.{insert_key}
 use Rattle.std.specs.Ordering.{nat_cmp}
 use Rattle.std.proofs.lemmas.Map.Lookups.{exact_unsigned}
-use Rattle.sect_types.specs.Lists.{Has}
-use Rattle.sect_names.proofs.Inserting.{put_key}
+use Rattle.sect_lemmas.specs.Lists.{Has}
+use Rattle.sect_lemmas.proofs.Inserting.{put_key}
 
 -- one node more waits
 pub put_node : (nodes : List ℕ) (n m : ℕ) → Has (insert_key nat_cmp nodes n) m ↔ (Has nodes m ⊎ (m ≡ n))

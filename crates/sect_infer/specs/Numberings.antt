@@ -1,12 +1,13 @@
 -- Locks by their numbers in a numbering.
-use Rattle.std.specs.Prelude.{◌≡◌, ◌<◌, ◌⊎◌, ℕ, Bool, not, List, [], filter, ◌++◌, Some, length}
-use Rattle.std.specs.Prelude.{slice_get, slice_index_or}
+use Rattle.std.specs.Prelude.{◌≡◌, ◌<◌, ◌⊎◌, ℕ, Bool, not, List, [], filter, ◌++◌, Some, length, slice_get}
+use Rattle.std.specs.Prelude.{slice_index_or}
 use Rattle.std.specs.List.{list_any}
-use Rattle.sect_types.specs.Lists.{Has}
+use Rattle.sect_lemmas.specs.Lists.{Has}
 use Rattle.sect_names.specs.declared.lock.Lock.{Lock}
 use Rattle.sect_names.specs.Schemes.{SchemeView}
 use Rattle.sect_names.specs.Climbing.{IsAbove}
 use Rattle.sect_infer.specs.Numbers.{has_number, AreApart}
+use Rattle.sect_names.specs.declared.lock.Lock.TheVariants as lock
 
 -- a lock's number is its place among the keys; for each, the numbers of those that are above it
 pub record NumberingView : Type 0 where
@@ -75,3 +76,7 @@ pub record Finds (s : SchemeView) (old : NumberingView) (before : List ℕ) (new
 -- those of the numbers that none of the ones that were found is above
 abbrev pub fresh_from : List (List ℕ) → List ℕ → List ℕ → List ℕ
 fresh_from above found = filter (λ n. not (is_under above found n))
+
+-- the lock with a number
+abbrev pub lock_at : List Lock → ℕ → Lock
+lock_at keys n = slice_index_or keys n lock.All

@@ -1,7 +1,7 @@
 -- Lists of numbers, each at most once.
 use Rattle.std.specs.Prelude.{◌≡◌, ℕ, Bool, false, List, [], ◌∷◌, ◌++◌, if◌then◌else◌, nat_eq, slice_index_or}
 use Rattle.std.specs.List.{list_any}
-use Rattle.sect_types.specs.Lists.{Has}
+use Rattle.sect_lemmas.specs.Lists.{Has}
 
 -- whether a number is there
 abbrev pub has_number : List ℕ → ℕ → Bool

@@ -1,6 +1,6 @@
 -- The locks of a section, and of all sections. `infer` and `infer_all` say so of what they give.
 use Rattle.std.specs.Prelude.{◌≡◌, ℕ, ◌+◌, List, Some, slice_get, length}
-use Rattle.sect_types.specs.Lists.{Has}
+use Rattle.sect_lemmas.specs.Lists.{Has}
 use Rattle.sect_types.specs.Statements.{TextView}
 use Rattle.sect_types.specs.Sections.{SectionView, sections_of}
 use Rattle.sect_graph.specs.declared.flow.Node.{Node}
@@ -9,6 +9,7 @@ use Rattle.sect_names.specs.Schemes.{SchemeView}
 use Rattle.sect_names.specs.Locks.{IsLockOf}
 use Rattle.sect_names.specs.Needed.{IsNeeded, IsNeededFrom, IsLeast, end_of}
 use Rattle.sect_names.specs.Order.{AreInOrder, AreMaximal}
+use Rattle.std.proofs.Common.{◌≡◌, ℕ, ◌+◌, List, Some, length, slice_get}
 
 -- the locks at each node of a section's graph, the exit too, and those that are taken at its entry
 pub record LocksView : Type 0 where
@@ -47,4 +48,9 @@ AreInferredAt s i locks =
 -- those of all sections
 pub record AreAllInferred (s : SchemeView) (all : List LocksView) : Type 0 where
   pub count : length all ≡ length (sections_of s.program.texts)
+  pub each : (i : ℕ) (locks : LocksView) → slice_get all i ≡ Some locks → AreInferredAt s i locks
+
+-- the locks of so many sections
+pub record AreInferredBelow (s : SchemeView) (n : ℕ) (all : List LocksView) : Type 0 where
+  pub count : length all ≡ n
   pub each : (i : ℕ) (locks : LocksView) → slice_get all i ≡ Some locks → AreInferredAt s i locks

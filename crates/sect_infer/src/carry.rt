@@ -4,7 +4,7 @@ ghost use Rattle.std.specs.Prelude.{◌≡◌, ◌<◌, length, slice_get, Some,
 ghost use Rattle.sect_names.specs.declared.lock.Lock.{Lock};
 ghost use Rattle.sect_names.specs.Locks.{IsLockOf};
 ghost use Rattle.sect_names.specs.Carrying.{CarriedBack};
-ghost use Rattle.sect_types.specs.Lists.{Has};
+ghost use Rattle.sect_lemmas.specs.Lists.{Has};
 ghost use Rattle.sect_infer.specs.Numberings.{HasLock, AreNumbers, IsFinding, Finds};
 
 use crate::numbering::Numbering;

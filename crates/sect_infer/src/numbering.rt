@@ -1,7 +1,7 @@
 //! Locks by their numbers.
 
 ghost use Rattle.std.specs.Prelude.{◌≡◌, ◌<◌, length, slice_get, [], Some, IfOk, OnOk, MatchOption};
-ghost use Rattle.sect_types.specs.Lists.{Has};
+ghost use Rattle.sect_lemmas.specs.Lists.{Has};
 ghost use Rattle.sect_names.specs.declared.lock.Lock.{Lock};
 ghost use Rattle.sect_names.specs.Climbing.{IsAbove, AreBehind};
 ghost use Rattle.sect_infer.specs.Numberings.{AreOf, AreAllPut, IsNumbering, IsNumbered, is_under};

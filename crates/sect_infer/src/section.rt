@@ -1,7 +1,7 @@
 //! The least lock set of each section.
 
 ghost use Rattle.std.specs.Prelude.{◌≡◌, ◌<◌, ◌+◌, ℕ, List, length, slice_get, Some, IfOk};
-ghost use Rattle.sect_types.specs.Lists.{Has};
+ghost use Rattle.sect_lemmas.specs.Lists.{Has};
 ghost use Rattle.sect_types.specs.Sections.{SectionView, sections_of};
 ghost use Rattle.sect_graph.specs.declared.flow.Node.{Node};
 ghost use Rattle.sect_names.specs.declared.lock.Lock.{Lock};
@@ -15,10 +15,10 @@ use crate::lists::Lists;
 use crate::locks::Locks;
 use crate::numbering::Numbering;
 use crate::work::settle;
-use sect_front::Locking;
 use sect_graph::Flow;
 use sect_names::{
-    Lock, Scheme, carrying_back_respects_covering, locks_stay_the_programs, steps_of_sections,
+    Lock, Scheme, carrying_back_respects_covering, end_lock, locks_stay_the_programs,
+    steps_of_sections,
 };
 use std::alloc::{AllocError, Global};
 
@@ -41,9 +41,9 @@ pub fn infer(alloc: Global, scheme: &Scheme, section: u16) -> Result<Locks, Allo
     only_the_programs(scheme, section);
     let thread = scheme.program().section(section).thread;
     let flow = scheme.graph().section(section);
-    match scheme.program().locking(section) {
-        Locking::Inferred => found(alloc, scheme, thread, flow),
-        Locking::All => on_all_of(alloc, scheme, flow),
+    match end_lock(scheme.program().locking(section)) {
+        None => found(alloc, scheme, thread, flow),
+        Some(_) => on_all_of(alloc, scheme, flow),
     }
 }
 

@@ -5,7 +5,7 @@ ghost use Rattle.std.specs.Prelude.{IfOk, IfErr, OnOk, IsErrOf};
 ghost use Rattle.sect_infer.specs.Sets.{AreAllInferred};
 ghost use Rattle.sect_infer.specs.Workers.{AreOffered, AreRefused};
 ghost use Rattle.sect_infer.specs.declared.workers.InferFault.TheVariants.{BadWorkers};
-ghost use Rattle.sect_infer.specs.steps.Sharing.{AreFound, AreInPlace, AreOf};
+ghost use Rattle.sect_infer.specs.steps.Sharing.{AreFound, IsShare, AreInPlace, AreOf};
 
 use crate::locks::Locks;
 use crate::section::infer;
@@ -74,7 +74,7 @@ fn share<S: Seen>(
     seen: &S,
 ) -> Result<Vec<SectionLocks>, AllocError>
     requires { 0 < workers }
-    ensures { IfOk result (λ found. AreFound scheme.now found.items) }
+    ensures { IfOk result (λ found. IsShare scheme.now workers worker found.items) }
 {
     scheme.program().typing();
     let mut found = Vec::new(alloc);
@@ -146,17 +146,19 @@ fn complete<S: Seen>(
     Ok(all)
 }
 
-/// What a worker hands on when it is joined: locks of sections of this scheme.
+/// What a worker hands on when it is joined: the locks of the sections of this scheme that fall to it.
 #[derive(Clone, Copy)]
 struct ShareOf<'a> {
     scheme: &'a Scheme,
+    worker: u16,
+    workers: u16,
 }
 
 impl<'a> Promise<Result<Vec<SectionLocks>, AllocError>> for ShareOf<'a> {
     ghost use Rattle.std.specs.Prelude.{IfOk};
-    ghost use Rattle.sect_infer.specs.steps.Sharing.{AreFound};
+    ghost use Rattle.sect_infer.specs.steps.Sharing.{IsShare};
 
-    ghost kept_by = { λ p r. IfOk r (λ found. AreFound p.scheme.now found.items) };
+    ghost kept_by = { λ p r. IfOk r (λ found. IsShare p.scheme.now p.workers p.worker found.items) };
 }
 
 /// The thread of a worker.
@@ -205,9 +207,14 @@ pub fn infer_all<R: Threads + Wait + Sync, S: Seen>(
             for worker in 0..workers {
                 let job = move || -> Result<Vec<SectionLocks>, AllocError>
                     requires { 0 < workers }
-                    ensures { IfOk result (λ found. AreFound scheme.entry.now found.items) }
+                    ensures { IfOk result (λ found. IsShare scheme.entry.now workers worker found.items) }
                 { share(alloc, scheme, worker, workers, seen) };
-                if let Ok(handle) = scope.spawn_with(ShareOf { scheme }, job) {
+                let promised = ShareOf {
+                    scheme,
+                    worker,
+                    workers,
+                };
+                if let Ok(handle) = scope.spawn_with(promised, job) {
                     started.push(handle)?;
                 }
             }

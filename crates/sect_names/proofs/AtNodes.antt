@@ -3,7 +3,7 @@ use Rattle.std.proofs.Common.{◌≡◌, ◌↔◌, ◌⊎◌, ◌≤◌, ◌<�
 use Rattle.std.proofs.Common.{subst, inl, inr, arith}
 use Rattle.std.specs.Prelude.{slice_get}
 use Rattle.std.proofs.lemmas.Bool.{cases_lt}
-use Rattle.sect_types.specs.Lists.{Has}
+use Rattle.sect_lemmas.specs.Lists.{Has}
 use Rattle.sect_types.specs.Statements.{TextView, Stop, Do, Choose, Loop, Section}
 use Rattle.sect_types.specs.Sections.{SectionView, sections_of}
 use Rattle.sect_types.specs.Traces.{Visit, visit}
@@ -16,13 +16,13 @@ use Rattle.sect_names.specs.declared.lock.Lock.{Lock}
 use Rattle.sect_names.specs.declared.lock.Lock.TheVariants as lock
 use Rattle.sect_names.specs.Schemes.{SchemeView, IsScheme}
 use Rattle.sect_names.specs.Laws.{IsProgramStep}
-use Rattle.sect_names.proofs.SectionSteps.{section_step}
+use Rattle.sect_names.proofs.shared.SectionSteps.{section_step}
 use Rattle.sect_names.specs.Needed.{IsNeededFrom}
 use Rattle.sect_names.specs.Walks.{labels_of, IsWalk, Leads}
 use Rattle.sect_names.specs.Along.{NeededAlong, NeededIn, AreProgramSteps, ReadsBeginnings}
-use Rattle.sect_names.proofs.Beginning.{reads_along}
+use Rattle.sect_names.proofs.shared.Beginning.{reads_along}
 use Rattle.sect_names.proofs.Splitting.{split_along}
-use Rattle.sect_names.proofs.Walking.{StepsOn, leads_walk, walk_leads}
+use Rattle.sect_names.proofs.shared.Walking.{StepsOn, leads_walk, walk_leads}
 
 -- a node stands at each number below their count
 node_there : (g : List Node) (j : ℕ) → j < length g → (x : Node) × (slice_get g j ≡ Some x)

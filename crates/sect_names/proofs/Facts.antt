@@ -7,8 +7,8 @@ use Rattle.std.specs.List.{flat_map}
 use Rattle.std.proofs.lemmas.Bool.{cases_lt, cases_eq}
 use Rattle.std.proofs.lemmas.List.{get_or_past}
 use Rattle.sect_types.specs.declared.limits.TheConstants.{MOST_FIELDS}
-use Rattle.sect_types.specs.Lists.{Has}
-use Rattle.sect_types.proofs.Membership.{Has-left, Has-right, Has-cases}
+use Rattle.sect_lemmas.specs.Lists.{Has}
+use Rattle.sect_lemmas.proofs.Membership.{Has-left, Has-right, Has-cases}
 use Rattle.sect_points.specs.declared.holders.Fact.{Fact}
 use Rattle.sect_points.specs.declared.holders.Holder.{Holder}
 use Rattle.sect_points.specs.declared.holders.Holder.TheVariants.{Local, Slot}
@@ -16,8 +16,8 @@ use Rattle.sect_points.specs.Flow.{fact}
 use Rattle.sect_points.specs.Rows.{no_sites}
 use Rattle.sect_points.specs.Sets.{PointsToView, InSets, rows_of, AreBelow}
 use Rattle.sect_points.specs.Partitions.{AreSlotsOfSites}
-use Rattle.sect_points.proofs.SetLaws.{row_past}
-use Rattle.sect_names.proofs.Finiteness.{below, Has-below, Has-map, Has-flat_map}
+use Rattle.sect_points.proofs.shared.SetLaws.{row_past}
+use Rattle.sect_lemmas.proofs.Listing.{below, Has-below, Has-map, Has-flat_map}
 
 -- an element, where something holds
 abbrev pub where_so : {A P : Type 0} → P ⊎ (P → ⊥) → A → List A

@@ -1,39 +1,22 @@
-pub mod Paths
-pub mod Classed
-pub mod Telling
-pub mod Untouched
-pub mod Generating
-pub mod Making
-pub mod Replacing
-pub mod Limits
-pub mod Storing
-pub mod Covering
-pub mod Ranking
-pub mod Maximals
-pub mod Keeping
-pub mod Respecting
-pub mod Typing
-pub mod Owning
-pub mod Sounding
-pub mod Finiteness
-pub mod SectionSteps
-pub mod Named
-pub mod Uniqueness
-pub mod Preceding
-pub mod Refusing
-pub mod Facts
-pub mod OneScheme
-pub mod Placing
-pub mod Recording
-pub mod Beginning
-pub mod Splitting
-pub mod Walking
-pub mod AtNodes
-pub mod Needing
-pub mod Ends
-pub mod Inserting
-pub mod Alike
-pub mod Ending
-pub mod Climbing
-pub mod Seeking
-pub mod Crossing
+mod Paths
+mod Classed
+mod Telling
+mod Untouched
+mod Generating
+mod Replacing
+mod Limits
+mod Storing
+mod Maximals
+mod Keeping
+mod Typing
+mod Sounding
+mod SectionSteps
+mod Named
+mod Uniqueness
+mod Preceding
+mod Refusing
+mod Facts
+mod Splitting
+mod AtNodes
+mod Climbing
+pub mod shared

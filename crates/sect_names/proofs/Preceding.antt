@@ -1,4 +1,3 @@
--- The derived comparison of locks tells exactly which stands before which.
 use Rattle.std.proofs.Common.{◌≡◌, ◌↔◌, Less, Equal, Greater, refl, sym, ap, ◌∙◌, subst}
 use Rattle.std.specs.declared.cmp.Ordering.{Ordering}
 use Rattle.std.specs.Ordering.{ordering_reverse}
@@ -6,8 +5,10 @@ use Rattle.sect_names.specs.declared.lock.Lock.{Lock}
 use Rattle.sect_names.specs.contracts.lock.LockOrd.TheImpl.{ghosts as the_lock_order}
 use Rattle.sect_names.specs.contracts.lock.LockOrd.TheImpl.Laws.{total-law as the_lock_total}
 use Rattle.sect_names.specs.Order.{LockBefore}
-use Rattle.sect_names.proofs.Ranking.{lock_before, lock_level}
-use Rattle.sect_names.proofs.Uniqueness.{lock_once}
+use Rattle.sect_names.proofs.shared.Ranking.{lock_before, lock_level}
+use Rattle.sect_names.proofs.shared.Uniqueness.{lock_once}
+
+-- The derived comparison of locks tells exactly which stands before which.
 
 pub before_tells : (l m : Lock) → (the_lock_order.cmp l m ≡ Less) ↔ LockBefore l m
 before_tells l m = (λ e. lock_before l m e, λ h. go h (the_lock_order.cmp l m) refl)

@@ -1,61 +1,30 @@
 -- What a sound step of a thread needs, and what it carries back, are locks that the thread's sections may take.
-use Rattle.std.proofs.Common.{◌≡◌, ℕ, ◌<◌, List, [], length, length-append, Option, Some, None, refl, sym, ap, subst}
-use Rattle.std.proofs.Common.{inl, inr, arith}
-use Rattle.std.specs.Prelude.{slice_get, slice_index_or}
-use Rattle.std.proofs.lemmas.Bool.{cases_lt}
-use Rattle.std.proofs.lemmas.List.{get_or_past}
-use Rattle.std.proofs.lemmas.Option.{slice_get_within, slice_get-get_or}
-use Rattle.sect_types.specs.Programs.{ProgramView, environment_at, all_made}
-use Rattle.sect_types.specs.Sound.{IsSoundAction, type_in}
-use Rattle.sect_types.proofs.Membership.{Has-slice_get}
-use Rattle.sect_types.specs.declared.types.ValueType.{ValueType}
-use Rattle.sect_types.specs.declared.types.ValueType.TheVariants.{Refers}
+use Rattle.std.proofs.Common.{◌≡◌, ℕ, ◌<◌, length, length-append, Option, Some, None, refl, sym, subst, inl, inr}
+use Rattle.std.proofs.Common.{arith}
+use Rattle.std.specs.Prelude.{slice_index_or}
+use Rattle.std.proofs.lemmas.Option.{slice_get-get_or}
+use Rattle.sect_types.specs.Programs.{environment_at, all_made}
+use Rattle.sect_types.specs.Sound.{IsSoundAction}
+use Rattle.sect_lemmas.proofs.Membership.{Has-slice_get}
 use Rattle.sect_types.specs.declared.action.Base.{Base}
 use Rattle.sect_types.specs.declared.action.Action.{Action}
 use Rattle.sect_types.specs.declared.action.Action.TheVariants as action
 use Rattle.sect_types.specs.declared.action.Label.{Label}
 use Rattle.sect_types.specs.declared.action.Label.TheVariants as label
 use Rattle.sect_points.specs.declared.holders.Variable.{Variable}
-use Rattle.sect_points.specs.declared.holders.Variable.TheVariants.{Global, Local}
-use Rattle.sect_points.specs.Paths.{PathView, var, dot}
+use Rattle.sect_points.specs.declared.holders.Variable.TheVariants.{Global}
+use Rattle.sect_points.specs.Paths.{PathView, var}
 use Rattle.sect_points.specs.PathClasses.{variable_of}
 use Rattle.sect_names.specs.declared.lock.Effect.{Effect}
 use Rattle.sect_names.specs.declared.lock.Effect.TheVariants as effect
 use Rattle.sect_names.specs.declared.lock.Lock.{Lock}
 use Rattle.sect_names.specs.declared.lock.Lock.TheVariants as lock
 use Rattle.sect_names.specs.Schemes.{SchemeView, IsScheme, guard_of}
-use Rattle.sect_names.specs.Locks.{IsVariable, IsPathOf, VariableTo, FieldTo, PathTo, IsOwn, IsClassed, IsPathIn}
-use Rattle.sect_names.specs.Locks.{IsLockOf}
+use Rattle.sect_names.specs.Locks.{VariableTo, PathTo, IsOwn, IsClassed, IsPathIn, IsLockOf}
 use Rattle.sect_names.specs.Carrying.{locked_for, Accesses, Makes, GeneratedBy, Generated, LockOn, CarriedBack}
 use Rattle.sect_names.specs.Laws.{IsSoundStep}
-use Rattle.sect_names.proofs.Typing.{base_to, path_to}
-use Rattle.sect_names.proofs.Owning.{own_base, own_before}
-
-module _ (p : ProgramView) where
-  variable_there : (v : Variable) (r : ℕ) → VariableTo p v r → IsVariable p v
-  variable_there (Global g) r at = slice_get_within p.globals g r at
-  variable_there (Local t x) r at =
-      let within = slice_get_within (slice_index_or p.locals t []) x (Refers r) at in (
-        elim (cases_lt t (length p.locals)) [
-          | inl there ↦ there
-          | inr past ↦ absurd (omega (arith, within, ap length (get_or_past p.locals t [] past)))
-        ],
-        within,
-      )
-
-  field_there : (q f r : ℕ) → FieldTo p q f r → (ts : List ValueType) × (slice_get p.records q ≡ Some ts)
-      × (f < length ts)
-  field_there q f r h = by (slice_get p.records q) refl h
-    where
-      by : (o : Option (List ValueType)) → slice_get p.records q ≡ o → type_in o f ≡ Some (Refers r)
-          → (ts : List ValueType) × (slice_get p.records q ≡ Some ts) × (f < length ts)
-      by None is h = absurd cc
-      by (Some ts) is h = (ts, is, slice_get_within ts f (Refers r) h)
-
-  -- what a path that refers to objects names is there
-  pub path_there : (q : PathView) (r : ℕ) → PathTo p q r → IsPathOf p q
-  path_there (var v) r to = variable_there v r to
-  path_there (dot q f) r to = (path_there q f.of to.0, field_there f.of f.number r to.1)
+use Rattle.sect_names.proofs.shared.Typing.{base_to, path_to}
+use Rattle.sect_names.proofs.shared.Owning.{own_base, own_before}
 
 module _ (s : SchemeView) (scheme : IsScheme s) where
   -- a global has a class: it is a site, and refers to its own object

@@ -1,89 +1,11 @@
 -- The comparisons of paths and locks tell which are one.
-use Rattle.std.proofs.Common.{◌≡◌, ◌↔◌, ◌⊎◌, inl, inr, List, [], ◌∷◌, Bool, true, false, refl, sym, ap, ◌∙◌, rules}
-use Rattle.std.proofs.Common.{true≢false}
-use Rattle.std.specs.Prelude.{◌&&◌, ◌||◌}
-use Rattle.std.specs.Bool.{Decides}
-use Rattle.std.specs.Cmp.{first_so, second_so}
-use Rattle.std.specs.Cmp.Lexicographic.{pointwise, pointwise_decides}
-use Rattle.sect_types.specs.declared.action.Field.{Field}
-use Rattle.sect_types.specs.contracts.action.FieldPartialEq.TheImpl.{ghosts as the_field_eq}
+use Rattle.std.proofs.Common.{◌≡◌, Bool, true, false, sym, ◌∙◌, true≢false}
 use Rattle.sect_points.specs.declared.holders.Variable.{Variable}
-use Rattle.sect_points.specs.declared.holders.Variable.TheVariants.{Global, Local}
 use Rattle.sect_points.specs.contracts.holders.VariablePartialEq.TheImpl.{ghosts as the_variable_eq}
-use Rattle.sect_points.specs.Paths.{PathView, base_of, fields_of}
-use Rattle.std.specs.List.{list_any}
-use Rattle.sect_types.specs.Lists.{Has}
-use Rattle.sect_names.specs.declared.lock.Lock.{Lock}
-use Rattle.sect_names.specs.declared.lock.Lock.TheVariants as lock
-use Rattle.sect_names.specs.contracts.lock.LockPartialEq.TheImpl.{ghosts as the_lock_eq}
-use Rattle.sect_names.specs.declared.link.Link.{Link}
-use Rattle.sect_names.specs.contracts.link.LinkPartialEq.TheImpl.{ghosts as the_link_eq}
-use Rattle.sect_names.specs.Comparing.{path_eq}
-use Rattle.sect_names.proofs.Paths.{same_parts}
-
-pub variable_tells : (v w : Variable) → Decides (the_variable_eq.eq v w) (v ≡ w)
-variable_tells (Global g) (Global h) = search rules
-variable_tells (Global g) (Local t x) = search rules
-variable_tells (Local t x) (Global g) = search rules
-variable_tells (Local t x) (Local u y) = search rules
-
-pub field_tells : (f g : Field) → Decides (the_field_eq.eq f g) (f ≡ g)
-field_tells f g = search rules
-
-each : (a b : Bool) → a ≡ true → b ≡ true → (a && b) ≡ true
-each a b p q = ap (λ x. x && b) p ∙ q
-
-pub path_tells : (p q : PathView) → Decides (path_eq p q) (p ≡ q)
-path_tells p q =
-    let base = variable_tells (base_of p) (base_of q) in
-    let fields = pointwise_decides field_tells (fields_of p) (fields_of q) in (
-      λ t. same_parts p q
-          (base.0 (first_so (the_variable_eq.eq (base_of p) (base_of q))
-          (pointwise the_field_eq.eq (fields_of p) (fields_of q)) t))
-          (fields.0 (second_so (the_variable_eq.eq (base_of p) (base_of q))
-          (pointwise the_field_eq.eq (fields_of p) (fields_of q)) t)),
-      λ e. each (the_variable_eq.eq (base_of p) (base_of q)) (pointwise the_field_eq.eq (fields_of p) (fields_of q))
-          (base.1 (ap base_of e)) (fields.1 (ap fields_of e)),
-    )
+use Rattle.sect_names.proofs.shared.Telling.{variable_tells}
 
 pub same_variable : (v w : Variable) (b : Bool) → b ≡ the_variable_eq.eq v w → b ≡ true → v ≡ w
 same_variable v w b e t = (variable_tells v w).0 (sym e ∙ t)
 
 pub other_variable : (v w : Variable) (b : Bool) → b ≡ the_variable_eq.eq v w → b ≡ false → v ≡ w → ⊥
 other_variable v w b e f s = true≢false (sym ((variable_tells v w).1 s) ∙ sym e ∙ f)
-
-pub lock_tells : (l m : Lock) → Decides (the_lock_eq.eq l m) (l ≡ m)
-lock_tells lock.All lock.All = search rules
-lock_tells lock.All (lock.Class d q) = search rules
-lock_tells lock.All (lock.Path q f) = search rules
-lock_tells (lock.Class c r) lock.All = search rules
-lock_tells (lock.Path p e) lock.All = search rules
-lock_tells (lock.Class c r) (lock.Class d q) = search rules
-lock_tells (lock.Class c r) (lock.Path q f) = search rules
-lock_tells (lock.Path p e) (lock.Class d q) = search rules
-lock_tells (lock.Path p e) (lock.Path q f) = search (rules, path_tells)
-
-pub link_tells : (a b : Link) → Decides (the_link_eq.eq a b) (a ≡ b)
-link_tells a b = search (rules, lock_tells)
-
--- a look-up by a comparison that tells which are one finds what the list has
-pub any_tells : {X : Type 0} (eq : X → X → Bool) → ((x y : X) → Decides (eq x y) (x ≡ y)) → (xs : List X) (x : X)
-    → (list_any (eq x) xs ≡ true) ↔ Has xs x
-any_tells eq tells [] x = (λ t. absurd (true≢false (sym t)), λ h. absurd h)
-any_tells {X} eq tells (y ∷ ys) x = go (eq x y) (tells x y) (any_tells eq tells ys x)
-  where
-    go : (b : Bool) → Decides b (x ≡ y) → ((list_any (eq x) ys ≡ true) ↔ Has ys x) → ((b || list_any (eq x) ys) ≡ true)
-        ↔ ((y ≡ x) ⊎ Has ys x)
-    go true d rest = (λ t. inl (sym (d.0 refl)), λ h. refl)
-    go false d rest = (
-      λ t. inr (rest.0 t),
-      λ h. elim h [ inl e ↦ absurd (true≢false (sym (d.1 (sym e)))) | inr k ↦ rest.1 k ],
-    )
-
--- two locks are one or not
-pub lock_cases : (l m : Lock) → (l ≡ m) ⊎ (l ≡ m → ⊥)
-lock_cases l m = go (the_lock_eq.eq l m) (lock_tells l m)
-  where
-    go : (b : Bool) → Decides b (l ≡ m) → (l ≡ m) ⊎ (l ≡ m → ⊥)
-    go true d = inl (d.0 refl)
-    go false d = inr (λ e. true≢false (sym (d.1 e)))

@@ -2,8 +2,8 @@
 use Rattle.std.proofs.Common.{◌≡◌, ◌↔◌, ℕ, List, [], ◌∷◌, Option, Some, None, Bool, true, false, not, IsTrue, IsFalse}
 use Rattle.std.proofs.Common.{refl, sym, ap, subst, ◌∙◌, inl, inr, arith}
 use Rattle.std.specs.List.{list_any}
-use Rattle.sect_types.specs.Lists.{Has}
-use Rattle.sect_types.proofs.Membership.{Has-left, Has-right}
+use Rattle.sect_lemmas.specs.Lists.{Has}
+use Rattle.sect_lemmas.proofs.Membership.{Has-left, Has-right}
 use Rattle.sect_types.specs.declared.action.Field.{Field}
 use Rattle.sect_types.specs.contracts.action.FieldPartialEq.TheImpl.{ghosts as the_field_eq}
 use Rattle.sect_types.specs.declared.action.Value.{Value}
@@ -20,7 +20,8 @@ use Rattle.sect_names.specs.Schemes.{SchemeView}
 use Rattle.sect_names.specs.Locks.{IsPathIn}
 use Rattle.sect_names.specs.Carrying.{Replaced, BeforeStore, BeforeAssignment, Before, LockOn, CarriedBack}
 use Rattle.sect_names.proofs.Replacing.{replaced_other}
-use Rattle.sect_names.proofs.Telling.{field_tells, any_tells}
+use Rattle.sect_names.proofs.shared.Telling.{field_tells}
+use Rattle.sect_lemmas.proofs.Finding.{any_tells}
 
 -- what a test tells doesn't hold where the test is false
 pub tells_off : {P : Type 0} {b : Bool} → IsTrue b ↔ P → IsFalse b → P → ⊥
@@ -76,12 +77,3 @@ untouched_lock s t step p e alone there l = (
 pub has_field : (fs : List Field) (f : Field) → (list_any (λ g. the_field_eq.eq g f) fs ≡ true) ↔ Has fs f
 has_field fs f = any_tells (λ a b. the_field_eq.eq b a)
     (λ a b. (λ t. sym ((field_tells b a).0 t), λ e. (field_tells b a).1 (sym e))) fs f
-
--- where p alone has a property, the list of a copy of p is the list of all that have it
-pub alone_is : (items : List PathView) (made p : PathView) (P : PathView → Type 0) → made ≡ p
-    → ((q : PathView) → P q ↔ (q ≡ p))
-    → items ≡ made ∷ [] → (q : PathView) → Has items q ↔ P q
-alone_is items made p P same only is q = (
-  λ h. elim (subst (λ ls. Has ls q) is h) [ inl e ↦ (only q).1 (sym e ∙ same) | inr none ↦ absurd none ],
-  λ h. subst (λ ls. Has ls q) (sym is) (inl (same ∙ sym ((only q).0 h))),
-)

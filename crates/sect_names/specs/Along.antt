@@ -1,6 +1,6 @@
 -- What is needed along steps, one step after another, and the beginnings of needed paths.
 use Rattle.std.specs.Prelude.{◌≡◌, ℕ, ⊤, Option, Some, None, List, [], ◌∷◌, ◌⊎◌}
-use Rattle.sect_types.specs.Lists.{Has}
+use Rattle.sect_lemmas.specs.Lists.{Has}
 use Rattle.sect_types.specs.Statements.{TextView}
 use Rattle.sect_types.specs.declared.action.Field.{Field}
 use Rattle.sect_types.specs.declared.action.Label.{Label}

@@ -1,7 +1,7 @@
 -- What a statement needs of itself, and what is needed before it for what is needed after it.
 use Rattle.std.specs.Prelude.{◌≡◌, ◌≤◌, ◌<◌, ℕ, ◌⊎◌, List, Option, Some, None, slice_get}
 use Rattle.sect_types.specs.declared.action.Field.{Field}
-use Rattle.sect_types.specs.Lists.{Has}
+use Rattle.sect_lemmas.specs.Lists.{Has}
 use Rattle.sect_types.specs.declared.action.Value.{Value}
 use Rattle.sect_types.specs.declared.action.Value.TheVariants as value
 use Rattle.sect_types.specs.declared.action.Action.{Action}
@@ -69,13 +69,6 @@ abbrev pub BeforeStore : ClassesView → Variable → Field → Option Variable 
 BeforeStore c z f w (var v) q = q ≡ var v
 BeforeStore c z f w (dot p g) q =
     ((r : PathView) × BeforeStore c z f w p r × GoesOn z f g r q)
-    ⊎ ((g ≡ f) × AreOfOneClass c p (var z) × ((v : Variable) × (w ≡ Some v) × (q ≡ var v)))
-
--- the same for `p.g`, where these paths may denote what p denotes
-abbrev pub OverField : ClassesView → Variable → Field → Option Variable → PathView → Field → List PathView → PathView
-    → Type 0
-OverField c z f w p g paths q =
-    ((r : PathView) × Has paths r × GoesOn z f g r q)
     ⊎ ((g ≡ f) × AreOfOneClass c p (var z) × ((v : Variable) × (w ≡ Some v) × (q ≡ var v)))
 
 -- q may denote before `x = value` what p denotes after it

@@ -1,6 +1,6 @@
 -- Chains: why a lock is needed at the entry of a section.
 use Rattle.std.specs.Prelude.{◌≡◌, ◌⊎◌, ℕ, List, [], ◌∷◌, Some, length, slice_get}
-use Rattle.sect_types.specs.Lists.{Has}
+use Rattle.sect_lemmas.specs.Lists.{Has}
 use Rattle.sect_graph.specs.declared.flow.Node.{Node}
 use Rattle.sect_graph.specs.Paths.{LeadsTo}
 use Rattle.sect_names.specs.declared.link.Link.{Link}

@@ -1,6 +1,6 @@
 -- The steps of a program, and what the carrying of locks over them keeps.
 use Rattle.std.specs.Prelude.{◌≡◌, ◌↔◌, ℕ, ⊤, List, Some, slice_get}
-use Rattle.sect_types.specs.Lists.{Has}
+use Rattle.sect_lemmas.specs.Lists.{Has}
 use Rattle.sect_types.specs.Programs.{ProgramView, environment_at}
 use Rattle.sect_types.specs.Sections.{SectionView, sections_of}
 use Rattle.sect_types.specs.Sound.{IsSoundAction}
@@ -14,8 +14,8 @@ use Rattle.sect_points.specs.PathClasses.{Agree}
 use Rattle.sect_points.specs.Statements.{thread_action, thread_actions}
 use Rattle.sect_names.specs.declared.lock.Lock.{Lock}
 use Rattle.sect_names.specs.Schemes.{SchemeView}
-use Rattle.sect_names.specs.Locks.{Covers}
-use Rattle.sect_names.specs.Carrying.{Before, CarriedBack}
+use Rattle.sect_names.specs.Locks.{Covers, IsLockOf}
+use Rattle.sect_names.specs.Carrying.{Before, CarriedBack, Generated}
 
 -- a statement of thread t is one of the program's
 abbrev pub IsProgramStep : SchemeView → ℕ → Label → Type 0
@@ -52,3 +52,10 @@ pub record AreOneScheme (s r : SchemeView) : Type 0 where
   pub sets : (h : Holder) (site : ℕ) → InSets s.classes.sets h site ↔ InSets r.classes.sets h site
   pub guards : s.guards ≡ r.guards
   pub graphs : s.graphs ≡ r.graphs
+
+-- the locks that the nodes and the section's end generate, and those that the nodes carry back, are the program's
+pub record AreLawful (s : SchemeView) (t : ℕ) (last : List Lock) (g : List Node) : Type 0 where
+  pub generated : (j : ℕ) (y : Node) → slice_get g j ≡ Some y → (l : Lock) → Generated s t y.label l → IsLockOf s t l
+  pub ended : (l : Lock) → Has last l → IsLockOf s t l
+  pub carried : (j : ℕ) (y : Node) → slice_get g j ≡ Some y → (l r : Lock) → IsLockOf s t l
+      → CarriedBack s t y.label l r → IsLockOf s t r

@@ -10,6 +10,7 @@ pub mod Laws
 pub mod Records
 pub mod Walks
 pub mod Along
+pub mod steps
 pub mod Printing
 pub mod Sources
 pub mod Climbing

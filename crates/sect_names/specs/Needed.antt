@@ -2,7 +2,7 @@
 use Rattle.std.specs.Prelude.{◌≡◌, ℕ, slice_index_or, List, [], ◌∷◌, ◌++◌}
 use Rattle.sect_front.specs.declared.tree.Locking.{Locking}
 use Rattle.sect_front.specs.declared.tree.Locking.TheVariants as locking
-use Rattle.sect_types.specs.Lists.{Has}
+use Rattle.sect_lemmas.specs.Lists.{Has}
 use Rattle.sect_types.specs.Statements.{TextView}
 use Rattle.sect_types.specs.Traces.{Visit, IsTrace}
 use Rattle.sect_graph.specs.declared.flow.Node.{Node}

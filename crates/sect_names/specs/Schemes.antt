@@ -1,6 +1,6 @@
 -- What lock inference knows of a program.
 use Rattle.std.specs.Prelude.{◌≡◌, ◌≤◌, ℕ, List, Option, None, length, slice_index_or}
-use Rattle.sect_types.specs.Lists.{Has}
+use Rattle.sect_lemmas.specs.Lists.{Has}
 use Rattle.sect_types.specs.Programs.{ProgramView, sites_of}
 use Rattle.sect_points.specs.Partitions.{ClassesView, IsParted}
 use Rattle.sect_points.specs.PathClasses.{ArePathClasses, KeepsClasses}

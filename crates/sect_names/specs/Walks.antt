@@ -1,6 +1,6 @@
 -- What is done along the control paths through a text, without the numbers of nodes, and how a running text goes on.
 use Rattle.std.specs.Prelude.{◌≡◌, ℕ, zero, suc, List, [], ◌∷◌, ◌++◌, ◌⊎◌}
-use Rattle.sect_types.specs.Lists.{Has}
+use Rattle.sect_lemmas.specs.Lists.{Has}
 use Rattle.sect_types.specs.Statements.{TextView, Stop, Do, Choose, Loop, Section, joined}
 use Rattle.sect_types.specs.Traces.{Visit}
 use Rattle.sect_types.specs.declared.action.Action.{Action}

@@ -61,7 +61,7 @@ impl Scheme {
 }
 
 /// Covering is a partial order, whatever the scheme.
-#[tactic(auto, using(crate::proofs::Covering::cover_order))]
+#[tactic(auto, using(crate::proofs::shared::Covering::cover_order))]
 pub fn covering_is_an_order()
     ensures { (s : SchemeView) → IsCoverOrder s }
 {}

@@ -1,14 +1,16 @@
 //! What the statements of a program need of themselves.
 
-ghost use Rattle.std.specs.Prelude.{◌≡◌, ◌↔◌, Some};
+ghost use Rattle.std.specs.Prelude.{◌≡◌, ◌↔◌, [], ◌∷◌, Some, IfNone, IfSome};
 ghost use Rattle.sect_names.specs.declared.lock.Lock.{Lock};
 ghost use Rattle.sect_names.specs.Schemes.{guard_of};
 ghost use Rattle.sect_names.specs.Carrying.{Accesses, Makes, Generated};
+ghost use Rattle.sect_names.specs.Needed.{end_locks};
 
 use crate::lock::{Effect, Lock, Right};
 use crate::path::Path;
 use crate::scheme::Scheme;
 use crate::variables::{locked_for, variable_of};
+use sect_front::Locking;
 use sect_points::Variable;
 use sect_types::{Action, Label};
 use std::alloc::Global;
@@ -61,5 +63,16 @@ impl Scheme {
                 Some(class) => Some(Lock::Class(*class, Right::Make)),
             },
         }
+    }
+}
+
+/// What the end of a section generates: the lock on all where the section takes that, else nothing.
+pub fn end_lock(locking: Locking) -> Option<Lock>
+    ensures none { IfNone result (end_locks locking ≡ []) }
+    ensures some { IfSome result (λ lock. end_locks locking ≡ lock ∷ []) }
+{
+    match locking {
+        Locking::Inferred => None,
+        Locking::All => Some(Lock::All),
     }
 }

@@ -4,7 +4,7 @@ pub mod needs;
 pub mod records;
 
 ghost use Rattle.std.specs.Prelude.{◌≡◌, ◌<◌, ℕ, List, length};
-ghost use Rattle.sect_types.specs.Lists.{Has};
+ghost use Rattle.sect_lemmas.specs.Lists.{Has};
 ghost use Rattle.sect_types.specs.Sections.{SectionView};
 ghost use Rattle.sect_types.specs.Sound.{AreSound};
 ghost use Rattle.sect_types.specs.declared.action.Label.{Label};
@@ -18,6 +18,8 @@ ghost use Rattle.sect_names.specs.Needed.{IsLeast};
 ghost use Rattle.sect_names.specs.Order.{AreInOrder};
 ghost use Rattle.sect_names.specs.Laws.{IsProgramStep, IsSoundStep, KeepsItsClass, RespectsCover, StandsIn};
 ghost use Rattle.sect_names.specs.Laws.{AreOneScheme};
+ghost use Rattle.sect_names.specs.Sources.{IsTypedText};
+ghost use Rattle.sect_types.specs.Programs.{ProgramView};
 
 /// A path that may denote before a step of the program what another denotes after it has no class but that one's.
 pub fn carried_paths_keep_their_class()
@@ -64,4 +66,9 @@ pub fn least_sets_are_one()
 /// A program has one scheme: what two schemes of it know is the same, however many fields their paths may have.
 pub fn schemes_are_one()
     ensures { (s r : SchemeView) → IsScheme s → IsScheme r → s.program ≡ r.program → AreOneScheme s r }
+{}
+
+/// A source text has one program at most.
+pub fn texts_have_one_program()
+    ensures { (bytes : List ℕ) (p q : ProgramView) → IsTypedText bytes p → IsTypedText bytes q → q ≡ p }
 {}

@@ -20,6 +20,7 @@ mod variables;
 
 pub use covers::covering_is_an_order;
 pub use fault::SchemeFault;
+pub use generate::end_lock;
 pub use laws::needs::{
     beginnings_are_needed, beginnings_are_typed, needed_locks_are_the_threads, needed_step_by_step,
     texts_stay_in_their_thread,
@@ -30,6 +31,7 @@ pub use laws::records::{
 pub use laws::{
     carried_paths_keep_their_class, carrying_back_respects_covering, least_sets_are_one,
     locks_are_finitely_many, locks_stay_the_programs, schemes_are_one, steps_of_sections,
+    texts_have_one_program,
 };
 pub use link::Link;
 pub use lock::{Effect, Lock, Right, precedes};

@@ -1,7 +1,7 @@
 //! The locks of a set that no other of them covers.
 
 ghost use Rattle.std.specs.Prelude.{◌≡◌, ◌↔◌, ℕ, IfOk, IsTrue};
-ghost use Rattle.sect_types.specs.Lists.{Has};
+ghost use Rattle.sect_lemmas.specs.Lists.{Has};
 ghost use Rattle.sect_names.specs.declared.lock.Lock.TheVariants as lock;
 ghost use Rattle.sect_names.specs.declared.lock.Effect.TheVariants as effects;
 ghost use Rattle.sect_names.specs.declared.lock.Right.{Right};

@@ -16,7 +16,7 @@ use crate::fault::SchemeFault;
 use crate::path::Path;
 use sect_graph::{Graph, graph_of};
 use sect_hints::{Guards, guards};
-use sect_points::{Classes, Variable, class_of_path, laws_of_classes, points_to, site_classes};
+use sect_points::{Classes, Variable, class_of_path, classes, laws_of_classes, points_to};
 use sect_types::Program;
 use std::alloc::{AllocError, Global};
 use std::marker::Model;
@@ -132,7 +132,7 @@ fn classes_of(alloc: Global, program: &Program) -> Result<Classes, AllocError>
     ensures flow { IfOk result (λ c. IsLeastFlow (InSets c.sets) (thread_actions program.now)) }
     ensures sites { IfOk result (λ c. c.sets.sites ≡ length (sites_of program.now.globals program.now.texts)) }
 {
-    let classes = site_classes(alloc, points_to(alloc, program)?)?;
+    let classes = classes(alloc, points_to(alloc, program)?)?;
     Ok(classes)
 }
 

@@ -6,8 +6,8 @@ use Rattle.std.specs.Prelude.{slice_index}
 use Rattle.std.specs.Int.{bit_at}
 use Rattle.std.proofs.lemmas.Bool.{cases_eq, cases_lt}
 use Rattle.std.proofs.lemmas.List.{take_more, take_all}
-use Rattle.sect_types.specs.Lists.{Has}
-use Rattle.sect_types.proofs.Membership.{Has-cases}
+use Rattle.sect_lemmas.specs.Lists.{Has}
+use Rattle.sect_lemmas.proofs.Membership.{Has-cases}
 use Rattle.sect_points.specs.Sites.{HasSite, IsNext}
 use Rattle.sect_types.specs.declared.action.Value.{Value}
 use Rattle.sect_types.specs.declared.action.Value.TheVariants as value
@@ -31,7 +31,8 @@ use Rattle.sect_points.specs.steps.Marks.{grown, GrewBy, Reads, ReadsValue, Read
 use Rattle.sect_points.specs.steps.Marks.{MovedBy, IsGrowth, Handles, Covers, IsThere, IsBaseAlone, IsOnlyBase}
 use Rattle.sect_points.specs.steps.Marks.{IsStretch, IsGoing, IsLeft, IsSpan}
 use Rattle.sect_points.proofs.SetLaws.{both_false, one_true, adds_as, spread_below, spread_more, spread_all}
-use Rattle.sect_points.proofs.SolvingLaws.{moved_more, moved_below, base_below, action_same}
+use Rattle.sect_points.proofs.shared.SolvingLaws.{moved_more}
+use Rattle.sect_points.proofs.SolvingLaws.{moved_below, base_below, action_same}
 use Rattle.sect_points.specs.declared.holders.Holder.{Holder}
 use Rattle.sect_points.specs.declared.holders.Holder.TheVariants.{Local, Slot}
 

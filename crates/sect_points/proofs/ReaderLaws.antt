@@ -1,11 +1,11 @@
 -- TextView are found by what they read.
-use Rattle.std.proofs.Common.{◌≡◌, inl, inr, ℕ, zero, suc, ◌+◌, ◌<◌, List, [], ◌∷◌, ◌++◌, length}
-use Rattle.std.proofs.Common.{get_or, set, take, refl, sym, ◌∙◌, ap, subst, arith}
+use Rattle.std.proofs.Common.{◌≡◌, inl, inr, ℕ, zero, suc, ◌+◌, ◌<◌, List, [], ◌∷◌, ◌++◌, length, get_or, set, take}
+use Rattle.std.proofs.Common.{refl, sym, ◌∙◌, ap, subst, arith}
 use Rattle.std.specs.Prelude.{Result, Ok, Err, OnOk}
 use Rattle.std.proofs.lemmas.List.{take_more, get_or-set_other, get_or-set_same, length-set}
 use Rattle.std.proofs.lemmas.Bool.{cases_eq}
-use Rattle.sect_types.specs.Lists.{Has}
-use Rattle.sect_types.proofs.Membership.{Has-left, Has-right, Has-cases}
+use Rattle.sect_lemmas.specs.Lists.{Has}
+use Rattle.sect_lemmas.proofs.Membership.{Has-left, Has-right, Has-cases}
 use Rattle.sect_types.specs.declared.action.Value.{Value}
 use Rattle.sect_types.specs.declared.action.Value.TheVariants as value
 use Rattle.sect_types.specs.declared.action.Base.{Base}
@@ -115,9 +115,6 @@ put_one rows row p lt = record {
   ]);
 }
 
-pub put_none : (rows : List (List ThreadAction)) (p : ThreadAction) → IsPut rows rows [] p
-put_none rows p = record { long = refl; there = λ r h. absurd h; keeps = λ r q h. h; only = λ r q h. inl h }
-
 -- a statement that stands in its row stays there
 pub put_there : (rows : List (List ThreadAction)) (row : ℕ) (p : ThreadAction) (item : List ThreadAction)
     → row < length rows → item ≡ get_or rows row item → Has item p → IsPut rows rows (row ∷ []) p
@@ -152,14 +149,6 @@ filed_more i all p old new lt is a b =
         | inr same ↦ Has-right (take i all) (p ∷ []) q (inl same)
       ]);
     }
-
--- one more row in which nothing stands
-none_more : (rows : List (List ThreadAction)) (p : ThreadAction) → ((r : ℕ) → Has (row_at rows r) p → ⊥) → (r : ℕ)
-    → Has (row_at (rows ++ [] ∷ []) r) p → ⊥
-none_more [] p none zero h = h
-none_more [] p none (suc r) h = h
-none_more (row ∷ rows) p none zero h = none 0 h
-none_more (row ∷ rows) p none (suc r) h = none_more rows p (λ k. none (suc k)) r h
 
 -- the row that was found
 pub row_found : (rows : List (List ThreadAction)) (k n : ℕ) (item out : List ThreadAction) → k ≡ n → k < length rows

@@ -4,8 +4,8 @@ use Rattle.std.proofs.Common.{length, refl, sym, ap, ◌∙◌, subst, inl, inr,
 use Rattle.std.proofs.Common.{◌++◌, take, get_or}
 use Rattle.std.proofs.lemmas.Bool.{cases_eq}
 use Rattle.std.proofs.lemmas.List.{take_more, take_all}
-use Rattle.sect_types.specs.Lists.{Has}
-use Rattle.sect_types.proofs.Membership.{Has-cases, Has-get_or}
+use Rattle.sect_lemmas.specs.Lists.{Has}
+use Rattle.sect_lemmas.proofs.Membership.{Has-cases, Has-get_or}
 use Rattle.sect_points.specs.Sites.{HasSite}
 use Rattle.sect_types.specs.declared.action.Action.{Action}
 use Rattle.sect_types.specs.declared.action.Action.TheVariants as action
@@ -20,7 +20,7 @@ use Rattle.sect_points.specs.steps.Marks.{grown, IsBase}
 use Rattle.sect_points.specs.steps.Marks.{MovedBy}
 use Rattle.sect_points.specs.steps.Marks.{IsStretch, IsGoing, IsLeft, IsSpan}
 use Rattle.sect_points.proofs.SetLaws.{both_false, one_true}
-use Rattle.sect_points.proofs.SolvingLaws.{moved_more}
+use Rattle.sect_points.proofs.shared.SolvingLaws.{moved_more}
 use Rattle.sect_points.specs.declared.holders.Holder.{Holder}
 use Rattle.sect_points.specs.declared.holders.Holder.TheVariants.{Local, Slot}
 use Rattle.sect_points.proofs.MarkLaws.{stretch_none, stretch_then, stretch_by, covers_all, fits_after}

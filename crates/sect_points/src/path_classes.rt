@@ -1,15 +1,14 @@
 //! Classes of sites and of paths.
 
 ghost use Rattle.std.specs.Prelude.{◌≡◌, ◌↔◌, ◌<◌, ◌≤◌, ℕ, List, Some, length, slice_get, slice_index, IfSome, IfNone};
-ghost use Rattle.sect_types.specs.Lists.{Has};
+ghost use Rattle.sect_lemmas.specs.Lists.{Has};
 ghost use Rattle.sect_points.specs.declared.holders.ThreadAction.{ThreadAction};
 ghost use Rattle.sect_points.specs.declared.holders.Holder.TheVariants.{Slot};
 ghost use Rattle.sect_points.specs.Sites.{HasSite};
 ghost use Rattle.sect_points.specs.Flow.{IsClosed};
 ghost use Rattle.sect_points.specs.Sets.{InSets};
-ghost use Rattle.sect_points.specs.Sets.{AreBelow};
 ghost use Rattle.sect_points.specs.Paths.{path_of, VariableHas, PathHas};
-ghost use Rattle.sect_points.specs.Partitions.{ClassesView, IsParted, HasClass, AreSlotsOfSites};
+ghost use Rattle.sect_points.specs.Partitions.{ClassesView, IsParted, HasClass};
 ghost use Rattle.sect_points.specs.Filled.{IsFilled, AreFilled, FieldHas};
 ghost use Rattle.sect_points.specs.PathClasses.{ArePathClasses, KeepsClasses};
 
@@ -123,10 +122,10 @@ impl Classes {
 
 /// The sites of a variable.
 fn variable_sites(points: &PointsTo, base: Variable) -> SiteSet
-    requires { AreBelow points.now }
     ensures { (site : ℕ) → HasSite result.words site
         ↔ (VariableHas (InSets points.now) base site × (site < points.now.sites)) }
 {
+    points.bounds();
     match base {
         Variable::Local(thread, local) => points.local_or_none(thread, local),
         Variable::Global(global) if global < points.sites() => SiteSet::of(global),
@@ -148,11 +147,10 @@ fn field_sites(points: &PointsTo, bases: &SiteSet, field: u16) -> SiteSet
 
 /// The sites of a path.
 fn path_sites(points: &PointsTo, base: Variable, fields: &[Field]) -> SiteSet
-    requires below { AreBelow points.now }
-    requires slots { AreSlotsOfSites points.now }
     ensures { (site : ℕ) → HasSite result.words site
         ↔ (PathHas (InSets points.now) (path_of base fields.now) site × (site < points.now.sites)) }
 {
+    points.bounds();
     let mut sites = variable_sites(points, base);
     for field in fields {
         sites = field_sites(points, &sites, field.number);

@@ -1,7 +1,7 @@
 //! Statements in a row.
 
 ghost use Rattle.std.specs.Prelude.{◌≡◌, ◌++◌, ◌∷◌, [], OnOk, true};
-ghost use Rattle.sect_types.specs.Lists.{Has};
+ghost use Rattle.sect_lemmas.specs.Lists.{Has};
 
 use crate::holders::ThreadAction;
 use sect_types::{Action, Base, Field, Value};

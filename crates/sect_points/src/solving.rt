@@ -4,12 +4,13 @@ ghost use Rattle.std.specs.Prelude.{◌≡◌, ◌↔◌, ◌≤◌, ◌<◌, �
 ghost use Rattle.sect_points.specs.Sites.{HasSite};
 ghost use Rattle.sect_points.specs.Flow.{ValueHas, BaseHas, Moved, Within, IsLeastFlow};
 ghost use Rattle.sect_points.specs.Sets.{InSets, IsEmpty, HasSet, SameHolders, sets_room, sites_for, spread_to};
+ghost use Rattle.sect_points.specs.Sets.{AreSitesOf};
 ghost use Rattle.sect_points.specs.steps.Solving.{FitsValue, FitsBase, FitsAction, AllFit};
 ghost use Rattle.sect_points.specs.Sets.{AreBelow};
 ghost use Rattle.sect_points.specs.steps.Marks.{Suits, Grows, AreBases, IsBase, MovedBy, IsOnlyBase, IsThere};
 ghost use Rattle.sect_points.specs.steps.Marks.{IsUntouched, grown, Covers, Handles, IsStretch, IsGoing, IsLeft};
 ghost use Rattle.sect_points.specs.steps.Marks.{IsSpan, HasMark, local_row};
-ghost use Rattle.sect_types.specs.Lists.{Has};
+ghost use Rattle.sect_lemmas.specs.Lists.{Has};
 ghost use Rattle.sect_points.specs.declared.holders.ThreadAction.{ThreadAction};
 ghost use Rattle.sect_points.specs.declared.holders.Holder.{Holder};
 ghost use Rattle.sect_points.specs.declared.holders.Holder.TheVariants.{Local, Slot};
@@ -25,8 +26,10 @@ use sect_types::{Action, Base, MOST_FIELDS, MOST_SITES, MOST_THREADS, Value};
 fn value_sites(sets: &PointsTo, thread: u16, value: Value) -> SiteSet
     requires fits { FitsValue sets.now thread value }
     requires most { sets.now.sites ≤ MOST_SITES }
-    ensures { (site : ℕ) → HasSite result.words site ↔ ValueHas (InSets sets.now) thread value site }
+    ensures sites { (site : ℕ) → HasSite result.words site ↔ ValueHas (InSets sets.now) thread value site }
+    ensures below { AreSitesOf sets.now result.words }
 {
+    sets.bounds();
     match value {
         Value::Local(local) => sets.local(thread, local),
         Value::Global(global) => SiteSet::of(global),
@@ -49,6 +52,7 @@ pub fn base_sites(sets: &PointsTo, thread: u16, base: Base) -> SiteSet
 /// Adds sites to a holder's set, and marks it where there were new ones.
 fn add(sets: &mut PointsTo, holder: Holder, sites: &SiteSet, marks: &mut Marks) -> bool
     requires place { HasSet sets.old holder }
+    requires sites { AreSitesOf sets.old sites.now.words }
     requires suits { Suits sets.old marks.old }
     ensures { Grows sets.old sets.new (sites_for holder sites.now.words) marks.old marks.new result }
 {
@@ -68,7 +72,8 @@ fn spread(
     marks: &mut Marks,
 ) -> bool
     requires field { field < MOST_FIELDS }
-    requires bases { (base : ℕ) → HasSite bases.now.words base → base < sets.old.sites }
+    requires bases { AreSitesOf sets.old bases.now.words }
+    requires sites { AreSitesOf sets.old sites.now.words }
     requires suits { Suits sets.old marks.old }
     ensures { Grows sets.old sets.new (spread_to bases.now.words field sites.now.words) marks.old marks.new result }
 {
@@ -101,13 +106,13 @@ fn all_bases(sets: &PointsTo, placed: ThreadAction) -> SiteSet
 /// Moves what a statement moves by these of its bases, marks what grew, and tells whether some set grew.
 fn turn(sets: &mut PointsTo, placed: ThreadAction, bases: &SiteSet, marks: &mut Marks) -> bool
     requires fits { FitsAction sets.old placed.thread placed.action }
-    requires below { AreBelow sets.old }
     requires most { sets.old.sites ≤ MOST_SITES }
     requires suits { Suits sets.old marks.old }
     requires bases { AreBases (InSets sets.old) placed bases.now.words }
     ensures { Grows sets.old sets.new
         (MovedBy (InSets sets.old) bases.now.words placed.thread placed.action) marks.old marks.new result }
 {
+    sets.bounds();
     let thread = placed.thread;
     match placed.action {
         Action::Assign(target, value) => {
@@ -210,7 +215,6 @@ fn pass(
     marks: &mut Marks,
 ) -> bool
     requires fits { AllFit sets.old readers.now }
-    requires below { AreBelow sets.old }
     requires most { sets.old.sites ≤ MOST_SITES }
     requires suits { Suits sets.old marks.old }
     requires there { IsThere growth new.now.words sets.old }

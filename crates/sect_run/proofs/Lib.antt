@@ -1,4 +1,2 @@
-pub mod Completing
-pub mod Crossing
-pub mod Keeping
-pub mod Threads
+mod Completing
+mod Threads

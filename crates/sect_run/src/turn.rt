@@ -5,7 +5,7 @@ ghost use Rattle.sect_world.specs.Worlds.{IsTurned};
 ghost use Rattle.sect_run.specs.steps.Shares.{AreBelow, IsSameRun, threads_in};
 
 use crate::fault::RunFault;
-use sect_world::{Turned, World, WorldFault};
+use sect_world::{Turned, World, WorldFault, states_are_well_kept};
 
 /// The turn of a thread. Those whom it lets in are threads of the program too.
 pub fn turn_of(world: &mut World<'_>, thread: u16) -> Result<Turned, RunFault>
@@ -16,6 +16,7 @@ pub fn turn_of(world: &mut World<'_>, thread: u16) -> Result<Turned, RunFault>
     ensures granted { OnOk result (AreBelow (threads_in world.old.compiled) world.new.granted) }
 {
     world.rules();
+    states_are_well_kept();
     match world.turn(thread) {
         Ok(turned) => Ok(turned),
         Err(WorldFault::NoSuchThread(_)) => unreachable!(),

@@ -84,7 +84,8 @@ fn work<J: Naming, R: Wait, G: Gate>(
     }
 }
 
-/// Starts a worker at each post, and returns when all have stopped. A worker that can't be started makes no turn.
+/// Starts a worker at each post where the gate says so, and returns when all have stopped. A worker that isn't started
+/// makes no turn.
 pub fn start_workers<J: Naming + Send + Sync, R: Threads + Wait + Sync, G: Gate>(
     rt: &R,
     shared: &Shared<'_, J>,
@@ -104,6 +105,9 @@ pub fn start_workers<J: Naming + Send + Sync, R: Threads + Wait + Sync, G: Gate>
                 × (length shared.now.unparkers.now ≡ J.threads) }
         {
             for post in posts {
+                if !gate.starts(post.thread) {
+                    continue;
+                }
                 let job = move ||
                     requires { (J.compiled ≡ Some compiled.now) × (J.threads ≡ threads_in compiled.now)
                         × (length shared.now.unparkers.now ≡ J.threads) }

@@ -5,8 +5,8 @@ use Rattle.std.proofs.lemmas.List.{map-append}
 use Rattle.sect_types.specs.Programs.{ProgramView}
 use Rattle.sect_types.specs.declared.store.End.{End}
 use Rattle.sect_types.specs.Whole.{FrameView, RunView, ahead, all_ahead, has_ended}
-use Rattle.sect_types.proofs.Replaced.{mapped}
-use Rattle.sect_types.proofs.RunningAhead.{get-all_ahead}
+use Rattle.sect_lemmas.proofs.Options.{mapped}
+use Rattle.sect_types.proofs.shared.RunningAhead.{get-all_ahead}
 use Rattle.sect_serial.specs.Judging.{HasSectionLeft, IsLeastLeft}
 use Rattle.sect_serial.proofs.JudgeLemmas.{ended_at}
 

@@ -6,8 +6,8 @@ use Rattle.sect_types.specs.declared.store.End.{End}
 use Rattle.sect_types.specs.Whole.{FrameView, RunView, SerialEndView, ahead, all_ahead, has_ended, run_section}
 use Rattle.sect_types.specs.Whole.{option_then, in_order, begun, EndsAs, RunsWhole}
 use Rattle.sect_serial.specs.Judging.{StopsAt, IsLeastLeft, HasSectionLeft}
-use Rattle.sect_types.proofs.RunningAhead.{get-all_ahead}
-use Rattle.sect_types.proofs.Replaced.{mapped}
+use Rattle.sect_types.proofs.shared.RunningAhead.{get-all_ahead}
+use Rattle.sect_lemmas.proofs.Options.{mapped}
 
 -- an order that stops somewhere doesn't run
 pub stops : (p : ProgramView) (before : List ℕ) (t : ℕ) (after : List ℕ) (s r : RunView) → in_order p before s ≡ Some r

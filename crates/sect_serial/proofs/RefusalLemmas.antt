@@ -4,8 +4,8 @@ use Rattle.std.proofs.Common.{arith, inl, inr}
 use Rattle.std.proofs.lemmas.Bool.{cases_lt}
 use Rattle.sect_types.specs.Programs.{ProgramView}
 use Rattle.sect_types.specs.Whole.{RunView, SerialEndView, run_section, option_then, in_order, begun, RunsWhole}
-use Rattle.sect_types.proofs.Endings.{whole_comes_to_one}
-use Rattle.sect_types.proofs.Basics.{some_injective, none_or_some}
+use Rattle.sect_types.proofs.shared.Endings.{whole_comes_to_one}
+use Rattle.sect_lemmas.proofs.Options.{some_injective, none_or_some}
 use Rattle.sect_serial.specs.Judging.{StopsAt, IsLeastLeft, LeavesSections, IsDue, Judges, Gives, Refuses}
 use Rattle.sect_serial.specs.steps.Frames.{Finishes}
 use Rattle.sect_serial.specs.declared.whole.SerialFault.{SerialFault}

@@ -7,7 +7,7 @@ use Rattle.sect_types.specs.Texts.{step_then, statements_of}
 use Rattle.sect_types.specs.declared.text.Step.{Step}
 use Rattle.sect_types.specs.declared.text.Step.TheVariants as step
 use Rattle.sect_serial.specs.steps.Rests.{rest_of, is_stop, AreFull, after_first, Begins}
-use Rattle.sect_types.proofs.Joining.{joined_stop, joined_again}
+use Rattle.sect_types.proofs.shared.Joining.{joined_stop, joined_again}
 
 -- a step comes first in what it begins
 joined_step : (s : Step) (k r : TextView) → joined (step_then s k) r ≡ step_then s (joined k r)

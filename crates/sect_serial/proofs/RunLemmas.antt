@@ -6,15 +6,16 @@ use Rattle.sect_types.specs.Statements.{TextView, Stop, Do, Choose, Loop, Sectio
 use Rattle.sect_types.specs.Programs.{ProgramView, environment_at}
 use Rattle.sect_types.specs.Sound.{IsSound}
 use Rattle.sect_types.specs.declared.types.ValueType.{ValueType}
-use Rattle.sect_types.specs.Store.{StoreView, put_at}
+use Rattle.sect_types.specs.Store.{StoreView}
+use Rattle.sect_lemmas.specs.Lists.{put_at}
 use Rattle.sect_types.specs.Meaning.{WorkView}
 use Rattle.sect_types.specs.Whole.{FrameView, RunView, settled, first_work, first_frames, ahead, has_ended}
 use Rattle.sect_types.specs.Whole.{begins_section, section_by, section_in, section_of_thread, run_section, option_then}
 use Rattle.sect_types.specs.Whole.{in_order}
 use Rattle.sect_serial.specs.steps.Frames.{SectionLeaves, HasNone, Ran, RanSection, IsReady, AreReady}
-use Rattle.sect_types.proofs.Changed.{set_put, get_there}
+use Rattle.sect_lemmas.proofs.Changed.{set_put, get_there}
 use Rattle.sect_serial.proofs.SoundLemmas.{ready_settled}
-use Rattle.sect_types.proofs.Starts.{settled_text}
+use Rattle.sect_types.proofs.shared.Starts.{settled_text}
 
 -- runs of equal parts are one
 serial_alike : (s r : StoreView) (o q : List ℤ) (fs gs : List FrameView) → s ≡ r → o ≡ q → fs ≡ gs

@@ -20,10 +20,10 @@ use Rattle.sect_types.specs.Whole.{has_ended, is_standing, ahead}
 use Rattle.sect_serial.specs.steps.Moves.{Stepped, stepped, stepped_by}
 use Rattle.sect_serial.specs.steps.Rests.{is_stop}
 use Rattle.sect_serial.specs.steps.Frames.{IsReady}
-use Rattle.sect_types.proofs.RunningAhead.{LeavesFuel, done_leaves, ahead_after_local}
-use Rattle.sect_types.proofs.BodySteps.{left_after, step_keeps}
-use Rattle.sect_types.proofs.Joining.{sound_joined}
-use Rattle.sect_types.proofs.Starts.{settled_text}
+use Rattle.sect_types.proofs.shared.RunningAhead.{LeavesFuel, done_leaves, ahead_after_local}
+use Rattle.sect_types.proofs.shared.BodySteps.{left_after, step_keeps}
+use Rattle.sect_types.proofs.shared.Joining.{sound_joined}
+use Rattle.sect_types.proofs.shared.Starts.{settled_text}
 
 -- what follows a step is sound
 pub sound_stepped : (e : Environment) (b : Bool) (p : ProgramView) (t : ℕ) (k : TextView) (found : Option ObjectView)

@@ -1,6 +1,7 @@
 -- An object that is taken back. `Store::unmake` cites it.
 use Rattle.std.specs.Prelude.{ℕ, ◌-◌, List, length, take}
-use Rattle.sect_types.specs.Store.{ObjectView, StoreView, changed_at}
+use Rattle.sect_types.specs.Store.{ObjectView, StoreView}
+use Rattle.sect_lemmas.specs.Lists.{changed_at}
 
 -- the list without its last element
 abbrev pub without_end : {X : Type 0} → List X → List X

@@ -2,7 +2,8 @@
 
 ghost use Rattle.std.specs.Prelude.{◌≡◌, ◌++◌, ◌∷◌, [], map, slice_get, slice_index_or, option_copied};
 ghost use Rattle.std.specs.Prelude.{IfOk, OnOk, OnErr};
-ghost use Rattle.sect_types.specs.Store.{changed_at, with_field};
+ghost use Rattle.sect_lemmas.specs.Lists.{changed_at};
+ghost use Rattle.sect_types.specs.Store.{with_field};
 ghost use Rattle.sect_types.specs.Meaning.{datum_or_null, first_datum, fresh};
 ghost use Rattle.sect_store.specs.Undoing.{without_end};
 

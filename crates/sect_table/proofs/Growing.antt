@@ -3,7 +3,7 @@ use Rattle.std.proofs.Common.{◌≡◌, ◌≢◌, ◌⊎◌, inl, inr, ℕ, ze
 use Rattle.std.proofs.Common.{get_or, refl, sym, ◌∙◌, ap, subst, arith, get_or-set_same, get_or-set_other}
 use Rattle.std.proofs.Common.{length-append}
 use Rattle.std.specs.Prelude.{replicate}
-use Rattle.std.proofs.lemmas.Bool.{cases_eq, cases_lt}
+use Rattle.std.proofs.lemmas.Bool.{cases_eq, cases_lt, cases_Bool}
 use Rattle.std.proofs.lemmas.List.{length-set, get_or_past, get_or_append_left, get_or_at}
 use Rattle.sect_modes.specs.declared.key.Key.{Key}
 use Rattle.sect_modes.specs.Key.{is_same_key}
@@ -13,10 +13,10 @@ use Rattle.sect_table.specs.declared.claims.Grant.{Grant}
 use Rattle.sect_table.specs.Contents.{no_entry, hold_of, claim_of}
 use Rattle.sect_table.specs.steps.Keys.{place_in}
 use Rattle.sect_table.specs.steps.Links.{Shape, list_at, label_at, Each, ArePlaced}
-use Rattle.sect_table.specs.steps.Arena.{SameLists, NumberAdded, node_at, no_node, claims, holds_at, queue_at, chain_at}
-use Rattle.sect_table.specs.steps.Arena.{entry_at, entries_from, held_from, shown, HasRole, IsArena}
+use Rattle.sect_table.specs.steps.Arena.{SameLists, NumberAdded, node_at, no_node, claims, holds_at, queue_at}
+use Rattle.sect_table.specs.steps.Arena.{chain_at, entry_at, entries_from, held_from, shown, HasRole, IsArena}
 use Rattle.sect_table.proofs.Runs.{each_map}
-use Rattle.sect_table.proofs.Shown.{cases_of, entries-kept, held-kept, place-here, place-later}
+use Rattle.sect_table.proofs.Shown.{entries-kept, held-kept, place-here, place-later}
 
 pub arena_same : (nodes nodes' : List Grant) (keys : List Key) (threads : ℕ) (q c q' c' : Shape) → nodes' ≡ nodes
     → SameLists q q' → SameLists c c' → IsArena nodes keys threads q c → IsArena nodes' keys threads q' c'
@@ -55,7 +55,7 @@ shown_same nodes nodes' keys threads q c q' c' n sq sc =
 -- a new key
 pub place-append : (k : Key) (xs ys : List Key) → place_in k xs < length xs → place_in k (xs ++ ys) ≡ place_in k xs
 place-append k [] ys lt = absurd (omega arith)
-place-append k (x ∷ xs) ys lt = elim (cases_of (is_same_key k x)) [
+place-append k (x ∷ xs) ys lt = elim (cases_Bool (is_same_key k x)) [
   | inl here ↦ place-here k x (xs ++ ys) here ∙ sym (place-here k x xs here)
   | inr later ↦
       let at = place-later k x xs later in

@@ -1,14 +1,15 @@
-pub mod Claiming
-pub mod Entries
-pub mod Growing
-pub mod Keeping
-pub mod Moving
-pub mod Numbers
-pub mod Passing
-pub mod Releasing
-pub mod Roles
-pub mod Runs
-pub mod Shown
-pub mod Sounding
-pub mod Walking
-pub mod Whole
+mod Claiming
+mod Entries
+mod Growing
+mod Keeping
+mod Moving
+mod Numbers
+mod Passing
+mod Releasing
+mod Roles
+mod Runs
+mod Shown
+mod Sounding
+mod Walking
+mod Whole
+pub mod shared

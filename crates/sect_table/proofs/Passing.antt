@@ -1,7 +1,7 @@
 -- Letting waiters in, one by one.
-use Rattle.std.proofs.Common.{◌≡◌, inl, inr, ℕ, suc, ◌+◌, ◌<◌, ◌≤◌, List, [], ◌∷◌, ◌++◌, length, map, drop, get_or, set}
-use Rattle.std.proofs.Common.{true, false, Some, None, refl, sym, ◌∙◌, ap, subst, arith, append_assoc, length-append}
-use Rattle.std.proofs.Common.{get_or-set_other}
+use Rattle.std.proofs.Common.{◌≡◌, inl, inr, ℕ, suc, ◌+◌, ◌<◌, ◌≤◌, List, [], ◌∷◌, ◌++◌, length, map, drop, get_or}
+use Rattle.std.proofs.Common.{set, true, false, Some, None, refl, sym, ◌∙◌, ap, subst, arith, append_assoc}
+use Rattle.std.proofs.Common.{length-append, get_or-set_other}
 use Rattle.std.specs.Prelude.{◌==◌, ◌||◌, if◌then◌else◌}
 use Rattle.std.proofs.lemmas.List.{length-set, append-nil, set_comm}
 use Rattle.sect_modes.specs.declared.key.Key.{Key}
@@ -13,23 +13,19 @@ use Rattle.sect_table.specs.Contents.{Entry, Contents, number_of, entry_of, put,
 use Rattle.sect_table.specs.Contents.{hold_of, grant_of, with_grant, let_in, let_through, give_all}
 use Rattle.sect_table.specs.Sound.{waiting_count}
 use Rattle.sect_table.specs.steps.Letting.{LettingIn}
-use Rattle.sect_table.proofs.Shown.{cases_of, key_itself, put-here, put-later}
-use Rattle.sect_table.proofs.Entries.{number-here, number-later, entry_key, entry_of-put, put-itself, put-put}
-use Rattle.sect_table.proofs.Claiming.{or_false}
+use Rattle.sect_table.proofs.shared.Shown.{key_itself}
+use Rattle.sect_table.proofs.Shown.{put-here, put-later}
+use Rattle.sect_table.proofs.Entries.{number-here, number-later, put-itself}
+use Rattle.sect_table.proofs.shared.Entries.{entry_key, entry_of-put, put-put}
 use Rattle.sect_table.proofs.Sounding.{waiting_count-put, sound_of, grant_sound, apart_threads, other_way}
-
-pub let_through-yes : (hs : List Claim) (w : Claim) (ws : List Claim) → may_join hs w.thread w.mode ≡ true
-    → let_through hs (w ∷ ws) ≡ w ∷ let_through (hs ++ w ∷ []) ws
-let_through-yes hs w ws e = ap (λ b. if b then (w ∷ let_through (hs ++ w ∷ []) ws) else []) e
-
-pub let_through-no : (hs : List Claim) (w : Claim) (ws : List Claim) → may_join hs w.thread w.mode ≡ false
-    → let_through hs (w ∷ ws) ≡ []
-let_through-no hs w ws e = ap (λ b. if b then (w ∷ let_through (hs ++ w ∷ []) ws) else []) e
+use Rattle.std.proofs.lemmas.Bool.{cases_Bool}
+use Rattle.sect_lemmas.proofs.Booleans.{neither}
+use Rattle.sect_table.proofs.shared.Passing.{let_through-yes, let_through-no}
 
 -- a known key keeps its number
 pub length-put : (e : Entry) (es : List Entry) → number_of e.key es < length es → length (put e es) ≡ length es
 length-put e [] lt = absurd (omega arith)
-length-put e (f ∷ fs) lt = elim (cases_of (is_same_key e.key f.key)) [
+length-put e (f ∷ fs) lt = elim (cases_Bool (is_same_key e.key f.key)) [
   | inl here ↦ ap length (put-here e f fs here)
   | inr later ↦ let at = number-later e.key f fs later in
       ap length (put-later e f fs later) ∙ ap suc (length-put e fs (omega arith))
@@ -38,7 +34,7 @@ length-put e (f ∷ fs) lt = elim (cases_of (is_same_key e.key f.key)) [
 pub number_of-put : (k : Key) (e : Entry) (es : List Entry) → e.key ≡ k → number_of k es < length es
     → number_of k (put e es) ≡ number_of k es
 number_of-put k e [] is lt = absurd (omega arith)
-number_of-put k e (f ∷ fs) is lt = elim (cases_of (is_same_key k f.key)) [
+number_of-put k e (f ∷ fs) is lt = elim (cases_Bool (is_same_key k f.key)) [
   | inl here ↦
       let own : is_same_key e.key f.key ≡ true = ap (λ z. is_same_key z f.key) is ∙ here in
       let self : is_same_key k e.key ≡ true = subst (λ z. is_same_key z e.key ≡ true) is (key_itself e.key) in
@@ -181,7 +177,7 @@ room_left k room es n c first fits =
 pub among_through : (t : ℕ) (hs ws : List Claim) → is_among t ws ≡ false → is_among t (let_through hs ws) ≡ false
 among_through t hs [] e = refl
 among_through t hs (w ∷ ws) e =
-    let both = or_false (w.thread == t) (is_among t ws) e in
+    let both = neither (w.thread == t) (is_among t ws) e in
     let rest = among_through t (hs ++ w ∷ []) ws both.1 in
     elim (may_join hs w.thread w.mode) as
     (λ b. is_among t (if b then w ∷ let_through (hs ++ w ∷ []) ws else []) ≡ false) [
@@ -193,7 +189,7 @@ pub give_all-other : (k : Key) (t : ℕ) (gs : List Claim) (held : List (List Ho
     → get_or (give_all k gs held) t [] ≡ get_or held t []
 give_all-other k t [] held e = refl
 give_all-other k t (g ∷ gs) held e =
-    let both = or_false (g.thread == t) (is_among t gs) e in
+    let both = neither (g.thread == t) (is_among t gs) e in
     give_all-other k t gs (give g.thread k g.mode held) both.1
     ∙ get_or-set_other held g.thread t (get_or held g.thread [] ++ hold_of k g.mode ∷ []) []
     (apart_threads t g.thread (other_way g.thread t both.0))
@@ -207,7 +203,7 @@ pub set-give_all : (k : Key) (t : ℕ) (x : List Hold) (gs : List Claim) (held :
     → set (give_all k gs held) t x ≡ give_all k gs (set held t x)
 set-give_all k t x [] held e = refl
 set-give_all k t x (g ∷ gs) held e =
-    let both = or_false (g.thread == t) (is_among t gs) e in
+    let both = neither (g.thread == t) (is_among t gs) e in
     let apart = apart_threads t g.thread (other_way g.thread t both.0) in
     let same : get_or (set held t x) g.thread [] ≡ get_or held g.thread [] =
     get_or-set_other held t g.thread x [] (λ q. apart (sym q)) in

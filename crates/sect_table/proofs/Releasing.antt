@@ -16,10 +16,12 @@ use Rattle.sect_table.specs.Sound.{AreThreadsBelow, AreWaitersBelow, IsSound, Is
 use Rattle.sect_table.specs.steps.Links.{Each, IsAbsent, AreDistinct}
 use Rattle.sect_table.specs.steps.Letting.{Releasing}
 use Rattle.sect_table.proofs.Whole.{few_distinct}
-use Rattle.sect_table.proofs.Shown.{key_itself}
-use Rattle.sect_table.proofs.Entries.{entry_key, put-put, put_apart}
-use Rattle.sect_table.proofs.Claiming.{apart_left, mode_in-here, claims_by-drop, missing-claims_by}
-use Rattle.sect_table.proofs.Sounding.{put_all, waits_of-put, waiting_count-put, waits_at-le, waits_for_none, sound_of}
+use Rattle.sect_table.proofs.shared.Shown.{key_itself}
+use Rattle.sect_table.proofs.shared.Entries.{entry_key, put-put}
+use Rattle.sect_table.proofs.Entries.{put_apart}
+use Rattle.sect_table.proofs.shared.Claiming.{apart_left, mode_in-here, claims_by-drop, missing-claims_by}
+use Rattle.sect_table.proofs.shared.Sounding.{put_all, waits_of-put, waits_at-le, waits_for_none}
+use Rattle.sect_table.proofs.Sounding.{waiting_count-put, sound_of}
 use Rattle.sect_table.proofs.Sounding.{release_sound}
 use Rattle.sect_table.proofs.Keeping.{held_known}
 use Rattle.sect_table.proofs.Passing.{length-put, number_of-put, entry-put, among_through, give_all-other}

@@ -1,56 +1,21 @@
 -- What an arena shows of its lists.
-use Rattle.std.proofs.Common.{◌≡◌, ◌≢◌, ◌⊎◌, inl, inr, ℕ, zero, suc, ◌+◌, ◌<◌, ◌≤◌, ◌^◌, List, [], ◌∷◌, length, get_or}
-use Rattle.std.proofs.Common.{set, Bool, true, false, Option, Some, None, refl, sym, ◌∙◌, ap, subst, arith, rules}
-use Rattle.std.specs.Prelude.{if◌then◌else◌, ◌==◌, ◌&&◌, IsSome}
+use Rattle.std.proofs.Common.{◌≡◌, ◌≢◌, inl, inr, ℕ, zero, suc, ◌+◌, ◌<◌, ◌≤◌, ◌^◌, List, [], ◌∷◌, length, get_or, set}
+use Rattle.std.proofs.Common.{true, false, Option, Some, None, refl, sym, ◌∙◌, ap, subst, arith, rules}
+use Rattle.std.specs.Prelude.{if◌then◌else◌, IsSome}
 use Rattle.std.specs.Option.{option_map}
-use Rattle.std.proofs.lemmas.Bool.{eqb-true, eq-eqb}
+use Rattle.std.proofs.lemmas.Bool.{cases_Bool}
 use Rattle.sect_modes.specs.declared.key.Key.{Key}
-use Rattle.sect_modes.specs.declared.key.Key.TheVariants.{All, Class, Global, Made}
 use Rattle.sect_modes.specs.Key.{is_same_key}
 use Rattle.sect_table.specs.declared.claims.Hold.{Hold}
 use Rattle.sect_table.specs.declared.claims.Claim.{Claim}
 use Rattle.sect_table.specs.declared.claims.Grant.{Grant}
-use Rattle.sect_table.specs.Contents.{Entry, Contents, number_of, entry_of, no_entry, put, first_of, first_hold}
-use Rattle.sect_table.specs.Contents.{claim_of, hold_of}
+use Rattle.sect_table.specs.Contents.{Entry, Contents, number_of, entry_of, put, first_of, first_hold, claim_of}
+use Rattle.sect_table.specs.Contents.{hold_of}
 use Rattle.sect_table.specs.steps.Keys.{place_in}
 use Rattle.sect_table.specs.steps.Links.{Shape, head_or}
 use Rattle.sect_table.specs.steps.Arena.{node_at, claims, holds_at, queue_at, chain_at, entry_at, entries_from}
 use Rattle.sect_table.specs.steps.Arena.{held_from, shown, IsArena}
-
--- the two cases of a test, with what it says
-pub cases_of : (b : Bool) → (b ≡ true) ⊎ (b ≡ false)
-cases_of true = inl refl
-cases_of false = inr refl
-
-both_true : (a b : Bool) → (a && b) ≡ true → (a ≡ true) × (b ≡ true)
-both_true true b h = (refl, h)
-both_true false b h = absurd (let off : false ≡ true = h in cc)
-
-pub same_key : (a b : Key) → is_same_key a b ≡ true → a ≡ b
-same_key (Class a) (Class b) e = ap Class (eqb-true a b e)
-same_key (Global a) (Global b) e = ap Global (eqb-true a b e)
-same_key (Made t n) (Made u m) e = let p = both_true (t == u) (n == m) e in
-    ap (λ z. Made z n) (eqb-true t u p.0) ∙ ap (Made u) (eqb-true n m p.1)
-same_key All All e = refl
-same_key All (Class _) e = absurd (let off : false ≡ true = e in cc)
-same_key All (Global _) e = absurd (let off : false ≡ true = e in cc)
-same_key All (Made _ _) e = absurd (let off : false ≡ true = e in cc)
-same_key (Class _) All e = absurd (let off : false ≡ true = e in cc)
-same_key (Global _) All e = absurd (let off : false ≡ true = e in cc)
-same_key (Made _ _) All e = absurd (let off : false ≡ true = e in cc)
-same_key (Class _) (Global _) e = absurd (let off : false ≡ true = e in cc)
-same_key (Class _) (Made _ _) e = absurd (let off : false ≡ true = e in cc)
-same_key (Global _) (Class _) e = absurd (let off : false ≡ true = e in cc)
-same_key (Global _) (Made _ _) e = absurd (let off : false ≡ true = e in cc)
-same_key (Made _ _) (Class _) e = absurd (let off : false ≡ true = e in cc)
-same_key (Made _ _) (Global _) e = absurd (let off : false ≡ true = e in cc)
-
-pub key_itself : (a : Key) → is_same_key a a ≡ true
-key_itself All = refl
-key_itself (Class a) = eq-eqb a a refl
-key_itself (Global a) = eq-eqb a a refl
-key_itself (Made t n) = let e : (t == t) ≡ true = eq-eqb t t refl in let f : (n == n) ≡ true = eq-eqb n n refl in
-    ap (λ b. b && (n == n)) e ∙ f
+use Rattle.sect_table.proofs.shared.Shown.{same_key, entry_of-here, entry_of-later}
 
 -- places of keys
 pub place-here : (k x : Key) (xs : List Key) → is_same_key k x ≡ true → place_in k (x ∷ xs) ≡ 0
@@ -61,12 +26,12 @@ place-later k x xs e = ap (λ b. if b then 0 else suc (place_in k xs)) e
 
 pub one_place : (a b : Key) (xs : List Key) → place_in a xs < length xs → place_in a xs ≡ place_in b xs → a ≡ b
 one_place a b [] lt is = absurd (omega arith)
-one_place a b (x ∷ xs) lt is = elim (cases_of (is_same_key a x)) [
-  | inl ax ↦ elim (cases_of (is_same_key b x)) [
+one_place a b (x ∷ xs) lt is = elim (cases_Bool (is_same_key a x)) [
+  | inl ax ↦ elim (cases_Bool (is_same_key b x)) [
     | inl bx ↦ same_key a x ax ∙ sym (same_key b x bx)
     | inr bx ↦ let p = place-here a x xs ax in let q = place-later b x xs bx in absurd (omega arith)
   ]
-  | inr ax ↦ elim (cases_of (is_same_key b x)) [
+  | inr ax ↦ elim (cases_Bool (is_same_key b x)) [
     | inl bx ↦ let p = place-later a x xs ax in let q = place-here b x xs bx in absurd (omega arith)
     | inr bx ↦ let p = place-later a x xs ax in let q = place-later b x xs bx in
         one_place a b xs (omega arith) (omega arith)
@@ -89,13 +54,6 @@ number_of-entries_from key queue k [] = refl
 number_of-entries_from key queue k (x ∷ xs) =
     ap (λ z. if is_same_key key x then 0 else suc z) (number_of-entries_from key queue (suc k) xs)
 
-pub entry_of-here : (key : Key) (e : Entry) (es : List Entry) → is_same_key key e.key ≡ true → entry_of key (e ∷ es) ≡ e
-entry_of-here key e es is = ap (λ b. get_or (e ∷ es) (if b then 0 else suc (number_of key es)) (no_entry key)) is
-
-pub entry_of-later : (key : Key) (e : Entry) (es : List Entry) → is_same_key key e.key ≡ false
-    → entry_of key (e ∷ es) ≡ entry_of key es
-entry_of-later key e es is = ap (λ b. get_or (e ∷ es) (if b then 0 else suc (number_of key es)) (no_entry key)) is
-
 pub put-here : (e f : Entry) (es : List Entry) → is_same_key e.key f.key ≡ true → put e (f ∷ es) ≡ e ∷ es
 put-here e f es is = ap (λ b. if b then e ∷ es else f ∷ put e es) is
 
@@ -107,7 +65,7 @@ pub entry-shown : (queue : ℕ → List Claim) (k : ℕ) (key : Key) (keys : Lis
     → place_in key keys < length keys → p ≡ k + place_in key keys
     → entry_of key (entries_from queue k keys) ≡ entry_at queue key p
 entry-shown queue k key [] p lt is = absurd (omega arith)
-entry-shown queue k key (x ∷ xs) p lt is = elim (cases_of (is_same_key key x)) [
+entry-shown queue k key (x ∷ xs) p lt is = elim (cases_Bool (is_same_key key x)) [
   | inl here ↦
       let at = place-here key x xs here in
       let same : k ≡ p = omega arith in
@@ -117,17 +75,6 @@ entry-shown queue k key (x ∷ xs) p lt is = elim (cases_of (is_same_key key x))
       let at = place-later key x xs later in
       entry_of-later key (entry_at queue x k) (entries_from queue (suc k) xs) later
       ∙ entry-shown queue (suc k) key xs p (omega arith) (omega arith)
-]
-
-pub entry-unknown : (queue : ℕ → List Claim) (k : ℕ) (key : Key) (keys : List Key) → place_in key keys ≡ length keys
-    → entry_of key (entries_from queue k keys) ≡ no_entry key
-entry-unknown queue k key [] is = refl
-entry-unknown queue k key (x ∷ xs) is = elim (cases_of (is_same_key key x)) [
-  | inl here ↦ let at = place-here key x xs here in absurd (omega arith)
-  | inr later ↦
-      let at = place-later key x xs later in
-      entry_of-later key (entry_at queue x k) (entries_from queue (suc k) xs) later
-      ∙ entry-unknown queue (suc k) key xs (omega arith)
 ]
 
 -- a thread's list
@@ -155,7 +102,7 @@ pub entries-put : (queue queue' : ℕ → List Claim) (k : ℕ) (key : Key) (key
     → ((j : ℕ) → j ≢ p → (queue' (j + j + 1) ≡ queue (j + j + 1)) × (queue' (j + j + 2) ≡ queue (j + j + 2)))
     → entries_from queue' k keys ≡ put (entry_at queue' key p) (entries_from queue k keys)
 entries-put queue queue' k key [] p lt is same = absurd (omega arith)
-entries-put queue queue' k key (x ∷ xs) p lt is same = elim (cases_of (is_same_key key x)) [
+entries-put queue queue' k key (x ∷ xs) p lt is same = elim (cases_Bool (is_same_key key x)) [
   | inl here ↦
       let at = place-here key x xs here in
       let same_p : k ≡ p = omega arith in
@@ -231,20 +178,6 @@ seen nodes keys threads q c now a is =
           ∙ ap (λ (s : Contents). number_of key s.entries) is;
     }
 
--- the lists of a known key are there, and their numbers are far from the greatest
-pub record KeyLists (q : Shape) (at : ℕ) : Type 0 where
-  pub holders : at + at + 1 < length q.lists
-  pub waiters : at + at + 2 < length q.lists
-  pub few : at + at + 2 < 2 ^ 60
-
-pub key_lists : (nodes : List Grant) (keys : List Key) (threads : ℕ) (q c : Shape) (now : Contents) (at : ℕ)
-    → IsArena nodes keys threads q c → shown nodes keys threads q c ≡ now → at < length now.entries → KeyLists q at
-key_lists nodes keys threads q c now at a is known =
-    let s = seen nodes keys threads q c now a is in
-    let n = s.queues in
-    let few = s.few in
-    record { holders = omega arith; waiters = omega arith; few = omega arith }
-
 -- the claims on a known key
 pub queues-seen : (nodes : List Grant) (keys : List Key) (threads : ℕ) (q c : Shape) (now : Contents) (key : Key)
     (at : ℕ) → IsArena nodes keys threads q c → shown nodes keys threads q c ≡ now → at ≡ number_of key now.entries
@@ -300,3 +233,17 @@ held_key nodes (x ∷ xs) key is = (x, xs, refl, let same : (node_at nodes x).ke
 
 pub found_first : (xs : List ℕ) (x : ℕ) (rest : List ℕ) → xs ≡ x ∷ rest → IsSome (head_or xs None)
 found_first xs x rest is = subst (λ z. IsSome (head_or z None)) (sym is) (search rules)
+
+-- the lists of a known key are there, and their numbers are far from the greatest
+pub record KeyLists (q : Shape) (at : ℕ) : Type 0 where
+  pub holders : at + at + 1 < length q.lists
+  pub waiters : at + at + 2 < length q.lists
+  pub few : at + at + 2 < 2 ^ 60
+
+pub key_lists : (nodes : List Grant) (keys : List Key) (threads : ℕ) (q c : Shape) (now : Contents) (at : ℕ)
+    → IsArena nodes keys threads q c → shown nodes keys threads q c ≡ now → at < length now.entries → KeyLists q at
+key_lists nodes keys threads q c now at a is known =
+    let s = seen nodes keys threads q c now a is in
+    let n = s.queues in
+    let few = s.few in
+    record { holders = omega arith; waiters = omega arith; few = omega arith }

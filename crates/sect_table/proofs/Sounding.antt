@@ -3,57 +3,32 @@ use Rattle.std.proofs.Common.{◌≡◌, ◌≢◌, inl, inr, ℕ, ◌+◌, ◌<
 use Rattle.std.proofs.Common.{true, false, None, refl, sym, ◌∙◌, ap, subst, arith, append_assoc, get_or-set_same}
 use Rattle.std.proofs.Common.{get_or-set_other}
 use Rattle.std.specs.Prelude.{◌==◌, if◌then◌else◌}
-use Rattle.std.specs.List.{list_any}
-use Rattle.std.proofs.lemmas.Bool.{eqb-true, eq-eqb}
+use Rattle.std.proofs.lemmas.Bool.{eqb-true, eq-eqb, cases_Bool}
 use Rattle.std.proofs.lemmas.List.{length-set, append-nil}
 use Rattle.sect_modes.specs.declared.mode.Mode.{Mode}
 use Rattle.sect_modes.specs.declared.key.Key.{Key}
 use Rattle.sect_modes.specs.Key.{is_same_key}
 use Rattle.sect_table.specs.declared.claims.Claim.{Claim}
 use Rattle.sect_table.specs.declared.claims.Hold.{Hold}
-use Rattle.sect_table.specs.Contents.{Entry, Contents, entry_of, put, is_among, mode_in, mode_for, may_join, stay, give}
-use Rattle.sect_table.specs.Contents.{hold_of, claim_of, with_holder, with_waiter, with_grant, without_holder, AreApart}
+use Rattle.sect_table.specs.Contents.{Entry, Contents, entry_of, put, is_among, mode_in, mode_for, may_join, stay}
+use Rattle.sect_table.specs.Contents.{give, hold_of, claim_of, with_holder, with_waiter, with_grant, without_holder}
+use Rattle.sect_table.specs.Contents.{AreApart}
 use Rattle.sect_table.specs.Sound.{AreTogether, AreKeysApart, claims_by, waits_of, waiting_count, AreThreadsBelow}
 use Rattle.sect_table.specs.Sound.{AreWaitersBelow, IsSound}
-use Rattle.sect_table.proofs.Shown.{cases_of, same_key, key_itself, entry_of-here, entry_of-later, put-here, put-later}
-use Rattle.sect_table.proofs.Entries.{entry_key, entry_of-put, entry_of-put_other, put-put}
-use Rattle.sect_table.proofs.Claiming.{or_false, true_or_false, among-append, apart_swap, apart_insert, apart_stay}
-use Rattle.sect_table.proofs.Claiming.{together_push, together_stay, mode_for-missing, mode_for-push}
-use Rattle.sect_table.proofs.Claiming.{mode_for-push_other, mode_for-stay_other, missing_stay, mode_in-later}
-use Rattle.sect_table.proofs.Claiming.{mode_in-push, mode_in-push_other, keys_push, claims_by-append, claims_by-missing}
-use Rattle.sect_table.proofs.Claiming.{claims_by-one, claims_by-le, below_push}
-
--- one entry is put
-pub put_all : (P : Entry → Type 0) (e : Entry) (es : List Entry) → P e
-    → ((k : Key) → is_same_key k e.key ≡ false → P (entry_of k es)) → (k : Key) → P (entry_of k (put e es))
-put_all P e es here others k = elim (cases_of (is_same_key k e.key)) [
-  | inl same ↦ subst P (sym (ap (λ z. entry_of z (put e es)) (same_key k e.key same) ∙ entry_of-put e es)) here
-  | inr other ↦ subst P (sym (entry_of-put_other k e es other)) (others k other)
-]
-
-pub waits_of-put : (t : ℕ) (e : Entry) (es : List Entry)
-    → waits_of t (put e es) + claims_by t (entry_of e.key es).waiters ≡ waits_of t es + claims_by t e.waiters
-waits_of-put t e [] = omega arith
-waits_of-put t e (f ∷ fs) = elim (cases_of (is_same_key e.key f.key)) [
-  | inl here ↦
-      let a : waits_of t (put e (f ∷ fs)) ≡ claims_by t e.waiters + waits_of t fs =
-      ap (waits_of t) (put-here e f fs here) in
-      let b : claims_by t (entry_of e.key (f ∷ fs)).waiters ≡ claims_by t f.waiters =
-      ap (λ (z : Entry). claims_by t z.waiters) (entry_of-here e.key f fs here) in
-      omega arith
-  | inr later ↦
-      let a : waits_of t (put e (f ∷ fs)) ≡ claims_by t f.waiters + waits_of t (put e fs) =
-      ap (waits_of t) (put-later e f fs later) in
-      let b : claims_by t (entry_of e.key (f ∷ fs)).waiters ≡ claims_by t (entry_of e.key fs).waiters =
-      ap (λ (z : Entry). claims_by t z.waiters) (entry_of-later e.key f fs later) in
-      let rest = waits_of-put t e fs in
-      omega arith
-]
+use Rattle.sect_table.proofs.shared.Shown.{same_key, key_itself, entry_of-here, entry_of-later}
+use Rattle.sect_table.proofs.Shown.{put-here, put-later}
+use Rattle.sect_table.proofs.shared.Entries.{entry_key, entry_of-put, entry_of-put_other, put-put}
+use Rattle.sect_table.proofs.shared.Claiming.{true_or_false, among-append, apart_swap, apart_stay, mode_for-missing}
+use Rattle.sect_table.proofs.shared.Claiming.{mode_for-push, mode_for-push_other, mode_for-stay_other, missing_stay}
+use Rattle.sect_table.proofs.shared.Claiming.{mode_in-later}
+use Rattle.sect_table.proofs.Claiming.{apart_insert, together_push, together_stay, mode_in-push, mode_in-push_other}
+use Rattle.sect_table.proofs.Claiming.{keys_push, claims_by-append, claims_by-one, claims_by-le, below_push}
+use Rattle.sect_table.proofs.shared.Sounding.{put_all, waits_of-put}
 
 pub waiting_count-put : (e : Entry) (es : List Entry)
     → waiting_count (put e es) + length (entry_of e.key es).waiters ≡ waiting_count es + length e.waiters
 waiting_count-put e [] = omega arith
-waiting_count-put e (f ∷ fs) = elim (cases_of (is_same_key e.key f.key)) [
+waiting_count-put e (f ∷ fs) = elim (cases_Bool (is_same_key e.key f.key)) [
   | inl here ↦
       let a : waiting_count (put e (f ∷ fs)) ≡ length e.waiters + waiting_count fs =
       ap waiting_count (put-here e f fs here) in
@@ -80,29 +55,11 @@ below_put n e (f ∷ fs) b bs = elim (is_same_key e.key f.key) as
 
 pub below_at : (n : ℕ) (k : Key) (es : List Entry) → AreWaitersBelow n es → AreThreadsBelow n (entry_of k es).waiters
 below_at n k [] b = tt
-below_at n k (f ∷ fs) b = elim (cases_of (is_same_key k f.key)) [
+below_at n k (f ∷ fs) b = elim (cases_Bool (is_same_key k f.key)) [
   | inl here ↦ subst (λ (z : Entry). AreThreadsBelow n z.waiters) (sym (entry_of-here k f fs here)) b.0
   | inr later ↦ subst (λ (z : Entry). AreThreadsBelow n z.waiters) (sym (entry_of-later k f fs later))
       (below_at n k fs b.1)
 ]
-
-pub waits_at-le : (t : ℕ) (k : Key) (es : List Entry) → claims_by t (entry_of k es).waiters ≤ waits_of t es
-waits_at-le t k [] = omega arith
-waits_at-le t k (f ∷ fs) = elim (cases_of (is_same_key k f.key)) [
-  | inl here ↦ let b : claims_by t (entry_of k (f ∷ fs)).waiters ≡ claims_by t f.waiters =
-      ap (λ (z : Entry). claims_by t z.waiters) (entry_of-here k f fs here) in omega arith
-  | inr later ↦ let b : claims_by t (entry_of k (f ∷ fs)).waiters ≡ claims_by t (entry_of k fs).waiters =
-      ap (λ (z : Entry). claims_by t z.waiters) (entry_of-later k f fs later) in let rest = waits_at-le t k fs in
-      omega arith
-]
-
-pub waits_for_none : (t : ℕ) (es : List Entry) → list_any (λ e. is_among t e.waiters) es ≡ false → waits_of t es ≡ 0
-waits_for_none t [] e = refl
-waits_for_none t (f ∷ fs) e =
-    let both = or_false (is_among t f.waiters) (list_any (λ e. is_among t e.waiters) fs) e in
-    let here = claims_by-missing t f.waiters both.0 in
-    let rest = waits_for_none t fs both.1 in
-    omega arith
 
 -- the same lists
 pub sound_of : (c c' : Contents) → c'.held ≡ c.held → c'.entries ≡ c.entries → IsSound c → IsSound c'
@@ -151,7 +108,7 @@ holder_sound held entries spare spare' t m k s lt none joins =
       apart = put_all (λ z. AreApart (z.holders ++ z.waiters)) e' entries
           (subst AreApart (sym (append_assoc e.holders (claim_of t m ∷ []) e.waiters))
           (apart_insert e.holders (claim_of t m) e.waiters (s.apart k) none)) (λ j ne. s.apart j);
-      agree = λ u j. elim (cases_of (is_same_key j k)) [
+      agree = λ u j. elim (cases_Bool (is_same_key j k)) [
         | inl same ↦ subst (λ z. mode_in z (get_or (give t k m held) u []) ≡ mode_for u
             (entry_of z (put e' entries)).holders) (sym (same_key j k same))
             (own u e off.0 here no_mode (s.agree u k) ∙ sym (ap (λ (z : Entry). mode_for u z.holders) found))
@@ -159,7 +116,7 @@ holder_sound held entries spare spare' t m k s lt none joins =
             ∙ sym (ap (λ (z : Entry). mode_for u z.holders)
             (entry_of-put_other j e' entries (ap (is_same_key j) keyed ∙ other)))
       ];
-      keys = λ u. elim (cases_of (u == t)) [
+      keys = λ u. elim (cases_Bool (u == t)) [
         | inl same ↦ subst (λ z. AreKeysApart (get_or (give t k m held) z [])) (sym (eqb-true u t same))
             (subst AreKeysApart (sym here) (keys_push (get_or held t []) (hold_of k m) (s.keys t) no_mode))
         | inr other ↦ subst AreKeysApart
@@ -179,7 +136,7 @@ holder_sound held entries spare spare' t m k s lt none joins =
     own : (u : ℕ) (e : Entry) → is_among t e.holders ≡ false → get_or (give t k m held) t [] ≡ get_or held t []
         ++ hold_of k m ∷ [] → mode_in k (get_or held t []) ≡ None → mode_in k (get_or held u []) ≡ mode_for u e.holders
         → mode_in k (get_or (give t k m held) u []) ≡ mode_for u (e.holders ++ claim_of t m ∷ [])
-    own u e off here no_mode was = elim (cases_of (u == t)) [
+    own u e off here no_mode was = elim (cases_Bool (u == t)) [
       | inl same ↦ subst (λ z. mode_in k (get_or (give t k m held) z []) ≡ mode_for z (e.holders ++ claim_of t m ∷ []))
           (sym (eqb-true u t same))
           (ap (mode_in k) here ∙ (mode_in-push k (get_or held t []) (hold_of k m) no_mode (key_itself k)
@@ -192,9 +149,9 @@ holder_sound held entries spare spare' t m k s lt none joins =
     others : (u : ℕ) (j : Key) → is_same_key j k ≡ false → get_or (give t k m held) t [] ≡ get_or held t []
         ++ hold_of k m ∷ [] → mode_in j (get_or held u []) ≡ mode_for u (entry_of j entries).holders
         → mode_in j (get_or (give t k m held) u []) ≡ mode_for u (entry_of j entries).holders
-    others u j ne here was = elim (cases_of (u == t)) [
+    others u j ne here was = elim (cases_Bool (u == t)) [
       | inl same ↦
-          let apart : is_same_key k j ≡ false = elim (cases_of (is_same_key k j)) [
+          let apart : is_same_key k j ≡ false = elim (cases_Bool (is_same_key k j)) [
             | inl is ↦ absurd (true_or_false (is_same_key j k) (ap (is_same_key j) (same_key k j is) ∙ key_itself j) ne)
             | inr other_key ↦ other_key
           ] in
@@ -226,7 +183,7 @@ waiters_sound held entries spare spare' k ws s apart once below =
     record {
       together = put_all (λ z. AreTogether z.holders) e' entries (s.together k) (λ j ne. s.together j);
       apart = put_all (λ z. AreApart (z.holders ++ z.waiters)) e' entries apart (λ j ne. s.apart j);
-      agree = λ u j. elim (cases_of (is_same_key j k)) [
+      agree = λ u j. elim (cases_Bool (is_same_key j k)) [
         | inl same ↦ subst (λ z. mode_in z (get_or held u []) ≡ mode_for u (entry_of z (put e' entries)).holders)
             (sym (same_key j k same)) (s.agree u k ∙ sym (ap (λ (z : Entry). mode_for u z.holders) found))
         | inr other ↦ s.agree u j ∙ sym
@@ -262,7 +219,7 @@ waiter_sound held entries spare spare' t m k s lt none idle =
     (λ u. (let sum = claims_by-append u e.waiters (claim_of t m ∷ []) in
     let most = claims_by-le u (claim_of t m) in
     let le : waits_of u entries ≤ 1 = s.once u in
-    elim (cases_of (t == u)) [
+    elim (cases_Bool (t == u)) [
       | inl same ↦ let idle' : waits_of u entries ≡ 0 = ap (λ z. waits_of z entries) (sym (eqb-true t u same)) ∙ idle in
           omega arith
       | inr other ↦ let zero_claims = claims_by-one u (claim_of t m) other in omega arith
@@ -335,7 +292,7 @@ release_sound held entries spare spare' t h rest s lt is =
           (λ j ne. s.together j);
       apart = put_all (λ z. AreApart (z.holders ++ z.waiters)) e' entries (apart_stay t e.holders e.waiters (s.apart k))
           (λ j ne. s.apart j);
-      agree = λ u j. elim (cases_of (is_same_key j k)) [
+      agree = λ u j. elim (cases_Bool (is_same_key j k)) [
         | inl same ↦ subst (λ z. mode_in z (get_or (set held t rest) u []) ≡ mode_for u
             (entry_of z (put e' entries)).holders) (sym (same_key j k same))
             (own u here keys.0 (s.agree u k) ∙ sym (ap (λ (z : Entry). mode_for u z.holders) found))
@@ -343,7 +300,7 @@ release_sound held entries spare spare' t h rest s lt is =
             ∙ sym (ap (λ (z : Entry). mode_for u z.holders)
             (entry_of-put_other j e' entries (ap (is_same_key j) keyed ∙ other)))
       ];
-      keys = λ u. elim (cases_of (u == t)) [
+      keys = λ u. elim (cases_Bool (u == t)) [
         | inl same ↦ subst (λ z. AreKeysApart (get_or (set held t rest) z [])) (sym (eqb-true u t same))
             (subst AreKeysApart (sym here) keys.1)
         | inr other ↦ subst AreKeysApart (sym (get_or-set_other held t u rest [] (apart_threads u t other))) (s.keys u)
@@ -360,7 +317,7 @@ release_sound held entries spare spare' t h rest s lt is =
     own : (u : ℕ) → get_or (set held t rest) t [] ≡ rest → mode_in h.key rest ≡ None
         → mode_in h.key (get_or held u []) ≡ mode_for u (entry_of h.key entries).holders
         → mode_in h.key (get_or (set held t rest) u []) ≡ mode_for u (stay t (entry_of h.key entries).holders)
-    own u here none was = elim (cases_of (u == t)) [
+    own u here none was = elim (cases_Bool (u == t)) [
       | inl same ↦ subst (λ z. mode_in h.key (get_or (set held t rest) z []) ≡ mode_for z
           (stay t (entry_of h.key entries).holders)) (sym (eqb-true u t same))
           (ap (mode_in h.key) here ∙ (none
@@ -373,9 +330,9 @@ release_sound held entries spare spare' t h rest s lt is =
     others : (u : ℕ) (j : Key) → is_same_key j h.key ≡ false → get_or (set held t rest) t [] ≡ rest
         → mode_in j (get_or held u []) ≡ mode_for u (entry_of j entries).holders
         → mode_in j (get_or (set held t rest) u []) ≡ mode_for u (entry_of j entries).holders
-    others u j ne here was = elim (cases_of (u == t)) [
+    others u j ne here was = elim (cases_Bool (u == t)) [
       | inl same ↦
-          let apart : is_same_key h.key j ≡ false = elim (cases_of (is_same_key h.key j)) [
+          let apart : is_same_key h.key j ≡ false = elim (cases_Bool (is_same_key h.key j)) [
             | inl eq ↦ absurd (true_or_false (is_same_key j h.key)
                 (ap (is_same_key j) (same_key h.key j eq) ∙ key_itself j) ne)
             | inr other_key ↦ other_key

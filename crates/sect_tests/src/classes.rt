@@ -2,7 +2,7 @@
 
 use crate::programs::{ACCOUNTS, APART, CHAIN, NEXT, NULL, SHARED, program_of};
 use Variable::{Global, Local};
-use sect_points::{Classes, Variable, class_of_path, points_to, site_classes};
+use sect_points::{Classes, Variable, class_of_path, classes, points_to};
 use std::process::Abort;
 use std::test::Fail;
 
@@ -16,7 +16,7 @@ type Leads = (Variable, usize, Option<u16>);
 fn classes_of(rt: &impl AllocGlobal, text: &[u8]) -> Result<Classes, Fail> {
     let program = program_of(rt.alloc(), text)?;
     let sets = points_to(rt.alloc(), &program)?;
-    Ok(site_classes(rt.alloc(), sets)?)
+    Ok(classes(rt.alloc(), sets)?)
 }
 
 /// The sites are in these classes.

@@ -39,6 +39,8 @@ mod programs;
 #[cfg(test)]
 mod requests;
 #[cfg(test)]
+mod threads;
+#[cfg(test)]
 mod typing;
 #[cfg(test)]
 mod wanted;

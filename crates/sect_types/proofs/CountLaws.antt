@@ -17,8 +17,8 @@ use Rattle.sect_front.specs.TreeView.{TreeView}
 use Rattle.sect_types.specs.Items.{variables}
 use Rattle.sect_types.specs.declared.sums.Sums.{Sums}
 use Rattle.sect_types.specs.Sums.{nothing, sums, sums_at, or_nothing, sums_within, procedure_sums, statement_sums}
-use Rattle.sect_types.specs.Sums.{block_sums, primitive_sums, number_of}
-use Rattle.sect_types.specs.Expanded.{Scene, Ahead, Expander, Freshens, of_call, past_statement, past_block}
+use Rattle.sect_types.specs.Sums.{block_sums, primitive_sums, number_of, sums_of}
+use Rattle.sect_types.specs.Expanded.{Scene, NextNumbers, Expander, Freshens, of_call, past_statement, past_block}
 use Rattle.sect_types.specs.Expanded.{expanded_statement, expanded_block, expand_within, call_of, procedure_numbered}
 use Rattle.sect_types.specs.Expanded.{after_call, set_parameters, clear_locals, expanded_thread, statement_fresh}
 use Rattle.sect_types.specs.Expanded.{block_fresh, fresh_of, fresh_within, fresh_in}
@@ -42,12 +42,12 @@ joined_count (Section i p r) k = omega (arith, joined_count r k)
 
 -- each call comes to what the table says
 abbrev CountsCalls : List Sums → Expander → Type 0
-CountsCalls table call = (q : Option ℕ) (v : Scene) (a : Ahead) (vs : List Operand) (k : TextView) →
+CountsCalls table call = (q : Option ℕ) (v : Scene) (a : NextNumbers) (vs : List Operand) (k : TextView) →
     statement_count (call q v a vs k) ≡ (sums_at table q).statements + statement_count k
 
 mutual
   statement_comes : (ps : List Procedure) (table : List Sums) (call : Expander) → CountsCalls table call
-      → (v : Scene) (a : Ahead) (s : StatementView) (k : TextView) →
+      → (v : Scene) (a : NextNumbers) (s : StatementView) (k : TextView) →
       statement_count (expanded_statement ps table call v a s k) ≡ (statement_sums ps table s).statements +
       statement_count k
   statement_comes ps table call h v a (Primitive p) k =
@@ -61,7 +61,7 @@ mutual
   statement_comes ps table call h v a (Call f vs) k = h (number_of ps f) v a vs k
 
   pub block_count : (ps : List Procedure) (table : List Sums) (call : Expander) → CountsCalls table call
-      → (v : Scene) (a : Ahead) (b : BlockView) →
+      → (v : Scene) (a : NextNumbers) (b : BlockView) →
       statement_count (expanded_block ps table call v a b) ≡ (block_sums ps table b).statements
   block_count ps table call h v a End = refl
   block_count ps table call h v a (Then s b) =
@@ -82,10 +82,6 @@ set_count v x [] vs k = omega arith
 set_count v x (d ∷ ds) [] k = omega (arith, set_count v (x + 1) ds [] k)
 set_count v x (d ∷ ds) (u ∷ us) k = omega (arith, set_count v (x + 1) ds us k)
 
-abbrev pub sums_of : List Procedure → List Sums → Option Procedure → Sums
-sums_of ps table None = nothing
-sums_of ps table (Some p) = procedure_sums ps table p
-
 mapped : (ps qs : List Procedure) (table : List Sums) (q : ℕ)
     → or_nothing (slice_get (map (procedure_sums ps table) qs) q) ≡ sums_of ps table (slice_get qs q)
 mapped ps [] table q = refl
@@ -100,7 +96,7 @@ looked ps table (Some q) = mapped ps ps table q
 
 call_count : (rs : List Record) (gs : List GlobalObject) (ps : List Procedure) (table : List Sums) (call : Expander)
     → CountsCalls table call →
-    (o : Option Procedure) (q : Option ℕ) (v : Scene) (a : Ahead) (vs : List Operand) (k : TextView) →
+    (o : Option Procedure) (q : Option ℕ) (v : Scene) (a : NextNumbers) (vs : List Operand) (k : TextView) →
     statement_count (call_of rs gs ps table call o q v a vs k) ≡ (sums_of ps table o).statements + statement_count k
 call_count rs gs ps table call h None q v a vs k = omega arith
 call_count rs gs ps table call h (Some p) q v a vs k =
@@ -125,7 +121,7 @@ call_counts (suc n) rs gs ps q v a vs k =
     ∙ ap (λ (s : Sums). s.statements + statement_count k) (sym (looked ps (sums_within n ps) q))
 
 -- the text of a thread has as many statements as the sums say
-pub thread_counts : (t : TreeView) (a : Ahead) (h : Thread)
+pub thread_counts : (t : TreeView) (a : NextNumbers) (h : Thread)
     → statement_count (expanded_thread t a h) ≡ (block_sums t.procedures (sums t.procedures) h.body).statements
 thread_counts t a h =
     block_count t.procedures (sums t.procedures) (expand_within (length t.procedures) t.records t.globals t.procedures)

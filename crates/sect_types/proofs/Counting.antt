@@ -25,14 +25,17 @@ use Rattle.sect_types.specs.Sums.{nothing, both, around, statement_sums, block_s
 use Rattle.sect_types.specs.declared.rule.Rule.{Rule}
 use Rattle.sect_types.specs.declared.rule.Rule.TheVariants.{Unknown, Twice, WrongType, SharedOutside, Nested, TooMany}
 use Rattle.sect_types.specs.declared.rule.Rule.TheVariants.{Recursion, Arguments}
-use Rattle.sect_types.specs.Rules.{Declared, Counts, breaks, after, rule_of, Verdict, Fine, fault_or, judge}
-use Rattle.sect_types.specs.Rules.{least, declared_in, after_item}
+use Rattle.sect_types.specs.Rules.{Declared, Counts, after}
+use Rattle.sect_types.specs.steps.Judging.{breaks, rule_of, Verdict, Fine, fault_or, judge}
+use Rattle.sect_types.specs.Rules.{declared_in, after_item}
+use Rattle.sect_types.specs.steps.Judging.{least}
 use Rattle.sect_types.specs.First.{none_yet, IsTyped}
-use Rattle.sect_types.specs.Clean.{AreCleanThreads}
-use Rattle.sect_types.specs.Expanded.{Ahead, statement_sections, block_sections, past_thread, expanded_thread}
+use Rattle.sect_types.specs.steps.Clean.{AreCleanThreads}
+use Rattle.sect_types.specs.Expanded.{NextNumbers, statement_sections, block_sections, past_thread, expanded_thread}
 use Rattle.sect_types.specs.Expanded.{expanded_threads, texts_of}
 use Rattle.sect_types.proofs.CountLaws.{thread_counts}
 use Rattle.sect_types.proofs.Walked.{NoneBroken, statement_after, block_after, declared_after}
+use Rattle.sect_types.proofs.Ways.{rule_breaks}
 use Rattle.sect_types.proofs.Walked.{records_after, globals_after, procedure_after, procedures_after, thread_after}
 use Rattle.sect_types.proofs.Walked.{threads_after, before_procedures, before_threads, text_clean}
 use Rattle.sect_types.proofs.SiteLaws.{AreClean, typed_clean, thread_makes}
@@ -82,7 +85,7 @@ pub fine_none : (d : Declared) (c e : Counts) (w : List Item) → judge d c w �
 fine_none d c e [] h i r b = b
 fine_none d c e (item ∷ w) h zero r b =
     let f = fine_first (rule_of d c item) c.items (judge d (after d c item) w) e h in
-    let off : true ≡ false = sym b ∙ none_least (breaks d c item) f.0 r in cc
+    let off : true ≡ false = sym (rule_breaks d c item r b) ∙ none_least (breaks d c item) f.0 r in cc
 fine_none d c e (item ∷ w) h (suc i) r b =
     fine_none d (after d c item) e w (fine_first (rule_of d c item) c.items (judge d (after d c item) w) e h).1 i r b
 
@@ -366,12 +369,12 @@ before_add t =
     }
 
 -- the texts have as many statements, and as many sites, as the sums of their bodies
-threads_count : (t : TreeView) (a : Ahead) (hs : List Thread)
+threads_count : (t : TreeView) (a : NextNumbers) (hs : List Thread)
     → total_statements (expanded_threads t a hs) ≡ (thread_sums (declared_in t) hs).statements
 threads_count t a [] = refl
 threads_count t a (h ∷ hs) = omega (arith, thread_counts t a h, threads_count t (past_thread t a h) hs)
 
-threads_make : (t : TreeView) → AreClean (declared_in t) t.procedures → (a : Ahead) (hs : List Thread)
+threads_make : (t : TreeView) → AreClean (declared_in t) t.procedures → (a : NextNumbers) (hs : List Thread)
     → AreCleanThreads (declared_in t) hs
     → length (all_made (expanded_threads t a hs)) ≡ (thread_sums (declared_in t) hs).sites
 threads_make t c a [] g = refl
@@ -392,7 +395,7 @@ pub record AreCounted (t : TreeView) (c : Counts) : Type 0 where
 
 pub typed_counts : (t : TreeView) → IsTyped t → AreCounted t (end_of t)
 typed_counts t h =
-    let a : Ahead = record { sites = length t.globals; sections = 0; fresh = 0 } in
+    let a : NextNumbers = record { sites = length t.globals; sections = 0; fresh = 0 } in
     let x = before_add t in
     let y = threads_add (declared_in t) (before_threads t) [] t.threads in
     record {

@@ -10,11 +10,14 @@ use Rattle.sect_front.specs.declared.tree.Procedure.{Procedure}
 use Rattle.sect_front.specs.TreeView.{TreeView}
 use Rattle.sect_types.specs.declared.place.Place.TheVariants.{InProcedure}
 use Rattle.sect_types.specs.Items.{variables}
-use Rattle.sect_types.specs.Sums.{number_of, prepend, statement_calls, block_calls, calls_in, returns}
-use Rattle.sect_types.specs.Rules.{Declared, returns_to, declared_in}
+use Rattle.sect_types.specs.Sums.{number_of, prepend, statement_calls, block_calls, calls_in}
+use Rattle.sect_types.specs.steps.Search.{returns}
+use Rattle.sect_types.specs.Rules.{Declared, declared_in}
+use Rattle.sect_types.specs.steps.Search.{returns_to}
 use Rattle.sect_types.specs.First.{IsTyped}
-use Rattle.sect_types.specs.Clean.{IsCleanStatement, IsCleanBlock}
-use Rattle.sect_types.proofs.EnoughLaws.{or_cases, IsAcyclic}
+use Rattle.sect_types.specs.steps.Clean.{IsCleanStatement, IsCleanBlock}
+use Rattle.std.proofs.lemmas.Bool.{or_cases}
+use Rattle.sect_types.proofs.EnoughLaws.{IsAcyclic}
 use Rattle.sect_types.proofs.SiteLaws.{AreClean, typed_clean}
 
 -- a call is of a procedure that doesn't return

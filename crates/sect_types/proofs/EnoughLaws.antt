@@ -1,33 +1,19 @@
 -- Without recursion no chain of calls is longer than there are procedures.
-use Rattle.std.specs.Prelude.{◌||◌, ◌-◌, ◌<◌, ◌≤◌, Bool, true, false, is_some, nat_eq, eqb}
-use Rattle.std.specs.List.{list_any, IsDistinct, AllByRecursion}
-use Rattle.std.proofs.Common.{◌≡◌, ◌⊎◌, inl, inr, ℕ, zero, suc, ◌+◌, List, [], ◌∷◌, Option, Some, None, refl, sym}
-use Rattle.std.proofs.Common.{arith, subst, length, slice_get}
-use Rattle.std.proofs.lemmas.Bool.{eqb-true, eqb-false}
+use Rattle.std.specs.Prelude.{◌||◌, ◌-◌, ◌<◌, Bool, true, false, is_some, nat_eq, eqb, ◌≤◌}
+use Rattle.std.specs.List.{list_any, AllByRecursion, IsDistinct}
+use Rattle.std.proofs.Common.{◌≡◌, inl, inr, ℕ, zero, suc, ◌+◌, List, [], ◌∷◌, Option, Some, None, refl, arith, subst}
+use Rattle.std.proofs.Common.{length, slice_get, sym}
+use Rattle.std.proofs.lemmas.Bool.{eqb-true, eqb-false, or_cases, cases_Bool}
 use Rattle.std.proofs.lemmas.Option.{slice_get_within}
-use Rattle.std.proofs.lemmas.Map.Steps.{length-le_from_distinct_below}
 use Rattle.sect_front.specs.declared.tree.Procedure.{Procedure}
-use Rattle.sect_types.specs.Sums.{sums, sums_at, sums_within, calls_in, reaches, returns}
-use Rattle.sect_types.proofs.FuelLaws.{chain, or_false, one_more}
-
-pub or_cases : (a b : Bool) → (a || b) ≡ true → (a ≡ true) ⊎ (b ≡ true)
-or_cases true b h = inl refl
-or_cases false b h = inr h
-
-pub or_left : (a b : Bool) → a ≡ true → (a || b) ≡ true
-or_left true b h = refl
-or_left false b h = absurd (let off : false ≡ true = h in cc)
-
-pub or_right : (a b : Bool) → b ≡ true → (a || b) ≡ true
-or_right true b h = refl
-or_right false b h = h
-
-pub two : (b : Bool) → (b ≡ true) ⊎ (b ≡ false)
-two true = inl refl
-two false = inr refl
+use Rattle.sect_types.specs.Sums.{calls_in, sums, sums_at, sums_within}
+use Rattle.sect_lemmas.proofs.Booleans.{neither, or_left, or_right}
+use Rattle.sect_types.specs.steps.Search.{reaches, returns}
+use Rattle.std.proofs.lemmas.Map.Steps.{length-le_from_distinct_below}
+use Rattle.sect_types.proofs.FuelLaws.{chain, one_more}
 
 pub same : (n : ℕ) → eqb n n ≡ true
-same n = elim (two (eqb n n)) [ inl e ↦ e | inr e ↦ absurd (eqb-false n n e refl) ]
+same n = elim (cases_Bool (eqb n n)) [ inl e ↦ e | inr e ↦ absurd (eqb-false n n e refl) ]
 
 -- one of which the test holds
 pub witness : (f : ℕ → Bool) (xs : List ℕ) → list_any f xs ≡ true
@@ -109,7 +95,7 @@ there ps q (Some p) e h = slice_get_within ps q p e
 
 pub none_equal : (q : ℕ) (xs : List ℕ) → list_any (eqb q) xs ≡ false → AllByRecursion (λ y. eqb q y ≡ false) xs
 none_equal q [] h = tt
-none_equal q (x ∷ xs) h = (let s = or_false (eqb q x) (list_any (eqb q) xs) h in (s.0, none_equal q xs s.1))
+none_equal q (x ∷ xs) h = (let s = neither (eqb q x) (list_any (eqb q) xs) h in (s.0, none_equal q xs s.1))
 
 -- those that have been passed differ, are procedures, and reach q
 pub record IsWay (ps : List Procedure) (xs : List ℕ) (q : ℕ) : Type 0 where
@@ -120,7 +106,7 @@ pub record IsWay (ps : List Procedure) (xs : List ℕ) (q : ℕ) : Type 0 where
 -- q is passed too
 longer_differ : (ps : List Procedure) (xs : List ℕ) (q : ℕ) → IsAcyclic ps → IsWay ps xs q → IsDistinct eqb (q ∷ xs)
 unfolding IsDistinct
-longer_differ ps xs q a w = elim (two (list_any (eqb q) xs)) [
+longer_differ ps xs q a w = elim (cases_Bool (list_any (eqb q) xs)) [
   | inl e ↦ absurd (no_return (length xs) ps q a (length-le_from_distinct_below xs (length ps) w.differ w.below)
       (w.reach q e))
   | inr e ↦ (none_equal q xs e, w.differ)
@@ -170,7 +156,7 @@ no_way ps q = record {
 -- without recursion there is no chain of as many calls as there are procedures, so that the sums are enough
 pub enough : (ps : List Procedure) (q : ℕ) → IsAcyclic ps
     → sums_at (sums_within (suc (length ps)) ps) (Some q) ≡ sums_at (sums ps) (Some q)
-enough ps q a = elim (two (chain (length ps) ps (Some q))) [
+enough ps q a = elim (cases_Bool (chain (length ps) ps (Some q))) [
   | inl e ↦ absurd (ends (length ps) ps [] q a (no_way ps q) (omega arith) e)
   | inr e ↦ one_more (length ps) ps (Some q) e
 ]

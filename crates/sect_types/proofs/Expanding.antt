@@ -1,7 +1,6 @@
 -- A block of which the first statements have been expanded.
-use Rattle.std.proofs.Common.{◌≡◌, ℕ, ◌+◌, ◌<◌, List, [], ◌∷◌, drop, get_or}
-use Rattle.std.proofs.Common.{length, refl, sym, ap, ◌∙◌, append-nil, arith, Result, Ok, Err}
-use Rattle.std.proofs.Common.{OnOk}
+use Rattle.std.proofs.Common.{◌≡◌, ℕ, ◌+◌, ◌<◌, List, [], ◌∷◌, drop, get_or, length, refl, sym, ap, ◌∙◌, append-nil}
+use Rattle.std.proofs.Common.{arith, Result, Ok, Err, OnOk}
 use Rattle.sect_types.specs.declared.text.Step.{Step}
 use Rattle.sect_types.specs.Texts.{step_then}
 use Rattle.sect_front.specs.Syntax.{StatementView, BlockView, End, Then}
@@ -13,13 +12,11 @@ use Rattle.sect_types.specs.declared.action.Action.TheVariants as action
 use Rattle.sect_types.specs.declared.action.Value.TheVariants as value
 use Rattle.sect_types.specs.Sight.{operand_of}
 use Rattle.sect_types.specs.Statements.{TextView, Stop, Do, joined}
-use Rattle.sect_types.specs.Expanded.{Scene, argument_in}
-use Rattle.sect_types.specs.Expanded.{cleared, set_parameters, clear_locals}
-use Rattle.sect_types.specs.steps.Expanding.{SettingView, FrontView, front_past_block}
-use Rattle.sect_types.specs.steps.Expanding.{expanded_there, block_there}
-use Rattle.sect_types.proofs.Lists.{drop_next}
+use Rattle.sect_types.specs.Expanded.{Scene, argument_in, cleared, set_parameters, clear_locals}
+use Rattle.sect_types.specs.steps.Expanding.{SettingView, FrontView, front_past_block, expanded_there, block_there}
+use Rattle.sect_lemmas.proofs.Elements.{drop_next}
 use Rattle.sect_types.proofs.Filling.{joined_step}
-use Rattle.sect_types.proofs.Joining.{joined_stop}
+use Rattle.sect_types.proofs.shared.Joining.{joined_stop}
 
 set_on : (v : Scene) (x : ℕ) (ds : List Declaration) (us : List Operand) (b k : TextView)
     → set_parameters v x ds us (joined b k) ≡ joined (set_parameters v x ds us b) k

@@ -1,10 +1,10 @@
 -- The section of a number is found.
-use Rattle.std.proofs.Common.{◌≡◌, ℕ, zero, suc, ◌+◌, ◌<◌, ◌≤◌, Bool, true, false, List, [], ◌∷◌, drop, get_or, length}
-use Rattle.std.proofs.Common.{Option, Some, None, nat_eq, if◌then◌else◌, refl, sym, ap, ◌∙◌, arith}
+use Rattle.std.proofs.Common.{◌≡◌, ℕ, ◌+◌, ◌<◌, ◌≤◌, Bool, true, false, List, drop, get_or, length, Option, Some, None}
+use Rattle.std.proofs.Common.{nat_eq, if◌then◌else◌, refl, sym, ap, ◌∙◌}
 use Rattle.std.specs.Option.{option_or}
-use Rattle.sect_types.proofs.Lists.{drop_next}
+use Rattle.sect_lemmas.proofs.Elements.{drop_next}
 use Rattle.std.proofs.lemmas.List.{drop_all}
-use Rattle.sect_types.specs.Statements.{TextView, Stop, weight, section_body}
+use Rattle.sect_types.specs.Statements.{TextView, Stop, section_body}
 use Rattle.sect_types.specs.Texts.{step_then, statements_of}
 use Rattle.sect_types.specs.declared.text.Step.{Step}
 use Rattle.sect_types.specs.declared.text.Step.TheVariants as step
@@ -31,18 +31,6 @@ first_or_rest n (step.Section i p) k = by (nat_eq i n)
         (section_body n k)
     by true = refl
     by false = refl
-
-pub weight_at : (ss : List Step) (i : ℕ) (d : Step) → i < length ss
-    → weight (step_then (get_or ss i d) Stop) ≤ weight (statements_of ss)
-weight_at [] i d h = absurd (omega arith)
-weight_at (step.Do a ∷ ss) zero d h = omega arith
-weight_at (step.If t p q ∷ ss) zero d h = omega arith
-weight_at (step.While t p ∷ ss) zero d h = omega arith
-weight_at (step.Section i p ∷ ss) zero d h = omega arith
-weight_at (step.Do a ∷ ss) (suc i) d h = omega (arith, weight_at ss i d (omega arith))
-weight_at (step.If t p q ∷ ss) (suc i) d h = omega (arith, weight_at ss i d (omega arith))
-weight_at (step.While t p ∷ ss) (suc i) d h = omega (arith, weight_at ss i d (omega arith))
-weight_at (step.Section j p ∷ ss) (suc i) d h = omega (arith, weight_at ss i d (omega arith))
 
 -- in the steps from i on there is what is sought in the whole text
 pub record IsSought (n : ℕ) (text : TextView) (ss : List Step) (i : ℕ) : Type 0 where

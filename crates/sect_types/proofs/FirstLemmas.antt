@@ -1,7 +1,7 @@
 -- The verdict on a list names its first fault.
-use Rattle.std.proofs.Common.{◌≡◌, ℕ, zero, suc, ◌+◌, ◌≤◌, Bool, true, false, List, [], ◌∷◌, Option, Some, None, Result}
-use Rattle.std.proofs.Common.{Ok, Err, if◌then◌else◌, refl, sym, ◌∙◌, true≢false, arith, subst, ap, ◌⊎◌, inl, inr, ◌<◌}
-use Rattle.std.proofs.Common.{◌-◌, get_or}
+use Rattle.std.proofs.Common.{◌≡◌, ℕ, zero, suc, ◌+◌, ◌≤◌, Bool, true, false, List, [], ◌∷◌, Option, Some, None}
+use Rattle.std.proofs.Common.{Result, Ok, Err, if◌then◌else◌, refl, sym, ◌∙◌, true≢false, arith, subst, ap, ◌⊎◌, inl}
+use Rattle.std.proofs.Common.{inr, ◌<◌, ◌-◌, get_or}
 use Rattle.std.proofs.Math.Nat.{eq-or-lt_of_le}
 use Rattle.sect_front.specs.declared.tree.Primitive.TheVariants as primitive
 use Rattle.sect_types.specs.declared.rule.Rule.{Rule}
@@ -16,10 +16,12 @@ use Rattle.sect_types.specs.Items.{items, record_items, global_items, procedure_
 use Rattle.sect_types.specs.Items.{AField, AGlobal, AProcedure, AThread, ALocal, AStatement, PrimitiveHead, TestHead}
 use Rattle.sect_types.specs.Items.{AtomicHead, CallHead}
 use Rattle.sect_types.specs.declared.place.Place.TheVariants.{InThread, InProcedure}
-use Rattle.sect_types.specs.Rules.{Declared, declared_in, Counts, breaks, after, least, rule_of, judge, fault_or}
-use Rattle.sect_types.specs.Rules.{Verdict, Fine, Faulty}
+use Rattle.sect_types.specs.Rules.{Declared, declared_in, Counts, after}
+use Rattle.sect_types.specs.steps.Judging.{breaks, least, rule_of, judge, fault_or}
+use Rattle.sect_types.specs.steps.Judging.{Verdict, Fine, Faulty}
 use Rattle.sect_types.specs.First.{BreaksFrom, number_of_rule, IsFirstFrom, none_yet, IsTyped}
 use Rattle.sect_types.specs.steps.Walks.{Walks}
+use Rattle.sect_types.proofs.Ways.{breaks_rule, rule_breaks}
 use Rattle.sect_types.specs.declared.rule.Fault.{Fault}
 use Rattle.sect_types.specs.declared.rule.Fault.TheVariants as fault
 
@@ -111,7 +113,7 @@ later : (text : Declared) (c : Counts) (item : Item) (more : List Item) → ((q 
 later text c item more none (Fine d) says = here
   where
     here : (i : ℕ) (r : Rule) → BreaksFrom text c (item ∷ more) i r → ⊥
-    here zero r h = none r h
+    here zero r h = none r (rule_breaks text c item r h)
     here (suc i) r h = says i r h
 later text c item more none (Faulty n r) (i, at, is) = (
   suc i,
@@ -124,7 +126,7 @@ later text c item more none (Faulty n r) (i, at, is) = (
 )
   where
     after_it : (j : ℕ) (q : Rule) → BreaksFrom text c (item ∷ more) j q → suc i ≤ j
-    after_it zero q h = absurd (none q h)
+    after_it zero q h = absurd (none q (rule_breaks text c item q h))
     after_it (suc j) q h = omega (arith, is.first j q h)
 
 pub judge_says : (text : Declared) (c : Counts) (list : List Item) → Says text c list (judge text c list)
@@ -136,12 +138,15 @@ judge_says text c (item ∷ more) =
         → Says text (after text c item) more (judge text (after text c item) more)
         → Says text c (item ∷ more) (fault_or o (c.items) (judge text (after text c item) more))
     by None none rest = later text c item more none (judge text (after text c item) more) rest
-    by (Some r) (here, least_here) rest =
-        (0, omega arith, record { broken = here; first = λ j q h. omega arith; least = least_here })
-
-pub fine_says : (text : Declared) (c d : Counts) (list : List Item) → judge text c list ≡ Fine d → (i : ℕ) (r : Rule)
-    → BreaksFrom text c list i r → ⊥
-fine_says text c d list e = subst (Says text c list) e (judge_says text c list)
+    by (Some r) (here, least_here) rest = (
+      0,
+      omega arith,
+      record {
+        broken = breaks_rule text c item r here;
+        first = λ j q h. omega arith;
+        least = λ q h. least_here q (rule_breaks text c item q h);
+      },
+    )
 
 pub fault_says : (text : Declared) (list : List Item) (n : ℕ) (r : Rule) → judge text none_yet list ≡ Faulty n r
     → IsFirstFrom text none_yet list n r
@@ -169,3 +174,7 @@ pub only_memory : {A : Type 0} (t : TreeView) (start new : Counts) (f : Fault) (
 only_memory t start new f (Ok a) e walks h typed = absurd h
 only_memory t start new f (Err x) e walks h typed =
     h ∙ refused_typed t new f (subst (λ c. Walks {A = ℕ} (declared_in t) (all_items t) c new (Err f)) e walks) typed
+
+pub fine_says : (text : Declared) (c d : Counts) (list : List Item) → judge text c list ≡ Fine d → (i : ℕ) (r : Rule)
+    → BreaksFrom text c list i r → ⊥
+fine_says text c d list e = subst (Says text c list) e (judge_says text c list)

@@ -1,7 +1,6 @@
 -- The types of fresh locals are known, and are those of the program.
-use Rattle.std.specs.Prelude.{Bool, true, false, ◌&&◌}
-use Rattle.std.proofs.Common.{◌≡◌, ℕ, zero, suc, ◌+◌, List, [], ◌∷◌, ◌++◌, map, Option, Some, None, refl, ap}
-use Rattle.std.proofs.Common.{length}
+use Rattle.std.specs.Prelude.{true}
+use Rattle.std.proofs.Common.{◌≡◌, ℕ, zero, suc, ◌+◌, List, [], ◌∷◌, ◌++◌, map, Option, Some, None, refl, ap, length}
 use Rattle.sect_front.specs.declared.tree.Declaration.{Declaration}
 use Rattle.sect_front.specs.declared.tree.Procedure.{Procedure}
 use Rattle.sect_front.specs.declared.tree.Thread.{Thread}
@@ -13,36 +12,29 @@ use Rattle.sect_types.specs.Sight.{names_of_records}
 use Rattle.sect_types.specs.Items.{variables}
 use Rattle.sect_types.specs.Rules.{knows_kind}
 use Rattle.sect_types.specs.Sums.{sums, sums_within, number_of, statement_sums, block_sums}
-use Rattle.sect_types.specs.Expanded.{Freshens, of_call, statement_fresh, block_fresh, fresh_of, fresh_within, fresh_in}
-use Rattle.sect_types.specs.Expanded.{procedure_numbered, local_types_of}
+use Rattle.sect_types.specs.Expanded.{Freshens, of_call, statement_fresh, block_fresh, fresh_of, fresh_within}
+use Rattle.sect_types.specs.Expanded.{fresh_in, procedure_numbered, local_types_of}
 use Rattle.sect_types.specs.steps.Listing.{all_known}
 use Rattle.sect_types.specs.steps.Threads.{variables_fine}
 use Rattle.sect_types.specs.steps.FreshTypes.{local_types, fresh_known, all_fresh_known}
 use Rattle.sect_types.proofs.ProgramLemmas.{numbered_known}
-
-both_true : (a b : Bool) → a ≡ true → b ≡ true → (a && b) ≡ true
-both_true true b h g = g
-both_true false b h g = h
-
-parts_true : (a b : Bool) → (a && b) ≡ true → (a ≡ true) × (b ≡ true)
-parts_true true b h = (refl, h)
-parts_true false b h = absurd (cc)
+use Rattle.std.proofs.lemmas.Bool.{and_from, and_parts}
 
 both_known : (records : List (List ℕ)) (xs ys : List Fresh) → fresh_known records xs ≡ true
     → fresh_known records ys ≡ true
     → fresh_known records (xs ++ ys) ≡ true
 both_known records [] ys h g = g
 both_known records (x ∷ xs) ys h g =
-    let parts = parts_true (knows_kind records x.declared.kind) (fresh_known records xs) h in
-    both_true (knows_kind records x.declared.kind) (fresh_known records (xs ++ ys)) parts.0
+    let parts = and_parts (knows_kind records x.declared.kind) (fresh_known records xs) h in
+    and_from (knows_kind records x.declared.kind) (fresh_known records (xs ++ ys)) parts.0
     (both_known records xs ys parts.1 g)
 
 call_known : (records : List (List ℕ)) (c : ℕ) (ds : List Declaration) → all_known records ds ≡ true
     → fresh_known records (of_call c ds) ≡ true
 call_known records c [] h = refl
 call_known records c (d ∷ ds) h =
-    let parts = parts_true (knows_kind records d.kind) (all_known records ds) h in
-    both_true (knows_kind records d.kind) (fresh_known records (of_call c ds)) parts.0 (call_known records c ds parts.1)
+    let parts = and_parts (knows_kind records d.kind) (all_known records ds) h in
+    and_from (knows_kind records d.kind) (fresh_known records (of_call c ds)) parts.0 (call_known records c ds parts.1)
 
 -- where those of each call are known, so are those of a body
 abbrev CallsKnown : List (List ℕ) → Freshens → Type 0
@@ -90,7 +82,7 @@ pub all_fresh : (t : TreeView) (records : List (List ℕ)) (hs : List Thread) �
 all_fresh t records [] h = refl
 all_fresh t records (x ∷ hs) h =
     let ps = t.procedures in
-    both_true (fresh_known records (fresh_in t x)) (all_fresh_known records (map (fresh_in t) hs))
+    and_from (fresh_known records (fresh_in t x)) (all_fresh_known records (map (fresh_in t) hs))
     (block_known records ps (sums ps) (fresh_within (length ps) ps) (calls_known (length ps) records ps h) 0 x.body)
     (all_fresh t records hs h)
 

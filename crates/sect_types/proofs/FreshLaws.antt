@@ -12,13 +12,15 @@ use Rattle.sect_types.specs.Sums.{sums_within, statement_sums, block_sums, numbe
 use Rattle.sect_types.specs.Sums.{block_calls, calls_in}
 use Rattle.sect_types.specs.Expanded.{Freshens, of_call, statement_fresh, block_fresh, fresh_of, fresh_within}
 use Rattle.sect_types.specs.Expanded.{procedure_numbered}
-use Rattle.sect_types.proofs.FuelLaws.{Agree, or_false, same_statement, same_block, chain, one_more}
-use Rattle.sect_types.proofs.EnoughLaws.{IsAcyclic, two, ends, no_way}
+use Rattle.sect_types.proofs.FuelLaws.{Agree, same_statement, same_block, chain, one_more}
+use Rattle.sect_lemmas.proofs.Booleans.{neither}
+use Rattle.sect_types.proofs.EnoughLaws.{IsAcyclic, ends, no_way}
+use Rattle.std.proofs.lemmas.Bool.{cases_Bool}
 
 abbrev SameAt : Freshens → Freshens → Option ℕ → Type 0
 SameAt f g q = (c : ℕ) → f q c ≡ g q c
 
--- the two agree at what the test leaves out
+-- the cases_Bool agree at what the test leaves out
 record AreSame (test : ℕ → Bool) (f g : Freshens) : Type 0 where
   some : (r : ℕ) → test r ≡ false → SameAt f g (Some r)
   none : SameAt f g None
@@ -26,7 +28,7 @@ record AreSame (test : ℕ → Bool) (f g : Freshens) : Type 0 where
 call_fresh : (test : ℕ → Bool) (f g : Freshens) → AreSame test f g → (q : Option ℕ) (w : List ℕ)
     → list_any test (prepend q w) ≡ false → SameAt f g q
 call_fresh test f g h None w e = h.none
-call_fresh test f g h (Some r) w e = h.some r (or_false (test r) (list_any test w) e).0
+call_fresh test f g h (Some r) w e = h.some r (neither (test r) (list_any test w) e).0
 
 mutual
   same_statement_fresh : (test : ℕ → Bool) (ps : List Procedure) (t u : List Sums) (f g : Freshens) → Agree test t u
@@ -89,7 +91,7 @@ one_more_fresh (suc n) ps q e c =
 -- without recursion the fuel is enough: a call's fresh locals unfold once more to the same
 pub enough_fresh : (ps : List Procedure) (q : ℕ) → IsAcyclic ps
     → SameAt (fresh_within (suc (length ps)) ps) (fresh_within (length ps) ps) (Some q)
-enough_fresh ps q a c = elim (two (chain (length ps) ps (Some q))) [
+enough_fresh ps q a c = elim (cases_Bool (chain (length ps) ps (Some q))) [
   | inl e ↦ absurd (ends (length ps) ps [] q a (no_way ps q) (omega arith) e)
   | inr e ↦ one_more_fresh (length ps) ps (Some q) e c
 ]

@@ -1,8 +1,7 @@
 -- How far an expansion has come, statement by statement.
-use Rattle.std.proofs.Common.{◌≡◌, ℕ, zero, suc, ◌+◌, ◌*◌, ◌<◌, ◌≤◌, List, [], ◌∷◌, ◌++◌, map, drop, get_or}
-use Rattle.std.proofs.Common.{Some, None, refl, sym, ◌∙◌, ap, arith, subst, length, append_assoc, slice_get}
+use Rattle.std.proofs.Common.{◌≡◌, ℕ, zero, suc, ◌+◌, ◌*◌, ◌<◌, ◌≤◌, List, [], ◌∷◌, ◌++◌, map, drop, get_or, Some, sym}
+use Rattle.std.proofs.Common.{◌∙◌, ap, arith, subst, length, append_assoc, slice_get, length-append, None, refl}
 use Rattle.std.proofs.lemmas.List.{drop_all, append-nil}
-use Rattle.std.proofs.Common.{length-append}
 use Rattle.sect_front.specs.declared.tree.Declaration.{Declaration}
 use Rattle.sect_front.specs.declared.tree.Operand.{Operand}
 use Rattle.sect_front.specs.declared.tree.Procedure.{Procedure}
@@ -10,7 +9,7 @@ use Rattle.sect_front.specs.declared.tree.Test.{Test}
 use Rattle.sect_front.specs.declared.tree.Statement.{Statement}
 use Rattle.sect_front.specs.Syntax.{StatementView, IfElse, Call, BlockView, End, Then}
 use Rattle.sect_front.specs.Trees.{statement_of, block_of, block_size}
-use Rattle.sect_types.specs.declared.limits.TheConstants.{MOST_ALL_LOCALS, MOST_CALLS}
+use Rattle.sect_types.specs.Limits.{most_all_locals, most_calls}
 use Rattle.sect_types.specs.declared.expand.Fresh.{Fresh}
 use Rattle.sect_types.specs.declared.sums.Sums.{Sums}
 use Rattle.sect_types.specs.Items.{variables}
@@ -19,8 +18,7 @@ use Rattle.sect_types.specs.Statements.{TextView, Stop, Choose, joined}
 use Rattle.sect_types.specs.declared.action.Condition.{Condition}
 use Rattle.sect_types.specs.Resolve.{test_of}
 use Rattle.sect_types.specs.Numbered.{condition_in}
-use Rattle.sect_types.specs.Expanded.{moved_condition}
-use Rattle.sect_types.specs.Expanded.{Scene, expand_within, set_parameters, clear_locals, of_call}
+use Rattle.sect_types.specs.Expanded.{moved_condition, Scene, expand_within, set_parameters, clear_locals, of_call}
 use Rattle.sect_types.specs.Expanded.{block_fresh, fresh_of, fresh_within}
 use Rattle.sect_types.specs.steps.Expanding.{SettingView, FrontView, Fits, front_past_statement, front_past_block}
 use Rattle.sect_types.specs.steps.Expanding.{expanded_there, block_there, IsFront, most_size, tree_of, AreFlat}
@@ -30,7 +28,7 @@ use Rattle.sect_types.specs.Rules.{sight}
 use Rattle.std.specs.Option.{option_map}
 use Rattle.std.proofs.lemmas.Option.{slice_get-map}
 use Rattle.sect_types.specs.steps.Threads.{VariablesView, variables_shown}
-use Rattle.sect_types.proofs.Lists.{drop_next}
+use Rattle.sect_lemmas.proofs.Elements.{drop_next}
 use Rattle.sect_types.proofs.Writing.{called, statement_follows, call_by_parts, alone, either_written}
 
 -- two fronts of the same parts
@@ -188,8 +186,8 @@ call_front w n most f two new x vs q p ds flat e g h i j k =
 -- a call that fits: its body does, and its variables
 pub record CallFits (w : SettingView) (n : ℕ) (f two : FrontView) (p : Procedure) : Type 0 where
   pub body_fits : Fits (front_past_block w n two p.body)
-  pub few_own : f.at.fresh + (length p.parameters + length p.locals) ≤ MOST_ALL_LOCALS
-  pub few_before : f.calls < MOST_CALLS
+  pub few_own : f.at.fresh + (length p.parameters + length p.locals) ≤ most_all_locals
+  pub few_before : f.calls < most_calls
 
 pub call_fits : (w : SettingView) (n most : ℕ) (f two : FrontView) (x : List ℕ) (vs : List Operand) (q : ℕ)
     (p : Procedure)

@@ -1,19 +1,15 @@
 -- Where calls stand in one another less than n deep, more than n says no more.
-use Rattle.std.specs.Prelude.{◌||◌, Bool, true, false, is_some}
+use Rattle.std.specs.Prelude.{Bool, true, false, is_some}
 use Rattle.std.specs.List.{list_any}
 use Rattle.std.proofs.Common.{◌≡◌, ℕ, zero, suc, ◌+◌, List, [], Option, Some, None, refl, sym, ◌∙◌, ap, length}
 use Rattle.sect_front.specs.Syntax.{StatementView, Primitive, If, IfElse, While, Atomic, Call, BlockView, End, Then}
 use Rattle.sect_front.specs.declared.tree.Procedure.{Procedure}
 use Rattle.sect_types.specs.declared.sums.Sums.{Sums}
 use Rattle.sect_types.specs.Sums.{nothing, both, around, call_sums, sums_at, number_of, statement_sums, block_sums}
-use Rattle.sect_types.specs.Sums.{sums_within, prepend, statement_calls, block_calls, calls_in}
+use Rattle.sect_types.specs.Sums.{sums_within, prepend, statement_calls, block_calls, calls_in, sums_of}
 use Rattle.sect_types.specs.Expanded.{procedure_numbered}
-use Rattle.sect_types.proofs.CountLaws.{sums_of, looked}
-
-pub or_false : (a b : Bool) → (a || b) ≡ false → (a ≡ false) × (b ≡ false)
-or_false false false h = (refl, refl)
-or_false false true h = (refl, h)
-or_false true b h = absurd (let off : true ≡ false = h in cc)
+use Rattle.sect_types.proofs.CountLaws.{looked}
+use Rattle.sect_lemmas.proofs.Booleans.{neither}
 
 -- so many calls in a row from q
 abbrev pub chain : ℕ → List Procedure → Option ℕ → Bool
@@ -29,7 +25,7 @@ same_call : (test : ℕ → Bool) (t u : List Sums) → Agree test t u → (q : 
     (sums_at t q ≡ sums_at u q) × (list_any test w ≡ false)
 same_call test t u h None w e = (refl, e)
 same_call test t u h (Some r) w e =
-    (h r (or_false (test r) (list_any test w) e).0, (or_false (test r) (list_any test w) e).1)
+    (h r (neither (test r) (list_any test w) e).0, (neither (test r) (list_any test w) e).1)
 
 mutual
   pub same_statement : (test : ℕ → Bool) (ps : List Procedure) (t u : List Sums) → Agree test t u

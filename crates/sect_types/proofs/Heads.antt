@@ -27,13 +27,15 @@ use Rattle.std.specs.Prelude.{nat_le}
 use Rattle.sect_front.specs.declared.tree.Procedure.{Procedure}
 use Rattle.sect_types.specs.declared.place.Place.{Place}
 use Rattle.sect_types.specs.declared.place.Place.TheVariants.{InThread, InProcedure}
-use Rattle.sect_types.specs.declared.limits.TheConstants.{MOST_STATEMENTS}
+use Rattle.sect_types.specs.Limits.{most_statements}
 use Rattle.sect_types.specs.Items.{Head, PrimitiveHead, TestHead, Item, AStatement, is_inside}
 use Rattle.sect_types.specs.steps.Spots.{full_for}
 use Rattle.sect_types.specs.steps.Standing.{declared_by}
 use Rattle.sect_types.specs.Rules.{knows_primitive, primitive_agrees, knows_test, compares, has_field, local_accepts}
-use Rattle.sect_types.specs.Rules.{local_is, local_gets, field_accepts, is_int, Declared, Counts, rule_of, shares}
-use Rattle.sect_types.specs.Rules.{by_place, after_item, after_primitive, passes_limit, after, judge, fault_or, Faulty}
+use Rattle.sect_types.specs.Rules.{local_is, local_gets, field_accepts, is_int, Declared, Counts, shares}
+use Rattle.sect_types.specs.steps.Judging.{rule_of}
+use Rattle.sect_types.specs.Rules.{by_place, after_item, after_primitive, passes_limit, after}
+use Rattle.sect_types.specs.steps.Judging.{judge, fault_or, Faulty}
 use Rattle.sect_types.specs.steps.Walks.{rule_in, then_rest}
 
 -- 10, else 12, else none
@@ -177,11 +179,11 @@ primitive_rule s ps c at p =
 -- a test
 pub test_rule : (s : Sight) (ps : List Procedure) (c : Counts) (at : Place) (t : Test)
     → rule_of (declared_by s ps) c (AStatement (TestHead t) s.locals at)
-    ≡ then_rest (rule_in (test_of s t)) false (by_place at (nat_le MOST_STATEMENTS c.statements) false)
+    ≡ then_rest (rule_in (test_of s t)) false (by_place at (nat_le most_statements c.statements) false)
 test_rule s ps c at t =
     least_law (knows_test s t) (compares t.comparison (operand_of s t.left) (operand_of s t.right)) false
-    (by_place at (nat_le MOST_STATEMENTS c.statements) false)
-    ∙ ap (λ r. then_rest r false (by_place at (nat_le MOST_STATEMENTS c.statements) false)) (sym (test_law s t))
+    (by_place at (nat_le most_statements c.statements) false)
+    ∙ ap (λ r. then_rest r false (by_place at (nat_le most_statements c.statements) false)) (sym (test_law s t))
 
 -- an item that breaks nothing is passed, and another is the fault
 pub passed : (d : Declared) (c e : Counts) (item : Item) → rule_of d c item ≡ None → e ≡ after d c item

@@ -7,7 +7,7 @@ use Rattle.std.proofs.lemmas.List.Folds.{list_any-append}
 use Rattle.sect_front.specs.declared.tree.Record.{Record}
 use Rattle.sect_types.specs.Sight.{has_name, added, same_name, names_of_records}
 use Rattle.sect_types.specs.steps.Listing.{Knows}
-use Rattle.sect_types.proofs.SoundLemmas.{same_names}
+use Rattle.sect_types.proofs.shared.SoundLemmas.{same_names}
 
 or_false : (b : Bool) → (b || false) ≡ b
 or_false true = refl

@@ -1,69 +1,54 @@
-pub mod Lists
-pub mod TextLemmas
-pub mod Heads
-pub mod Standings
-pub mod Passing
-pub mod FirstLemmas
-pub mod Known
-pub mod LocalRows
-pub mod LocalFacts
-pub mod ThreadLemmas
-pub mod Records
-pub mod Listed
+mod TextLemmas
+mod Heads
+mod Standings
+mod Passing
+mod FirstLemmas
+mod Known
+mod LocalRows
+mod ThreadLemmas
+mod Records
+mod Listed
 mod Passed
-pub mod SoundLemmas
-pub mod FindLemmas
-pub mod SectionLemmas
-pub mod Membership
-pub mod SectionSound
-pub mod Joining
-pub mod Basics
-pub mod Replaced
-pub mod Stores
-pub mod Data
-pub mod BodySteps
-pub mod Starts
-pub mod RunningAhead
-pub mod Endings
-pub mod ProgramTexts
-pub mod WholeRows
-pub mod Changed
-pub mod CountLaws
-pub mod FuelLaws
-pub mod EnoughLaws
-pub mod ReachLaws
-pub mod Marking
-pub mod Numbering
-pub mod Filling
-pub mod Expanding
-pub mod Below
-pub mod Reversing
-pub mod Capping
-pub mod Summing
-pub mod SameData
-pub mod Places
-pub mod Positions
-pub mod Crossing
-pub mod Naming
-pub mod Repeating
-pub mod MovedLaws
-pub mod TextLaws
-pub mod Walked
-pub mod Making
-pub mod Resolved
-pub mod SiteLaws
-pub mod SectionLaws
-pub mod Standing
-pub mod TypeLaws
-pub mod CycleLaws
-pub mod FreshLaws
-pub mod Counting
-pub mod WithinLimits
-pub mod TemplateLaws
-pub mod CopyLaws
-pub mod ProgramLemmas
-pub mod Threading
-pub mod Writing
-pub mod FreshKnown
-pub mod Fronts
-pub mod Writings
+mod SoundLemmas
+mod FindLemmas
+mod SectionLemmas
+mod SectionSound
+mod ProgramTexts
+mod WholeRows
+mod CountLaws
+mod FuelLaws
+mod EnoughLaws
+mod ReachLaws
+mod Marking
+mod Numbering
+mod Below
+mod Reversing
+mod Capping
+mod Summing
+mod MovedLaws
+mod TextLaws
+mod Walked
+mod Making
+mod Resolved
+mod SiteLaws
+mod SectionLaws
+mod Standing
+mod TypeLaws
+mod CycleLaws
+mod FreshLaws
+mod Counting
+mod WithinLimits
+mod ProgramLemmas
+mod Threading
+mod Writing
+mod FreshKnown
+mod Fronts
+mod Writings
+pub mod shared
+mod Ways
+mod Unfolding
+mod DepthLaws
+mod Shallow
+mod Expanding
+mod Filling
+mod Naming

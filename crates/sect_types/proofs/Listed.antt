@@ -1,21 +1,22 @@
 -- One field, global or local more.
 use Rattle.std.proofs.Common.{◌≡◌, ℕ, ◌+◌, ◌<◌, List, [], ◌∷◌, ◌++◌, drop, get_or, length, refl, ◌∙◌, true, arith}
 use Rattle.std.proofs.Common.{length-append, ap}
-use Rattle.sect_types.proofs.Lists.{drop_next}
+use Rattle.sect_lemmas.proofs.Elements.{drop_next}
 use Rattle.sect_types.proofs.Passed.{judged_on, joined_on, tested_on}
 use Rattle.sect_front.specs.declared.tree.Declaration.{Declaration}
 use Rattle.sect_front.specs.declared.tree.GlobalObject.{GlobalObject}
-use Rattle.sect_types.specs.declared.limits.TheConstants.{MOST_FIELDS, MOST_GLOBALS, MOST_LOCALS}
+use Rattle.sect_types.specs.Limits.{most_fields, most_globals, most_locals}
 use Rattle.sect_types.specs.Sight.{has_name, names_of_records, names_of_globals, names_of_declared}
 use Rattle.sect_types.specs.Items.{Item, AField, AGlobal, ALocal, field_items, global_items, local_items}
-use Rattle.sect_types.specs.Rules.{Declared, Counts, judge, knows_kind}
+use Rattle.sect_types.specs.Rules.{Declared, Counts, knows_kind}
+use Rattle.sect_types.specs.steps.Judging.{judge}
 use Rattle.sect_types.specs.steps.Listing.{IsListed, AreGlobals, AreLocals, all_known, globals_known}
 
 pub field_more : (d : Declared) (all ds : List Declaration) (i : ℕ) (x : Declaration) (names new : List (List ℕ))
     (old now then : Counts)
     → i < length ds → x ≡ get_or ds i x → IsListed d all (drop i ds) names old now
     → ((w : List Item) → judge d now (AField x.kind x.name names ∷ w) ≡ judge d then w)
-    → new ≡ names ++ x.name ∷ [] → then.sites ≡ now.sites → length names < MOST_FIELDS
+    → new ≡ names ++ x.name ∷ [] → then.sites ≡ now.sites → length names < most_fields
     → knows_kind (names_of_records d.records) x.kind ≡ true
     → IsListed d all (drop (i + 1) ds) new old then
 field_more d all ds i x names new old now then h e so_far step named sites few known =
@@ -41,7 +42,7 @@ pub global_more : (d : Declared) (all gs : List GlobalObject) (i : ℕ) (x : Glo
     (old now then : Counts)
     → i < length gs → x ≡ get_or gs i x → AreGlobals d all (drop i gs) names old now
     → ((w : List Item) → judge d now (AGlobal x.of x.name names ∷ w) ≡ judge d then w)
-    → new ≡ names ++ x.name ∷ [] → then.sites ≡ now.sites + 1 → length names < MOST_GLOBALS
+    → new ≡ names ++ x.name ∷ [] → then.sites ≡ now.sites + 1 → length names < most_globals
     → has_name x.of (names_of_records d.records) ≡ true
     → AreGlobals d all (drop (i + 1) gs) new old then
 global_more d all gs i x names new old now then h e so_far step named sites few known =
@@ -67,7 +68,7 @@ pub local_more : (d : Declared) (all ds : List Declaration) (i : ℕ) (x : Decla
     (old now then : Counts)
     → i < length ds → x ≡ get_or ds i x → AreLocals d all (drop i ds) names old now
     → ((w : List Item) → judge d now (ALocal x.kind x.name names ∷ w) ≡ judge d then w)
-    → new ≡ names ++ x.name ∷ [] → length names < MOST_LOCALS
+    → new ≡ names ++ x.name ∷ [] → length names < most_locals
     → knows_kind (names_of_records d.records) x.kind ≡ true
     → AreLocals d all (drop (i + 1) ds) new old then
 local_more d all ds i x names new old now then h e so_far step named few known =

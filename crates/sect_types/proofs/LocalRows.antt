@@ -1,6 +1,6 @@
 -- The names of the locals of a thread, as rows of a table.
-use Rattle.std.proofs.Common.{◌≡◌, ◌≤◌, ◌<◌, ◌-◌, ◌⊎◌, inl, inr, ℕ, zero, suc, ◌+◌, List, [], ◌∷◌, ◌++◌}
-use Rattle.std.proofs.Common.{map, Some, None, refl, sym, ap, ◌∙◌, subst, length, get_or, arith}
+use Rattle.std.proofs.Common.{◌≡◌, ◌≤◌, ◌<◌, ◌-◌, ◌⊎◌, inl, inr, ℕ, zero, suc, ◌+◌, List, [], ◌∷◌, ◌++◌, map, Some}
+use Rattle.std.proofs.Common.{sym, ap, ◌∙◌, subst, length, get_or, arith}
 use Rattle.std.specs.Prelude.{slice_get, slice_index_or}
 use Rattle.std.specs.Option.{option_map}
 use Rattle.std.proofs.lemmas.Bool.{cases_lt}
@@ -9,22 +9,11 @@ use Rattle.std.proofs.lemmas.Option.{slice_get-map, slice_get-get_or}
 use Rattle.sect_front.specs.TreeView.{TreeView}
 use Rattle.sect_front.specs.declared.tree.Thread.{Thread}
 use Rattle.sect_front.specs.declared.tree.Declaration.{Declaration}
-use Rattle.sect_types.specs.declared.types.ValueType.{ValueType}
-use Rattle.sect_types.specs.declared.local_name.LocalName.{LocalName}
 use Rattle.sect_types.specs.declared.expand.Fresh.{Fresh}
-use Rattle.sect_types.specs.Sight.{names_of_records}
-use Rattle.sect_types.specs.Environments.{type_of, types_of}
-use Rattle.sect_types.specs.Expanded.{fresh_in, local_types_of}
+use Rattle.sect_types.specs.Expanded.{fresh_in}
 use Rattle.sect_types.specs.LocalNames.{local_names_of, all_local_names}
 use Rattle.sect_types.specs.Programs.{ProgramView, IsOfTree}
-
--- what a declared local is called
-abbrev pub own_name : Declaration → LocalName
-own_name d = record { name = d.name; call = None }
-
--- what a local of a call is called
-abbrev pub fresh_name : Fresh → LocalName
-fresh_name f = record { name = f.declared.name; call = Some f.call }
+use Rattle.sect_types.proofs.shared.LocalRows.{own_name, fresh_name, as_many_names}
 
 -- what stands in the first of two lists
 left : {A : Type 0} (xs ys : List A) (j : ℕ) (x : A) → slice_get xs j ≡ Some x → slice_get (xs ++ ys) j ≡ Some x
@@ -56,36 +45,6 @@ in_rows rows u n within = elim (cases_lt u (length rows)) [
   | inl a ↦ a
   | inr past ↦ absurd (let no = ap length (get_or_past rows u [] past) in omega (arith, within, no))
 ]
-
--- rows of two tables that are made from the same, and are as long for each
-as_long : {X Y Z : Type 0} (f : X → List Y) (g : X → List Z) → ((x : X) → length (f x) ≡ length (g x))
-    → (xs : List X) (i : ℕ) → length (slice_index_or (map f xs) i []) ≡ length (slice_index_or (map g xs) i [])
-as_long f g same [] i = refl
-as_long f g same (x ∷ xs) zero = same x
-as_long f g same (x ∷ xs) (suc i) = as_long f g same xs i
-
-as_many_of : (t : TreeView) (h : Thread) → length (local_names_of t h) ≡ length (local_types_of t h)
-as_many_of t h =
-    let records = names_of_records t.records in
-    let kind : Declaration → ValueType = λ d. type_of records d.kind in
-    let fresh_kind : Fresh → ValueType = λ f. type_of records f.declared.kind in
-    let fs = fresh_in t h in
-    omega (
-      arith,
-      length-append (map own_name h.locals) (map fresh_name fs),
-      length-append (types_of records h.locals) (map fresh_kind fs),
-      length-map h.locals own_name,
-      length-map h.locals kind,
-      length-map fs fresh_name,
-      length-map fs fresh_kind,
-    )
-
--- a thread has as many local names as local types
-pub as_many_names : (p : ProgramView) → IsOfTree p → (t : ℕ)
-    → length (slice_index_or (all_local_names p.source) t []) ≡ length (slice_index_or p.locals t [])
-as_many_names p tree t =
-    as_long (local_names_of p.source) (local_types_of p.source) (as_many_of p.source) p.source.threads t
-    ∙ ap (λ ls. length (slice_index_or ls t [])) (sym tree.locals_are)
 
 -- the row of a thread
 row_is : (t : TreeView) (u : ℕ) (th : Thread) → u < length t.threads → th ≡ get_or t.threads u th

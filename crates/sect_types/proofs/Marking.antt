@@ -4,20 +4,22 @@ use Rattle.std.proofs.Common.{◌++◌, Option, Some, None, length, take, get_or
 use Rattle.std.proofs.Common.{length-append, slice_get}
 use Rattle.std.specs.Prelude.{eqb, nat_eq, replicate, slice_index_or}
 use Rattle.std.specs.List.{list_any}
-use Rattle.std.proofs.lemmas.Bool.{eqb-true}
+use Rattle.std.proofs.lemmas.Bool.{eqb-true, or_cases}
 use Rattle.std.proofs.lemmas.List.{take_more, take_all, length-replicate}
 use Rattle.std.proofs.lemmas.List.Folds.{list_any-append}
 use Rattle.std.proofs.lemmas.Option.{slice_get_within}
 use Rattle.sect_front.specs.declared.tree.Procedure.{Procedure}
-use Rattle.sect_types.specs.Store.{put_at}
-use Rattle.sect_types.specs.Sums.{returns, reaches}
+use Rattle.sect_lemmas.specs.Lists.{put_at}
 use Rattle.sect_types.specs.steps.Called.{IsAmong, Calls, IsMarked, marks, AreMarked, AreFound, Grows, AreClosed}
 use Rattle.sect_types.specs.steps.Called.{Marks, AreCallersBefore, callers_of}
 use Rattle.sect_types.specs.steps.Standing.{AreReturning}
-use Rattle.sect_types.proofs.Basics.{some_injective, is_there}
-use Rattle.sect_types.proofs.Replaced.{put_same, put_other, length-put_at, at-put_at, this_or_other}
-use Rattle.sect_types.proofs.EnoughLaws.{or_cases, or_left, or_right, same, there, calls_there}
+use Rattle.sect_lemmas.proofs.Options.{some_injective}
+use Rattle.sect_lemmas.proofs.Elements.{is_there}
+use Rattle.sect_lemmas.proofs.Replaced.{put_same, put_other, length-put_at, at-put_at, this_or_other}
+use Rattle.sect_types.proofs.EnoughLaws.{same, there, calls_there}
 use Rattle.sect_types.proofs.ReachLaws.{returns_caller, closed_returns}
+use Rattle.sect_lemmas.proofs.Booleans.{or_left, or_right}
+use Rattle.sect_types.specs.steps.Search.{returns, reaches}
 
 -- one mark more
 marks_put : (n : ℕ) (bs : List Bool) → slice_get bs n ≡ Some false → marks (put_at n true bs) ≡ marks bs + 1

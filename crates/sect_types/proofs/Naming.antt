@@ -1,42 +1,19 @@
 -- Places of names, and how many names there are.
-use Rattle.std.proofs.Common.{◌≡◌, ℕ, ◌<◌, ◌≤◌, List, [], Some, None, true, false, length, get_or, sym, ap}
-use Rattle.std.proofs.Common.{◌∙◌, arith}
-use Rattle.std.specs.Prelude.{nat_eq, slice_get}
-use Rattle.std.specs.Cmp.Lexicographic.{pointwise}
+use Rattle.std.proofs.Common.{◌≡◌, ℕ, ◌<◌, ◌≤◌, List, [], length, get_or, sym, ap, ◌∙◌, arith, map, length-append}
 use Rattle.std.proofs.lemmas.List.{get_or-map, length-map}
 use Rattle.std.proofs.lemmas.List.Elements.{All-get_or}
-use Rattle.std.proofs.lemmas.Option.{slice_get_within, get_or_from_slice_get}
 use Rattle.sect_front.specs.declared.tree.Thread.{Thread}
-use Rattle.sect_front.specs.declared.tree.Record.{Record}
-use Rattle.sect_types.specs.declared.limits.TheConstants.{MOST_FIELDS}
 use Rattle.sect_types.specs.declared.types.ValueType.{ValueType}
-use Rattle.sect_types.specs.Sight.{place, names_of_records}
+use Rattle.sect_types.specs.Sight.{names_of_records}
 use Rattle.sect_types.specs.Environments.{types_of, type_of}
-use Rattle.std.proofs.Common.{map, length-append}
-use Rattle.sect_types.specs.declared.limits.TheConstants.{MOST_ALL_LOCALS}
+use Rattle.sect_types.specs.Limits.{most_all_locals}
 use Rattle.sect_types.specs.declared.expand.Fresh.{Fresh}
 use Rattle.sect_types.specs.Expanded.{local_types_of, fresh_in}
 use Rattle.sect_types.specs.Programs.{ProgramView, IsOfTree, IsWithinLimits}
-use Rattle.sect_types.proofs.Positions.{first_position, no_position}
-
--- no name before this one is x
-abbrev pub NoneBefore : List ℕ → List (List ℕ) → ℕ → Type 0
-NoneBefore x names i = (k : ℕ) → k < i → pointwise nat_eq x (get_or names k []) ≡ false
-
--- the place of a name is the first at which it stands
-pub place_found : (x : List ℕ) (names : List (List ℕ)) (i : ℕ) → i < length names → NoneBefore x names i
-    → pointwise nat_eq x (get_or names i []) ≡ true → Some i ≡ place x names
-place_found x names i within before here = sym (first_position (pointwise nat_eq x) names [] i within before here)
-
--- a name that stands nowhere has none
-pub place_missing : (x : List ℕ) (names : List (List ℕ)) (i : ℕ) → length names ≡ i → NoneBefore x names i
-    → None ≡ place x names
-place_missing x names i all before =
-    sym (no_position (pointwise nat_eq x) names [] (λ k lt. before k (omega (arith, lt, all))))
 
 -- a thread has few locals
 pub few_locals : (p : ProgramView) → IsOfTree p → IsWithinLimits p → (t : ℕ) (th : Thread) → t < length p.locals
-    → th ≡ get_or p.source.threads t th → length th.locals ≤ MOST_ALL_LOCALS
+    → th ≡ get_or p.source.threads t th → length th.locals ≤ most_all_locals
 few_locals p tree limits t th within is =
     let names = names_of_records p.source.records in
     let f : Thread → List ValueType = local_types_of p.source in
@@ -44,7 +21,7 @@ few_locals p tree limits t th within is =
     omega (arith, within, ap length tree.locals_are, length-map p.source.threads f) in
     let same : get_or p.locals t [] ≡ f th =
     ap (λ l. get_or l t []) tree.locals_are ∙ get_or-map f p.source.threads t th [] there ∙ ap f (sym is) in
-    let few = All-get_or (λ (ts : List ValueType). length ts ≤ MOST_ALL_LOCALS) p.locals t [] within
+    let few = All-get_or (λ (ts : List ValueType). length ts ≤ most_all_locals) p.locals t [] within
     limits.few_locals in
     omega (
       arith,
@@ -54,18 +31,3 @@ few_locals p tree limits t th within is =
           (map (λ (x : Fresh). type_of names x.declared.kind) (fresh_in p.source th)),
       length-map th.locals (λ d. type_of names d.kind),
     )
-
--- a record has few fields
-pub few_fields : (p : ProgramView) → IsOfTree p → IsWithinLimits p → (r : ℕ) (shape : Record)
-    → slice_get p.source.records r ≡ Some shape → length shape.fields ≤ MOST_FIELDS
-few_fields p tree limits r shape at =
-    let names = names_of_records p.source.records in
-    let f : Record → List ValueType = λ (z : Record). types_of names z.fields in
-    let there = slice_get_within p.source.records r shape at in
-    let within : r < length p.records =
-    omega (arith, there, ap length tree.records_are, length-map p.source.records f) in
-    let same : get_or p.records r [] ≡ types_of names shape.fields = ap (λ l. get_or l r []) tree.records_are
-    ∙ get_or-map f p.source.records r shape [] there
-    ∙ ap f (get_or_from_slice_get p.source.records r shape shape at) in
-    let few = All-get_or (λ (ts : List ValueType). length ts ≤ MOST_FIELDS) p.records r [] within limits.few_fields in
-    omega (arith, few, ap length same, length-map shape.fields (λ d. type_of names d.kind))

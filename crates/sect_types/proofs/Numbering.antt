@@ -10,7 +10,7 @@ use Rattle.std.proofs.lemmas.Bool.Decides.{nat_tests}
 use Rattle.sect_front.specs.declared.tree.Procedure.{Procedure}
 use Rattle.sect_types.specs.Sight.{place, same_name}
 use Rattle.sect_types.specs.Sums.{number_of, names_of_procedures}
-use Rattle.sect_types.proofs.SoundLemmas.{same_names}
+use Rattle.sect_types.proofs.shared.SoundLemmas.{same_names}
 
 lifts : (m n k : ℕ) → k ≡ suc n → nat_lt (1 + m) k ≡ nat_lt m n
 lifts m n k e = grind (arith, nat_tests)

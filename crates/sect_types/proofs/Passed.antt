@@ -3,7 +3,8 @@ use Rattle.std.proofs.Common.{◌≡◌, ◌≤◌, ℕ, List, [], ◌∷◌, �
 use Rattle.std.proofs.Common.{append_assoc}
 use Rattle.std.proofs.lemmas.List.{drop_all}
 use Rattle.sect_types.specs.Items.{Item}
-use Rattle.sect_types.specs.Rules.{Declared, Counts, judge}
+use Rattle.sect_types.specs.Rules.{Declared, Counts}
+use Rattle.sect_types.specs.steps.Judging.{judge}
 
 -- its items have been judged, and those of the rest are left
 pub judged_on : {X : Type 0} (d : Declared) (items : List (List ℕ) → List X → List Item → List Item)

@@ -1,9 +1,9 @@
 -- A block of which the first statements have been passed.
-use Rattle.std.proofs.Common.{◌≡◌, ℕ, zero, suc, ◌+◌, ◌<◌, ◌≤◌, subst, arith, sym, List, [], ◌∷◌, drop, get_or}
-use Rattle.std.proofs.Common.{length, ap, ◌∙◌, Result, Ok, Err}
+use Rattle.std.proofs.Common.{◌≡◌, ℕ, zero, suc, ◌+◌, ◌<◌, ◌≤◌, subst, arith, sym, List, [], ◌∷◌, drop, get_or, length}
+use Rattle.std.proofs.Common.{ap, ◌∙◌, Result, Ok, Err}
 use Rattle.std.specs.Result.{IsErrAnd}
 use Rattle.sect_front.specs.declared.tree.Test.{Test}
-use Rattle.sect_types.proofs.Lists.{drop_next}
+use Rattle.sect_lemmas.proofs.Elements.{drop_next}
 use Rattle.sect_front.specs.Syntax.{BlockView, Then}
 use Rattle.sect_front.specs.Trees.{statement_of, block_of}
 use Rattle.sect_front.specs.Depth.{statement_depth, block_depth}
@@ -13,7 +13,8 @@ use Rattle.sect_types.specs.declared.place.Place.{Place}
 use Rattle.sect_types.specs.declared.rule.Fault.{Fault}
 use Rattle.sect_types.specs.declared.rule.Fault.TheVariants as fault
 use Rattle.sect_types.specs.Items.{Head, TestHead, deeper, Item, AStatement, statement_items, block_items}
-use Rattle.sect_types.specs.Rules.{Declared, Counts, judge}
+use Rattle.sect_types.specs.Rules.{Declared, Counts}
+use Rattle.sect_types.specs.steps.Judging.{judge}
 use Rattle.sect_types.specs.steps.Walks.{Walks}
 
 -- the statements `rest` of `all` are left

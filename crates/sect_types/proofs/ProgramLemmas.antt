@@ -16,7 +16,6 @@ use Rattle.sect_front.specs.declared.tree.Thread.{Thread}
 use Rattle.sect_front.specs.declared.tree.Locking.{Locking}
 use Rattle.sect_front.specs.TreeView.{TreeView}
 use Rattle.sect_front.specs.Syntax.{StatementView, Primitive, If, IfElse, While, Atomic, Call, BlockView, End, Then}
-use Rattle.sect_types.specs.declared.limits.TheConstants.{MOST_ALL_LOCALS, MOST_FIELDS, MOST_LOCALS}
 use Rattle.sect_types.specs.declared.types.ValueType.{ValueType}
 use Rattle.sect_types.specs.declared.place.Place.{Place}
 use Rattle.sect_types.specs.declared.place.Place.TheVariants.{InThread}
@@ -26,9 +25,9 @@ use Rattle.sect_types.specs.Items.{deeper, in_section, variables}
 use Rattle.sect_types.specs.Rules.{Declared, Counts, declared_in, knows_kind}
 use Rattle.sect_types.specs.Sums.{sums, sums_within, number_of, statement_sums, block_sums}
 use Rattle.sect_types.specs.declared.expand.Fresh.{Fresh}
-use Rattle.sect_types.specs.Expanded.{Ahead, Freshens, of_call, statement_fresh, block_fresh, fresh_of, fresh_within}
-use Rattle.sect_types.specs.Expanded.{fresh_in, procedure_numbered, local_types_of, all_local_types}
-use Rattle.sect_types.specs.Expanded.{past_thread, expanded_threads, texts_of, block_sections, statement_sections}
+use Rattle.sect_types.specs.Expanded.{Freshens, of_call, statement_fresh, block_fresh, fresh_of, fresh_within}
+use Rattle.sect_types.specs.Expanded.{fresh_in, procedure_numbered, local_types_of, all_local_types, past_thread}
+use Rattle.sect_types.specs.Expanded.{expanded_threads, texts_of, block_sections, statement_sections, NextNumbers}
 use Rattle.sect_types.specs.Statements.{TextView}
 use Rattle.sect_types.specs.steps.Listing.{all_known, fields_fine, locals_fine, globals_known}
 use Rattle.sect_types.specs.steps.Threads.{variables_fine}
@@ -37,16 +36,20 @@ use Rattle.sect_types.specs.Sections.{AllSited}
 use Rattle.sect_types.specs.Programs.{ProgramView, numbered_by, all_made, IsWellNumbered}
 use Rattle.sect_types.specs.steps.Counted.{IsCounted}
 use Rattle.sect_types.specs.Lockings.{statement_lockings, block_lockings, threads_lockings, lockings_of}
-use Rattle.sect_types.specs.Clean.{IsCleanStatement, IsCleanBlock, AreCleanThreads}
+use Rattle.sect_types.specs.steps.Clean.{IsCleanStatement, IsCleanBlock, AreCleanThreads}
 use Rattle.sect_types.proofs.Heads.{placed}
-use Rattle.sect_types.proofs.SoundLemmas.{both, place_within}
+use Rattle.sect_types.proofs.SoundLemmas.{place_within}
 use Rattle.sect_types.proofs.Standing.{fresh_types, call_types}
 use Rattle.sect_types.proofs.Walked.{text_clean}
 use Rattle.sect_types.proofs.SiteLaws.{typed_sites}
 use Rattle.sect_types.proofs.SectionLaws.{block_flat, inside_section, sections_in, typed_sections, typed_section_count}
 use Rattle.sect_types.proofs.TypeLaws.{typed_sound}
 use Rattle.sect_types.proofs.Counting.{fine_typed, fine_counts}
-use Rattle.sect_types.proofs.WithinLimits.{AreFewTypes, typed_few_types, typed_within}
+use Rattle.sect_types.proofs.WithinLimits.{AreFewTypes, typed_few_types, typed_within, typed_calls}
+use Rattle.std.proofs.lemmas.Bool.{and_parts}
+use Rattle.sect_types.specs.Limits.{most_all_locals, most_fields, most_locals}
+use Rattle.sect_types.specs.steps.Clean.{IsCleanStatement, IsCleanBlock, AreCleanThreads}
+use Rattle.sect_types.proofs.Shallow.{typed_shallow}
 
 at_most : (m n : ℕ) → nat_le m n ≡ true → m ≤ n
 at_most m n h = grind (arith, nat_tests)
@@ -56,17 +59,17 @@ few_types : (records : List (List ℕ)) (ds : List Declaration) (n : ℕ)
 few_types records ds n h =
     omega (
       arith,
-      at_most (length ds) n (both (all_known records ds) (nat_le (length ds) n) h).1,
+      at_most (length ds) n (and_parts (all_known records ds) (nat_le (length ds) n) h).1,
       length-map ds (λ (d : Declaration). type_of records d.kind),
     )
 
 few_fields : (records : List (List ℕ)) (rs : List Record) → fields_fine records rs ≡ true
-    → All (λ (ts : List ValueType). length ts ≤ MOST_FIELDS) (field_types records rs)
-few_fields records [] h = All-nil (λ (ts : List ValueType). length ts ≤ MOST_FIELDS)
+    → All (λ (ts : List ValueType). length ts ≤ most_fields) (field_types records rs)
+few_fields records [] h = All-nil (λ (ts : List ValueType). length ts ≤ most_fields)
 few_fields records (r ∷ rs) h =
-    let parts = both (all_known records r.fields && nat_le (length r.fields) MOST_FIELDS) (fields_fine records rs) h in
-    All-cons (λ (ts : List ValueType). length ts ≤ MOST_FIELDS) (types_of records r.fields) (field_types records rs)
-    (few_types records r.fields MOST_FIELDS parts.0) (few_fields records rs parts.1)
+    let parts = and_parts (all_known records r.fields && nat_le (length r.fields) most_fields) (fields_fine records rs) h in
+    All-cons (λ (ts : List ValueType). length ts ≤ most_fields) (types_of records r.fields) (field_types records rs)
+    (few_types records r.fields most_fields parts.0) (few_fields records rs parts.1)
 
 -- what is known has a record
 record_there : (x : List ℕ) (records : List (List ℕ)) → has_name x records ≡ true
@@ -86,7 +89,7 @@ types_there : (records : List (List ℕ)) (ds : List Declaration) → all_known 
     → All (IsInRange (length records)) (types_of records ds)
 types_there records [] h = All-nil (IsInRange (length records))
 types_there records (d ∷ ds) h =
-    let parts = both (knows_kind records d.kind) (all_known records ds) h in
+    let parts = and_parts (knows_kind records d.kind) (all_known records ds) h in
     All-cons (IsInRange (length records)) (type_of records d.kind) (types_of records ds)
     (type_there records d.kind parts.0) (types_there records ds parts.1)
 
@@ -94,17 +97,17 @@ fields_there : (records : List (List ℕ)) (rs : List Record) → fields_fine re
     → All (λ (ts : List ValueType). All (IsInRange (length records)) ts) (field_types records rs)
 fields_there records [] h = All-nil (λ (ts : List ValueType). All (IsInRange (length records)) ts)
 fields_there records (r ∷ rs) h =
-    let parts = both (all_known records r.fields && nat_le (length r.fields) MOST_FIELDS) (fields_fine records rs) h in
+    let parts = and_parts (all_known records r.fields && nat_le (length r.fields) most_fields) (fields_fine records rs) h in
     All-cons (λ (ts : List ValueType). All (IsInRange (length records)) ts) (types_of records r.fields)
     (field_types records rs)
-    (types_there records r.fields (both (all_known records r.fields) (nat_le (length r.fields) MOST_FIELDS) parts.0).0)
+    (types_there records r.fields (and_parts (all_known records r.fields) (nat_le (length r.fields) most_fields) parts.0).0)
     (fields_there records rs parts.1)
 
 globals_there : (records : List (List ℕ)) (gs : List GlobalObject) → globals_known records gs ≡ true
     → All (λ (r : ℕ). r < length records) (global_records records gs)
 globals_there records [] h = All-nil (λ (r : ℕ). r < length records)
 globals_there records (g ∷ gs) h =
-    let parts = both (has_name g.of records) (globals_known records gs) h in
+    let parts = and_parts (has_name g.of records) (globals_known records gs) h in
     All-cons (λ (r : ℕ). r < length records) (record_number records g.of) (global_records records gs)
     (record_there g.of records parts.0) (globals_there records gs parts.1)
 
@@ -147,13 +150,13 @@ procedure_known : (records : List (List ℕ)) (ps : List Procedure) (q : ℕ) (p
 procedure_known records [] q p h e = absurd (cc)
 procedure_known records (x ∷ ps) zero p h e =
     let same : x ≡ p = cc in
-    let few = nat_le (length (variables x)) MOST_LOCALS in
-    let parts = both (all_known records (variables x) && few) (variables_fine records ps) h in
+    let few = nat_le (length (variables x)) most_locals in
+    let parts = and_parts (all_known records (variables x) && few) (variables_fine records ps) h in
     subst (λ y. all_known records (variables y) ≡ true) same
-    (both (all_known records (variables x)) few parts.0).0
+    (and_parts (all_known records (variables x)) few parts.0).0
 procedure_known records (x ∷ ps) (suc q) p h e =
     procedure_known records ps q p
-    (both (all_known records (variables x) && nat_le (length (variables x)) MOST_LOCALS) (variables_fine records ps)
+    (and_parts (all_known records (variables x) && nat_le (length (variables x)) most_locals) (variables_fine records ps)
     h).1 e
 
 pub numbered_known : (records : List (List ℕ)) (ps : List Procedure) (q : Option ℕ) (p : Procedure)
@@ -191,9 +194,9 @@ locals_there t (x ∷ ts) h g =
     let n = length names in
     let ps = t.procedures in
     let d = declared_in t in
-    let few = nat_le (length x.locals) MOST_LOCALS in
-    let parts = both (all_known names x.locals && few) (locals_fine names ts) g in
-    let own = types_there names x.locals (both (all_known names x.locals) few parts.0).0 in
+    let few = nat_le (length x.locals) most_locals in
+    let parts = and_parts (all_known names x.locals && few) (locals_fine names ts) g in
+    let own = types_there names x.locals (and_parts (all_known names x.locals) few parts.0).0 in
     let fresh = block_there d n ps (sums ps) (fresh_within (length ps) ps) (calls_there (length ps) d ps h) 0 x.body in
     All-cons (λ (ls : List ValueType). All (IsInRange n) ls) (local_types_of t x) (map (local_types_of t) ts)
     (All-append (IsInRange n) (types_of names x.locals) (fresh_types d (fresh_in t x)) own fresh)
@@ -201,11 +204,11 @@ locals_there t (x ∷ ts) h g =
 
 -- and few
 all_few : (types : List (List ValueType)) → AreFewTypes types
-    → All (λ (ls : List ValueType). length ls ≤ MOST_ALL_LOCALS) types
-all_few [] h = All-nil (λ (ls : List ValueType). length ls ≤ MOST_ALL_LOCALS)
-all_few (ls ∷ more) h = All-cons (λ (ls : List ValueType). length ls ≤ MOST_ALL_LOCALS) ls more h.0 (all_few more h.1)
+    → All (λ (ls : List ValueType). length ls ≤ most_all_locals) types
+all_few [] h = All-nil (λ (ls : List ValueType). length ls ≤ most_all_locals)
+all_few (ls ∷ more) h = All-cons (λ (ls : List ValueType). length ls ≤ most_all_locals) ls more h.0 (all_few more h.1)
 
-as_many_texts : (t : TreeView) (a : Ahead) (ts : List Thread) → length (expanded_threads t a ts) ≡ length ts
+as_many_texts : (t : TreeView) (a : NextNumbers) (ts : List Thread) → length (expanded_threads t a ts) ≡ length ts
 as_many_texts t a [] = refl
 as_many_texts t a (x ∷ ts) = omega (arith, as_many_texts t (past_thread t a x) ts)
 
@@ -294,6 +297,8 @@ own_parts t end h =
         few_statements = within.statements_within;
         few_sections = within.sections_within;
         few_sites = omega (arith, within.sites_within, long_sites, long_globals);
+        few_calls = typed_calls t typed;
+        shallow = typed_shallow t typed h.shallow;
       };
       numbered = typed_sections t typed;
       sited = subst (λ n. AllSited n (texts_of t)) (sym long_globals) (typed_sites t typed);

@@ -1,14 +1,15 @@
 -- A procedure that is reached is reached by no more calls than there are procedures.
 use Rattle.std.specs.Prelude.{◌||◌, ◌-◌, ◌<◌, Bool, true, false, nat_eq, eqb}
 use Rattle.std.specs.List.{list_any, IsDistinct}
-use Rattle.std.proofs.Common.{◌≡◌, inl, inr, ℕ, zero, suc, List, [], ◌∷◌}
-use Rattle.std.proofs.Common.{refl, sym, arith, subst, length, slice_get}
-use Rattle.std.proofs.lemmas.Bool.{eqb-true}
+use Rattle.std.proofs.Common.{◌≡◌, inl, inr, ℕ, zero, suc, List, [], ◌∷◌, refl, sym, arith, subst, length, slice_get}
+use Rattle.std.proofs.lemmas.Bool.{eqb-true, or_cases, cases_Bool}
 use Rattle.std.proofs.lemmas.Map.Steps.{length-le_from_distinct_below}
 use Rattle.sect_front.specs.declared.tree.Procedure.{Procedure}
-use Rattle.sect_types.specs.Sums.{calls_in, reaches, returns}
-use Rattle.sect_types.proofs.EnoughLaws.{two, or_cases, or_left, or_right, witness, none_equal, Calls, same}
-use Rattle.sect_types.proofs.EnoughLaws.{reaches_step, reaches_up, calls_there, there}
+use Rattle.sect_types.specs.Sums.{calls_in}
+use Rattle.sect_types.proofs.EnoughLaws.{witness, none_equal, Calls, same, reaches_step, reaches_up, calls_there}
+use Rattle.sect_types.proofs.EnoughLaws.{there}
+use Rattle.sect_lemmas.proofs.Booleans.{or_left, or_right}
+use Rattle.sect_types.specs.steps.Search.{reaches, returns}
 
 -- the procedures between q and p on a way of calls
 abbrev pub Way : List Procedure → List ℕ → ℕ → ℕ → Type 0
@@ -54,7 +55,7 @@ unfolding IsDistinct
 straighten ps [] q p w = record { between = []; leads = w; differ = (tt, tt) }
 straighten ps (r ∷ rs) q p w =
     let s = straighten ps rs r p w.1 in
-    elim (two (list_any (eqb q) (r ∷ s.between))) [
+    elim (cases_Bool (list_any (eqb q) (r ∷ s.between))) [
       | inl e ↦ cut ps s.between r p q s.leads s.differ e
       | inr e ↦ record {
         between = r ∷ s.between;

@@ -1,22 +1,21 @@
 -- One record more.
 use Rattle.std.proofs.Common.{◌≡◌, ℕ, ◌+◌, ◌<◌, ◌≤◌, List, [], ◌∷◌, ◌++◌, drop, get_or, length, Err, refl, ap, ◌∙◌}
-use Rattle.std.proofs.Common.{length-append, arith, Bool, true, ◌&&◌, nat_le, subst}
+use Rattle.std.proofs.Common.{length-append, arith, true, ◌&&◌, nat_le, subst}
 use Rattle.std.proofs.lemmas.List.{drop_all}
 use Rattle.std.proofs.lemmas.Bool.Decides.{nat_tests}
-use Rattle.sect_types.proofs.Lists.{drop_next}
+use Rattle.sect_lemmas.proofs.Elements.{drop_next}
 use Rattle.sect_types.proofs.Passed.{judged_on, joined_on, tested_on}
 use Rattle.sect_front.specs.declared.tree.Record.{Record}
-use Rattle.sect_types.specs.declared.limits.TheConstants.{MOST_FIELDS, MOST_RECORDS}
 use Rattle.sect_types.specs.declared.rule.Fault.{Fault}
 use Rattle.sect_types.specs.declared.rule.Fault.TheVariants as fault
 use Rattle.sect_types.specs.Sight.{names_of_records, names_of_declared, all_fields}
 use Rattle.sect_types.specs.Items.{Item, ARecord, field_items, record_items}
-use Rattle.sect_types.specs.Rules.{Declared, Counts, judge}
+use Rattle.sect_types.specs.Rules.{Declared, Counts}
 use Rattle.sect_types.specs.steps.Walks.{Walks}
 use Rattle.sect_types.specs.steps.Listing.{AreRecords, all_known, fields_fine}
-
-pub both_true : (a b : Bool) → a ≡ true → b ≡ true → (a && b) ≡ true
-both_true a b e h = cc
+use Rattle.std.proofs.lemmas.Bool.{and_from}
+use Rattle.sect_types.specs.Limits.{most_fields, most_records}
+use Rattle.sect_types.specs.steps.Judging.{judge}
 
 pub at_most : (m n : ℕ) → m ≤ n → nat_le m n ≡ true
 at_most m n h = grind (arith, nat_tests)
@@ -29,7 +28,7 @@ pub go_on : (d : Declared) (all rs : List Record) (i : ℕ) (r : Record) (names 
     → new ≡ names ++ r.name ∷ []
     → more ≡ fields ++ names_of_declared r.fields ∷ []
     → then.sites ≡ now.sites
-    → length names < MOST_RECORDS → length r.fields ≤ MOST_FIELDS
+    → length names < most_records → length r.fields ≤ most_fields
     → all_known (names_of_records d.records) r.fields ≡ true
     → AreRecords d all (drop (i + 1) rs) new more old then
 go_on d all rs i r names new fields more old now then h e so_far step named with_fields sites few few_fields known =
@@ -45,9 +44,9 @@ go_on d all rs i r names new fields more old now then h e so_far step named with
       few = omega (arith, ap length named, length-append names (r.name ∷ []));
       fine =
           tested_on (fields_fine (names_of_records d.records)) r rest (drop i rs) all
-          (all_known (names_of_records d.records) r.fields && nat_le (length r.fields) MOST_FIELDS) refl
-          (both_true (all_known (names_of_records d.records) r.fields) (nat_le (length r.fields) MOST_FIELDS) known
-          (at_most (length r.fields) MOST_FIELDS few_fields)) at so_far.fine;
+          (all_known (names_of_records d.records) r.fields && nat_le (length r.fields) most_fields) refl
+          (and_from (all_known (names_of_records d.records) r.fields) (nat_le (length r.fields) most_fields) known
+          (at_most (length r.fields) most_fields few_fields)) at so_far.fine;
     }
   where
     rest : List Record

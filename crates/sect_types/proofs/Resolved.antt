@@ -25,7 +25,7 @@ use Rattle.sect_types.specs.Items.{PrimitiveHead, TestHead, AStatement}
 use Rattle.sect_types.specs.declared.place.Place.{Place}
 use Rattle.sect_types.specs.Sums.{primitive_sums}
 use Rattle.sect_types.specs.Expanded.{moved_action}
-use Rattle.sect_types.specs.Clean.{IsClean}
+use Rattle.sect_types.specs.steps.Clean.{IsClean}
 
 pub not_false : (b : Bool) → not b ≡ false → b ≡ true
 not_false true h = refl

@@ -8,11 +8,11 @@ use Rattle.std.proofs.lemmas.Bool.{eqb-true}
 use Rattle.std.proofs.lemmas.List.{take_more, take_all}
 use Rattle.sect_front.specs.declared.tree.Procedure.{Procedure}
 use Rattle.sect_front.specs.Syntax.{StatementView, Primitive, If, IfElse, While, Atomic, Call, BlockView, End, Then}
-use Rattle.sect_types.specs.Store.{put_at}
+use Rattle.sect_lemmas.specs.Lists.{put_at}
 use Rattle.sect_types.specs.Sums.{number_of, names_of_procedures, calls_in, prepend, statement_calls, block_calls}
 use Rattle.sect_types.specs.steps.Called.{IsAmong, Calls, callers_of, AreCallersBefore}
-use Rattle.sect_types.proofs.EnoughLaws.{or_cases}
-use Rattle.sect_types.proofs.Replaced.{this_or_other, length-put_at}
+use Rattle.std.proofs.lemmas.Bool.{or_cases}
+use Rattle.sect_lemmas.proofs.Replaced.{this_or_other, length-put_at}
 use Rattle.sect_types.proofs.SoundLemmas.{place_within}
 use Rattle.std.proofs.lemmas.Option.{slice_get-get_or}
 use Rattle.sect_types.proofs.Marking.{among_last, among_first, among_new, among_at, read_at}

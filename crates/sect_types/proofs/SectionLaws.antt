@@ -18,8 +18,8 @@ use Rattle.sect_types.specs.declared.sums.Sums.{Sums}
 use Rattle.sect_types.specs.Sums.{sums, sums_within, number_of}
 use Rattle.sect_types.specs.Rules.{Declared, declared_in}
 use Rattle.sect_types.specs.First.{IsTyped}
-use Rattle.sect_types.specs.Clean.{IsCleanStatement, IsCleanBlock, AreCleanThreads}
-use Rattle.sect_types.specs.Expanded.{Scene, Ahead, Expander, past_statement, past_block, statement_sections}
+use Rattle.sect_types.specs.steps.Clean.{IsCleanStatement, IsCleanBlock, AreCleanThreads}
+use Rattle.sect_types.specs.Expanded.{Scene, NextNumbers, Expander, past_statement, past_block, statement_sections}
 use Rattle.sect_types.specs.Expanded.{block_sections, expanded_statement, expanded_block, set_parameters}
 use Rattle.sect_types.specs.Expanded.{clear_locals, after_call, call_of, procedure_numbered, expand_within}
 use Rattle.sect_types.specs.Expanded.{expanded_thread, past_thread, expanded_threads, texts_of}
@@ -76,17 +76,17 @@ joined_sections a k = ap length (joined_bodies a k) ∙ length-append (section_b
 
 -- a call has none, and those behind it keep their numbers
 abbrev pub CallsFlat : Expander → Type 0
-CallsFlat call = (q : Option ℕ) (v : Scene) (a : Ahead) (vs : List Operand) (k : TextView)
+CallsFlat call = (q : Option ℕ) (v : Scene) (a : NextNumbers) (vs : List Operand) (k : TextView)
     → length (section_bodies (call q v a vs k)) ≡ length (section_bodies k)
 
 abbrev pub CallsKeep : Expander → Type 0
-CallsKeep call = (q : Option ℕ) (v : Scene) (a : Ahead) (vs : List Operand) (k : TextView) (n : ℕ)
+CallsKeep call = (q : Option ℕ) (v : Scene) (a : NextNumbers) (vs : List Operand) (k : TextView) (n : ℕ)
     → AreNumbered n k → AreNumbered n (call q v a vs k)
 
 -- a body has as many sections as the tree says, where none stands in another
 mutual
   pub statement_sectioned : (d : Declared) (ps : List Procedure) (table : List Sums) (call : Expander) → CallsFlat call
-      → (ls : List Declaration) (at : Place) (v : Scene) (a : Ahead) (s : StatementView) (k : TextView)
+      → (ls : List Declaration) (at : Place) (v : Scene) (a : NextNumbers) (s : StatementView) (k : TextView)
       → IsCleanStatement d ls at s
       → length (section_bodies (expanded_statement ps table call v a s k)) ≡ statement_sections s + length
       (section_bodies k)
@@ -114,7 +114,7 @@ mutual
   statement_sectioned d ps table call f ls at v a (Call x vs) k h = omega (arith, f (number_of ps x) v a vs k)
 
   pub block_sectioned : (d : Declared) (ps : List Procedure) (table : List Sums) (call : Expander) → CallsFlat call
-      → (ls : List Declaration) (at : Place) (v : Scene) (a : Ahead) (b : BlockView) → IsCleanBlock d ls at b
+      → (ls : List Declaration) (at : Place) (v : Scene) (a : NextNumbers) (b : BlockView) → IsCleanBlock d ls at b
       → length (section_bodies (expanded_block ps table call v a b)) ≡ block_sections b
   block_sectioned d ps table call f ls at v a End h = refl
   block_sectioned d ps table call f ls at v a (Then s b) h =
@@ -128,7 +128,7 @@ mutual
 -- the sections of a body are numbered from the next one on
 mutual
   pub statement_numbers : (d : Declared) (ps : List Procedure) (table : List Sums) (call : Expander) → CallsFlat call
-      → CallsKeep call → (ls : List Declaration) (at : Place) (v : Scene) (a : Ahead) (s : StatementView) (k : TextView)
+      → CallsKeep call → (ls : List Declaration) (at : Place) (v : Scene) (a : NextNumbers) (s : StatementView) (k : TextView)
       → IsCleanStatement d ls at s → AreNumbered (a.sections + statement_sections s) k
       → AreNumbered a.sections (expanded_statement ps table call v a s k)
   statement_numbers d ps table call f n ls at v a (Primitive p) k h g = subst (λ i. AreNumbered i k) (omega arith) g
@@ -158,7 +158,7 @@ mutual
       n (number_of ps x) v a vs k a.sections (subst (λ i. AreNumbered i k) (omega arith) g)
 
   pub block_numbers : (d : Declared) (ps : List Procedure) (table : List Sums) (call : Expander) → CallsFlat call
-      → CallsKeep call → (ls : List Declaration) (at : Place) (v : Scene) (a : Ahead) (b : BlockView)
+      → CallsKeep call → (ls : List Declaration) (at : Place) (v : Scene) (a : NextNumbers) (b : BlockView)
       → IsCleanBlock d ls at b
       → AreNumbered a.sections (expanded_block ps table call v a b)
   block_numbers d ps table call f n ls at v a End h = tt
@@ -181,7 +181,7 @@ cleared_sections x (d ∷ ds) k = cleared_sections (x + 1) ds k
 call_flat : (d : Declared) (ps : List Procedure) → AreClean d ps → (table : List Sums) (call : Expander)
     → CallsFlat call
     → (o : Option Procedure) (q : Option ℕ) → procedure_numbered ps q ≡ o
-    → (r : Option ℕ) (v : Scene) (a : Ahead) (vs : List Operand) (k : TextView)
+    → (r : Option ℕ) (v : Scene) (a : NextNumbers) (vs : List Operand) (k : TextView)
     → length (section_bodies (call_of d.records d.globals ps table call o r v a vs k)) ≡ length (section_bodies k)
 call_flat d ps c table call f None q e r v a vs k = refl
 call_flat d ps c table call f (Some p) q e r v a vs k =
@@ -258,7 +258,7 @@ cleared_numbers n x (d ∷ ds) k h = cleared_numbers n (x + 1) ds k h
 
 call_keeps : (d : Declared) (ps : List Procedure) → AreClean d ps → (table : List Sums) (call : Expander)
     → CallsFlat call → CallsKeep call → (o : Option Procedure) (q : Option ℕ) → procedure_numbered ps q ≡ o
-    → (r : Option ℕ) (v : Scene) (a : Ahead) (vs : List Operand) (k : TextView) (n : ℕ) → AreNumbered n k
+    → (r : Option ℕ) (v : Scene) (a : NextNumbers) (vs : List Operand) (k : TextView) (n : ℕ) → AreNumbered n k
     → AreNumbered n (call_of d.records d.globals ps table call o r v a vs k)
 call_keeps d ps c table call f m None q e r v a vs k n g = g
 call_keeps d ps c table call f m (Some p) q e r v a vs k n g =
@@ -286,7 +286,7 @@ calls_keep (suc n) d ps c q v a vs k i g =
     (procedure_numbered ps q) q refl q v a vs k i g
 
 -- the text of a thread has as many sections as its tree
-pub thread_sectioned : (t : TreeView) → AreClean (declared_in t) t.procedures → (a : Ahead) (h : Thread)
+pub thread_sectioned : (t : TreeView) → AreClean (declared_in t) t.procedures → (a : NextNumbers) (h : Thread)
     → IsCleanBlock (declared_in t) h.locals (InThread false 1) h.body
     → length (section_bodies (expanded_thread t a h)) ≡ block_sections h.body
 thread_sectioned t c a h clean =
@@ -299,7 +299,7 @@ thread_sectioned t c a h clean =
     })
     h.body clean
 
-pub thread_numbers : (t : TreeView) → AreClean (declared_in t) t.procedures → (a : Ahead) (h : Thread)
+pub thread_numbers : (t : TreeView) → AreClean (declared_in t) t.procedures → (a : NextNumbers) (h : Thread)
     → IsCleanBlock (declared_in t) h.locals (InThread false 1) h.body → AreNumbered a.sections (expanded_thread t a h)
 thread_numbers t c a h clean =
     let n = length t.procedures in
@@ -308,7 +308,7 @@ thread_numbers t c a h clean =
     (calls_flat n d t.procedures c) (calls_keep n d t.procedures c) h.locals (InThread false 1) (view d h.locals 0)
     (record a { fresh = length h.locals }) h.body clean
 
-pub threads_number : (t : TreeView) → AreClean (declared_in t) t.procedures → (a : Ahead) (hs : List Thread)
+pub threads_number : (t : TreeView) → AreClean (declared_in t) t.procedures → (a : NextNumbers) (hs : List Thread)
     → AreCleanThreads (declared_in t) hs → AllNumbered a.sections (expanded_threads t a hs)
 threads_number t c a [] g = tt
 threads_number t c a (h ∷ hs) g = (
@@ -328,7 +328,7 @@ abbrev pub sections_in : List Thread → ℕ
 sections_in [] = 0
 sections_in (h ∷ hs) = block_sections h.body + sections_in hs
 
-pub threads_sectioned : (t : TreeView) → AreClean (declared_in t) t.procedures → (a : Ahead) (i : ℕ) (hs : List Thread)
+pub threads_sectioned : (t : TreeView) → AreClean (declared_in t) t.procedures → (a : NextNumbers) (i : ℕ) (hs : List Thread)
     → AreCleanThreads (declared_in t) hs → length (sections_from i (expanded_threads t a hs)) ≡ sections_in hs
 threads_sectioned t c a i [] g = refl
 threads_sectioned t c a i (h ∷ hs) g =

@@ -18,12 +18,13 @@ use Rattle.sect_types.specs.declared.sums.Sums.{Sums}
 use Rattle.sect_types.specs.Sums.{sums, sums_at, sums_within, statement_sums, block_sums, primitive_sums, number_of}
 use Rattle.sect_types.specs.Rules.{Declared, seen, declared_in}
 use Rattle.sect_types.specs.First.{IsTyped}
-use Rattle.sect_types.specs.Clean.{IsClean, IsCleanStatement, IsCleanBlock, AreCleanProcedures, AreCleanThreads}
-use Rattle.sect_types.specs.Expanded.{Scene, Ahead, Expander, past_statement, past_block, action_at, expanded_statement}
+use Rattle.sect_types.specs.steps.Clean.{IsClean, IsCleanStatement, IsCleanBlock, AreCleanProcedures, AreCleanThreads}
+use Rattle.sect_types.specs.Expanded.{Scene, NextNumbers, Expander, past_statement, past_block, action_at, expanded_statement}
 use Rattle.sect_types.specs.Expanded.{expanded_block, set_parameters, clear_locals, after_call, call_of}
 use Rattle.sect_types.specs.Expanded.{procedure_numbered, expand_within, expanded_thread, past_thread}
 use Rattle.sect_types.specs.Expanded.{expanded_threads, texts_of}
-use Rattle.sect_types.proofs.CountLaws.{sums_of, looked}
+use Rattle.sect_types.proofs.CountLaws.{looked}
+use Rattle.sect_types.specs.Sums.{sums_of}
 use Rattle.sect_types.proofs.Walked.{text_clean}
 use Rattle.sect_types.proofs.Resolved.{resolved, moved_made, moved_site}
 
@@ -76,10 +77,10 @@ joined_sites a k = ap length (joined_made a k) ∙ length-append (made_in a) (ma
 
 -- each call makes what the table says
 abbrev pub MakesCalls : List Sums → Expander → Type 0
-MakesCalls table call = (q : Option ℕ) (v : Scene) (a : Ahead) (vs : List Operand) (k : TextView)
+MakesCalls table call = (q : Option ℕ) (v : Scene) (a : NextNumbers) (vs : List Operand) (k : TextView)
     → length (made_in (call q v a vs k)) ≡ (sums_at table q).sites + length (made_in k)
 
-action_makes : (d : Declared) (ls : List Declaration) (at : Place) (n : ℕ) (a : Ahead) (p : leaf.Primitive)
+action_makes : (d : Declared) (ls : List Declaration) (at : Place) (n : ℕ) (a : NextNumbers) (p : leaf.Primitive)
     → IsClean d (AStatement (PrimitiveHead p) ls at)
     → length (made_by (action_at (view d ls n) a p)) ≡ (primitive_sums p).sites
 action_makes d ls at n a p h = ap length (moved_made n _) ∙ (resolved d ls at a.sites p h).makes
@@ -88,7 +89,7 @@ action_makes d ls at n a p h = ap length (moved_made n _) ∙ (resolved d ls at 
 mutual
   pub statement_makes : (d : Declared) (ps : List Procedure) (table : List Sums) (call : Expander)
       → MakesCalls table call
-      → (ls : List Declaration) (at : Place) (n : ℕ) (a : Ahead) (s : StatementView) (k : TextView)
+      → (ls : List Declaration) (at : Place) (n : ℕ) (a : NextNumbers) (s : StatementView) (k : TextView)
       → IsCleanStatement d ls at s
       → length (made_in (expanded_statement ps table call (view d ls n) a s k))
       ≡ (statement_sums ps table s).sites + length (made_in k)
@@ -111,13 +112,13 @@ mutual
       let x = expanded_block ps table call (view d ls n) a b in
       omega (arith, length-append (made_in x) (made_in k), block_makes d ps table call m ls (deeper at) n a b h.1)
   statement_makes d ps table call m ls at n a (Atomic lock b) k h =
-      let c : Ahead = record a { sections = a.sections + 1 } in
+      let c : NextNumbers = record a { sections = a.sections + 1 } in
       let x = expanded_block ps table call (view d ls n) c b in
       omega (arith, length-append (made_in x) (made_in k), block_makes d ps table call m ls (in_section at) n c b h.1)
   statement_makes d ps table call m ls at n a (Call f vs) k h = m (number_of ps f) (view d ls n) a vs k
 
   pub block_makes : (d : Declared) (ps : List Procedure) (table : List Sums) (call : Expander) → MakesCalls table call
-      → (ls : List Declaration) (at : Place) (n : ℕ) (a : Ahead) (b : BlockView) → IsCleanBlock d ls at b
+      → (ls : List Declaration) (at : Place) (n : ℕ) (a : NextNumbers) (b : BlockView) → IsCleanBlock d ls at b
       → length (made_in (expanded_block ps table call (view d ls n) a b)) ≡ (block_sums ps table b).sites
   block_makes d ps table call m ls at n a End h = refl
   block_makes d ps table call m ls at n a (Then s b) h =
@@ -141,7 +142,7 @@ cleared_made x (d ∷ ds) k = cleared_made (x + 1) ds k
 call_makes : (d : Declared) (ps : List Procedure) → AreClean d ps → (table : List Sums) (call : Expander)
     → MakesCalls table call
     → (o : Option Procedure) (q : Option ℕ) → procedure_numbered ps q ≡ o
-    → (r : Option ℕ) (v : Scene) (a : Ahead) (vs : List Operand) (k : TextView)
+    → (r : Option ℕ) (v : Scene) (a : NextNumbers) (vs : List Operand) (k : TextView)
     → length (made_in (call_of d.records d.globals ps table call o r v a vs k))
     ≡ (sums_of ps table o).sites + length (made_in k)
 call_makes d ps c table call m None q e r v a vs k = omega arith
@@ -194,14 +195,14 @@ joined_sited n (Section i p r) k h g = (
 
 -- the sites of each call are those from the next one on
 abbrev pub SitesCalls : List Sums → Expander → Type 0
-SitesCalls table call = (q : Option ℕ) (v : Scene) (a : Ahead) (vs : List Operand) (k : TextView)
+SitesCalls table call = (q : Option ℕ) (v : Scene) (a : NextNumbers) (vs : List Operand) (k : TextView)
     → AreSited (a.sites + (sums_at table q).sites) k → AreSited a.sites (call q v a vs k)
 
 -- the sites of a clean body are those from the next one on, in text order
 mutual
   pub statement_sites : (d : Declared) (ps : List Procedure) (table : List Sums) (call : Expander)
       → MakesCalls table call
-      → SitesCalls table call → (ls : List Declaration) (at : Place) (n : ℕ) (a : Ahead) (s : StatementView)
+      → SitesCalls table call → (ls : List Declaration) (at : Place) (n : ℕ) (a : NextNumbers) (s : StatementView)
       (k : TextView)
       → IsCleanStatement d ls at s → AreSited (a.sites + (statement_sums ps table s).sites) k
       → AreSited a.sites (expanded_statement ps table call (view d ls n) a s k)
@@ -228,14 +229,14 @@ mutual
     subst (λ i. AreSited (a.sites + i) k) (sym (block_makes d ps table call m ls (deeper at) n a b h.1)) g,
   )
   statement_sites d ps table call m f ls at n a (Atomic lock b) k h g =
-      let c : Ahead = record a { sections = a.sections + 1 } in (
+      let c : NextNumbers = record a { sections = a.sections + 1 } in (
         block_sites d ps table call m f ls (in_section at) n c b h.1,
         subst (λ i. AreSited (a.sites + i) k) (sym (block_makes d ps table call m ls (in_section at) n c b h.1)) g,
       )
   statement_sites d ps table call m f ls at n a (Call x vs) k h g = f (number_of ps x) (view d ls n) a vs k g
 
   pub block_sites : (d : Declared) (ps : List Procedure) (table : List Sums) (call : Expander) → MakesCalls table call
-      → SitesCalls table call → (ls : List Declaration) (at : Place) (n : ℕ) (a : Ahead) (b : BlockView)
+      → SitesCalls table call → (ls : List Declaration) (at : Place) (n : ℕ) (a : NextNumbers) (b : BlockView)
       → IsCleanBlock d ls at b
       → AreSited a.sites (expanded_block ps table call (view d ls n) a b)
   block_sites d ps table call m f ls at n a End h = tt
@@ -260,7 +261,7 @@ cleared_sited i x (d ∷ ds) k h =
 call_sites : (d : Declared) (ps : List Procedure) → AreClean d ps → (table : List Sums) (call : Expander)
     → MakesCalls table call → SitesCalls table call
     → (o : Option Procedure) (q : Option ℕ) → procedure_numbered ps q ≡ o
-    → (r : Option ℕ) (v : Scene) (a : Ahead) (vs : List Operand) (k : TextView)
+    → (r : Option ℕ) (v : Scene) (a : NextNumbers) (vs : List Operand) (k : TextView)
     → AreSited (a.sites + (sums_of ps table o).sites) k
     → AreSited a.sites (call_of d.records d.globals ps table call o r v a vs k)
 call_sites d ps c table call m f None q e r v a vs k g = subst (λ i. AreSited i k) (omega arith) g
@@ -287,7 +288,7 @@ calls_site (suc n) d ps c q v a vs k g =
     (subst (λ (s : Sums). AreSited (a.sites + s.sites) k) (looked ps (sums_within n ps) q) g)
 
 -- the text of a thread has as many sites as the sums say
-pub thread_makes : (t : TreeView) → AreClean (declared_in t) t.procedures → (a : Ahead) (h : Thread)
+pub thread_makes : (t : TreeView) → AreClean (declared_in t) t.procedures → (a : NextNumbers) (h : Thread)
     → IsCleanBlock (declared_in t) h.locals (InThread false 1) h.body
     → length (made_in (expanded_thread t a h)) ≡ (block_sums t.procedures (sums t.procedures) h.body).sites
 thread_makes t c a h clean =
@@ -299,7 +300,7 @@ thread_makes t c a h clean =
     }) h.body clean
 
 -- and they are those from the next one on
-pub thread_sites : (t : TreeView) → AreClean (declared_in t) t.procedures → (a : Ahead) (h : Thread)
+pub thread_sites : (t : TreeView) → AreClean (declared_in t) t.procedures → (a : NextNumbers) (h : Thread)
     → IsCleanBlock (declared_in t) h.locals (InThread false 1) h.body → AreSited a.sites (expanded_thread t a h)
 thread_sites t c a h clean =
     let n = length t.procedures in
@@ -307,7 +308,7 @@ thread_sites t c a h clean =
     (calls_make n (declared_in t) t.procedures c) (calls_site n (declared_in t) t.procedures c)
     h.locals (InThread false 1) 0 (record a { fresh = length h.locals }) h.body clean
 
-pub threads_sites : (t : TreeView) → AreClean (declared_in t) t.procedures → (a : Ahead) (hs : List Thread)
+pub threads_sites : (t : TreeView) → AreClean (declared_in t) t.procedures → (a : NextNumbers) (hs : List Thread)
     → AreCleanThreads (declared_in t) hs → AllSited a.sites (expanded_threads t a hs)
 threads_sites t c a [] g = tt
 threads_sites t c a (h ∷ hs) g = (

@@ -1,11 +1,9 @@
 -- What is typed is sound by number.
 use Rattle.std.proofs.Common.{◌≡◌, ℕ, nat_eq, Bool, true, false, not, ◌&&◌, List, map, Option, Some, None, IfOk}
-use Rattle.std.proofs.Common.{IfSome, slice_get, refl, sym, ap, ◌∙◌, true≢false, arith, ◌<◌, cond, nat_lt}
-use Rattle.std.proofs.Common.{length, ◌⊎◌, inl, inr}
+use Rattle.std.proofs.Common.{IfSome, slice_get, refl, sym, ap, ◌∙◌, true≢false, arith, ◌<◌, cond, nat_lt, length, ◌⊎◌}
+use Rattle.std.proofs.Common.{inl, inr}
 use Rattle.std.proofs.lemmas.List.{length-map}
 use Rattle.std.specs.Bool.{⊤}
-use Rattle.std.proofs.lemmas.Slice.Eq.{slice_eq-Decides}
-use Rattle.std.proofs.lemmas.Bool.Decides.{Decides-eqb}
 use Rattle.std.specs.Cmp.Lexicographic.{pointwise}
 use Rattle.std.specs.Option.{option_map}
 use Rattle.std.specs.List.{prefix_len}
@@ -35,9 +33,9 @@ use Rattle.sect_types.specs.declared.types.ValueType.TheVariants.{Int, Refers}
 use Rattle.sect_types.specs.declared.action.Action.{Action}
 use Rattle.sect_types.specs.declared.action.Action.TheVariants as action
 use Rattle.sect_types.specs.declared.action.Condition.{Condition}
-use Rattle.sect_types.specs.Sight.{Sight, given_by, same_name, base_of, operand_of, kind_of, local_at, local_with}
-use Rattle.sect_types.specs.Sight.{global_at, global_with, or_else, place, names_of_declared, names_of_globals}
-use Rattle.sect_types.specs.Sight.{names_of_records, field_with, field_at, field_in, field_of, field_of_number}
+use Rattle.sect_types.specs.Sight.{Sight, given_by, base_of, operand_of, kind_of, local_at, local_with, global_at}
+use Rattle.sect_types.specs.Sight.{global_with, or_else, place, names_of_declared, names_of_globals, names_of_records}
+use Rattle.sect_types.specs.Sight.{field_with, field_at, field_in, field_of, field_of_number}
 use Rattle.sect_types.specs.Resolve.{well_typed, well_typed_test, same_kind, is_reference, accepts, of_one_kind}
 use Rattle.sect_types.specs.Resolve.{comparable, base_by, value_at, value_by, assign_of, compute_of, new_of, load_at}
 use Rattle.sect_types.specs.Resolve.{load_of, store_at, store_of, print_of, condition_of, field_looked, looked_in}
@@ -48,13 +46,12 @@ use Rattle.sect_types.specs.Environments.{Environment, environment, record_numbe
 use Rattle.sect_types.specs.Sound.{reference_to, type_at, type_in, field_type, HasType, IsSoundAction, AreComparable}
 use Rattle.sect_types.specs.Sound.{IsSoundCondition, is_shared, IsSound}
 use Rattle.sect_types.specs.Statements.{TextView, Stop, Do, Choose, Loop, Section, joined}
+use Rattle.std.proofs.lemmas.Bool.{and_parts}
+use Rattle.sect_types.proofs.shared.SoundLemmas.{same_names}
 
 at_map : {A B : Type 0} (f : A → B) (xs : List A) (i : ℕ) (x : A) → slice_get xs i ≡ Some x
     → slice_get (map f xs) i ≡ Some (f x)
 at_map f xs i x e = slice_get-map f xs i ∙ ap (option_map f) e
-
-pub same_names : (r q : List ℕ) → same_name r q ≡ true → r ≡ q
-same_names r q e = (slice_eq-Decides Decides-eqb r q (pointwise nat_eq r q) refl).0 e
 
 -- two types that are the same as written are the same by number
 same_types : (rs : List (List ℕ)) (k l : Kind) → same_kind k l ≡ true → type_of rs k ≡ type_of rs l
@@ -131,11 +128,6 @@ accepts_has s (kind.Record r) given.Null h e = tt
 accepts_has s kind.Int (given.Base d) h e = base_has s kind.Int d h e
 accepts_has s (kind.Record r) (given.Base d) h e = base_has s (kind.Record r) d h e
 
-pub both : (a b : Bool) → (a && b) ≡ true → (a ≡ true) × (b ≡ true)
-both true true e = (refl, refl)
-both true false e = absurd (true≢false (sym e))
-both false b e = absurd (true≢false (sym e))
-
 -- an action that is sound, and touches shared things where this says so
 abbrev Fits : Environment → Bool → Action → Type 0
 Fits e b a = IsSoundAction e a × (is_shared a ≡ b)
@@ -163,8 +155,8 @@ compute_sound s (Some (denoted.Local i k)) (Some v) o (Some w) p q r =
     by : (same_kind k kind.Int && accepts kind.Int v && accepts kind.Int w) ≡ true
         → Fits (environment s) false (action.Compute i (value_by v) o (value_by w))
     by e =
-        let first = both (same_kind k kind.Int && accepts kind.Int v) (accepts kind.Int w) e in
-        let second = both (same_kind k kind.Int) (accepts kind.Int v) first.0 in (
+        let first = and_parts (same_kind k kind.Int && accepts kind.Int v) (accepts kind.Int w) e in
+        let second = and_parts (same_kind k kind.Int) (accepts kind.Int v) first.0 in (
           (
             p ∙ ap Some (same_types (names_of_records s.records) k kind.Int second.0),
             accepts_has s kind.Int v q second.1,
@@ -351,7 +343,7 @@ of_one_kind_have s (given.Base d) w p q e =
 integers_have : (s : Sight) (v w : Given) → IsGiven s v → IsGiven s w
     → (accepts kind.Int v && accepts kind.Int w) ≡ true
     → HasType (environment s) (value_by v) Int × HasType (environment s) (value_by w) Int
-integers_have s v w p q e = let h = both (accepts kind.Int v) (accepts kind.Int w) e in
+integers_have s v w p q e = let h = and_parts (accepts kind.Int v) (accepts kind.Int w) e in
     (accepts_has s kind.Int v p h.0, accepts_has s kind.Int w q h.1)
 
 comparable_have : (s : Sight) (c : Comparison) (v w : Given) → IsGiven s v → IsGiven s w → comparable c v w ≡ true

@@ -1,16 +1,16 @@
 -- What a place says of what is counted there.
-use Rattle.std.proofs.Common.{◌≡◌, ℕ, zero, suc, [], ◌∷◌, ◌≤◌, Bool, true, false, ◌&&◌, ◌||◌, refl}
-use Rattle.std.proofs.Common.{ap, subst, ◌∙◌, arith, Some, List, map}
-use Rattle.std.specs.Prelude.{nat_lt, slice_index_or}
-use Rattle.std.proofs.lemmas.Bool.Decides.{nat_tests}
+use Rattle.std.proofs.Common.{◌≡◌, ℕ, zero, suc, [], ◌∷◌, Bool, refl, ap, subst, ◌∙◌, arith, Some, List, map, ◌≤◌}
+use Rattle.std.proofs.Common.{true, false, ◌&&◌}
+use Rattle.std.specs.Prelude.{slice_index_or, nat_lt}
 use Rattle.sect_front.specs.declared.tree.Procedure.{Procedure}
 use Rattle.sect_types.specs.declared.place.Place.{Place}
 use Rattle.sect_types.specs.declared.place.Place.TheVariants.{InThread, InProcedure}
 use Rattle.sect_types.specs.declared.sums.Sums.{Sums}
 use Rattle.sect_types.specs.Sums.{nothing, sums, sums_at}
-use Rattle.sect_types.specs.Rules.{by_place}
 use Rattle.sect_types.specs.steps.Capped.{capped, IsSmall}
 use Rattle.sect_types.specs.steps.Standing.{IsReady}
+use Rattle.std.proofs.lemmas.Bool.Decides.{nat_tests}
+use Rattle.sect_types.specs.Rules.{by_place}
 
 -- in a thread a test counts, in a procedure it doesn't
 pub counted : (at : Place) (b : Bool) → (by_place at true false && b) ≡ by_place at b false
@@ -33,11 +33,6 @@ small s = record {
   fresh = omega arith;
   deep = omega arith;
 }
-
-neither : (a b : Bool) → (a || b) ≡ false → (a ≡ false) × (b ≡ false)
-neither false false e = (refl, refl)
-neither true b e = absurd cc
-neither false true e = absurd cc
 
 at_most : (m n : ℕ) → nat_lt m n ≡ false → n ≤ m
 at_most m n e = grind (arith, nat_tests)

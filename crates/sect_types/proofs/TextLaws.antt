@@ -15,17 +15,19 @@ use Rattle.sect_front.specs.declared.tree.Procedure.{Procedure}
 use Rattle.sect_types.specs.Items.{variables}
 use Rattle.sect_types.specs.declared.sums.Sums.{Sums}
 use Rattle.sect_types.specs.Sums.{sums_within, number_of, prepend, statement_calls, block_calls, calls_in}
-use Rattle.sect_types.specs.Expanded.{Scene, Ahead, Expander, past, past_statement, past_block, statement_sections}
+use Rattle.sect_types.specs.Expanded.{Scene, NextNumbers, Expander, past, past_statement, past_block, statement_sections}
 use Rattle.sect_types.specs.Expanded.{block_sections, action_at, moved_condition, expanded_statement, expanded_block}
 use Rattle.sect_types.specs.Expanded.{expand_within, call_of, procedure_numbered, after_call, set_parameters}
 use Rattle.sect_types.specs.Expanded.{clear_locals}
-use Rattle.sect_types.proofs.FuelLaws.{Agree, or_false, same_statement, same_block, chain, one_more}
-use Rattle.sect_types.proofs.EnoughLaws.{IsAcyclic, two, ends, no_way}
+use Rattle.sect_types.proofs.FuelLaws.{Agree, same_statement, same_block, chain, one_more}
+use Rattle.sect_lemmas.proofs.Booleans.{neither}
+use Rattle.sect_types.proofs.EnoughLaws.{IsAcyclic, ends, no_way}
+use Rattle.std.proofs.lemmas.Bool.{cases_Bool}
 
 abbrev pub SameAt : Expander → Expander → Option ℕ → Type 0
-SameAt f g q = (v : Scene) (a : Ahead) (vs : List Operand) (k : TextView) → f q v a vs k ≡ g q v a vs k
+SameAt f g q = (v : Scene) (a : NextNumbers) (vs : List Operand) (k : TextView) → f q v a vs k ≡ g q v a vs k
 
--- the two expanders agree at what the test leaves out
+-- the cases_Bool expanders agree at what the test leaves out
 pub record AreSame (test : ℕ → Bool) (f g : Expander) : Type 0 where
   pub some : (r : ℕ) → test r ≡ false → SameAt f g (Some r)
   pub none : SameAt f g None
@@ -33,12 +35,12 @@ pub record AreSame (test : ℕ → Bool) (f g : Expander) : Type 0 where
 call_text : (test : ℕ → Bool) (f g : Expander) → AreSame test f g → (q : Option ℕ) (w : List ℕ)
     → list_any test (prepend q w) ≡ false → SameAt f g q
 call_text test f g h None w e = h.none
-call_text test f g h (Some r) w e = h.some r (or_false (test r) (list_any test w) e).0
+call_text test f g h (Some r) w e = h.some r (neither (test r) (list_any test w) e).0
 
 mutual
   pub statement_text : (test : ℕ → Bool) (ps : List Procedure) (t u : List Sums) (f g : Expander) → Agree test t u
       → AreSame test f g →
-      (v : Scene) (a : Ahead) (s : StatementView) (w : List ℕ) → list_any test (statement_calls ps s w) ≡ false
+      (v : Scene) (a : NextNumbers) (s : StatementView) (w : List ℕ) → list_any test (statement_calls ps s w) ≡ false
       → (k l : TextView)
       → k ≡ l →
       expanded_statement ps t f v a s k ≡ expanded_statement ps u g v a s l
@@ -67,7 +69,7 @@ mutual
 
   pub block_text : (test : ℕ → Bool) (ps : List Procedure) (t u : List Sums) (f g : Expander) → Agree test t u
       → AreSame test f g →
-      (v : Scene) (a : Ahead) (b : BlockView) (w : List ℕ) → list_any test (block_calls ps b w) ≡ false →
+      (v : Scene) (a : NextNumbers) (b : BlockView) (w : List ℕ) → list_any test (block_calls ps b w) ≡ false →
       expanded_block ps t f v a b ≡ expanded_block ps u g v a b
   block_text test ps t u f g h m v a End w e = refl
   block_text test ps t u f g h m v a (Then s b) w e =
@@ -98,7 +100,7 @@ one_text test rs gs ps t u f g h m (Some p) e q v a vs k =
 -- where it isn't a procedure nothing is put in its place
 pub nothing_there : (rs : List Record) (gs : List GlobalObject) (ps : List Procedure) (t : List Sums) (f : Expander)
     (o : Option Procedure) → is_some o ≡ false →
-    (q : Option ℕ) (v : Scene) (a : Ahead) (vs : List Operand) (k : TextView) → call_of rs gs ps t f o q v a vs k ≡ k
+    (q : Option ℕ) (v : Scene) (a : NextNumbers) (vs : List Operand) (k : TextView) → call_of rs gs ps t f o q v a vs k ≡ k
 nothing_there rs gs ps t f None e q v a vs k = refl
 nothing_there rs gs ps t f (Some p) e q v a vs k = absurd (let off : true ≡ false = e in cc)
 
@@ -126,7 +128,7 @@ one_more_text (suc n) rs gs ps q e v a vs k =
 -- without recursion the fuel is enough: a call's text unfolds once more to the same
 pub enough_text : (rs : List Record) (gs : List GlobalObject) (ps : List Procedure) (q : ℕ) → IsAcyclic ps →
     SameAt (expand_within (suc (length ps)) rs gs ps) (expand_within (length ps) rs gs ps) (Some q)
-enough_text rs gs ps q c v a vs k = elim (two (chain (length ps) ps (Some q))) [
+enough_text rs gs ps q c v a vs k = elim (cases_Bool (chain (length ps) ps (Some q))) [
   | inl e ↦ absurd (ends (length ps) ps [] q c (no_way ps q) (omega arith) e)
   | inr e ↦ one_more_text (length ps) rs gs ps (Some q) e v a vs k
 ]

@@ -3,14 +3,13 @@ use Rattle.std.proofs.Common.{◌≡◌, ℕ, zero, suc, ◌+◌, ◌<◌, ◌�
 use Rattle.std.proofs.Common.{Result, Ok, Err, sym, ap, subst, ◌∙◌, append_assoc, length-append, arith, true, ◌&&◌}
 use Rattle.std.proofs.Common.{nat_le}
 use Rattle.std.specs.Result.{IsErrAnd}
-use Rattle.sect_types.proofs.Lists.{drop_next}
+use Rattle.sect_lemmas.proofs.Elements.{drop_next}
 use Rattle.sect_front.specs.Syntax.{BlockView}
 use Rattle.sect_front.specs.Depth.{block_depth, procedures_depth, threads_depth}
 use Rattle.sect_front.specs.declared.tree.Declaration.{Declaration}
 use Rattle.sect_front.specs.declared.tree.Procedure.{Procedure}
 use Rattle.sect_front.specs.declared.tree.Thread.{Thread}
 use Rattle.sect_front.specs.TreeView.{TreeView}
-use Rattle.sect_types.specs.declared.limits.TheConstants.{MOST_LOCALS, MOST_PROCEDURES, MOST_THREADS}
 use Rattle.sect_types.specs.declared.place.Place.{Place}
 use Rattle.sect_types.specs.declared.place.Place.TheVariants.{InThread, InProcedure}
 use Rattle.sect_types.specs.declared.rule.Fault.{Fault}
@@ -18,7 +17,7 @@ use Rattle.sect_types.specs.declared.rule.Fault.TheVariants as fault
 use Rattle.sect_types.specs.Sight.{Sight, names_of_records, names_of_declared}
 use Rattle.sect_types.specs.Items.{Item, AProcedure, AThread, variables, local_items, block_items, procedure_items}
 use Rattle.sect_types.specs.Items.{thread_items}
-use Rattle.sect_types.specs.Rules.{Declared, declared_in, Counts, judge, sight}
+use Rattle.sect_types.specs.Rules.{Declared, declared_in, Counts, sight}
 use Rattle.sect_types.specs.steps.Walks.{Walks}
 use Rattle.sect_types.specs.steps.Standing.{declared_by}
 use Rattle.sect_types.specs.steps.Threads.{VariablesView, variables_shown, variables_fine, local_names, AreProcedures}
@@ -27,8 +26,10 @@ use Rattle.sect_types.specs.steps.Listing.{all_known, locals_fine}
 use Rattle.std.proofs.lemmas.Bool.Decides.{nat_tests}
 use Rattle.std.proofs.lemmas.List.{drop_all}
 use Rattle.sect_types.specs.steps.Capped.{HaveFewVariables}
-use Rattle.sect_types.proofs.SoundLemmas.{both}
-use Rattle.sect_types.proofs.Records.{both_true, at_most}
+use Rattle.sect_types.proofs.Records.{at_most}
+use Rattle.std.proofs.lemmas.Bool.{and_parts, and_from}
+use Rattle.sect_types.specs.Limits.{most_locals, most_procedures, most_threads}
+use Rattle.sect_types.specs.steps.Judging.{judge}
 
 -- what comes first, and then a walk
 pub walks_then : {A : Type 0} (d : Declared) (all first : List Item → List Item) (old now new : Counts)
@@ -87,7 +88,7 @@ pub procedure_more : (d : Declared) (all ps : List Procedure) (i : ℕ) (p : Pro
     → ((w : List Item) → judge d now (AProcedure p.name names ∷ local_items [] (variables p)
     (block_items (variables p) (InProcedure (length names)) p.body w)) ≡ judge d then w)
     → new ≡ names ++ p.name ∷ [] → more ≡ scopes ++ variables_shown p ∷ []
-    → length names < MOST_PROCEDURES → length (variables p) ≤ MOST_LOCALS
+    → length names < most_procedures → length (variables p) ≤ most_locals
     → all_known (names_of_records d.records) (variables p) ≡ true
     → AreProcedures d all (drop (i + 1) ps) new more old then
 procedure_more d all ps i p names new scopes more old now then h e so_far step named pushed few few_own known =
@@ -108,9 +109,9 @@ procedure_more d all ps i p names new scopes more old now then h e so_far step n
           so_far.fine
           ∙ (ap (variables_fine (names_of_records d.records)) at
           ∙ ap (λ b. b && variables_fine (names_of_records d.records) rest)
-          (both_true (all_known (names_of_records d.records) (variables p))
-          (nat_le (length (variables p)) MOST_LOCALS) known
-          (at_most (length (variables p)) MOST_LOCALS few_own)));
+          (and_from (all_known (names_of_records d.records) (variables p))
+          (nat_le (length (variables p)) most_locals) known
+          (at_most (length (variables p)) most_locals few_own)));
     }
   where
     rest : List Procedure
@@ -139,7 +140,7 @@ pub thread_more : (d : Declared) (all ts : List Thread) (i : ℕ) (t : Thread) (
     → ((w : List Item) → judge d now (AThread t.name names ∷ local_items [] t.locals
     (block_items t.locals (InThread false 1) t.body w)) ≡ judge d then w)
     → new ≡ names ++ t.name ∷ [] → more ≡ locals ++ names_of_declared t.locals ∷ []
-    → length names < MOST_THREADS → length t.locals ≤ MOST_LOCALS
+    → length names < most_threads → length t.locals ≤ most_locals
     → all_known (names_of_records d.records) t.locals ≡ true
     → AreThreads d all (drop (i + 1) ts) new more old then
 thread_more d all ts i t names new locals more old now then h e so_far step named pushed few few_own known =
@@ -159,8 +160,8 @@ thread_more d all ts i t names new locals more old now then h e so_far step name
           so_far.fine
           ∙ (ap (locals_fine (names_of_records d.records)) at
           ∙ ap (λ b. b && locals_fine (names_of_records d.records) rest)
-          (both_true (all_known (names_of_records d.records) t.locals) (nat_le (length t.locals) MOST_LOCALS) known
-          (at_most (length t.locals) MOST_LOCALS few_own)));
+          (and_from (all_known (names_of_records d.records) t.locals) (nat_le (length t.locals) most_locals) known
+          (at_most (length t.locals) most_locals few_own)));
     }
   where
     rest : List Thread
@@ -206,10 +207,10 @@ pub few_variables : (records : List (List ℕ)) (ps : List Procedure) → variab
     → HaveFewVariables ps
 few_variables records [] h = tt
 few_variables records (p ∷ ps) h =
-    let few = nat_le (length (variables p)) MOST_LOCALS in
-    let parts = both (all_known records (variables p) && few) (variables_fine records ps) h in
-    let own = both (all_known records (variables p)) few parts.0 in (
-      omega (arith, is_at_most (length (variables p)) MOST_LOCALS own.1, length-append p.parameters p.locals),
+    let few = nat_le (length (variables p)) most_locals in
+    let parts = and_parts (all_known records (variables p) && few) (variables_fine records ps) h in
+    let own = and_parts (all_known records (variables p)) few parts.0 in (
+      omega (arith, is_at_most (length (variables p)) most_locals own.1, length-append p.parameters p.locals),
       few_variables records ps parts.1,
     )
 

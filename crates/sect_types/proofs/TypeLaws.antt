@@ -1,8 +1,8 @@
 -- The expanded text of a typed text is sound where its fresh locals have the types of their declarations.
 use Rattle.std.specs.Prelude.{Bool, true, false, not, ◌&&◌, ◌||◌, is_some, nat_eq}
-use Rattle.std.proofs.Common.{◌≡◌, ℕ, zero, suc, ◌+◌, List, [], ◌∷◌, ◌++◌, map, Option, Some, None, IfSome}
-use Rattle.std.proofs.Common.{refl, sym, ◌∙◌, arith, subst, length, length-append}
-use Rattle.std.proofs.lemmas.Bool.{eqb-true}
+use Rattle.std.proofs.Common.{◌≡◌, ℕ, zero, suc, ◌+◌, List, [], ◌∷◌, ◌++◌, map, Option, Some, None, IfSome, refl, sym}
+use Rattle.std.proofs.Common.{◌∙◌, arith, subst, length, length-append}
+use Rattle.std.proofs.lemmas.Bool.{eqb-true, and_parts}
 use Rattle.sect_front.specs.declared.tree.Operand.{Operand}
 use Rattle.sect_front.specs.declared.tree.Kind.{Kind}
 use Rattle.sect_front.specs.declared.tree.Kind.TheVariants as kind
@@ -15,7 +15,7 @@ use Rattle.sect_types.specs.Resolve.{value_by}
 use Rattle.sect_types.specs.Environments.{Environment, environment, type_of, field_types, global_records}
 use Rattle.sect_types.specs.Sound.{HasType, IsSound, AreSound, StandsRight, is_shared}
 use Rattle.sect_types.specs.Statements.{TextView, joined}
-use Rattle.sect_types.proofs.SoundLemmas.{IsGiven, accepts_has, operand_there, joined_sound, both}
+use Rattle.sect_types.proofs.SoundLemmas.{IsGiven, accepts_has, operand_there, joined_sound}
 use Rattle.sect_front.specs.Syntax.{StatementView, Primitive, If, IfElse, While, Atomic, Call, BlockView, End, Then}
 use Rattle.sect_front.specs.declared.tree.Procedure.{Procedure}
 use Rattle.sect_front.specs.declared.tree.Thread.{Thread}
@@ -28,8 +28,8 @@ use Rattle.sect_types.specs.Sums.{sums, sums_within, statement_sums, block_sums,
 use Rattle.sect_types.specs.Rules.{Declared, seen, kind_accepts, all_accept, shares, knows_operands, as_many}
 use Rattle.sect_types.specs.Rules.{procedure_at, procedure_of, call_agrees, declared_in}
 use Rattle.sect_types.specs.First.{IsTyped}
-use Rattle.sect_types.specs.Clean.{IsClean, IsCleanStatement, IsCleanBlock, AreCleanThreads}
-use Rattle.sect_types.specs.Expanded.{Ahead, Expander, Freshens, of_call, past_statement, past_block}
+use Rattle.sect_types.specs.steps.Clean.{IsClean, IsCleanStatement, IsCleanBlock, AreCleanThreads}
+use Rattle.sect_types.specs.Expanded.{NextNumbers, Expander, Freshens, of_call, past_statement, past_block}
 use Rattle.sect_types.specs.Expanded.{expanded_statement, expanded_block, cleared, argument_in, set_parameters}
 use Rattle.sect_types.specs.Expanded.{clear_locals, after_call, call_of, procedure_numbered, expand_within, fresh_of}
 use Rattle.sect_types.specs.Expanded.{fresh_within, fresh_in, statement_fresh, block_fresh, local_types_of}
@@ -79,7 +79,7 @@ set_sound d ls n all stand x [] vs k there same t h = h
 set_sound d ls n all stand x (p ∷ ps) [] k there same t h = absurd (omega (arith, same))
 set_sound d ls n all stand x (p ∷ ps) (u ∷ us) k there same t h =
     let o = operand_of (seen d ls) u in
-    let taken = both (kind_accepts p.kind o) (all_accept (seen d ls) ps us) t in
+    let taken = and_parts (kind_accepts p.kind o) (all_accept (seen d ls) ps us) t in
     let few = types_in d ps in (
       (
         type_in d p,
@@ -153,7 +153,7 @@ inside_section (InProcedure p) = refl
 -- the expansion of a call that takes its arguments is sound where its fresh locals stand from the next one on
 abbrev pub SoundCalls : Declared → List ValueType → Expander → Freshens → Type 0
 SoundCalls d all call fresh =
-    (q : Option ℕ) (ls : List Declaration) (n : ℕ) (a : Ahead) (c : ℕ) (vs : List Operand) (k : TextView)
+    (q : Option ℕ) (ls : List Declaration) (n : ℕ) (a : NextNumbers) (c : ℕ) (vs : List Operand) (k : TextView)
     → IsTaken d ls q vs → StandFrom n (types_in d ls) all → StandFrom a.fresh (fresh_types d (fresh q c)) all
     → IsSound (whole d all) true k → IsSound (whole d all) true (call q (view d ls n) a vs k)
 
@@ -161,7 +161,7 @@ SoundCalls d all call fresh =
 mutual
   pub statement_sound : (d : Declared) (all : List ValueType) (table : List Sums) (call : Expander) (fresh : Freshens)
       → SoundCalls d all call fresh → CountsFresh table fresh
-      → (ls : List Declaration) (at : Place) (n : ℕ) (a : Ahead) (c : ℕ) (s : StatementView) (k : TextView)
+      → (ls : List Declaration) (at : Place) (n : ℕ) (a : NextNumbers) (c : ℕ) (s : StatementView) (k : TextView)
       → StandFrom n (types_in d ls) all → IsCleanStatement d ls at s
       → StandFrom a.fresh (fresh_types d (statement_fresh d.procedures table fresh c s)) all
       → IsSound (whole d all) (is_inside at) k
@@ -199,7 +199,7 @@ mutual
     g,
   )
   statement_sound d all table call fresh m i ls at n a c (Atomic lock b) k stand h f g =
-      let e : Ahead = record a { sections = a.sections + 1 } in (
+      let e : NextNumbers = record a { sections = a.sections + 1 } in (
         h.0.flat,
         subst (λ z. IsSound (whole d all) z (expanded_block d.procedures table call (view d ls n) e b))
             (inside_section at)
@@ -214,7 +214,7 @@ mutual
 
   pub block_sound : (d : Declared) (all : List ValueType) (table : List Sums) (call : Expander) (fresh : Freshens)
       → SoundCalls d all call fresh → CountsFresh table fresh
-      → (ls : List Declaration) (at : Place) (n : ℕ) (a : Ahead) (c : ℕ) (b : BlockView)
+      → (ls : List Declaration) (at : Place) (n : ℕ) (a : NextNumbers) (c : ℕ) (b : BlockView)
       → StandFrom n (types_in d ls) all → IsCleanBlock d ls at b
       → StandFrom a.fresh (fresh_types d (block_fresh d.procedures table fresh c b)) all
       → IsSound (whole d all) (is_inside at) (expanded_block d.procedures table call (view d ls n) a b)
@@ -255,7 +255,7 @@ call_stands d all n c p more h =
 call_sound : (d : Declared) (all : List ValueType) → AreClean d d.procedures → (table : List Sums) (call : Expander)
     (fresh : Freshens) → SoundCalls d all call fresh → CountsFresh table fresh
     → (o : Option Procedure) (q : Option ℕ) → procedure_numbered d.procedures q ≡ o
-    → (ls : List Declaration) (n : ℕ) (a : Ahead) (c : ℕ) (vs : List Operand) (k : TextView) → IsTaken d ls q vs
+    → (ls : List Declaration) (n : ℕ) (a : NextNumbers) (c : ℕ) (vs : List Operand) (k : TextView) → IsTaken d ls q vs
     → StandFrom n (types_in d ls) all → StandFrom a.fresh (fresh_types d (fresh_of d.procedures table fresh o c)) all
     → IsSound (whole d all) true k
     → IsSound (whole d all) true (call_of d.records d.globals d.procedures table call o q (view d ls n) a vs k)
@@ -281,7 +281,7 @@ calls_sound (suc i) d all clean q ls n a c vs k t stand f g =
     (calls_sound i d all clean) (call_freshens i ps) (procedure_numbered ps q) q refl ls n a c vs k t stand f g
 
 -- the text of a thread is sound for its locals, the fresh ones behind its own
-pub thread_sound : (t : TreeView) → AreClean (declared_in t) t.procedures → (a : Ahead) (h : Thread)
+pub thread_sound : (t : TreeView) → AreClean (declared_in t) t.procedures → (a : NextNumbers) (h : Thread)
     → IsCleanBlock (declared_in t) h.locals (InThread false 1) h.body
     → IsSound (whole (declared_in t) (local_types_of t h)) false (expanded_thread t a h)
 thread_sound t clean a h g =
@@ -295,7 +295,7 @@ thread_sound t clean a h g =
     (record a { fresh = length h.locals }) 0 h.body (stand_whole own fresh) g
     (stand_behind (length h.locals) own fresh (types_long d h.locals))
 
-pub threads_sound : (t : TreeView) → AreClean (declared_in t) t.procedures → (a : Ahead) (hs : List Thread)
+pub threads_sound : (t : TreeView) → AreClean (declared_in t) t.procedures → (a : NextNumbers) (hs : List Thread)
     → AreCleanThreads (declared_in t) hs
     → AreSound (field_types (names_of_records t.records) t.records)
     (global_records (names_of_records t.records) t.globals)

@@ -17,9 +17,11 @@ use Rattle.sect_types.specs.declared.place.Place.TheVariants.{InThread, InProced
 use Rattle.sect_types.specs.declared.rule.Rule.TheVariants.{Unknown, Twice, WrongType, SharedOutside, Nested, TooMany}
 use Rattle.sect_types.specs.declared.rule.Rule.TheVariants.{Recursion, Arguments}
 use Rattle.sect_types.specs.declared.rule.Rule.{Rule}
-use Rattle.sect_types.specs.Rules.{Declared, Counts, breaks, after, after_item, declared_in}
+use Rattle.sect_types.specs.Rules.{Declared, Counts, after, after_item, declared_in}
+use Rattle.sect_types.specs.steps.Judging.{breaks}
 use Rattle.sect_types.specs.First.{BreaksFrom, none_yet, IsTyped}
-use Rattle.sect_types.specs.Clean.{IsClean, IsCleanStatement, IsCleanBlock, AreCleanProcedures, AreCleanThreads}
+use Rattle.sect_types.proofs.Ways.{breaks_rule}
+use Rattle.sect_types.specs.steps.Clean.{IsClean, IsCleanStatement, IsCleanBlock, AreCleanProcedures, AreCleanThreads}
 
 -- no rule is broken at any of these items, before which the counts are c
 abbrev pub NoneBroken : Declared → Counts → List Item → Type 0
@@ -37,7 +39,7 @@ first_clean d c item w h = record {
   right = not_true (breaks d c item WrongType) (h 0 WrongType);
   stands = not_true (breaks d c item SharedOutside) (h 0 SharedOutside);
   flat = not_true (breaks d c item Nested) (h 0 Nested);
-  ends = not_true (breaks d c item Recursion) (h 0 Recursion);
+  ends = not_true (breaks d c item Recursion) (λ e. h 0 Recursion (breaks_rule d c item Recursion e));
   counted = not_true (breaks d c item Arguments) (h 0 Arguments);
 }
 

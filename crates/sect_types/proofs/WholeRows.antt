@@ -1,28 +1,16 @@
--- What some programs come to, run by whole sections.
-use Rattle.std.proofs.Common.{◌≡◌, ℕ, List, [], ◌∷◌, Option, Some, None, refl}
-use Rattle.std.specs.Prelude.{pos, map}
+-- What some programs come to, run by whole sections. Nothing cites these rows: they try the definitions.
+use Rattle.std.proofs.Common.{◌≡◌, List, [], ◌∷◌, Option, Some, None, refl}
+use Rattle.std.specs.Prelude.{map}
 use Rattle.sect_types.specs.declared.store.ObjectName.TheVariants.{Made}
-use Rattle.sect_types.specs.declared.store.Datum.{Datum}
-use Rattle.sect_types.specs.declared.store.Datum.TheVariants.{Number, Null, Refers}
+use Rattle.sect_types.specs.declared.store.Datum.TheVariants.{Null, Refers}
 use Rattle.sect_types.specs.declared.store.Fault.TheVariants as fault
 use Rattle.sect_types.specs.declared.store.End.{End}
 use Rattle.sect_types.specs.declared.store.End.TheVariants.{Done, Failed}
 use Rattle.sect_types.specs.Store.{ObjectView}
-use Rattle.sect_types.specs.Whole.{RunView, FrameView, SerialEndView, RunsWhole, in_order, begun, all_ahead}
-use Rattle.sect_types.proofs.ProgramTexts.{two_bumps, sum_and_push, null_after_write, two_assignments, too_much}
-
--- a number as a datum
-abbrev pub int : ℕ → Datum
-int n = Number (pos n)
-
--- an object by its site and fields
-abbrev pub object : ℕ → List Datum → ObjectView
-object site fields = record { site = site; fields = fields }
-
--- an ending by its objects, output and ends
-abbrev pub ending : List ObjectView → List (List ObjectView) → List ℕ → List End → SerialEndView
-ending globals made output ends =
-    record { store = record { globals = globals; made = made }; output = map pos output; ends = ends }
+use Rattle.sect_types.specs.Whole.{RunView, FrameView, RunsWhole, in_order, begun, all_ahead}
+use Rattle.sect_types.proofs.shared.ProgramTexts.{two_bumps, sum_and_push, null_after_write}
+use Rattle.sect_types.proofs.ProgramTexts.{two_assignments, too_much}
+use Rattle.sect_types.proofs.shared.WholeRows.{int, object, ending}
 
 -- with three units of fuel both are through; with two both fail, and nothing is written
 fuel_three : RunsWhole two_bumps 3 (0 ∷ 1 ∷ [])

@@ -1,7 +1,7 @@
 -- A text that breaks no rule stays within the limits.
 use Rattle.std.specs.Prelude.{Bool, true, false, ◌&&◌, ◌||◌, nat_le, nat_lt, is_some, ⊤}
-use Rattle.std.proofs.Common.{◌≡◌, ℕ, zero, suc, ◌+◌, ◌<◌, ◌≤◌, List, [], ◌∷◌, ◌++◌, map, Option, Some, None}
-use Rattle.std.proofs.Common.{refl, sym, ◌∙◌, arith, subst, length, length-append}
+use Rattle.std.proofs.Common.{◌≡◌, ℕ, zero, suc, ◌+◌, ◌<◌, ◌≤◌, List, [], ◌∷◌, ◌++◌, map, Option, Some, None, refl}
+use Rattle.std.proofs.Common.{sym, ◌∙◌, arith, subst, length, length-append, ap}
 use Rattle.std.proofs.lemmas.List.{length-map}
 use Rattle.std.proofs.lemmas.Bool.Decides.{nat_tests}
 use Rattle.sect_front.specs.declared.tree.Primitive as leaf
@@ -9,13 +9,11 @@ use Rattle.sect_front.specs.declared.tree.Primitive.TheVariants as primitive
 use Rattle.sect_front.specs.declared.tree.Operand.{Operand}
 use Rattle.sect_front.specs.declared.tree.Declaration.{Declaration}
 use Rattle.sect_front.specs.declared.tree.GlobalObject.{GlobalObject}
-use Rattle.sect_types.specs.declared.limits.TheConstants.{MOST_ALL_LOCALS, MOST_CALLS, MOST_GLOBALS}
-use Rattle.sect_types.specs.declared.limits.TheConstants.{MOST_LOCALS, MOST_SECTIONS, MOST_SITES, MOST_STATEMENTS}
 use Rattle.sect_types.specs.declared.types.ValueType.{ValueType}
 use Rattle.sect_types.specs.Sight.{names_of_records}
 use Rattle.sect_types.specs.Environments.{type_of, types_of}
 use Rattle.sect_types.specs.Sections.{sections_of}
-use Rattle.sect_types.specs.Programs.{total_statements, all_made}
+use Rattle.sect_types.specs.Programs.{total_statements, all_made, calls_met}
 use Rattle.sect_front.specs.Syntax.{StatementView, Primitive, If, IfElse, While, Atomic, Call, BlockView, End, Then}
 use Rattle.sect_front.specs.declared.tree.Procedure.{Procedure}
 use Rattle.sect_front.specs.declared.tree.Thread.{Thread}
@@ -28,36 +26,40 @@ use Rattle.sect_types.specs.declared.sums.Sums.{Sums}
 use Rattle.sect_types.specs.Sums.{sums, sums_at, sums_within, number_of, primitive_sums, statement_sums, block_sums}
 use Rattle.sect_types.specs.Rules.{Declared, Counts, seen, after, too_many, passes_by, sums_of_call, as_many}
 use Rattle.sect_types.specs.Rules.{after_item, procedure_of, knows_operands, declared_in}
-use Rattle.sect_types.specs.Clean.{IsClean}
+use Rattle.sect_types.specs.steps.Clean.{IsClean}
 use Rattle.sect_types.specs.First.{none_yet, IsTyped}
 use Rattle.sect_types.specs.declared.expand.Fresh.{Fresh}
 use Rattle.sect_types.specs.Expanded.{procedure_numbered, fresh_in, local_types_of, texts_of}
-use Rattle.sect_types.proofs.FuelLaws.{or_false}
 use Rattle.sect_types.proofs.Resolved.{not_false}
 use Rattle.sect_types.proofs.Walked.{NoneBroken, first_clean, first_few, next_none, statement_after, block_after}
 use Rattle.sect_types.proofs.Walked.{statement_walked, block_walked, declared_after, locals_walked, thread_after}
 use Rattle.sect_types.proofs.Walked.{threads_after, records_after, records_walked, globals_walked, procedures_walked}
 use Rattle.sect_types.proofs.Walked.{before_procedures, before_threads}
-use Rattle.sect_types.proofs.CountLaws.{sums_of, looked, thread_freshens}
+use Rattle.sect_types.specs.Sums.{sums_of}
+use Rattle.sect_types.proofs.CountLaws.{looked, thread_freshens}
 use Rattle.sect_types.proofs.Counting.{end_of, before_add, typed_counts, thread_sums, threads_add}
+use Rattle.sect_lemmas.proofs.Booleans.{neither}
+use Rattle.sect_types.specs.Limits.{most_all_locals, most_calls, most_globals, most_locals, most_sections, most_sites}
+use Rattle.sect_types.specs.Limits.{most_statements}
+use Rattle.sect_types.specs.steps.Clean.{IsClean}
 
 -- the counts of the expanded text so far
 pub record IsFew (c : Counts) : Type 0 where
-  pub few_statements : c.statements ≤ MOST_STATEMENTS
-  pub few_sites : c.sites ≤ MOST_SITES
-  pub few_sections : c.sections ≤ MOST_SECTIONS
-  pub few_calls : c.calls ≤ MOST_CALLS
+  pub few_statements : c.statements ≤ most_statements
+  pub few_sites : c.sites ≤ most_sites
+  pub few_sections : c.sections ≤ most_sections
+  pub few_calls : c.calls ≤ most_calls
 
 under : (m n : ℕ) → nat_le m n ≡ false → n < m
 under m n h = grind (arith, nat_tests)
 
-at_most : (m n : ℕ) → nat_lt m n ≡ false → n ≤ m
+pub at_most : (m n : ℕ) → nat_lt m n ≡ false → n ≤ m
 at_most m n h = grind (arith, nat_tests)
 
-one_statement : (c : Counts) → nat_le MOST_STATEMENTS c.statements ≡ false → IsFew c
+one_statement : (c : Counts) → nat_le most_statements c.statements ≡ false → IsFew c
     → IsFew (record c { items = c.items + 1; statements = c.statements + 1 })
 one_statement c h f = record {
-  few_statements = omega (arith, under MOST_STATEMENTS c.statements h);
+  few_statements = omega (arith, under most_statements c.statements h);
   few_sites = f.few_sites;
   few_sections = f.few_sections;
   few_calls = f.few_calls;
@@ -69,10 +71,10 @@ primitive_few : (d : Declared) (ls : List Declaration) (inside : Bool) (depth : 
 primitive_few d ls inside depth c (primitive.Assign x v) h f = one_statement c h f
 primitive_few d ls inside depth c (primitive.Compute x v o w) h f = one_statement c h f
 primitive_few d ls inside depth c (primitive.New x r) h f =
-    let g = or_false (nat_le MOST_STATEMENTS c.statements) (nat_le MOST_SITES c.sites) h in
+    let g = neither (nat_le most_statements c.statements) (nat_le most_sites c.sites) h in
     record {
-      few_statements = omega (arith, under MOST_STATEMENTS c.statements g.0);
-      few_sites = omega (arith, under MOST_SITES c.sites g.1);
+      few_statements = omega (arith, under most_statements c.statements g.0);
+      few_sites = omega (arith, under most_sites c.sites g.1);
       few_sections = f.few_sections;
       few_calls = f.few_calls;
     }
@@ -80,18 +82,18 @@ primitive_few d ls inside depth c (primitive.Load x y g) h f = one_statement c h
 primitive_few d ls inside depth c (primitive.Store y g v) h f = one_statement c h f
 primitive_few d ls inside depth c (primitive.Print v) h f = one_statement c h f
 
-section_few : (c : Counts) → (nat_le MOST_STATEMENTS c.statements || nat_le MOST_SECTIONS c.sections) ≡ false → IsFew c
+section_few : (c : Counts) → (nat_le most_statements c.statements || nat_le most_sections c.sections) ≡ false → IsFew c
     → IsFew (record c { items = c.items + 1; statements = c.statements + 1; sections = c.sections + 1 })
 section_few c h f =
-    let g = or_false (nat_le MOST_STATEMENTS c.statements) (nat_le MOST_SECTIONS c.sections) h in
+    let g = neither (nat_le most_statements c.statements) (nat_le most_sections c.sections) h in
     record {
-      few_statements = omega (arith, under MOST_STATEMENTS c.statements g.0);
+      few_statements = omega (arith, under most_statements c.statements g.0);
       few_sites = f.few_sites;
-      few_sections = omega (arith, under MOST_SECTIONS c.sections g.1);
+      few_sections = omega (arith, under most_sections c.sections g.1);
       few_calls = f.few_calls;
     }
 
-last_false : (a b c e : Bool) → a ≡ true → b ≡ true → c ≡ true → ((a && (b && c)) && e) ≡ false → e ≡ false
+pub last_false : (a b c e : Bool) → a ≡ true → b ≡ true → c ≡ true → ((a && (b && c)) && e) ≡ false → e ≡ false
 last_false true true true e h i j k = k
 last_false false b c e h i j k = absurd (let off : false ≡ true = h in cc)
 last_false true false c e h i j k = absurd (let off : false ≡ true = i in cc)
@@ -107,14 +109,14 @@ passes_few : (c : Counts) (depth : ℕ) (s : Sums) → passes_by c depth s ≡ f
       calls = c.calls + s.calls;
     })
 passes_few c depth s h f =
-    let g = or_false _ _ h in
-    let i = or_false _ _ g.1 in
-    let j = or_false _ _ i.1 in
+    let g = neither _ _ h in
+    let i = neither _ _ g.1 in
+    let j = neither _ _ i.1 in
     record {
-      few_statements = at_most MOST_STATEMENTS (c.statements + s.statements) g.0;
-      few_sites = at_most MOST_SITES (c.sites + s.sites) i.0;
+      few_statements = at_most most_statements (c.statements + s.statements) g.0;
+      few_sites = at_most most_sites (c.sites + s.sites) i.0;
       few_sections = f.few_sections;
-      few_calls = at_most MOST_CALLS (c.calls + s.calls) j.0;
+      few_calls = at_most most_calls (c.calls + s.calls) j.0;
     }
 
 call_few : (d : Declared) (ls : List Declaration) (inside : Bool) (depth : ℕ) (c : Counts) (x : List ℕ)
@@ -199,11 +201,11 @@ named_few most item name items d step bound c before (x ∷ xs) w h f =
     (next_none d c first rest none) (omega (arith, one, here)) in
     omega (arith, one, more)
 
--- a variable is one of at most `MOST_LOCALS`
+-- a variable is one of at most `most_locals`
 locals_few : (d : Declared) (c : Counts) (before : List (List ℕ)) (ls : List Declaration) (w : List Item)
-    → NoneBroken d c (local_items before ls w) → length before ≤ MOST_LOCALS → length before + length ls ≤ MOST_LOCALS
+    → NoneBroken d c (local_items before ls w) → length before ≤ most_locals → length before + length ls ≤ most_locals
 locals_few d =
-    named_few MOST_LOCALS (λ l before. ALocal l.kind l.name before) (λ l. l.name) local_items d (λ before l ls w. refl)
+    named_few most_locals (λ l before. ALocal l.kind l.name before) (λ l. l.name) local_items d (λ before l ls w. refl)
     (λ c before l. refl)
 
 item_keeps : (c : Counts) → IsFew c → IsFew (after_item c)
@@ -219,10 +221,10 @@ declared_keep : (c : Counts) (ls : List Declaration) → IsFew c → IsFew (decl
 declared_keep c [] f = f
 declared_keep c (l ∷ ls) f = declared_keep (after_item c) ls (item_keeps c f)
 
--- each thread has at most `MOST_LOCALS` locals of its own
+-- each thread has at most `most_locals` locals of its own
 abbrev pub HaveFewLocals : List Thread → Type 0
 HaveFewLocals [] = ⊤
-HaveFewLocals (t ∷ ts) = (length t.locals ≤ MOST_LOCALS) × HaveFewLocals ts
+HaveFewLocals (t ∷ ts) = (length t.locals ≤ most_locals) × HaveFewLocals ts
 
 -- the threads of a text stay within the limits
 pub threads_few : (d : Declared) (c : Counts) (before : List (List ℕ)) (ts : List Thread) (w : List Item)
@@ -243,10 +245,10 @@ threads_few d c before (t ∷ ts) w h f =
     (y.0, (omega (arith, locals_few d e [] t.locals body at_locals (omega arith)), y.1))
 
 globals_few : (d : Declared) (c : Counts) (before : List (List ℕ)) (gs : List GlobalObject) (w : List Item)
-    → NoneBroken d c (global_items before gs w) → length before ≤ MOST_GLOBALS
-    → length before + length gs ≤ MOST_GLOBALS
+    → NoneBroken d c (global_items before gs w) → length before ≤ most_globals
+    → length before + length gs ≤ most_globals
 globals_few d =
-    named_few MOST_GLOBALS (λ g before. AGlobal g.of g.name before) (λ g. g.name) global_items d (λ before g gs w. refl)
+    named_few most_globals (λ g before. AGlobal g.of g.name before) (λ g. g.name) global_items d (λ before g gs w. refl)
     (λ c before g. refl)
 
 -- the counts at the end of a typed text, and the locals of its threads
@@ -271,9 +273,9 @@ typed_few t h =
 
 -- the expanded texts of a typed text are within the limits
 pub record AreWithinLimits (t : TreeView) : Type 0 where
-  pub statements_within : total_statements (texts_of t) ≤ MOST_STATEMENTS
-  pub sites_within : length t.globals + length (all_made (texts_of t)) ≤ MOST_SITES
-  pub sections_within : length (sections_of (texts_of t)) ≤ MOST_SECTIONS
+  pub statements_within : total_statements (texts_of t) ≤ most_statements
+  pub sites_within : length t.globals + length (all_made (texts_of t)) ≤ most_sites
+  pub sections_within : length (sections_of (texts_of t)) ≤ most_sections
 
 pub typed_within : (t : TreeView) → IsTyped t → AreWithinLimits t
 typed_within t h =
@@ -284,6 +286,19 @@ typed_within t h =
       sites_within = omega (arith, c.sites_are, f.few_sites);
       sections_within = omega (arith, c.sections_are, f.few_sections);
     }
+
+calls_are : (d : Declared) (hs : List Thread) → d.table ≡ sums d.procedures
+    → calls_met d.procedures hs ≡ (thread_sums d hs).calls
+calls_are d [] e = refl
+calls_are d (h ∷ hs) e =
+    omega (arith, calls_are d hs e, ap (λ u. (block_sums d.procedures u h.body).calls) e)
+
+-- the calls that are met in expanding them too
+pub typed_calls : (t : TreeView) → IsTyped t → calls_met t.procedures t.threads ≤ most_calls
+typed_calls t h =
+    let x = threads_add (declared_in t) (before_threads t) [] t.threads in
+    let y = before_add t in
+    omega (arith, x.calls_add, y.calls_add, (typed_few t h).0.few_calls, calls_are (declared_in t) t.threads refl)
 
 -- each fresh local takes a statement, where calls do so
 abbrev TakesStatements : List Sums → Type 0
@@ -324,13 +339,13 @@ calls_take (suc n) ps q =
     subst (λ (s : Sums). s.fresh ≤ s.statements) (sym (looked ps (sums_within n ps) q))
     (call_takes ps (sums_within n ps) (calls_take n ps) (procedure_numbered ps q))
 
--- each expanded thread has at most `MOST_ALL_LOCALS` locals
+-- each expanded thread has at most `most_all_locals` locals
 abbrev pub AreFewTypes : List (List ValueType) → Type 0
 AreFewTypes [] = ⊤
-AreFewTypes (ls ∷ more) = (length ls ≤ MOST_ALL_LOCALS) × AreFewTypes more
+AreFewTypes (ls ∷ more) = (length ls ≤ most_all_locals) × AreFewTypes more
 
 types_few : (t : TreeView) (hs : List Thread) → HaveFewLocals hs
-    → (thread_sums (declared_in t) hs).statements ≤ MOST_STATEMENTS
+    → (thread_sums (declared_in t) hs).statements ≤ most_statements
     → AreFewTypes (map (local_types_of t) hs)
 types_few t [] f s = tt
 types_few t (h ∷ hs) f s =

@@ -1,17 +1,14 @@
 -- Writing an expansion, statement by statement.
-use Rattle.std.proofs.Common.{◌≡◌, ℕ, zero, suc, ◌+◌, ◌*◌, ◌<◌, ◌≤◌, List, [], ◌∷◌, drop, get_or, Option, Some, None}
-use Rattle.std.proofs.Common.{refl, sym, ◌∙◌, ap, arith, subst, length, length-append, slice_get}
+use Rattle.std.proofs.Common.{◌≡◌, ℕ, zero, suc, ◌+◌, ◌<◌, ◌≤◌, List, [], ◌∷◌, drop, get_or, Option, Some, None, refl}
+use Rattle.std.proofs.Common.{sym, ◌∙◌, ap, arith, length, slice_get, subst, length-append, ◌*◌}
 use Rattle.std.proofs.lemmas.List.{drop_all}
 use Rattle.sect_front.specs.declared.tree.Declaration.{Declaration}
 use Rattle.sect_front.specs.declared.tree.Operand.{Operand}
 use Rattle.sect_front.specs.declared.tree.Procedure.{Procedure}
 use Rattle.sect_front.specs.declared.tree.Record.{Record}
 use Rattle.sect_front.specs.declared.tree.GlobalObject.{GlobalObject}
-use Rattle.sect_front.specs.declared.tree.Statement.{Statement}
 use Rattle.sect_front.specs.Syntax.{StatementView, Primitive, If, IfElse, While, Atomic, Call, BlockView, End, Then}
 use Rattle.sect_front.specs.TreeView.{TreeView}
-use Rattle.sect_front.specs.Trees.{statement_of, block_of, block_size}
-use Rattle.sect_types.specs.declared.limits.TheConstants.{MOST_ALL_LOCALS}
 use Rattle.sect_types.specs.declared.action.Value.{Value}
 use Rattle.sect_types.specs.declared.action.Value.TheVariants as value
 use Rattle.sect_types.specs.declared.action.Action.TheVariants as action
@@ -28,21 +25,21 @@ use Rattle.sect_types.specs.declared.sums.Sums.{Sums}
 use Rattle.sect_types.specs.Sight.{Sight, operand_of}
 use Rattle.sect_types.specs.Rules.{sight}
 use Rattle.sect_types.specs.Items.{variables}
-use Rattle.sect_types.specs.Sums.{sums_at, sums_within, statement_sums, block_sums, number_of}
+use Rattle.sect_types.specs.Sums.{sums_at, sums_within, block_sums, number_of, statement_sums, sums_of}
 use Rattle.sect_types.specs.Statements.{TextView, Stop, Do, Choose, Loop, Section, joined}
 use Rattle.sect_types.specs.Texts.{step_then}
-use Rattle.sect_types.specs.Expanded.{Scene, Ahead, Expander, statement_sections, block_sections, past_statement}
-use Rattle.sect_types.specs.Expanded.{past_block}
-use Rattle.sect_types.specs.Expanded.{expanded_block, argument_in, cleared, set_parameters}
-use Rattle.sect_types.specs.Expanded.{moved_action}
-use Rattle.sect_types.specs.Expanded.{moved_condition}
-use Rattle.sect_types.specs.Expanded.{clear_locals, after_call, call_of, procedure_numbered, expand_within}
-use Rattle.sect_types.specs.steps.Expansion.{Appends, IsPast, HasRoom, table_by, calls_by, view_of, statement_by}
-use Rattle.sect_types.specs.steps.Expansion.{block_by}
-use Rattle.sect_types.specs.steps.Expansion.{IsExpanding, total_size, argument_at}
-use Rattle.sect_types.proofs.Lists.{drop_next}
-use Rattle.sect_types.proofs.Joining.{joined_stop, joined_again}
-use Rattle.sect_types.proofs.CountLaws.{sums_of, looked}
+use Rattle.sect_types.specs.Expanded.{Scene, Expander, block_sections, past_block, expanded_block, argument_in}
+use Rattle.sect_types.specs.Expanded.{cleared, set_parameters, moved_action, moved_condition, clear_locals, after_call}
+use Rattle.sect_types.specs.Expanded.{call_of, procedure_numbered, expand_within, NextNumbers, statement_sections}
+use Rattle.sect_types.specs.Expanded.{past_statement}
+use Rattle.sect_types.specs.steps.Expansion.{Appends, IsPast, table_by, calls_by, view_of, statement_by, block_by}
+use Rattle.sect_types.specs.steps.Expansion.{argument_at, HasRoom, IsExpanding, total_size}
+use Rattle.sect_lemmas.proofs.Elements.{drop_next}
+use Rattle.sect_types.proofs.shared.Joining.{joined_stop, joined_again}
+use Rattle.sect_types.proofs.CountLaws.{looked}
+use Rattle.sect_front.specs.declared.tree.Statement.{Statement}
+use Rattle.sect_front.specs.Trees.{statement_of, block_of, block_size}
+use Rattle.sect_types.specs.Limits.{most_all_locals}
 
 -- one step more
 pub onto : (t : TextView) (s : Step) (k : TextView) → joined (joined t (step_then s Stop)) k ≡ joined t (step_then s k)
@@ -137,17 +134,17 @@ pub set_all : (v : Scene) (start i : ℕ) (ds : List Declaration) (vs : List Ope
 set_all v start i ds vs k le = ap (λ l. set_parameters v (start + i) l vs k) (drop_all i ds le)
 
 -- the position behind a statement, and behind a block
-pub at_past : (ps : List Procedure) (table : List Sums) (a e : Ahead) (s : StatementView)
+pub at_past : (ps : List Procedure) (table : List Sums) (a e : NextNumbers) (s : StatementView)
     → IsPast a e (statement_sums ps table s) (statement_sections s) → e ≡ past_statement ps table a s
 at_past ps table a e s h = λ i. record { sites = h.of_sites i; sections = h.of_sections i; fresh = h.of_fresh i }
 
-pub at_past_block : (ps : List Procedure) (table : List Sums) (a e : Ahead) (b : BlockView)
+pub at_past_block : (ps : List Procedure) (table : List Sums) (a e : NextNumbers) (b : BlockView)
     → IsPast a e (block_sums ps table b) (block_sections b) → e ≡ past_block ps table a b
 at_past_block ps table a e b h = λ i. record { sites = h.of_sites i; sections = h.of_sections i; fresh = h.of_fresh i }
 
 -- what follows a call can be written behind it
 abbrev Follows : Expander → Type 0
-Follows call = (q : Option ℕ) (v : Scene) (a : Ahead) (vs : List Operand) (k l : TextView)
+Follows call = (q : Option ℕ) (v : Scene) (a : NextNumbers) (vs : List Operand) (k l : TextView)
     → joined (call q v a vs k) l ≡ call q v a vs (joined k l)
 
 set_follows : (v : Scene) (x : ℕ) (ds : List Declaration) (vs : List Operand) (k l : TextView)
@@ -179,7 +176,7 @@ calls_follow zero rs gs ps q v a vs k l = refl
 calls_follow (suc n) rs gs ps q v a vs k l =
     call_follows rs gs ps (sums_within n ps) (expand_within n rs gs ps) (procedure_numbered ps q) q v a vs k l
 
-pub statement_follows : (t : TreeView) (n : ℕ) (s : Sight) (first : ℕ) (a : Ahead) (f : StatementView) (k l : TextView)
+pub statement_follows : (t : TreeView) (n : ℕ) (s : Sight) (first : ℕ) (a : NextNumbers) (f : StatementView) (k l : TextView)
     → joined (statement_by t n s first a f k) l ≡ statement_by t n s first a f (joined k l)
 statement_follows t n s first a (Primitive p) k l = refl
 statement_follows t n s first a (If c b) k l = refl
@@ -190,7 +187,7 @@ statement_follows t n s first a (Call f vs) k l =
     calls_follow n t.records t.globals t.procedures (number_of t.procedures f) (view_of s first) a vs k l
 
 -- at the start of a block, and at its end
-pub starts : (t : TreeView) (n : ℕ) (s : Sight) (first : ℕ) (block all : BlockView) (at : Ahead) (text : TextView)
+pub starts : (t : TreeView) (n : ℕ) (s : Sight) (first : ℕ) (block all : BlockView) (at : NextNumbers) (text : TextView)
     → all ≡ block → HasRoom at (block_sums t.procedures (table_by t n) block) (block_sections block)
     → IsExpanding t n s first block all all at at text text
 starts t n s first block all at text e room = record {
@@ -205,7 +202,7 @@ next_of : (ss : List Statement) (i : ℕ) (x : Statement) → i < length ss → 
 next_of ss i x h e = ap block_of (drop_next ss i x h e)
 
 goes_on : (t : TreeView) (n : ℕ) (s : Sight) (first : ℕ) (block all : BlockView) (f : StatementView) (rest : BlockView)
-    (old now next : Ahead) (before text new : TextView)
+    (old now next : NextNumbers) (before text new : TextView)
     → IsExpanding t n s first block all (Then f rest) old now before text
     → IsPast now next (statement_sums t.procedures (table_by t n) f) (statement_sections f)
     → Appends text new (statement_by t n s first now f) → IsExpanding t n s first block all rest old next before new
@@ -231,7 +228,7 @@ goes_on t n s first block all f rest old now next before text new h past writes 
 
 -- the next statement is written
 pub one_more : (t : TreeView) (n : ℕ) (s : Sight) (first : ℕ) (block : BlockView) (ss : List Statement) (i : ℕ)
-    (x : Statement) (old now next : Ahead) (before text new : TextView) → i < length ss → x ≡ get_or ss i x
+    (x : Statement) (old now next : NextNumbers) (before text new : TextView) → i < length ss → x ≡ get_or ss i x
     → IsExpanding t n s first block (block_of ss) (block_of (drop i ss)) old now before text
     → IsPast now next (statement_sums t.procedures (table_by t n) (statement_of x))
     (statement_sections (statement_of x))
@@ -242,14 +239,14 @@ one_more t n s first block ss i x old now next before text new lt e h past write
     (subst (λ b. IsExpanding t n s first block (block_of ss) b old now before text) (next_of ss i x lt e) h) past writes
 
 ended : (t : TreeView) (n : ℕ) (s : Sight) (first : ℕ) (block all : BlockView) (ss : List Statement) (i : ℕ)
-    (old now : Ahead) (before text : TextView) → length ss ≤ i
+    (old now : NextNumbers) (before text : TextView) → length ss ≤ i
     → IsExpanding t n s first block all (block_of (drop i ss)) old now before text
     → IsExpanding t n s first block all End old now before text
 ended t n s first block all ss i old now before text le h =
     subst (λ l. IsExpanding t n s first block all (block_of l) old now before text) (drop_all i ss le) h
 
 pub ends_text : (t : TreeView) (n : ℕ) (s : Sight) (first : ℕ) (block all : BlockView) (ss : List Statement) (i : ℕ)
-    (old now : Ahead) (before text : TextView) → length ss ≤ i
+    (old now : NextNumbers) (before text : TextView) → length ss ≤ i
     → IsExpanding t n s first block all (block_of (drop i ss)) old now before text
     → Appends before text (joined (block_by t n s first old block))
 ends_text t n s first block all ss i old now before text le h k =
@@ -260,7 +257,7 @@ pub called : (t : TreeView) (n q : ℕ) (p : Procedure) → slice_get t.procedur
     → sums_at (table_by t (suc n)) (Some q) ≡ sums_of t.procedures (table_by t n) (Some p)
 called t n q p e = looked t.procedures (table_by t n) (Some q) ∙ ap (sums_of t.procedures (table_by t n)) e
 
-call_written : (t : TreeView) (n q : ℕ) (p : Procedure) (s : Sight) (first : ℕ) (a : Ahead) (vs : List Operand)
+call_written : (t : TreeView) (n q : ℕ) (p : Procedure) (s : Sight) (first : ℕ) (a : NextNumbers) (vs : List Operand)
     (zero_text one_text two_text new : TextView) → slice_get t.procedures q ≡ Some p
     → Appends zero_text one_text (set_parameters (view_of s first) a.fresh p.parameters vs)
     → Appends one_text two_text (clear_locals (a.fresh + length p.parameters) p.locals)
@@ -277,7 +274,7 @@ call_written t n q p s first a vs zero_text one_text two_text new e f g h k =
     (sym e)
 
 -- the same, as the code has it
-pub call_by_parts : (t : TreeView) (n fuel q : ℕ) (p : Procedure) (s inner : Sight) (first own : ℕ) (a b : Ahead)
+pub call_by_parts : (t : TreeView) (n fuel q : ℕ) (p : Procedure) (s inner : Sight) (first own : ℕ) (a b : NextNumbers)
     (ps ls : List Declaration) (vs : List Operand) (old one two new : TextView) → fuel ≡ suc n
     → slice_get t.procedures q ≡ Some p → inner ≡ sight t.records t.globals (variables p) → own ≡ a.fresh
     → ps ≡ p.parameters → ls ≡ p.locals → b ≡ record a { fresh = a.fresh + (length ps + length ls) }
@@ -307,10 +304,10 @@ call_counts t n fuel q p f e =
     record { sites_are = ap (λ (s : Sums). s.sites) same; fresh_are = ap (λ (s : Sums). s.fresh) same }
 
 -- there are so many locals left for its variables
-pub call_own : (t : TreeView) (n fuel q : ℕ) (p : Procedure) (a : Ahead) → fuel ≡ suc n
+pub call_own : (t : TreeView) (n fuel q : ℕ) (p : Procedure) (a : NextNumbers) → fuel ≡ suc n
     → slice_get t.procedures q ≡ Some p
     → HasRoom a (sums_at (table_by t fuel) (Some q)) 0
-    → a.fresh + (length p.parameters + length p.locals) ≤ MOST_ALL_LOCALS
+    → a.fresh + (length p.parameters + length p.locals) ≤ most_all_locals
 call_own t n fuel q p a f g h =
     let counts = call_counts t n fuel q p f g in omega (arith, h.for_fresh, counts.fresh_are)
 
@@ -327,9 +324,9 @@ pub falls : (n fuel total size : ℕ) → fuel ≡ suc n → size ≤ total
 falls n fuel total size e le = omega (arith, e, le, ap (λ m. m * (4 * total + 3)) e)
 
 -- the variables of a procedure are as many as it takes
-pub own_locals : (t : TreeView) (n fuel q : ℕ) (p : Procedure) (a : Ahead) (s : Sight) (own : ℕ) → fuel ≡ suc n
+pub own_locals : (t : TreeView) (n fuel q : ℕ) (p : Procedure) (a : NextNumbers) (s : Sight) (own : ℕ) → fuel ≡ suc n
     → slice_get t.procedures q ≡ Some p → s ≡ sight t.records t.globals (variables p) → own ≡ a.fresh
-    → HasRoom a (sums_at (table_by t fuel) (Some q)) 0 → own + length s.locals ≤ MOST_ALL_LOCALS
+    → HasRoom a (sums_at (table_by t fuel) (Some q)) 0 → own + length s.locals ≤ most_all_locals
 own_locals t n fuel q p a s own f g i o h =
     omega (
       arith,
@@ -340,7 +337,7 @@ own_locals t n fuel q p a s own f g i o h =
     )
 
 -- a statement is written by one step
-pub primitive_written : (t : TreeView) (n : ℕ) (s : Sight) (first : ℕ) (a : Ahead) (f : StatementView)
+pub primitive_written : (t : TreeView) (n : ℕ) (s : Sight) (first : ℕ) (a : NextNumbers) (f : StatementView)
     (p : leaf.Primitive)
     (x : Action) (old new : TextView) → f ≡ Primitive p → x ≡ moved_action first (action_in (primitive_of s a.sites p))
     → new ≡ joined old (step_then (step.Do x) Stop) → Appends old new (statement_by t n s first a f)
@@ -348,7 +345,7 @@ primitive_written t n s first a f p x old new e g h k =
     pushed old new (step.Do x) h k ∙ ap (λ y. joined old (Do y k)) g
     ∙ ap (λ y. joined old (statement_by t n s first a y k)) (sym e)
 
-pub if_written : (t : TreeView) (n : ℕ) (s : Sight) (first : ℕ) (a : Ahead) (f : StatementView) (v : Test)
+pub if_written : (t : TreeView) (n : ℕ) (s : Sight) (first : ℕ) (a : NextNumbers) (f : StatementView) (v : Test)
     (b : BlockView)
     (c : Condition) (p q old new : TextView) → f ≡ If v b → c ≡ moved_condition first (condition_in (test_of s v))
     → p ≡ block_by t n s first a b → q ≡ Stop → new ≡ joined old (Choose c p q Stop)
@@ -357,7 +354,7 @@ if_written t n s first a f v b c p q old new e g h i j k =
     pushed old new (step.If c p q) j k ∙ (λ z. joined old (Choose (g z) (h z) (i z) k))
     ∙ ap (λ y. joined old (statement_by t n s first a y k)) (sym e)
 
-pub either_written : (t : TreeView) (n : ℕ) (s : Sight) (first : ℕ) (a m : Ahead) (f : StatementView) (v : Test)
+pub either_written : (t : TreeView) (n : ℕ) (s : Sight) (first : ℕ) (a m : NextNumbers) (f : StatementView) (v : Test)
     (b d : BlockView) (c : Condition) (p q old new : TextView) → f ≡ IfElse v b d
     → c ≡ moved_condition first (condition_in (test_of s v)) → p ≡ block_by t n s first a b
     → IsPast a m (block_sums t.procedures (table_by t n) b) (block_sections b) → q ≡ block_by t n s first m d
@@ -367,7 +364,7 @@ either_written t n s first a m f v b d c p q old new e g h past i j k =
     pushed old new (step.If c p q) j k ∙ (λ z. joined old (Choose (g z) (h z) (there z) k))
     ∙ ap (λ y. joined old (statement_by t n s first a y k)) (sym e)
 
-pub while_written : (t : TreeView) (n : ℕ) (s : Sight) (first : ℕ) (a : Ahead) (f : StatementView) (v : Test)
+pub while_written : (t : TreeView) (n : ℕ) (s : Sight) (first : ℕ) (a : NextNumbers) (f : StatementView) (v : Test)
     (b : BlockView)
     (c : Condition) (inner old new : TextView) → f ≡ While v b → c ≡ moved_condition first (condition_in (test_of s v))
     → inner ≡ block_by t n s first a b → new ≡ joined old (Loop c inner Stop)
@@ -376,7 +373,7 @@ while_written t n s first a f v b c inner old new e g h j k =
     pushed old new (step.While c inner) j k ∙ (λ z. joined old (Loop (g z) (h z) k))
     ∙ ap (λ y. joined old (statement_by t n s first a y k)) (sym e)
 
-pub section_written : (t : TreeView) (n : ℕ) (s : Sight) (first : ℕ) (a m : Ahead) (f : StatementView) (lock : Locking)
+pub section_written : (t : TreeView) (n : ℕ) (s : Sight) (first : ℕ) (a m : NextNumbers) (f : StatementView) (lock : Locking)
     (b : BlockView) (number : ℕ) (inner old new : TextView) → f ≡ Atomic lock b → number ≡ a.sections
     → m ≡ record a { sections = a.sections + 1 } → inner ≡ block_by t n s first m b
     → new ≡ joined old (Section number inner Stop) → Appends old new (statement_by t n s first a f)

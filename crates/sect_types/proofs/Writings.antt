@@ -1,31 +1,29 @@
 -- The expanded texts of all threads, with their fresh locals.
-use Rattle.std.proofs.Common.{◌≡◌, ℕ, ◌+◌, ◌<◌, ◌≤◌, List, [], ◌∷◌, ◌++◌, map, drop, get_or}
-use Rattle.std.proofs.Common.{refl, sym, ◌∙◌, ap, arith, subst, length, append_assoc}
-use Rattle.std.proofs.lemmas.List.{drop_all}
+use Rattle.std.proofs.Common.{◌≡◌, ℕ, ◌+◌, ◌<◌, ◌≤◌, List, [], ◌∷◌, ◌++◌, map, drop, get_or, refl, sym, ◌∙◌, ap, arith}
+use Rattle.std.proofs.Common.{subst, length, append_assoc}
 use Rattle.sect_front.specs.declared.tree.Thread.{Thread}
 use Rattle.sect_front.specs.TreeView.{TreeView}
-use Rattle.sect_types.specs.declared.limits.TheConstants.{MOST_CALLS, MOST_LOCALS, MOST_SECTIONS, MOST_SITES}
-use Rattle.sect_types.specs.declared.limits.TheConstants.{MOST_STATEMENTS}
 use Rattle.sect_types.specs.declared.expand.Fresh.{Fresh}
 use Rattle.sect_types.specs.Sight.{Sight}
 use Rattle.sect_types.specs.Rules.{sight, declared_in}
 use Rattle.sect_types.specs.Sums.{sums, block_sums}
 use Rattle.sect_types.specs.Statements.{TextView}
 use Rattle.sect_types.specs.First.{IsTyped}
-use Rattle.sect_types.specs.Expanded.{Ahead, past_thread, expanded_threads, fresh_in}
+use Rattle.sect_types.specs.Expanded.{past_thread, expanded_threads, fresh_in, NextNumbers}
 use Rattle.sect_types.specs.steps.Expanding.{SettingView, FrontView, Fits, block_there, thread_start, thread_end}
-use Rattle.sect_types.specs.steps.Expanding.{thread_text}
-use Rattle.sect_types.specs.steps.Expanding.{AllFit, tree_of, AreWritten, AreFlat}
+use Rattle.sect_types.specs.steps.Expanding.{thread_text, AllFit, tree_of, AreWritten, AreFlat}
 use Rattle.sect_types.specs.Items.{variables}
 use Rattle.sect_types.specs.declared.place.Place.TheVariants.{InProcedure}
 use Rattle.sect_types.proofs.SiteLaws.{typed_clean}
 use Rattle.sect_types.specs.steps.Expansion.{view_of}
-use Rattle.sect_types.proofs.Lists.{drop_next}
+use Rattle.sect_lemmas.proofs.Elements.{drop_next}
 use Rattle.sect_types.proofs.Walked.{before_threads}
 use Rattle.sect_types.proofs.SectionLaws.{sections_in, block_flat}
 use Rattle.sect_types.proofs.Counting.{thread_sums, before_add, threads_add}
 use Rattle.sect_types.proofs.WithinLimits.{HaveFewLocals, typed_few, block_takes, calls_take}
 use Rattle.sect_types.proofs.Threading.{same_texts}
+use Rattle.sect_types.specs.Limits.{most_calls, most_locals, most_sections, most_sites, most_statements}
+use Rattle.std.proofs.lemmas.List.{drop_all}
 
 -- the text of a thread
 pub thread_written : (w : SettingView) (sites sections most : ℕ) (h : Thread) (s : Sight) (f : FrontView)
@@ -35,7 +33,7 @@ pub thread_written : (w : SettingView) (sites sections most : ℕ) (h : Thread) 
 thread_written w sites sections most h s f text e g i j =
     j ∙ (λ k. block_there w (e k) (view_of (g k) 0) (i k) h.body)
 
-place : ℕ → ℕ → Ahead
+place : ℕ → ℕ → NextNumbers
 place sites sections = record { sites = sites; sections = sections; fresh = 0 }
 
 pub starts : (w : SettingView) (threads : List Thread) (sites : ℕ) → sites ≡ length w.globals
@@ -55,8 +53,8 @@ goes_on : (w : SettingView) (all : List Thread) (h : Thread) (rest : List Thread
     → AreWritten w all rest more later (texts ++ text ∷ []) (fresh ++ own ∷ [])
 goes_on w all h rest sites sections more later texts fresh text own a e g i j =
     let t = tree_of w all in
-    let at : Ahead = record { sites = sites; sections = sections; fresh = 0 } in
-    let next : Ahead = record { sites = more; sections = later; fresh = 0 } in
+    let at : NextNumbers = record { sites = sites; sections = sections; fresh = 0 } in
+    let next : NextNumbers = record { sites = more; sections = later; fresh = 0 } in
     let same = sym (same_texts t (past_thread t at h) next rest
     (record { same_sites = sym i; same_sections = sym j })) in
     record {
@@ -77,7 +75,7 @@ next_thread w all i h sites sections texts fresh lt is a =
 
 pub thread_few : (w : SettingView) (all : List Thread) (i : ℕ) (h : Thread) (sites sections : ℕ) (texts : List TextView)
     (fresh : List (List Fresh)) → i < length all → h ≡ get_or all i h
-    → AreWritten w all (drop i all) sites sections texts fresh → length h.locals ≤ MOST_LOCALS
+    → AreWritten w all (drop i all) sites sections texts fresh → length h.locals ≤ most_locals
 thread_few w all i h sites sections texts fresh lt is a =
     (next_thread w all i h sites sections texts fresh lt is a).fits.0
 
@@ -105,10 +103,10 @@ ended w all i sites sections texts fresh le a =
     subst (λ l. AreWritten w all l sites sections texts fresh) (drop_all i all le) a
 
 fit_all : (t : TreeView) (w : SettingView) (sites section : ℕ) (hs : List Thread) → w.procedures ≡ t.procedures
-    → sites + (thread_sums (declared_in t) hs).sites ≤ MOST_SITES → section + sections_in hs ≤ MOST_SECTIONS
+    → sites + (thread_sums (declared_in t) hs).sites ≤ most_sites → section + sections_in hs ≤ most_sections
     → HaveFewLocals hs
-    → (thread_sums (declared_in t) hs).statements ≤ MOST_STATEMENTS
-    → (thread_sums (declared_in t) hs).calls ≤ MOST_CALLS
+    → (thread_sums (declared_in t) hs).statements ≤ most_statements
+    → (thread_sums (declared_in t) hs).calls ≤ most_calls
     → AllFit w sites section hs
 fit_all t w sites section [] e s n l c d = tt
 fit_all t w sites section (h ∷ hs) e s n l c d =

@@ -56,18 +56,18 @@ pub record Scene : Type 0 where
   pub sight : Sight
   pub first : ℕ
 
--- the next site, the next section, the next fresh local
-pub record Ahead : Type 0 where
+-- the numbers that the next `new`, the next section and the next fresh local get
+pub record NextNumbers : Type 0 where
   pub sites : ℕ
   pub sections : ℕ
   pub fresh : ℕ
 
-abbrev pub past : Ahead → Sums → Ahead
+abbrev pub past : NextNumbers → Sums → NextNumbers
 past a s = record a { sites = a.sites + s.sites; fresh = a.fresh + s.fresh }
 
 -- the expansion of a call of that procedure with these arguments, and what follows it
 abbrev pub Expander : Type 0
-Expander = Option ℕ → Scene → Ahead → List Operand → TextView → TextView
+Expander = Option ℕ → Scene → NextNumbers → List Operand → TextView → TextView
 
 -- how many sections stand in statements
 abbrev mutual
@@ -83,19 +83,19 @@ abbrev mutual
   block_sections End = 0
   block_sections (Then s b) = statement_sections s + block_sections b
 
-abbrev pub past_statement : List Procedure → List Sums → Ahead → StatementView → Ahead
+abbrev pub past_statement : List Procedure → List Sums → NextNumbers → StatementView → NextNumbers
 past_statement ps table a s =
     past (record a { sections = a.sections + statement_sections s }) (statement_sums ps table s)
 
-abbrev pub past_block : List Procedure → List Sums → Ahead → BlockView → Ahead
+abbrev pub past_block : List Procedure → List Sums → NextNumbers → BlockView → NextNumbers
 past_block ps table a b = past (record a { sections = a.sections + block_sections b }) (block_sums ps table b)
 
-abbrev pub action_at : Scene → Ahead → leaf.Primitive → Action
+abbrev pub action_at : Scene → NextNumbers → leaf.Primitive → Action
 action_at v a p = moved_action v.first (action_in (primitive_of v.sight a.sites p))
 
 abbrev mutual
   -- a statement by numbers, and what follows it
-  pub expanded_statement : List Procedure → List Sums → Expander → Scene → Ahead → StatementView → TextView
+  pub expanded_statement : List Procedure → List Sums → Expander → Scene → NextNumbers → StatementView → TextView
       → TextView
   expanded_statement ps table call v a (Primitive p) k = Do (action_at v a p) k
   expanded_statement ps table call v a (If t b) k =
@@ -109,7 +109,7 @@ abbrev mutual
       Section a.sections (expanded_block ps table call v (record a { sections = a.sections + 1 }) b) k
   expanded_statement ps table call v a (Call f vs) k = call (number_of ps f) v a vs k
 
-  pub expanded_block : List Procedure → List Sums → Expander → Scene → Ahead → BlockView → TextView
+  pub expanded_block : List Procedure → List Sums → Expander → Scene → NextNumbers → BlockView → TextView
   expanded_block ps table call v a End = Stop
   expanded_block ps table call v a (Then s b) =
       expanded_statement ps table call v a s (expanded_block ps table call v (past_statement ps table a s) b)
@@ -136,7 +136,7 @@ set_parameters v x (d ∷ ds) [] k = Do (action.Assign x value.Null) (set_parame
 set_parameters v x (d ∷ ds) (u ∷ us) k =
     Do (action.Assign x (argument_in v.first (operand_of v.sight u))) (set_parameters v (x + 1) ds us k)
 
-abbrev pub after_call : Ahead → Procedure → Ahead
+abbrev pub after_call : NextNumbers → Procedure → NextNumbers
 after_call a p = record a { fresh = a.fresh + (length p.parameters + length p.locals) }
 
 -- one assignment a parameter, one a local, then the body, whose variables are the next fresh locals
@@ -153,23 +153,23 @@ abbrev pub procedure_numbered : List Procedure → Option ℕ → Option Procedu
 procedure_numbered ps None = None
 procedure_numbered ps (Some q) = slice_get ps q
 
--- where calls stand in one another at most n deep
+-- a call, where calls stand in one another at most n deep; deeper ones vanish, and in a typed text there are none
 abbrev pub expand_within : ℕ → List Record → List GlobalObject → List Procedure → Expander
 expand_within zero rs gs ps q v a vs k = k
 expand_within (suc n) rs gs ps q v a vs k =
     call_of rs gs ps (sums_within n ps) (expand_within n rs gs ps) (procedure_numbered ps q) q v a vs k
 
 -- the text of a thread
-abbrev pub expanded_thread : TreeView → Ahead → Thread → TextView
+abbrev pub expanded_thread : TreeView → NextNumbers → Thread → TextView
 expanded_thread t a h =
     expanded_block t.procedures (sums t.procedures)
     (expand_within (length t.procedures) t.records t.globals t.procedures)
     (record { sight = sight t.records t.globals h.locals; first = 0 }) (record a { fresh = length h.locals }) h.body
 
-abbrev pub past_thread : TreeView → Ahead → Thread → Ahead
+abbrev pub past_thread : TreeView → NextNumbers → Thread → NextNumbers
 past_thread t a h = past_block t.procedures (sums t.procedures) a h.body
 
-abbrev pub expanded_threads : TreeView → Ahead → List Thread → List TextView
+abbrev pub expanded_threads : TreeView → NextNumbers → List Thread → List TextView
 expanded_threads t a [] = []
 expanded_threads t a (h ∷ hs) = expanded_thread t a h ∷ expanded_threads t (past_thread t a h) hs
 
@@ -208,7 +208,8 @@ abbrev pub fresh_within : ℕ → List Procedure → Freshens
 fresh_within zero ps q c = []
 fresh_within (suc n) ps q c = fresh_of ps (sums_within n ps) (fresh_within n ps) (procedure_numbered ps q) c
 
--- the fresh locals of a thread, in the order of their numbers
+-- the fresh locals of a thread: where it declares n locals, number n + i is the i-th of these, and where that is q of call
+-- c it is called `q#c`
 abbrev pub fresh_in : TreeView → Thread → List Fresh
 fresh_in t h = block_fresh t.procedures (sums t.procedures) (fresh_within (length t.procedures) t.procedures) 0 h.body
 

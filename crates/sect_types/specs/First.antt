@@ -1,5 +1,5 @@
 -- Typed trees, and the first item at fault.
-use Rattle.std.specs.Prelude.{◌≡◌, ℕ, zero, suc, ◌≤◌, true, List, [], ◌∷◌, Result, Ok, Err, ⊤}
+use Rattle.std.specs.Prelude.{ℕ, zero, suc, ◌≤◌, List, [], ◌∷◌, Result, Ok, Err, ⊤}
 use Rattle.sect_front.specs.TreeView.{TreeView}
 use Rattle.sect_types.specs.declared.rule.Rule.{Rule}
 use Rattle.sect_types.specs.declared.rule.Rule.TheVariants.{Unknown, Twice, WrongType, SharedOutside, Nested, TooMany}
@@ -7,12 +7,12 @@ use Rattle.sect_types.specs.declared.rule.Rule.TheVariants.{Recursion, Arguments
 use Rattle.sect_types.specs.declared.rule.TypeFault.{TypeFault}
 use Rattle.sect_types.specs.declared.rule.TypeFault.TheVariants as fault
 use Rattle.sect_types.specs.Items.{Item, items}
-use Rattle.sect_types.specs.Rules.{Declared, declared_in, Counts, breaks, after}
+use Rattle.sect_types.specs.Rules.{Declared, declared_in, Counts, BreaksRule, after}
 
 -- the rule r is broken at item i of the list, before which the counts are c
 abbrev pub BreaksFrom : Declared → Counts → List Item → ℕ → Rule → Type 0
 BreaksFrom d c [] i r = ⊥
-BreaksFrom d c (item ∷ more) zero r = breaks d c item r ≡ true
+BreaksFrom d c (item ∷ more) zero r = BreaksRule d c item r
 BreaksFrom d c (item ∷ more) (suc i) r = BreaksFrom d (after d c item) more i r
 
 abbrev pub none_yet : Counts

@@ -1,3 +1,4 @@
+pub mod Limits
 pub mod Sight
 pub mod Resolve
 pub mod Items
@@ -9,6 +10,7 @@ pub mod Texts
 pub mod Falls
 pub mod Numbered
 pub mod Expanded
+pub mod Unfolding
 pub mod LocalNames
 pub mod First
 pub mod Faults
@@ -16,7 +18,6 @@ pub mod Environments
 pub mod Sound
 pub mod Sections
 pub mod Programs
-pub mod Lists
 pub mod Traces
 pub mod Lockings
 pub mod Endings
@@ -24,5 +25,3 @@ pub mod Store
 pub mod Meaning
 pub mod Whole
 pub mod steps
-pub mod Clean
-pub mod Templates

@@ -23,7 +23,8 @@ use Rattle.sect_types.specs.declared.store.Datum.{Datum}
 use Rattle.sect_types.specs.declared.store.Datum.TheVariants.{Number, Null, Refers}
 use Rattle.sect_types.specs.declared.store.Fault.{Fault}
 use Rattle.sect_types.specs.declared.store.Fault.TheVariants as fault
-use Rattle.sect_types.specs.Store.{ObjectView, StoreView, put_at, same_datum, object_at, write, add}
+use Rattle.sect_types.specs.Store.{ObjectView, StoreView, same_datum, object_at, write, add}
+use Rattle.sect_lemmas.specs.Lists.{put_at}
 
 -- what a thread works with: its locals, the units of fuel left, how many objects it has made, and what the section that
 -- runs has printed

@@ -1,11 +1,16 @@
 -- Programs.
 use Rattle.std.specs.Prelude.{◌≡◌, ◌≤◌, ◌<◌, ℕ, ◌+◌, List, [], ◌∷◌, ◌++◌, length, All, slice_index_or}
 use Rattle.sect_front.specs.TreeView.{TreeView}
-use Rattle.sect_types.specs.declared.limits.TheConstants.{MOST_RECORDS, MOST_FIELDS, MOST_GLOBALS, MOST_THREADS}
-use Rattle.sect_types.specs.declared.limits.TheConstants.{MOST_ALL_LOCALS, MOST_STATEMENTS, MOST_SITES, MOST_SECTIONS}
+use Rattle.sect_types.specs.Limits.{most_records, most_fields, most_globals, most_threads}
+use Rattle.sect_front.specs.Limits.{most_depth}
+use Rattle.sect_front.specs.declared.tree.Procedure.{Procedure}
+use Rattle.sect_front.specs.declared.tree.Thread.{Thread}
+use Rattle.sect_types.specs.Sums.{sums, block_sums}
+use Rattle.sect_types.specs.Limits.{most_calls}
+use Rattle.sect_types.specs.Limits.{most_all_locals, most_statements, most_sites, most_sections}
 use Rattle.sect_types.specs.declared.types.ValueType.{ValueType}
 use Rattle.sect_types.specs.Sight.{names_of_records}
-use Rattle.sect_types.specs.Statements.{TextView, statement_count, made_in}
+use Rattle.sect_types.specs.Statements.{TextView, statement_count, text_depth, made_in}
 use Rattle.sect_front.specs.declared.tree.Locking.{Locking}
 use Rattle.sect_types.specs.Lockings.{lockings_of}
 use Rattle.sect_types.specs.Expanded.{texts_of, all_local_types}
@@ -33,6 +38,11 @@ abbrev pub total_statements : List TextView → ℕ
 total_statements [] = 0
 total_statements (p ∷ ps) = statement_count p + total_statements ps
 
+-- how many calls are met in expanding these threads, those in the bodies of the called procedures counted
+abbrev pub calls_met : List Procedure → List Thread → ℕ
+calls_met ps [] = 0
+calls_met ps (t ∷ ts) = (block_sums ps (sums ps) t.body).calls + calls_met ps ts
+
 -- the records of the `new` statements of the texts, in text order
 abbrev pub all_made : List TextView → List ℕ
 all_made [] = []
@@ -42,17 +52,19 @@ all_made (p ∷ ps) = made_in p ++ all_made ps
 abbrev pub sites_of : List ℕ → List TextView → List ℕ
 sites_of globals texts = globals ++ all_made texts
 
--- the counts are within the limits
+-- the counts are within the limits; the braces of a thread are a block too
 pub record IsWithinLimits (p : ProgramView) : Type 0 where
-  pub few_records : length p.records ≤ MOST_RECORDS
-  pub few_fields : All (λ (ts : List ValueType). length ts ≤ MOST_FIELDS) p.records
-  pub few_globals : length p.globals ≤ MOST_GLOBALS
-  pub few_threads : length p.texts ≤ MOST_THREADS
+  pub few_records : length p.records ≤ most_records
+  pub few_fields : All (λ (ts : List ValueType). length ts ≤ most_fields) p.records
+  pub few_globals : length p.globals ≤ most_globals
+  pub few_threads : length p.texts ≤ most_threads
   pub as_many : length p.locals ≡ length p.texts
-  pub few_locals : All (λ (ts : List ValueType). length ts ≤ MOST_ALL_LOCALS) p.locals
-  pub few_statements : total_statements p.texts ≤ MOST_STATEMENTS
-  pub few_sections : length (sections_of p.texts) ≤ MOST_SECTIONS
-  pub few_sites : length (sites_of p.globals p.texts) ≤ MOST_SITES
+  pub few_locals : All (λ (ts : List ValueType). length ts ≤ most_all_locals) p.locals
+  pub few_statements : total_statements p.texts ≤ most_statements
+  pub few_sections : length (sections_of p.texts) ≤ most_sections
+  pub few_sites : length (sites_of p.globals p.texts) ≤ most_sites
+  pub few_calls : calls_met p.source.procedures p.source.threads ≤ most_calls
+  pub shallow : All (λ (text : TextView). 1 + text_depth text ≤ most_depth) p.texts
 
 -- each reference has its record
 pub record AreRecordsThere (p : ProgramView) : Type 0 where

@@ -1,6 +1,6 @@
--- The rules, and the first item that breaks one.
-use Rattle.std.specs.Prelude.{◌≤◌, ℕ, ◌+◌, Bool, true, false, not, ◌&&◌, ◌||◌, List, [], ◌∷◌, length, Option, Some}
-use Rattle.std.specs.Prelude.{None, is_some, nat_le, nat_lt, nat_eq, if◌then◌else◌, slice_get}
+-- The rules.
+use Rattle.std.specs.Prelude.{◌≡◌, ℕ, ◌+◌, Bool, true, false, not, ◌&&◌, ◌||◌, List, [], ◌∷◌, length, Option, Some}
+use Rattle.std.specs.Prelude.{None, is_some, nat_le, nat_lt, nat_eq, slice_get}
 use Rattle.sect_front.specs.declared.tree.Primitive as leaf
 use Rattle.sect_front.specs.declared.tree.Primitive.TheVariants as primitive
 use Rattle.sect_front.specs.declared.tree.Test.{Test}
@@ -13,10 +13,10 @@ use Rattle.sect_front.specs.declared.tree.GlobalObject.{GlobalObject}
 use Rattle.sect_front.specs.declared.tree.Declaration.{Declaration}
 use Rattle.sect_front.specs.declared.tree.Procedure.{Procedure}
 use Rattle.sect_front.specs.TreeView.{TreeView}
-use Rattle.sect_front.specs.declared.limits.TheConstants.{MOST_DEPTH}
-use Rattle.sect_types.specs.declared.limits.TheConstants.{MOST_RECORDS, MOST_FIELDS, MOST_GLOBALS, MOST_THREADS}
-use Rattle.sect_types.specs.declared.limits.TheConstants.{MOST_LOCALS, MOST_STATEMENTS, MOST_SITES, MOST_SECTIONS}
-use Rattle.sect_types.specs.declared.limits.TheConstants.{MOST_PROCEDURES, MOST_CALLS}
+use Rattle.sect_front.specs.Limits.{most_depth}
+use Rattle.sect_types.specs.Limits.{most_records, most_fields, most_globals, most_threads}
+use Rattle.sect_types.specs.Limits.{most_locals, most_statements, most_sites, most_sections}
+use Rattle.sect_types.specs.Limits.{most_procedures, most_calls}
 use Rattle.sect_types.specs.declared.rule.Rule.{Rule}
 use Rattle.sect_types.specs.declared.rule.Rule.TheVariants.{Unknown, Twice, WrongType, SharedOutside, Nested, TooMany}
 use Rattle.sect_types.specs.declared.rule.Rule.TheVariants.{Recursion, Arguments}
@@ -30,7 +30,7 @@ use Rattle.sect_types.specs.declared.resolve.Looked.TheVariants as looked
 use Rattle.sect_types.specs.Sight.{Sight, has_name, names_of_records, names_of_globals, base_of, operand_of}
 use Rattle.sect_types.specs.Resolve.{same_kind, accepts, comparable, looked_of}
 use Rattle.sect_types.specs.declared.sums.Sums.{Sums}
-use Rattle.sect_types.specs.Sums.{sums, sums_at, number_of, returns}
+use Rattle.sect_types.specs.Sums.{sums, sums_at, number_of, Returns}
 use Rattle.sect_types.specs.Items.{Head, PrimitiveHead, TestHead, AtomicHead, CallHead, is_inside, Item, ARecord}
 use Rattle.sect_types.specs.Items.{AField}
 use Rattle.sect_types.specs.Items.{AGlobal, AProcedure, AThread, ALocal, AStatement}
@@ -253,8 +253,8 @@ depth_at (InProcedure p) = 0
 
 abbrev pub passes_by : Counts → ℕ → Sums → Bool
 passes_by c depth s =
-    nat_lt MOST_STATEMENTS (c.statements + s.statements) || (nat_lt MOST_SITES (c.sites + s.sites)
-    || (nat_lt MOST_CALLS (c.calls + s.calls) || nat_lt MOST_DEPTH (depth + s.deep)))
+    nat_lt most_statements (c.statements + s.statements) || (nat_lt most_sites (c.sites + s.sites)
+    || (nat_lt most_calls (c.calls + s.calls) || nat_lt most_depth (depth + s.deep)))
 
 -- a call that breaks 10, 13 or 17 has no expansion
 abbrev pub expands : Declared → Sight → Bool → List ℕ → List Operand → Bool
@@ -262,77 +262,42 @@ expands d s inside f vs = knows_head d s (CallHead f vs) && (inside && as_many (
 
 abbrev pub passes_limit : Declared → Counts → Sight → Place → Head → Bool
 passes_limit d c s at (PrimitiveHead (primitive.New x r)) =
-    nat_le MOST_STATEMENTS c.statements || nat_le MOST_SITES c.sites
-passes_limit d c s at AtomicHead = nat_le MOST_STATEMENTS c.statements || nat_le MOST_SECTIONS c.sections
+    nat_le most_statements c.statements || nat_le most_sites c.sites
+passes_limit d c s at AtomicHead = nat_le most_statements c.statements || nat_le most_sections c.sections
 passes_limit d c s at (CallHead f vs) =
     expands d s (is_inside at) f vs && passes_by c (depth_at at) (sums_of_call d f)
-passes_limit d c s at _ = nat_le MOST_STATEMENTS c.statements
+passes_limit d c s at _ = nat_le most_statements c.statements
 
 abbrev pub too_many : Declared → Counts → Item → Bool
-too_many d c (ARecord x before) = nat_le MOST_RECORDS (length before)
-too_many d c (AField k x before) = nat_le MOST_FIELDS (length before)
-too_many d c (AGlobal r x before) = nat_le MOST_GLOBALS (length before)
-too_many d c (AProcedure x before) = nat_le MOST_PROCEDURES (length before)
-too_many d c (AThread x before) = nat_le MOST_THREADS (length before)
-too_many d c (ALocal k x before) = nat_le MOST_LOCALS (length before)
+too_many d c (ARecord x before) = nat_le most_records (length before)
+too_many d c (AField k x before) = nat_le most_fields (length before)
+too_many d c (AGlobal r x before) = nat_le most_globals (length before)
+too_many d c (AProcedure x before) = nat_le most_procedures (length before)
+too_many d c (AThread x before) = nat_le most_threads (length before)
+too_many d c (ALocal k x before) = nat_le most_locals (length before)
 too_many d c (AStatement h ls at) = by_place at (passes_limit d c (seen d ls) at h) false
 
 -- 16: a call in a procedure of one that is it or reaches it by calls
-abbrev pub returns_to : List Procedure → Place → Option ℕ → Bool
-returns_to ps (InProcedure p) (Some q) = returns ps p q
-returns_to ps _ _ = false
+abbrev pub ReturnsTo : List Procedure → Place → Option ℕ → Type 0
+ReturnsTo ps (InProcedure p) (Some q) = Returns ps p q
+ReturnsTo ps _ _ = ⊥
 
-abbrev pub recursive : Declared → Item → Bool
-recursive d (AStatement (CallHead f vs) ls at) = returns_to d.procedures at (number_of d.procedures f)
-recursive d _ = false
+abbrev pub IsRecursive : Declared → Item → Type 0
+IsRecursive d (AStatement (CallHead f vs) ls at) = ReturnsTo d.procedures at (number_of d.procedures f)
+IsRecursive d _ = ⊥
 
 -- 17: another number of arguments than of parameters
 abbrev pub miscounted : Declared → Item → Bool
 miscounted d (AStatement (CallHead f vs) ls at) = not (as_many (procedure_of d.procedures f) vs)
 miscounted d _ = false
 
--- rule by rule
-abbrev pub breaks : Declared → Counts → Item → Rule → Bool
-breaks d c item Unknown = unknown d item
-breaks d c item Twice = twice d item
-breaks d c item WrongType = mistyped d item
-breaks d c item SharedOutside = outside item
-breaks d c item Nested = nested item
-breaks d c item TooMany = too_many d c item
-breaks d c item Recursion = recursive d item
-breaks d c item Arguments = miscounted d item
-
-abbrev pub least : (Rule → Bool) → Option Rule
-least b =
-    if b Unknown then Some Unknown else
-    (if b Twice then Some Twice else
-    (if b WrongType then Some WrongType else
-    (if b SharedOutside then Some SharedOutside else
-    (if b Nested then Some Nested else
-    (if b TooMany then Some TooMany else
-    (if b Recursion then Some Recursion else
-    (if b Arguments then Some Arguments else None)))))))
-
--- the least rule that an item breaks
-abbrev pub rule_of : Declared → Counts → Item → Option Rule
-rule_of d c item = least (breaks d c item)
-
--- the first fault of a list of items
-pub data Verdict : Type 0 where
-  Fine : Counts → Verdict
-  Faulty : ℕ → Rule → Verdict
-
-abbrev pub fault_or : Option Rule → ℕ → Verdict → Verdict
-fault_or None i rest = rest
-fault_or (Some r) i rest = Faulty i r
-
-abbrev pub judge : Declared → Counts → List Item → Verdict
-judge d c [] = Fine c
-judge d c (item ∷ more) = fault_or (rule_of d c item) c.items (judge d (after d c item) more)
-
--- what the counts may reach
-pub record IsWithin (statements sites sections calls : ℕ) : Type 0 where
-  pub few_statements : statements ≤ MOST_STATEMENTS
-  pub few_sites : sites ≤ MOST_SITES
-  pub few_sections : sections ≤ MOST_SECTIONS
-  pub few_calls : calls ≤ MOST_CALLS
+-- the item breaks the rule
+abbrev pub BreaksRule : Declared → Counts → Item → Rule → Type 0
+BreaksRule d c item Unknown = unknown d item ≡ true
+BreaksRule d c item Twice = twice d item ≡ true
+BreaksRule d c item WrongType = mistyped d item ≡ true
+BreaksRule d c item SharedOutside = outside item ≡ true
+BreaksRule d c item Nested = nested item ≡ true
+BreaksRule d c item TooMany = too_many d c item ≡ true
+BreaksRule d c item Recursion = IsRecursive d item
+BreaksRule d c item Arguments = miscounted d item ≡ true

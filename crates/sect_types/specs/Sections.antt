@@ -4,6 +4,7 @@ use Rattle.sect_types.specs.Statements.{TextView, Stop, Do, Choose, Loop, Sectio
 use Rattle.sect_types.specs.Statements.{made_by, made_in}
 use Rattle.sect_types.specs.declared.action.Action.{Action}
 use Rattle.sect_types.specs.declared.action.Action.TheVariants as action
+use Rattle.sect_types.specs.declared.section.Section.{Section as SectionOfCode}
 
 -- a section: the number of its thread, and its body
 pub record SectionView : Type 0 where
@@ -64,3 +65,7 @@ found_in t None other = other
 abbrev pub section_from : ℕ → ℕ → List TextView → Option SectionView
 section_from n t [] = None
 section_from n t (p ∷ ps) = found_in t (section_body n p) (section_from n (t + 1) ps)
+
+-- a section of the code
+abbrev pub section_shown : SectionOfCode → SectionView
+section_shown s = record { thread = s.thread; body = s.body.now }

@@ -1,5 +1,5 @@
 -- The statements of a thread as plain data: each carries what follows it.
-use Rattle.std.specs.Prelude.{ℕ, ◌+◌, Option, Some, None, List, [], ◌∷◌, ◌++◌, nat_eq, if◌then◌else◌}
+use Rattle.std.specs.Prelude.{ℕ, ◌+◌, Option, Some, None, List, [], ◌∷◌, ◌++◌, nat_eq, max, if◌then◌else◌}
 use Rattle.std.specs.Option.{option_or}
 use Rattle.sect_types.specs.declared.action.Action.{Action}
 use Rattle.sect_types.specs.declared.action.Action.TheVariants as action
@@ -32,6 +32,14 @@ weight (Do a r) = weight r
 weight (Choose t p q r) = weight p + weight q + 1 + weight r
 weight (Loop t p r) = weight p + 1 + weight r
 weight (Section i p r) = weight p + 1 + weight r
+
+-- the most blocks that stand in one another
+abbrev pub text_depth : TextView → ℕ
+text_depth Stop = 0
+text_depth (Do a r) = text_depth r
+text_depth (Choose t p q r) = max (1 + max (text_depth p) (text_depth q)) (text_depth r)
+text_depth (Loop t p r) = max (1 + text_depth p) (text_depth r)
+text_depth (Section i p r) = max (1 + text_depth p) (text_depth r)
 
 -- the bodies of the sections, in text order
 abbrev pub section_bodies : TextView → List TextView

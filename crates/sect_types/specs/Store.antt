@@ -1,11 +1,12 @@
 -- Objects by name, and the store that keeps them. The methods of `sect_store::Store` cite it.
-use Rattle.std.specs.Prelude.{ℕ, zero, suc, Bool, true, false, ◌&&◌, List, [], ◌∷◌, ◌++◌, length, Option, Some, None}
-use Rattle.std.specs.Prelude.{slice_get}
+use Rattle.std.specs.Prelude.{ℕ, Bool, true, false, ◌&&◌, List, [], ◌∷◌, ◌++◌, length, Option, Some, None, slice_get}
 use Rattle.std.specs.Ordering.{int_eq}
 use Rattle.sect_types.specs.declared.store.ObjectName.{ObjectName}
 use Rattle.sect_types.specs.declared.store.ObjectName.TheVariants.{Global, Made}
 use Rattle.sect_types.specs.declared.store.Datum.{Datum}
 use Rattle.sect_types.specs.declared.store.Datum.TheVariants.{Number, Null, Refers}
+use Rattle.sect_lemmas.specs.Lists.{changed_at, put_at}
+use Rattle.sect_lemmas.specs.Numbers.{same_number}
 
 -- the site at which it was made, and its fields; the object of a global has the global's number as site
 pub record ObjectView : Type 0 where
@@ -16,23 +17,6 @@ pub record ObjectView : Type 0 where
 pub record StoreView : Type 0 where
   pub globals : List ObjectView
   pub made : List (List ObjectView)
-
--- the list with its n-th element changed
-abbrev pub changed_at : {X : Type 0} → ℕ → (X → X) → List X → List X
-changed_at n g [] = []
-changed_at zero g (x ∷ xs) = g x ∷ xs
-changed_at (suc n) g (x ∷ xs) = x ∷ changed_at n g xs
-
--- the list with x in place of its n-th element
-abbrev pub put_at : {X : Type 0} → ℕ → X → List X → List X
-put_at n x xs = changed_at n (λ old. x) xs
-
--- by cases, since the library's test computes on numerals alone
-abbrev pub same_number : ℕ → ℕ → Bool
-same_number zero zero = true
-same_number zero (suc m) = false
-same_number (suc n) zero = false
-same_number (suc n) (suc m) = same_number n m
 
 abbrev pub same_name : ObjectName → ObjectName → Bool
 same_name (Global g) (Global h) = same_number g h

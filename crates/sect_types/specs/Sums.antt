@@ -1,9 +1,9 @@
 -- What the expansion of a call comes to, found without expanding.
-use Rattle.std.specs.Prelude.{ℕ, zero, suc, ◌+◌, Bool, false, ◌||◌, List, [], ◌∷◌, map, length, max, nat_eq, Option}
+use Rattle.std.specs.Prelude.{◌≡◌, ℕ, zero, suc, ◌+◌, List, [], ◌∷◌, map, length, max, Option}
 use Rattle.std.specs.Prelude.{Some, None, slice_get}
-use Rattle.std.specs.List.{list_any}
 use Rattle.sect_front.specs.declared.tree.Primitive as leaf
 use Rattle.sect_front.specs.declared.tree.Primitive.TheVariants as primitive
+use Rattle.sect_lemmas.specs.Lists.{Has}
 use Rattle.sect_types.specs.Sight.{place}
 use Rattle.sect_types.specs.declared.sums.Sums.{Sums}
 use Rattle.sect_front.specs.declared.tree.Procedure.{Procedure}
@@ -79,6 +79,11 @@ call_sums variables b =
 abbrev pub procedure_sums : List Procedure → List Sums → Procedure → Sums
 procedure_sums ps table p = call_sums (length p.parameters + length p.locals) (block_sums ps table p.body)
 
+-- of a call of that procedure, where there is one
+abbrev pub sums_of : List Procedure → List Sums → Option Procedure → Sums
+sums_of ps table None = nothing
+sums_of ps table (Some p) = procedure_sums ps table p
+
 -- of each procedure, where calls stand in one another at most n deep
 abbrev pub sums_within : ℕ → List Procedure → List Sums
 sums_within zero ps = []
@@ -110,11 +115,11 @@ abbrev pub calls_in : List Procedure → Option Procedure → List ℕ
 calls_in ps None = []
 calls_in ps (Some p) = block_calls ps p.body []
 
--- procedure q reaches p by at least one call and at most n
-abbrev pub reaches : ℕ → List Procedure → ℕ → ℕ → Bool
-reaches zero ps q p = false
-reaches (suc n) ps q p = list_any (λ r. nat_eq r p || reaches n ps r p) (calls_in ps (slice_get ps q))
+-- calls lead from procedure q to procedure p by way of these: each is called by the one before it
+abbrev pub IsWay : List Procedure → ℕ → List ℕ → ℕ → Type 0
+IsWay ps q [] p = q ≡ p
+IsWay ps q (r ∷ way) p = Has (calls_in ps (slice_get ps q)) r × IsWay ps r way p
 
--- q is p or reaches it: no shortest way is longer than there are procedures
-abbrev pub returns : List Procedure → ℕ → ℕ → Bool
-returns ps p q = nat_eq q p || reaches (length ps) ps q p
+-- q is p or reaches it by calls
+abbrev pub Returns : List Procedure → ℕ → ℕ → Type 0
+Returns ps p q = (way : List ℕ) × IsWay ps q way p

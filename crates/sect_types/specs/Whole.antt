@@ -9,7 +9,8 @@ use Rattle.sect_types.specs.declared.store.Fault.{Fault}
 use Rattle.sect_types.specs.declared.store.Fault.TheVariants as fault
 use Rattle.sect_types.specs.declared.store.End.{End}
 use Rattle.sect_types.specs.declared.store.End.TheVariants.{Done, Failed}
-use Rattle.sect_types.specs.Store.{ObjectView, StoreView, put_at}
+use Rattle.sect_types.specs.Store.{ObjectView, StoreView}
+use Rattle.sect_lemmas.specs.Lists.{put_at}
 use Rattle.sect_types.specs.Meaning.{WorkView, Came, Went, Fell, after_change, one, looked, found_at, is_true}
 use Rattle.sect_types.specs.Meaning.{first_datum, fresh, Next, On, Off, next}
 

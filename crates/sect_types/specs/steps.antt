@@ -1,4 +1,8 @@
 -- What the contracts of private functions speak of.
+pub mod Search
+pub mod Judging
+pub mod Clean
+pub mod Declaring
 pub mod Walks
 pub mod Capped
 pub mod Summaries

@@ -1,42 +1,116 @@
 //! A walk through the declarations.
 
-ghost use Rattle.std.specs.Prelude.{◌≡◌, ◌≤◌, ◌<◌, ◌+◌, ◌++◌, ◌∷◌, [], ◌||◌, not, true, IfOk, OnOk, nat_le, length};
+ghost use Rattle.std.specs.Prelude.{◌≡◌, ◌≤◌, ◌<◌, ◌+◌, ◌++◌, ◌∷◌, [], ◌||◌, not, true, false, IfOk, OnOk, nat_le, length};
 ghost use Rattle.sect_types.specs.Sight.{has_name, names_of_records, names_of_globals, names_of_declared, all_fields};
-ghost use Rattle.sect_types.specs.Items.{ARecord, AField, AGlobal, AProcedure, AThread, ALocal, record_items};
+ghost use Rattle.sect_types.specs.Items.{ARecord, record_items};
 ghost use Rattle.sect_types.specs.Items.{field_items};
 ghost use Rattle.sect_types.specs.Items.{global_items, local_items};
 ghost use Rattle.sect_types.specs.Rules.{knows_kind as knows, declared_in};
 ghost use Rattle.sect_types.specs.steps.Walks.{Walks, rule_in, declared_rule};
+ghost use Rattle.sect_types.specs.steps.Declaring.{name_of, item_of, most_of, is_known as is_known_by};
+ghost use Rattle.sect_types.specs.steps.Declaring.{is_taken as is_taken_by, behind, HasSite, IsToldOf};
 ghost use Rattle.sect_types.specs.steps.Listing.{Knows, all_known, fields_fine, globals_known};
+ghost use Rattle.sect_types.specs.Limits.{most_fields, most_globals, most_locals, most_procedures, most_records};
+ghost use Rattle.sect_types.specs.Limits.{most_sites, most_threads};
 
 use crate::limits::{
-    MOST_FIELDS, MOST_GLOBALS, MOST_LOCALS, MOST_PROCEDURES, MOST_RECORDS, MOST_SITES, MOST_THREADS,
+    MOST_FIELDS, MOST_GLOBALS, MOST_LOCALS, MOST_PROCEDURES, MOST_RECORDS, MOST_THREADS,
 };
 use crate::names::{NameSet, Names};
 use crate::rule::{Fault, Rule};
-use crate::spot::Spot;
-use sect_front::{Declaration, GlobalObject, Kind, Name, Procedure, Record, Thread, Tree};
+use crate::spot::{Spot, Uncounted};
+use sect_front::{Declaration, GlobalObject, Kind, Name, Record, Tree};
 use std::alloc::{AllocError, Global};
 
-fn judge_declared(
-    names: &Names,
-    name: &Name,
-    known: bool,
-    taken: bool,
-    most: usize,
-) -> Result<(), Rule>
+/// A declaration that is passed. Of a parameter or a local it is told whether a global has its name.
+#[derive(Clone, Copy)]
+pub enum Declared {
+    Record(Name),
+    Field(Declaration),
+    Global(GlobalObject),
+    Procedure(Name),
+    Thread(Name),
+    Local(Declaration, bool),
+}
+
+impl Declared {
+    /// Its name.
+    fn name(&self) -> Name
+        ensures { result ≡ name_of self.now }
+    {
+        match self {
+            Declared::Record(name) | Declared::Procedure(name) | Declared::Thread(name) => *name,
+            Declared::Field(field) => field.name,
+            Declared::Global(global) => global.name,
+            Declared::Local(local, _) => local.name,
+        }
+    }
+
+    /// How many of its kind one list may have.
+    fn most(&self) -> usize
+        ensures { result ≡ most_of self.now }
+    {
+        match self {
+            Declared::Record(_) => MOST_RECORDS,
+            Declared::Field(_) => MOST_FIELDS,
+            Declared::Global(_) => MOST_GLOBALS,
+            Declared::Procedure(_) => MOST_PROCEDURES,
+            Declared::Thread(_) => MOST_THREADS,
+            Declared::Local(_, _) => MOST_LOCALS,
+        }
+    }
+
+    /// Whether the type that it names is known.
+    fn is_known(&self, tree: &Tree, known: &NameSet) -> bool
+        requires { Knows known.now tree.now.records }
+        ensures { result ≡ is_known_by (names_of_records tree.now.records) self.now }
+    {
+        match self {
+            Declared::Field(field) => knows_kind(tree, known, &field.kind),
+            Declared::Global(global) => known.has(&global.of),
+            Declared::Local(local, _) => knows_kind(tree, known, &local.kind),
+            Declared::Record(_) | Declared::Procedure(_) | Declared::Thread(_) => true,
+        }
+    }
+
+    /// Whether a global has its name, which only variables mind.
+    fn is_taken(&self) -> bool
+        ensures { result ≡ is_taken_by self.now }
+    {
+        match self {
+            Declared::Local(_, taken) => *taken,
+            _ => false,
+        }
+    }
+
+    /// Counts it.
+    fn count(&self, spot: &mut Spot) -> Result<(), Uncounted>
+        requires { HasSite spot.old self.now }
+        ensures { OnOk result (spot.new ≡ behind self.now spot.old) }
+    {
+        match self {
+            Declared::Global(_) => spot.pass_global(),
+            _ => spot.pass_item(),
+        }
+    }
+}
+
+/// The least rule that a declaration breaks behind these names, if any.
+fn judge_declared(names: &Names, declared: &Declared, known: bool) -> Result<(), Rule>
     ensures known { OnOk result (known ≡ true) }
+    ensures new { OnOk result (has_name (name_of declared.now) names.now ≡ false) }
+    ensures few { OnOk result (length names.now < most_of declared.now) }
     ensures rule { rule_in result
-        ≡ declared_rule (not known) (has_name name.now names.now || taken)
-        (nat_le most (length names.now)) }
+        ≡ declared_rule (not known) (has_name (name_of declared.now) names.now || is_taken_by declared.now)
+        (nat_le (most_of declared.now) (length names.now)) }
 {
     if !known {
         return Err(Rule::Unknown);
     }
-    if names.has(name) || taken {
+    if names.has(&declared.name()) || declared.is_taken() {
         return Err(Rule::Twice);
     }
-    if names.len() >= most {
+    if names.len() >= declared.most() {
         return Err(Rule::TooMany);
     }
     Ok(())
@@ -52,26 +126,27 @@ fn knows_kind(tree: &Tree, known: &NameSet, kind: &Kind) -> bool
     }
 }
 
-fn pass_field(
+/// Passes a declaration behind these names, and adds its name.
+pub fn pass(
     tree: &Tree,
     known: &NameSet,
     names: &mut Names,
     spot: &mut Spot,
-    field: &Declaration,
+    declared: Declared,
 ) -> Result<(), Fault>
     requires known { Knows known.now tree.now.records }
-    ensures walks { Walks (declared_in tree.now)
-        (λ w. AField field.now.kind field.now.name names.old ∷ w) spot.old spot.new result }
-    ensures names { OnOk result (names.new ≡ names.old ++ field.now.name ∷ []) }
-    ensures sites { OnOk result (spot.new.sites ≡ spot.old.sites) }
-    ensures few { OnOk result (length names.old < MOST_FIELDS) }
-    ensures known { OnOk result (knows (names_of_records tree.now.records) field.now.kind ≡ true) }
+    requires told { IsToldOf tree.now spot.old declared }
+    ensures walks { Walks (declared_in tree.now) (λ w. item_of declared names.old ∷ w) spot.old spot.new result }
+    ensures names { OnOk result (names.new ≡ names.old ++ name_of declared ∷ []) }
+    ensures counts { OnOk result (spot.new ≡ behind declared spot.old) }
+    ensures few { OnOk result (length names.old < most_of declared) }
+    ensures known { OnOk result (is_known_by (names_of_records tree.now.records) declared ≡ true) }
 {
-    let known = knows_kind(tree, known, &field.kind);
-    match judge_declared(names, &field.name, known, false, MOST_FIELDS) {
+    let known = declared.is_known(tree, known);
+    match judge_declared(names, &declared, known) {
         Ok(()) => {
-            names.add(field.name)?;
-            spot.pass_item()?;
+            names.add(declared.name())?;
+            declared.count(spot)?;
             Ok(())
         }
         Err(rule) => Err(Fault::Broken(spot.item(), rule)),
@@ -91,12 +166,12 @@ pub fn fields(
         spot.old spot.new result }
     ensures names { IfOk result (λ names. names ≡ names_of_declared list.now) }
     ensures sites { OnOk result (spot.new.sites ≡ spot.old.sites) }
-    ensures few { OnOk result (length list.now ≤ MOST_FIELDS) }
+    ensures few { OnOk result (length list.now ≤ most_fields) }
     ensures known { OnOk result (all_known (names_of_records tree.now.records) list.now ≡ true) }
 {
     let mut names = Names::new(alloc);
     for field in list {
-        pass_field(tree, known, &mut names, spot, field)?;
+        pass(tree, known, &mut names, spot, Declared::Field(*field))?;
     }
     Ok(names)
 }
@@ -110,23 +185,6 @@ pub fn known_records(alloc: Global, tree: &Tree) -> Result<NameSet, AllocError>
         known.collect(of.name)?;
     }
     Ok(known)
-}
-
-fn pass_record(tree: &Tree, names: &mut Names, spot: &mut Spot, of: &Record) -> Result<(), Fault>
-    ensures walks { Walks (declared_in tree.now) (λ w. ARecord of.now.name names.old ∷ w)
-        spot.old spot.new result }
-    ensures names { OnOk result (names.new ≡ names.old ++ of.now.name ∷ []) }
-    ensures sites { OnOk result (spot.new.sites ≡ spot.old.sites) }
-    ensures few { OnOk result (length names.old < MOST_RECORDS) }
-{
-    match judge_declared(names, &of.name, true, false, MOST_RECORDS) {
-        Ok(()) => {
-            names.add(of.name)?;
-            spot.pass_item()?;
-            Ok(())
-        }
-        Err(rule) => Err(Fault::Broken(spot.item(), rule)),
-    }
 }
 
 fn whole_record(
@@ -143,12 +201,12 @@ fn whole_record(
     ensures names { OnOk result (names.new ≡ names.old ++ of.now.name ∷ []) }
     ensures fields { IfOk result (λ inner. inner ≡ names_of_declared of.now.fields) }
     ensures sites { OnOk result (spot.new.sites ≡ spot.old.sites) }
-    ensures few { OnOk result (length names.old < MOST_RECORDS) }
-    ensures few_fields { OnOk result (length of.now.fields ≤ MOST_FIELDS) }
+    ensures few { OnOk result (length names.old < most_records) }
+    ensures few_fields { OnOk result (length of.now.fields ≤ most_fields) }
     ensures known_fields { OnOk result (all_known (names_of_records tree.now.records)
         of.now.fields ≡ true) }
 {
-    pass_record(tree, names, spot, of)?;
+    pass(tree, known, names, spot, Declared::Record(of.name))?;
     fields(alloc, tree, known, spot, of.fields.as_slice())
 }
 
@@ -165,7 +223,7 @@ pub fn records(
     ensures names { IfOk result (λ r. r.0 ≡ names_of_records tree.now.records) }
     ensures fields { IfOk result (λ r. r.1.items ≡ all_fields tree.now.records) }
     ensures sites { OnOk result (spot.new.sites ≡ spot.old.sites) }
-    ensures few { OnOk result (length tree.now.records ≤ MOST_RECORDS) }
+    ensures few { OnOk result (length tree.now.records ≤ most_records) }
     ensures fine { OnOk result (fields_fine (names_of_records tree.now.records) tree.now.records
         ≡ true) }
 {
@@ -180,39 +238,6 @@ pub fn records(
     Ok((names, field_names))
 }
 
-fn pass_global(
-    tree: &Tree,
-    known: &NameSet,
-    names: &mut Names,
-    spot: &mut Spot,
-    global: &GlobalObject,
-) -> Result<(), Fault>
-    requires known { Knows known.now tree.now.records }
-    requires sites { spot.old.sites < MOST_SITES }
-    ensures walks { Walks (declared_in tree.now)
-        (λ w. AGlobal global.now.of global.now.name names.old ∷ w) spot.old spot.new result }
-    ensures names { OnOk result (names.new ≡ names.old ++ global.now.name ∷ []) }
-    ensures sites { OnOk result (spot.new.sites ≡ spot.old.sites + 1) }
-    ensures few { OnOk result (length names.old < MOST_GLOBALS) }
-    ensures known { OnOk result (has_name global.now.of (names_of_records tree.now.records)
-        ≡ true) }
-{
-    match judge_declared(
-        names,
-        &global.name,
-        known.has(&global.of),
-        false,
-        MOST_GLOBALS,
-    ) {
-        Ok(()) => {
-            names.add(global.name)?;
-            spot.pass_global()?;
-            Ok(())
-        }
-        Err(rule) => Err(Fault::Broken(spot.item(), rule)),
-    }
-}
-
 /// The names of the globals.
 pub fn globals(alloc: Global, tree: &Tree, known: &NameSet, spot: &mut Spot) -> Result<Names, Fault>
     requires known { Knows known.now tree.now.records }
@@ -221,48 +246,15 @@ pub fn globals(alloc: Global, tree: &Tree, known: &NameSet, spot: &mut Spot) -> 
         spot.old spot.new result }
     ensures names { IfOk result (λ names. names ≡ names_of_globals tree.now.globals) }
     ensures sites { OnOk result (spot.new.sites ≡ length tree.now.globals) }
-    ensures few { OnOk result (length tree.now.globals ≤ MOST_GLOBALS) }
+    ensures few { OnOk result (length tree.now.globals ≤ most_globals) }
     ensures known { OnOk result (globals_known (names_of_records tree.now.records)
         tree.now.globals ≡ true) }
 {
     let mut names = Names::new(alloc);
     for global in tree.globals() {
-        pass_global(tree, known, &mut names, spot, global)?;
+        pass(tree, known, &mut names, spot, Declared::Global(*global))?;
     }
     Ok(names)
-}
-
-fn pass_local(
-    tree: &Tree,
-    known: &NameSet,
-    global_names: &Names,
-    names: &mut Names,
-    spot: &mut Spot,
-    local: &Declaration,
-) -> Result<(), Fault>
-    requires known { Knows known.now tree.now.records }
-    requires globals { global_names.now ≡ names_of_globals tree.now.globals }
-    ensures walks { Walks (declared_in tree.now)
-        (λ w. ALocal local.now.kind local.now.name names.old ∷ w) spot.old spot.new result }
-    ensures names { OnOk result (names.new ≡ names.old ++ local.now.name ∷ []) }
-    ensures few { OnOk result (length names.old < MOST_LOCALS) }
-    ensures known { OnOk result (knows (names_of_records tree.now.records) local.now.kind ≡ true) }
-{
-    let known = knows_kind(tree, known, &local.kind);
-    match judge_declared(
-        names,
-        &local.name,
-        known,
-        global_names.has(&local.name),
-        MOST_LOCALS,
-    ) {
-        Ok(()) => {
-            names.add(local.name)?;
-            spot.pass_item()?;
-            Ok(())
-        }
-        Err(rule) => Err(Fault::Broken(spot.item(), rule)),
-    }
 }
 
 /// The names of the locals of a thread.
@@ -279,56 +271,19 @@ pub fn locals(
     ensures walks { Walks (declared_in tree.now) (local_items [] list.now)
         spot.old spot.new result }
     ensures names { IfOk result (λ names. names ≡ names_of_declared list.now) }
-    ensures few { OnOk result (length list.now ≤ MOST_LOCALS) }
+    ensures few { OnOk result (length list.now ≤ most_locals) }
     ensures known { OnOk result (all_known (names_of_records tree.now.records) list.now ≡ true) }
 {
     let mut names = Names::new(alloc);
     for local in list {
-        pass_local(tree, known, global_names, &mut names, spot, local)?;
+        let taken = global_names.has(&local.name);
+        pass(
+            tree,
+            known,
+            &mut names,
+            spot,
+            Declared::Local(*local, taken),
+        )?;
     }
     Ok(names)
-}
-
-/// Passes a procedure, before its variables.
-pub fn pass_procedure(
-    tree: &Tree,
-    names: &mut Names,
-    spot: &mut Spot,
-    procedure: &Procedure,
-) -> Result<(), Fault>
-    ensures walks { Walks (declared_in tree.now) (λ w. AProcedure procedure.now.name names.old ∷ w)
-        spot.old spot.new result }
-    ensures names { OnOk result (names.new ≡ names.old ++ procedure.now.name ∷ []) }
-    ensures few { OnOk result (length names.old < MOST_PROCEDURES) }
-{
-    match judge_declared(names, &procedure.name, true, false, MOST_PROCEDURES) {
-        Ok(()) => {
-            names.add(procedure.name)?;
-            spot.pass_item()?;
-            Ok(())
-        }
-        Err(rule) => Err(Fault::Broken(spot.item(), rule)),
-    }
-}
-
-/// Passes a thread, before its locals.
-pub fn pass_thread(
-    tree: &Tree,
-    names: &mut Names,
-    spot: &mut Spot,
-    thread: &Thread,
-) -> Result<(), Fault>
-    ensures walks { Walks (declared_in tree.now) (λ w. AThread thread.now.name names.old ∷ w)
-        spot.old spot.new result }
-    ensures names { OnOk result (names.new ≡ names.old ++ thread.now.name ∷ []) }
-    ensures few { OnOk result (length names.old < MOST_THREADS) }
-{
-    match judge_declared(names, &thread.name, true, false, MOST_THREADS) {
-        Ok(()) => {
-            names.add(thread.name)?;
-            spot.pass_item()?;
-            Ok(())
-        }
-        Err(rule) => Err(Fault::Broken(spot.item(), rule)),
-    }
 }

@@ -9,8 +9,8 @@ ghost use Rattle.sect_types.specs.Rules.{sight};
 ghost use Rattle.sect_types.specs.Sums.{primitive_sums, number_of as number_by};
 ghost use Rattle.sect_front.specs.declared.tree.Procedure.{Procedure as Spec};
 ghost use Rattle.sect_types.specs.Expanded.{set_parameters, clear_locals, of_call, texts_of, fresh_in};
-ghost use Rattle.sect_types.specs.declared.limits.TheConstants.{MOST_ALL_LOCALS, MOST_SITES, MOST_SECTIONS};
-ghost use Rattle.sect_types.specs.declared.limits.TheConstants.{MOST_CALLS, MOST_LOCALS, MOST_GLOBALS};
+ghost use Rattle.sect_types.specs.Limits.{most_all_locals, most_sites, most_sections};
+ghost use Rattle.sect_types.specs.Limits.{most_calls, most_locals, most_globals};
 ghost use Rattle.sect_front.specs.Syntax.{Call};
 ghost use Rattle.sect_types.specs.steps.Threads.{variables_shown, local_names as names_of_locals};
 ghost use Rattle.sect_types.specs.steps.Expanding.{Fits};
@@ -177,7 +177,7 @@ impl Model for Front {
 impl Front {
     /// Takes a site if the statement is a `new`.
     fn pass_primitive(&mut self, primitive: &Primitive)
-        requires { self.old.at.sites + (primitive_sums primitive.now).sites ≤ MOST_SITES }
+        requires { self.old.at.sites + (primitive_sums primitive.now).sites ≤ most_sites }
         ensures { self.new ≡ record self.old {
           at = record self.old.at { sites = self.old.at.sites + (primitive_sums primitive.now).sites };
         } }
@@ -189,7 +189,7 @@ impl Front {
 
     /// Takes the number of a section.
     fn pass_section(&mut self) -> u16
-        requires { self.old.at.sections < MOST_SECTIONS }
+        requires { self.old.at.sections < most_sections }
         ensures number { result ≡ self.old.at.sections }
         ensures front { self.new ≡ record self.old { at = record self.old.at { sections = self.old.at.sections + 1 } } }
     {
@@ -200,7 +200,7 @@ impl Front {
 
     /// The number of the next fresh local.
     fn next(&self) -> u16
-        requires { self.now.at.fresh ≤ MOST_ALL_LOCALS }
+        requires { self.now.at.fresh ≤ most_all_locals }
         ensures { result ≡ self.now.at.fresh }
     {
         self.own + self.fresh.len() as u16
@@ -208,7 +208,7 @@ impl Front {
 
     /// Takes a call and its fresh locals.
     fn pass_call(&mut self, variables: &[Declaration]) -> Result<(), AllocError>
-        requires { self.old.calls < MOST_CALLS }
+        requires { self.old.calls < most_calls }
         ensures { OnOk result (self.new ≡ record {
           at = record self.old.at { fresh = self.old.at.fresh + length variables.now };
           calls = self.old.calls + 1;
@@ -240,7 +240,7 @@ fn put_variables(
 
 /// The argument at an index.
 fn argument_at(scope: &Scope<'_>, first: u16, operands: &[Operand], place: usize) -> Value
-    requires { first + length scope.now.locals ≤ MOST_ALL_LOCALS }
+    requires { first + length scope.now.locals ≤ most_all_locals }
     ensures { result ≡ argument_at_by (view_of scope.now first) operands.now place }
 {
     match operands.get(place) {
@@ -268,8 +268,8 @@ fn put_parameters(
     operands: &[Operand],
     out: &mut Text,
 ) -> Result<(), AllocError>
-    requires own { first + length scope.now.locals ≤ MOST_ALL_LOCALS }
-    requires fresh { fresh + length parameters.now ≤ MOST_ALL_LOCALS }
+    requires own { first + length scope.now.locals ≤ most_all_locals }
+    requires fresh { fresh + length parameters.now ≤ most_all_locals }
     ensures { OnOk result ((k : TextView) → joined out.new k
         ≡ joined out.old (set_parameters (record { sight = scope.now; first = first }) fresh
         parameters.now operands.now k)) }
@@ -283,7 +283,7 @@ fn put_parameters(
 
 /// Sets the locals, which have the numbers from `fresh` on, to 0 or null.
 fn put_cleared(fresh: u16, list: &[Declaration], out: &mut Text) -> Result<(), AllocError>
-    requires { fresh + length list.now ≤ MOST_ALL_LOCALS }
+    requires { fresh + length list.now ≤ most_all_locals }
     ensures { OnOk result ((k : TextView) → joined out.new k
         ≡ joined out.old (clear_locals fresh list.now k)) }
 {
@@ -446,7 +446,7 @@ fn expand_thread(
     thread: &Thread,
     names: &Names,
 ) -> Result<(Text, FreshLocals), AllocError>
-    requires few { length thread.now.locals ≤ MOST_LOCALS }
+    requires few { length thread.now.locals ≤ most_locals }
     requires names { names.now ≡ names_of_declared thread.now.locals }
     requires fits { Fits (thread_end setting.now sites.old sections.old thread.now) }
     ensures sites { OnOk result (sites.new ≡ (thread_end setting.now sites.old sections.old thread.now).at.sites) }
@@ -484,7 +484,7 @@ pub fn expand(
     threads: &[Thread],
     local_names: &[Names],
 ) -> Result<(Vec<Text>, Vec<FreshLocals>), AllocError>
-    requires globals { length setting.now.globals ≤ MOST_GLOBALS }
+    requires globals { length setting.now.globals ≤ most_globals }
     requires names { local_names.now ≡ names_of_locals threads.now }
     requires fits { AllFit setting.now (length setting.now.globals) 0 threads.now }
     ensures texts { IfOk result (λ r. r.0.items ≡ texts_of (tree_of setting.now threads.now)) }

@@ -1,7 +1,7 @@
 //! Where statements are expanded.
 
 ghost use Rattle.std.specs.Prelude.{◌+◌, ◌≤◌, length};
-ghost use Rattle.sect_types.specs.declared.limits.TheConstants.{MOST_ALL_LOCALS};
+ghost use Rattle.sect_types.specs.Limits.{most_all_locals};
 
 use crate::expand::Setting;
 use crate::scope::Scope;
@@ -14,5 +14,5 @@ pub struct Inside<'a> {
     pub most: usize,
     pub scope: &'a Scope<'a>,
     pub first: u16,
-    ghost own: { first + length scope.now.locals ≤ MOST_ALL_LOCALS },
+    ghost own: { first + length scope.now.locals ≤ most_all_locals },
 }

@@ -6,6 +6,7 @@ mod called;
 mod declare;
 mod expand;
 mod inside;
+mod laws;
 mod limits;
 mod local_name;
 mod locking;
@@ -26,9 +27,10 @@ mod variables;
 mod walk;
 
 pub use action::{Action, Base, Condition, Field, Label, Value};
+pub use laws::{calls_unfold, sums_are_of_texts};
 pub use limits::{
     MOST_FIELDS, MOST_GLOBALS, MOST_LOCALS, MOST_RECORDS, MOST_SECTIONS, MOST_SITES,
-    MOST_STATEMENTS, MOST_THREADS,
+    MOST_STATEMENTS, MOST_THREADS, limits_of_programs,
 };
 pub use local_name::LocalName;
 pub use program::{Program, check_types};

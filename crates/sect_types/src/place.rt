@@ -4,11 +4,12 @@ ghost use Rattle.std.specs.Prelude.{◌≡◌, ◌<◌, ◌≤◌, map, length, 
 ghost use Rattle.sect_types.specs.Items.{deeper as deeper_place, in_section as in_section_place};
 ghost use Rattle.sect_types.specs.Items.{is_inside as inside_at};
 ghost use Rattle.sect_types.specs.Sums.{number_of as number_by, sums, sums_at};
-ghost use Rattle.sect_types.specs.Rules.{by_place, depth_at, returns_to, passes_by, plus_sums, after_item};
+ghost use Rattle.sect_types.specs.Rules.{by_place, depth_at, passes_by, plus_sums, after_item};
+ghost use Rattle.sect_types.specs.steps.Search.{returns_to};
 ghost use Rattle.sect_types.specs.steps.Capped.{capped};
 ghost use Rattle.sect_types.specs.steps.Standing.{AreReturning, AreTogether};
 ghost use Rattle.sect_types.specs.declared.place.Place.TheVariants.{InThread, InProcedure};
-ghost use Rattle.sect_front.specs.declared.limits.TheConstants.{MOST_DEPTH};
+ghost use Rattle.sect_front.specs.Limits.{most_depth};
 
 use crate::called::Called;
 use crate::limits::MOST_ITEMS;
@@ -96,7 +97,7 @@ impl<'a> Standing<'a> {
 
     /// In one more block.
     pub fn deeper(&self) -> Standing<'a>
-        requires { depth_at self.now.at < MOST_DEPTH }
+        requires { depth_at self.now.at < most_depth }
         ensures { result ≡ record self.now { at = deeper_place self.now.at } }
     {
         let at = match self.at {
@@ -108,7 +109,7 @@ impl<'a> Standing<'a> {
 
     /// In a section.
     pub fn in_section(&self) -> Standing<'a>
-        requires { depth_at self.now.at < MOST_DEPTH }
+        requires { depth_at self.now.at < most_depth }
         ensures { result ≡ record self.now { at = in_section_place self.now.at } }
     {
         let at = match self.at {
@@ -152,7 +153,7 @@ impl<'a> Standing<'a> {
     /// Whether the expansion of a call of the procedure of this number passes a limit here.
     pub fn passes(&self, spot: &Spot, number: usize) -> bool
         requires there { number < length self.now.procedures }
-        requires shallow { depth_at self.now.at ≤ MOST_DEPTH }
+        requires shallow { depth_at self.now.at ≤ most_depth }
         ensures { result ≡ by_place self.now.at (passes_by spot.now (depth_at self.now.at)
             (sums_at (sums self.now.procedures) (Some number))) false }
     {

@@ -3,9 +3,9 @@
 ghost use Rattle.std.specs.Prelude.{IsOkUnless, ◌≡◌, ◌≤◌, ◌<◌, ◌+◌, ◌++◌, ◌∷◌, [], true, false, IfOk, OnOk, Some};
 ghost use Rattle.std.specs.Prelude.{length, map, slice_get, slice_index_or};
 ghost use Rattle.sect_front.specs.Depth.{block_depth, procedures_depth, threads_depth};
-ghost use Rattle.sect_front.specs.declared.limits.TheConstants.{MOST_DEPTH};
-ghost use Rattle.sect_types.specs.declared.limits.TheConstants.{MOST_LOCALS, MOST_PROCEDURES, MOST_RECORDS};
-ghost use Rattle.sect_types.specs.declared.limits.TheConstants.{MOST_GLOBALS};
+ghost use Rattle.sect_front.specs.Limits.{most_depth};
+ghost use Rattle.sect_types.specs.Limits.{most_locals, most_procedures, most_records};
+ghost use Rattle.sect_types.specs.Limits.{most_globals};
 ghost use Rattle.sect_types.specs.Sight.{names_of_records, names_of_globals, names_of_declared, all_fields};
 ghost use Rattle.sect_types.specs.Items.{AProcedure, AThread, variables as variables_by, record_items, global_items};
 ghost use Rattle.sect_types.specs.Items.{local_items, block_items, procedure_items, thread_items};
@@ -17,19 +17,19 @@ ghost use Rattle.sect_types.specs.steps.Shown.{Shows};
 ghost use Rattle.sect_types.specs.Sound.{IsSound, AreSound};
 ghost use Rattle.sect_types.specs.declared.rule.TypeFault.TheVariants.{Memory};
 ghost use Rattle.sect_types.specs.Sections.{sections_of, AllNumbered, AllSited};
-ghost use Rattle.sect_types.specs.steps.Found.{section_shown};
+ghost use Rattle.sect_types.specs.Sections.{section_shown};
 ghost use Rattle.sect_types.specs.Expanded.{fresh_in};
 ghost use Rattle.sect_types.specs.LocalNames.{all_local_names};
 ghost use Rattle.sect_types.specs.First.{Judges, none_yet, IsTyped};
 ghost use Rattle.sect_types.specs.steps.Threads.{variables_shown, variables_fine, local_names as names_of_locals};
-ghost use Rattle.sect_types.specs.steps.Counted.{AreDeclared, IsCounted};
+ghost use Rattle.sect_types.specs.steps.Counted.{IsCounted};
 ghost use Rattle.sect_types.specs.Programs.{IsWellNumbered, IsWithinLimits, AreRecordsThere, IsOfTree, environment_at};
 ghost use Rattle.sect_types.specs.Programs.{numbered_by, sites_of, total_statements};
+ghost use Rattle.sect_types.specs.Limits.{most_sections, most_sites, most_statements, most_threads};
 
 use crate::called::Called;
-use crate::declare::{globals, known_records, locals, pass_procedure, pass_thread, records};
+use crate::declare::{Declared, globals, known_records, locals, pass, records};
 use crate::expand::{FreshLocals, Setting, expand};
-use crate::limits::{MOST_SECTIONS, MOST_SITES, MOST_STATEMENTS, MOST_THREADS};
 use crate::local_name::LocalName;
 use crate::locking::lockings;
 use crate::names::{NameSet, Names};
@@ -81,9 +81,9 @@ fn declarations(alloc: Global, tree: &Tree, spot: &mut Spot) -> Result<Shown, Fa
     ensures walks { Walks (declared_in tree.now)
         (λ w. record_items [] tree.now.records (global_items [] tree.now.globals w)) spot.old spot.new result }
     ensures shown { IfOk result (λ shown. Shows shown tree.now) }
-    ensures few_records { OnOk result (length tree.now.records ≤ MOST_RECORDS) }
+    ensures few_records { OnOk result (length tree.now.records ≤ most_records) }
     ensures fine_fields { OnOk result (fields_fine (names_of_records tree.now.records) tree.now.records ≡ true) }
-    ensures few_globals { OnOk result (length tree.now.globals ≤ MOST_GLOBALS) }
+    ensures few_globals { OnOk result (length tree.now.globals ≤ most_globals) }
     ensures known_globals { OnOk result (globals_known (names_of_records tree.now.records) tree.now.globals ≡ true) }
 {
     let known = known_records(alloc, tree)?;
@@ -110,7 +110,7 @@ fn walk_body(
     requires shown { Shows shown.now tree.now }
     requires procedures { standing.now.procedures ≡ tree.now.procedures }
     requires names { names.now ≡ names_of_declared list.now }
-    requires shallow { depth_at standing.now.at + block_depth body.now ≤ MOST_DEPTH }
+    requires shallow { depth_at standing.now.at + block_depth body.now ≤ most_depth }
     ensures { Walks (declared_in tree.now) (block_items list.now standing.now.at body.now)
         spot.old spot.new result }
 {
@@ -130,7 +130,7 @@ fn pass_variables(
     ensures walks { Walks (declared_in tree.now) (local_items [] (variables_by procedure.now))
         spot.old spot.new result }
     ensures shown { IfOk result (λ v. v ≡ variables_shown procedure.now) }
-    ensures few { OnOk result (length (variables_by procedure.now) ≤ MOST_LOCALS) }
+    ensures few { OnOk result (length (variables_by procedure.now) ≤ most_locals) }
     ensures known { OnOk result (all_known (names_of_records tree.now.records)
         (variables_by procedure.now) ≡ true) }
 {
@@ -161,7 +161,7 @@ fn walk_procedure(
     requires procedures { called.now ≡ tree.now.procedures }
     requires there { number < length tree.now.procedures }
     requires variables { variables.now ≡ variables_shown procedure.now }
-    requires shallow { block_depth procedure.now.body ≤ MOST_DEPTH }
+    requires shallow { block_depth procedure.now.body ≤ most_depth }
     ensures { Walks (declared_in tree.now) (block_items (variables_by procedure.now)
         (InProcedure number) procedure.now.body) spot.old spot.new result }
 {
@@ -193,19 +193,25 @@ fn pass_whole_procedure(
     requires shown { Shows shown.now tree.now }
     requires procedures { called.now ≡ tree.now.procedures }
     requires there { length names.old < length tree.now.procedures }
-    requires shallow { block_depth procedure.now.body ≤ MOST_DEPTH }
+    requires shallow { block_depth procedure.now.body ≤ most_depth }
     ensures walks { Walks (declared_in tree.now) (λ w. AProcedure procedure.now.name names.old
         ∷ local_items [] (variables_by procedure.now) (block_items (variables_by procedure.now)
         (InProcedure (length names.old)) procedure.now.body w)) spot.old spot.new result }
     ensures names { OnOk result (names.new ≡ names.old ++ procedure.now.name ∷ []) }
     ensures shown { OnOk result (all.new.items ≡ all.old.items ++ variables_shown procedure.now ∷ []) }
-    ensures few { OnOk result (length names.old < MOST_PROCEDURES) }
-    ensures few_variables { OnOk result (length (variables_by procedure.now) ≤ MOST_LOCALS) }
+    ensures few { OnOk result (length names.old < most_procedures) }
+    ensures few_variables { OnOk result (length (variables_by procedure.now) ≤ most_locals) }
     ensures known_variables { OnOk result (all_known (names_of_records tree.now.records)
         (variables_by procedure.now) ≡ true) }
 {
     let number = names.len();
-    pass_procedure(tree, names, spot, procedure)?;
+    pass(
+        tree,
+        &shown.known,
+        names,
+        spot,
+        Declared::Procedure(procedure.name),
+    )?;
     let variables = pass_variables(alloc, tree, shown, spot, procedure)?;
     walk_procedure(
         alloc, tree, shown, called, number, &variables, spot, procedure,
@@ -224,11 +230,11 @@ fn procedures(
 ) -> Result<Vec<Variables>, Fault>
     requires shown { Shows shown.now tree.now }
     requires procedures { called.now ≡ tree.now.procedures }
-    requires shallow { procedures_depth tree.now.procedures ≤ MOST_DEPTH }
+    requires shallow { procedures_depth tree.now.procedures ≤ most_depth }
     ensures walks { Walks (declared_in tree.now) (procedure_items 0 [] tree.now.procedures)
         spot.old spot.new result }
     ensures shown { IfOk result (λ all. all.items ≡ map variables_shown tree.now.procedures) }
-    ensures few { OnOk result (length tree.now.procedures ≤ MOST_PROCEDURES) }
+    ensures few { OnOk result (length tree.now.procedures ≤ most_procedures) }
     ensures fine { OnOk result (variables_fine (names_of_records tree.now.records)
         tree.now.procedures ≡ true) }
 {
@@ -255,18 +261,24 @@ fn whole_thread(
 ) -> Result<(), Fault>
     requires shown { Shows shown.now tree.now }
     requires standing { standing.now ≡ record { procedures = tree.now.procedures; at = InThread false 1 } }
-    requires shallow { block_depth thread.now.body + 1 ≤ MOST_DEPTH }
+    requires shallow { block_depth thread.now.body + 1 ≤ most_depth }
     ensures walks { Walks (declared_in tree.now) (λ w. AThread thread.now.name names.old
         ∷ local_items [] thread.now.locals (block_items thread.now.locals (InThread false 1)
         thread.now.body w)) spot.old spot.new result }
     ensures names { OnOk result (names.new ≡ names.old ++ thread.now.name ∷ []) }
     ensures locals { OnOk result (all.new.items ≡ all.old.items ++ names_of_declared thread.now.locals ∷ []) }
-    ensures few { OnOk result (length names.old < MOST_THREADS) }
-    ensures few_locals { OnOk result (length thread.now.locals ≤ MOST_LOCALS) }
+    ensures few { OnOk result (length names.old < most_threads) }
+    ensures few_locals { OnOk result (length thread.now.locals ≤ most_locals) }
     ensures known_locals { OnOk result (all_known (names_of_records tree.now.records)
         thread.now.locals ≡ true) }
 {
-    pass_thread(tree, names, spot, thread)?;
+    pass(
+        tree,
+        &shown.known,
+        names,
+        spot,
+        Declared::Thread(thread.name),
+    )?;
     let list = thread.locals.as_slice();
     let local_names = locals(alloc, tree, &shown.known, &shown.global_names, spot, list)?;
     walk_body(
@@ -292,11 +304,11 @@ fn threads(
 ) -> Result<Vec<Names>, Fault>
     requires shown { Shows shown.now tree.now }
     requires standing { standing.now ≡ record { procedures = tree.now.procedures; at = InThread false 1 } }
-    requires shallow { threads_depth tree.now.threads ≤ MOST_DEPTH }
+    requires shallow { threads_depth tree.now.threads ≤ most_depth }
     ensures walks { Walks (declared_in tree.now) (thread_items [] tree.now.threads)
         spot.old spot.new result }
     ensures locals { IfOk result (λ all. all.items ≡ names_of_locals tree.now.threads) }
-    ensures few { OnOk result (length tree.now.threads ≤ MOST_THREADS) }
+    ensures few { OnOk result (length tree.now.threads ≤ most_threads) }
     ensures fine { OnOk result (locals_fine (names_of_records tree.now.records) tree.now.threads
         ≡ true) }
 {
@@ -383,17 +395,17 @@ fn bodies(
 ) -> Result<(Vec<Variables>, Vec<Names>), Fault>
     requires shown { Shows shown.now tree.now }
     requires procedures { called.now ≡ tree.now.procedures }
-    requires shallow_procedures { procedures_depth tree.now.procedures ≤ MOST_DEPTH }
-    requires shallow_threads { threads_depth tree.now.threads ≤ MOST_DEPTH }
+    requires shallow_procedures { procedures_depth tree.now.procedures ≤ most_depth }
+    requires shallow_threads { threads_depth tree.now.threads ≤ most_depth }
     ensures walks { Walks (declared_in tree.now)
         (λ w. procedure_items 0 [] tree.now.procedures (thread_items [] tree.now.threads w))
         spot.old spot.new result }
     ensures variables { IfOk result (λ r. r.0.items ≡ map variables_shown tree.now.procedures) }
     ensures locals { IfOk result (λ r. r.1.items ≡ names_of_locals tree.now.threads) }
-    ensures few_procedures { OnOk result (length tree.now.procedures ≤ MOST_PROCEDURES) }
+    ensures few_procedures { OnOk result (length tree.now.procedures ≤ most_procedures) }
     ensures fine_variables { OnOk result (variables_fine (names_of_records tree.now.records)
         tree.now.procedures ≡ true) }
-    ensures few_threads { OnOk result (length tree.now.threads ≤ MOST_THREADS) }
+    ensures few_threads { OnOk result (length tree.now.threads ≤ most_threads) }
     ensures fine_locals { OnOk result (locals_fine (names_of_records tree.now.records) tree.now.threads
         ≡ true) }
 {
@@ -402,63 +414,6 @@ fn bodies(
     let standing = Standing::in_thread(called, table.as_slice());
     let local_names = threads(alloc, tree, shown, &standing, spot)?;
     Ok((variables, local_names))
-}
-
-/// Judges the procedures and threads of a tree whose declarations have been judged, and numbers its names.
-fn rest_of_tree(
-    alloc: Global,
-    tree: &Tree,
-    shown: &Shown,
-    called: &Called<'_>,
-    spot: &mut Spot,
-) -> Result<Parts, Fault>
-    requires shown { Shows shown.now tree.now }
-    requires procedures { called.now ≡ tree.now.procedures }
-    requires shallow_procedures { procedures_depth tree.now.procedures ≤ MOST_DEPTH }
-    requires shallow_threads { threads_depth tree.now.threads ≤ MOST_DEPTH }
-    requires declared { AreDeclared tree.now spot.old }
-    ensures walks { Walks (declared_in tree.now)
-        (λ w. procedure_items 0 [] tree.now.procedures (thread_items [] tree.now.threads w))
-        spot.old spot.new result }
-    ensures numbers { IfOk result (λ p. IsWellNumbered (numbered_by tree.now
-        p.records.items p.globals.items p.locals.items p.texts.items p.lockings.items)
-        p.section_count p.site_count p.statement_count) }
-    ensures fresh { IfOk result (λ p. p.fresh.items ≡ map (fresh_in tree.now) tree.now.threads) }
-{
-    let (variables, local_names) = bodies(alloc, tree, shown, called, spot)?;
-    Ok(number_tree(
-        alloc,
-        tree,
-        shown,
-        called,
-        variables.as_slice(),
-        local_names.as_slice(),
-        spot,
-    )?)
-}
-
-/// Judges all items of a tree with these procedures and numbers its names.
-fn judge_items(
-    alloc: Global,
-    tree: &Tree,
-    called: &Called<'_>,
-    spot: &mut Spot,
-) -> Result<Parts, Fault>
-    requires start { spot.old ≡ none_yet }
-    requires procedures { called.now ≡ tree.now.procedures }
-    requires shallow_procedures { procedures_depth tree.now.procedures ≤ MOST_DEPTH }
-    requires shallow_threads { threads_depth tree.now.threads ≤ MOST_DEPTH }
-    ensures walks { Walks (declared_in tree.now)
-        (λ w. record_items [] tree.now.records (global_items [] tree.now.globals
-        (procedure_items 0 [] tree.now.procedures (thread_items [] tree.now.threads w))))
-        spot.old spot.new result }
-    ensures parts { IfOk result (λ p. IsWellNumbered (numbered_by tree.now
-        p.records.items p.globals.items p.locals.items p.texts.items p.lockings.items)
-        p.section_count p.site_count p.statement_count) }
-    ensures fresh { IfOk result (λ p. p.fresh.items ≡ map (fresh_in tree.now) tree.now.threads) }
-{
-    let shown = declarations(alloc, tree, spot)?;
-    rest_of_tree(alloc, tree, &shown, called, spot)
 }
 
 /// Judges all items of a tree and numbers its names.
@@ -475,7 +430,18 @@ fn judge_tree(alloc: Global, tree: &Tree, spot: &mut Spot) -> Result<Parts, Faul
 {
     let _ = tree.is_empty();
     let called = Called::new(alloc, tree.procedures())?;
-    judge_items(alloc, tree, &called, spot)
+    let shown = declarations(alloc, tree, spot)?;
+    let (variables, local_names) = bodies(alloc, tree, &shown, &called, spot)?;
+    let parts = number_tree(
+        alloc,
+        tree,
+        &shown,
+        &called,
+        variables.as_slice(),
+        local_names.as_slice(),
+        spot,
+    )?;
+    Ok(parts)
 }
 
 /// A typed program: a tree whose items break no rule, with its declarations and its statements by number. Records,
@@ -614,7 +580,7 @@ impl Program {
     /// How many threads there are, at most 64.
     pub fn thread_count(&self) -> u16
         ensures count { result ≡ length self.now.texts }
-        ensures few { result ≤ MOST_THREADS }
+        ensures few { result ≤ most_threads }
     {
         self.texts.len() as u16
     }
@@ -631,7 +597,7 @@ impl Program {
     /// How many sections there are, at most 256.
     pub fn section_count(&self) -> u16
         ensures count { result ≡ length (sections_of self.now.texts) }
-        ensures few { result ≤ MOST_SECTIONS }
+        ensures few { result ≤ most_sections }
     {
         self.section_count
     }
@@ -657,7 +623,7 @@ impl Program {
     /// How many sites there are, at most 1024.
     pub fn site_count(&self) -> u16
         ensures count { result ≡ length (sites_of self.now.globals self.now.texts) }
-        ensures few { result ≤ MOST_SITES }
+        ensures few { result ≤ most_sites }
     {
         self.site_count
     }
@@ -665,7 +631,7 @@ impl Program {
     /// How many statements there are, at most 4096; an `if`, a `while` and a section count too.
     pub fn statement_count(&self) -> u32
         ensures count { result ≡ total_statements self.now.texts }
-        ensures few { result ≤ MOST_STATEMENTS }
+        ensures few { result ≤ most_statements }
     {
         self.statement_count
     }

@@ -30,7 +30,7 @@ pub enum Rule {
 pub enum Fault {
     Memory,
     /// The item of this number, and the least rule that it breaks.
-    Broken(u32, Rule),
+    Broken(u64, Rule),
 }
 
 /// Why a tree has no program. An item is a record, a field, a global, a procedure, a thread, a parameter, a local or a
@@ -42,28 +42,28 @@ pub enum TypeFault {
     Memory,
     /// The item uses a name that nothing has.
     #[error("10 Unknown item {item}")]
-    Unknown { item: u32 },
+    Unknown { item: u64 },
     /// An earlier declaration has the item's name.
     #[error("11 Twice item {item}")]
-    Twice { item: u32 },
+    Twice { item: u64 },
     /// All names in the item are known, and their types don't agree.
     #[error("12 WrongType item {item}")]
-    WrongType { item: u32 },
+    WrongType { item: u64 },
     /// The item is a load, a store, a `new`, a `print` or a `call` and stands outside `atomic` and outside `proc`.
     #[error("13 SharedOutside item {item}")]
-    SharedOutside { item: u32 },
+    SharedOutside { item: u64 },
     /// The item is an `atomic` inside `atomic` or `proc`.
     #[error("14 Nested item {item}")]
-    Nested { item: u32 },
+    Nested { item: u64 },
     /// The item is the first of its kind past a limit, or a call whose expansion passes one.
     #[error("15 TooMany item {item}")]
-    TooMany { item: u32 },
+    TooMany { item: u64 },
     /// The item is a call in a procedure of one that is it or reaches it by calls.
     #[error("16 Recursion item {item}")]
-    Recursion { item: u32 },
+    Recursion { item: u64 },
     /// The item is a call with another number of arguments than the procedure has parameters.
     #[error("17 Arguments item {item}")]
-    Arguments { item: u32 },
+    Arguments { item: u64 },
 }
 
 impl From<AllocError> for Fault {

@@ -7,7 +7,7 @@ ghost use Rattle.sect_types.specs.Resolve.{looked_of, primitive_of, test_of};
 ghost use Rattle.sect_types.specs.Numbered.{action_in, condition_in};
 ghost use Rattle.sect_types.specs.Expanded.{argument_in, moved_action as moved_action_by};
 ghost use Rattle.sect_types.specs.Expanded.{moved_condition as moved_condition_by};
-ghost use Rattle.sect_types.specs.declared.limits.TheConstants.{MOST_ALL_LOCALS};
+ghost use Rattle.sect_types.specs.Limits.{most_all_locals};
 ghost use Rattle.sect_types.specs.steps.Walks.{rule_in};
 ghost use Rattle.sect_types.specs.Rules.{knows_operands, kind_accepts, all_accept};
 
@@ -222,7 +222,7 @@ impl<'a> Scope<'a> {
 
     /// The argument of a call by numbers, where the variables have the numbers from `first` on.
     pub fn argument(&self, first: u16, operand: &Operand) -> Value
-        requires { first + length self.now.locals ≤ MOST_ALL_LOCALS }
+        requires { first + length self.now.locals ≤ most_all_locals }
         ensures { result ≡ argument_in first (operand_of self.now operand.now) }
     {
         match self.operand(operand) {
@@ -233,7 +233,7 @@ impl<'a> Scope<'a> {
 
     /// A statement without a block by numbers, where the variables have the numbers from `first` on.
     pub fn action(&self, first: u16, site: u16, primitive: &Primitive) -> Action
-        requires { first + length self.now.locals ≤ MOST_ALL_LOCALS }
+        requires { first + length self.now.locals ≤ most_all_locals }
         ensures { result ≡ moved_action_by first (action_in (primitive_of self.now site primitive.now)) }
     {
         match self.primitive(site, primitive) {
@@ -244,7 +244,7 @@ impl<'a> Scope<'a> {
 
     /// A test by numbers, where the variables have the numbers from `first` on.
     pub fn condition(&self, first: u16, test: &Test) -> Condition
-        requires { first + length self.now.locals ≤ MOST_ALL_LOCALS }
+        requires { first + length self.now.locals ≤ most_all_locals }
         ensures { result ≡ moved_condition_by first (condition_in (test_of self.now test.now)) }
     {
         match self.test(test) {

@@ -1,6 +1,6 @@
 //! Sections.
 
-ghost use Rattle.sect_types.specs.declared.limits.TheConstants.{MOST_THREADS};
+ghost use Rattle.sect_types.specs.Limits.{most_threads};
 ghost use Rattle.std.specs.Prelude.{◌≡◌, ◌≤◌, length};
 ghost use Rattle.sect_types.specs.Sections.{section_from};
 ghost use Rattle.sect_types.specs.steps.Found.{section_in};
@@ -16,7 +16,7 @@ pub struct Section<'a> {
 
 /// The section of this number in the texts of the threads.
 pub(crate) fn find<'a>(texts: &'a [Text], number: u16) -> Option<Section<'a>>
-    requires { length texts.now ≤ MOST_THREADS }
+    requires { length texts.now ≤ most_threads }
     ensures { section_in result ≡ section_from number 0 texts.now }
 {
     let mut thread = 0;

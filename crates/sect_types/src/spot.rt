@@ -5,6 +5,8 @@ ghost use Rattle.sect_types.specs.Items.{PrimitiveHead, TestHead, AtomicHead};
 ghost use Rattle.sect_types.specs.Rules.{passes_by, after_item, after_primitive, plus_sums};
 ghost use Rattle.sect_types.specs.steps.Spots.{full_for, full_for_section};
 ghost use Rattle.sect_types.specs.steps.Capped.{IsSmall};
+ghost use Rattle.sect_front.specs.Limits.{most_depth};
+ghost use Rattle.sect_types.specs.Limits.{most_sections, most_sites, most_statements};
 
 use crate::limits::{MOST_CALLS, MOST_ITEMS, MOST_SECTIONS, MOST_SITES, MOST_STATEMENTS};
 use crate::sums::Sums;
@@ -19,7 +21,7 @@ pub struct Uncounted;
 /// calls.
 #[derive(Drop)]
 pub struct Spot {
-    items: u32,
+    items: u64,
     statements: u32,
     sites: u16,
     sections: u16,
@@ -27,7 +29,8 @@ pub struct Spot {
 }
 
 impl Model for Spot {
-    ghost use Rattle.sect_types.specs.Rules.{Counts, IsWithin};
+    ghost use Rattle.sect_types.specs.Rules.{Counts};
+    ghost use Rattle.sect_types.specs.steps.Judging.{IsWithin};
 
     ghost Value = { Counts };
 
@@ -57,7 +60,7 @@ impl Spot {
     }
 
     /// The number of the next item.
-    pub fn item(&self) -> u32
+    pub fn item(&self) -> u64
         ensures { result ≡ self.now.items }
     {
         self.items
@@ -66,7 +69,7 @@ impl Spot {
     /// How many statements stand before.
     pub fn statements(&self) -> u32
         ensures count { result ≡ self.now.statements }
-        ensures few { result ≤ MOST_STATEMENTS }
+        ensures few { result ≤ most_statements }
     {
         self.statements
     }
@@ -74,7 +77,7 @@ impl Spot {
     /// How many sites stand before.
     pub fn sites(&self) -> u16
         ensures count { result ≡ self.now.sites }
-        ensures few { result ≤ MOST_SITES }
+        ensures few { result ≤ most_sites }
     {
         self.sites
     }
@@ -82,7 +85,7 @@ impl Spot {
     /// How many sections stand before.
     pub fn sections(&self) -> u16
         ensures count { result ≡ self.now.sections }
-        ensures few { result ≤ MOST_SECTIONS }
+        ensures few { result ≤ most_sections }
     {
         self.sections
     }
@@ -99,7 +102,7 @@ impl Spot {
 
     /// Whether an `if` or a `while` passes a limit here.
     pub fn is_full(&self) -> bool
-        ensures { result ≡ nat_le MOST_STATEMENTS self.now.statements }
+        ensures { result ≡ nat_le most_statements self.now.statements }
     {
         self.statements >= MOST_STATEMENTS
     }
@@ -114,7 +117,7 @@ impl Spot {
     /// Whether an expansion that comes to this passes a limit here, in a block of this depth.
     pub fn passes(&self, sums: Sums, depth: usize) -> bool
         requires small { IsSmall sums }
-        requires shallow { depth ≤ MOST_DEPTH }
+        requires shallow { depth ≤ most_depth }
         ensures { result ≡ passes_by self.now depth sums }
     {
         self.statements + u32::from(sums.statements) > MOST_STATEMENTS
@@ -137,7 +140,7 @@ impl Spot {
 
     /// Passes a global, which is a site too.
     pub fn pass_global(&mut self) -> Result<(), Uncounted>
-        requires { self.old.sites < MOST_SITES }
+        requires { self.old.sites < most_sites }
         ensures counted { OnOk result (self.new
             ≡ record self.old { items = self.old.items + 1; sites = self.old.sites + 1 }) }
         ensures uncounted { OnErr result (self.old.items ≡ MOST_ITEMS) }
@@ -163,7 +166,7 @@ impl Spot {
 
     /// Passes an `if` or a `while`.
     pub fn pass_test(&mut self) -> Result<(), Uncounted>
-        requires { nat_le MOST_STATEMENTS self.old.statements ≡ false }
+        requires { nat_le most_statements self.old.statements ≡ false }
         ensures counted { OnOk result (self.new
             ≡ record self.old { items = self.old.items + 1; statements = self.old.statements + 1 }) }
         ensures uncounted { OnErr result (self.old.items ≡ MOST_ITEMS) }

@@ -10,9 +10,10 @@ ghost use Rattle.sect_types.specs.Sums.{sums};
 ghost use Rattle.sect_types.specs.steps.Capped.{capped, IsSmall, AreSmall, HaveFewVariables};
 ghost use Rattle.sect_types.specs.steps.Summaries.{deeper as deeper_by, summary_sums as summary_sums_by};
 ghost use Rattle.sect_types.specs.steps.Summaries.{HasMore, IsSummary, AreSummaries};
+ghost use Rattle.sect_types.specs.Limits.{most_locals};
 
 use crate::called::Called;
-use crate::limits::{MOST_CALLS, MOST_LOCALS, MOST_SITES, MOST_STATEMENTS};
+use crate::limits::{MOST_CALLS, MOST_SITES, MOST_STATEMENTS};
 use sect_front::{Block, MOST_DEPTH, Primitive, Procedure, Statement};
 use std::alloc::{AllocError, Global};
 
@@ -209,7 +210,7 @@ fn add_block(
 
 /// What a call of the procedure comes to but for its body: an assignment for each parameter and local.
 fn outer_sums(procedure: &Procedure) -> Sums
-    requires { length procedure.now.parameters + length procedure.now.locals ≤ MOST_LOCALS }
+    requires { length procedure.now.parameters + length procedure.now.locals ≤ most_locals }
     ensures sums { result
         ≡ call_sums (length procedure.now.parameters + length procedure.now.locals) nothing_by }
     ensures small { IsSmall result }
@@ -230,7 +231,7 @@ fn summary_of(
     called: &Called<'_>,
     procedure: &Procedure,
 ) -> Result<Summary, AllocError>
-    requires { length procedure.now.parameters + length procedure.now.locals ≤ MOST_LOCALS }
+    requires { length procedure.now.parameters + length procedure.now.locals ≤ most_locals }
     ensures { IfOk result (IsSummary called.now procedure.now) }
 {
     let mut summary = Summary {

@@ -2,17 +2,18 @@
 
 ghost use Rattle.std.specs.Prelude.{◌≡◌, ◌∷◌, ◌+◌, ◌≤◌, ◌&&◌, IfOk, Some, false, not, nat_le};
 ghost use Rattle.sect_types.specs.Sums.{number_of};
-ghost use Rattle.sect_types.specs.declared.limits.TheConstants.{MOST_STATEMENTS};
+ghost use Rattle.sect_types.specs.Limits.{most_statements};
 ghost use Rattle.sect_types.specs.Items.{PrimitiveHead, TestHead, AtomicHead, CallHead, AStatement, is_inside};
 ghost use Rattle.sect_types.specs.Items.{statement_items, block_items};
-ghost use Rattle.sect_types.specs.Rules.{rule_of, shares, by_place, depth_at};
+ghost use Rattle.sect_types.specs.Rules.{shares, by_place, depth_at};
+ghost use Rattle.sect_types.specs.steps.Judging.{rule_of};
 ghost use Rattle.sect_types.specs.steps.Spots.{full_for, full_for_section};
 ghost use Rattle.sect_types.specs.steps.Walks.{Walks, rule_in, then_rest};
 ghost use Rattle.sect_types.specs.steps.Standing.{declared_by};
 ghost use Rattle.sect_types.specs.Resolve.{primitive_of, test_of};
 ghost use Rattle.sect_front.specs.Depth.{statement_depth, block_depth};
 ghost use Rattle.sect_front.specs.Trees.{statement_of};
-ghost use Rattle.sect_front.specs.declared.limits.TheConstants.{MOST_DEPTH};
+ghost use Rattle.sect_front.specs.Limits.{most_depth};
 
 use crate::place::Standing;
 use crate::rule::{Fault, Rule};
@@ -62,7 +63,7 @@ fn judge_test(
     test: &Test,
 ) -> Result<(), Rule>
     ensures rule { rule_in result ≡ then_rest (rule_in (test_of scope.now test.now)) false
-        (by_place standing.now.at (nat_le MOST_STATEMENTS spot.now.statements) false) }
+        (by_place standing.now.at (nat_le most_statements spot.now.statements) false) }
 {
     scope.judge_test(test)?;
     if standing.is_in_thread() && spot.is_full() {
@@ -93,7 +94,7 @@ fn judge_call(
     name: &Name,
     operands: &[Operand],
 ) -> Result<usize, Rule>
-    requires { depth_at standing.now.at ≤ MOST_DEPTH }
+    requires { depth_at standing.now.at ≤ most_depth }
     ensures rule { rule_in result ≡ rule_of (declared_by scope.now standing.now.procedures)
         spot.now (AStatement (CallHead name.now operands.now) scope.now.locals standing.now.at) }
     ensures number { IfOk result (λ n. number_of standing.now.procedures name.now ≡ Some n) }
@@ -189,7 +190,7 @@ fn pass_call(
     name: &Name,
     operands: &[Operand],
 ) -> Result<(), Fault>
-    requires { depth_at standing.now.at ≤ MOST_DEPTH }
+    requires { depth_at standing.now.at ≤ most_depth }
     ensures { Walks (declared_by scope.now standing.now.procedures)
         (λ w. AStatement (CallHead name.now operands.now) scope.now.locals standing.now.at ∷ w)
         spot.old spot.new result }
@@ -211,7 +212,7 @@ fn walk_statement(
     standing: &Standing<'_>,
     statement: &Statement,
 ) -> Result<(), Fault>
-    requires { depth_at standing.now.at + statement_depth (statement_of statement.now) ≤ MOST_DEPTH }
+    requires { depth_at standing.now.at + statement_depth (statement_of statement.now) ≤ most_depth }
     ensures { Walks (declared_by scope.now standing.now.procedures)
         (statement_items scope.now.locals standing.now.at (statement_of statement.now))
         spot.old spot.new result }
@@ -249,7 +250,7 @@ pub fn walk_block(
     standing: &Standing<'_>,
     block: &Block,
 ) -> Result<(), Fault>
-    requires { depth_at standing.now.at + block_depth block.now ≤ MOST_DEPTH }
+    requires { depth_at standing.now.at + block_depth block.now ≤ most_depth }
     ensures { Walks (declared_by scope.now standing.now.procedures)
         (block_items scope.now.locals standing.now.at block.now) spot.old spot.new result }
 {

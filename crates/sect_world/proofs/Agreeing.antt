@@ -1,12 +1,12 @@
 -- What a table that fits says of the state, and what its calls keep.
-use Rattle.std.proofs.Common.{◌≡◌, ◌≢◌, inl, inr, ℕ, zero, suc, ◌<◌, List, [], ◌∷◌, ◌++◌, length, map, true, false, not}
-use Rattle.std.proofs.Common.{Some, None, refl, sym, ◌∙◌, ap, subst, arith, append_assoc}
+use Rattle.std.proofs.Common.{◌≡◌, ◌≢◌, inl, inr, ℕ, zero, suc, ◌<◌, List, [], ◌∷◌, ◌++◌, length, map, true, false}
+use Rattle.std.proofs.Common.{not, Some, None, refl, sym, ◌∙◌, ap, subst, arith, append_assoc}
 use Rattle.std.specs.Prelude.{ℤ, slice_get, slice_index_or, slice_set, is_some, ◌==◌, ◌||◌}
 use Rattle.std.specs.List.{list_any}
-use Rattle.std.proofs.lemmas.Bool.{eqb-true, eq-eqb}
+use Rattle.std.proofs.lemmas.Bool.{eqb-true, eq-eqb, and_parts, cases_Bool}
 use Rattle.std.proofs.lemmas.List.{append-nil}
-use Rattle.sect_types.specs.Lists.{Has}
-use Rattle.sect_types.proofs.Membership.{Has-cases, Has-right}
+use Rattle.sect_lemmas.specs.Lists.{Has, put_at}
+use Rattle.sect_lemmas.proofs.Membership.{Has-cases, Has-right}
 use Rattle.sect_modes.specs.declared.mode.Mode.{Mode}
 use Rattle.sect_modes.specs.declared.key.Key.{Key}
 use Rattle.sect_modes.specs.Key.{is_same_key}
@@ -20,32 +20,33 @@ use Rattle.sect_table.specs.Contents.{let_through, without_holder, grant_of, giv
 use Rattle.sect_table.specs.Contents.{released, AreApart}
 use Rattle.sect_table.specs.Answers.{IsAnswered}
 use Rattle.sect_table.specs.Sound.{waits_of, AreEntriesApart, IsKept, IsFirstBlocked}
-use Rattle.sect_table.proofs.Shown.{cases_of, same_key, key_itself, entry_of-here, entry_of-later}
-use Rattle.sect_table.proofs.Entries.{entry_key, entry-new, entry_of-put, entry_of-put_other}
-use Rattle.sect_table.proofs.Claiming.{and_true, apart_left, mode_for-here, mode_for-later, mode_for-missing}
-use Rattle.sect_table.proofs.Claiming.{mode_for-stay_other, missing_stay, missing-claims_by}
-use Rattle.sect_table.proofs.Sounding.{waits_at-le, waits_for_none}
-use Rattle.sect_types.specs.Store.{StoreView, put_at}
+use Rattle.sect_table.proofs.shared.Shown.{same_key, key_itself, entry_of-here, entry_of-later}
+use Rattle.sect_table.proofs.shared.Entries.{entry_key, entry-new, entry_of-put, entry_of-put_other}
+use Rattle.sect_table.proofs.shared.Claiming.{apart_left, mode_for-here, mode_for-later, mode_for-missing}
+use Rattle.sect_table.proofs.shared.Claiming.{mode_for-stay_other, missing_stay, missing-claims_by}
+use Rattle.sect_table.proofs.shared.Sounding.{waits_at-le, waits_for_none}
+use Rattle.sect_types.specs.Store.{StoreView}
 use Rattle.sect_emit.specs.Plan.{held_mode}
 use Rattle.sect_emit.specs.Compiled.{CompiledView}
 use Rattle.sect_emit.specs.State.{Entered, ThreadState, State, IsThread}
 use Rattle.sect_world.specs.Events.{Happens}
 use Rattle.sect_world.specs.Runs.{RunsTo}
 use Rattle.sect_world.specs.Blocked.{WantsFirst, IsBlocked}
-use Rattle.sect_types.proofs.Basics.{some_injective, none_or_some}
-use Rattle.sect_types.proofs.Replaced.{at-put_at}
-use Rattle.sect_world.specs.steps.Fits.{grips, Asks, AllWaitersAsk, Fits, FitsBut, granted, all_granted, take_of, takes}
-use Rattle.sect_world.specs.steps.Fits.{given_to, grants_at, grants_of, entries_left, takes_first}
+use Rattle.sect_lemmas.proofs.Options.{some_injective, none_or_some}
+use Rattle.sect_lemmas.proofs.Replaced.{at-put_at}
+use Rattle.sect_world.specs.Waiting.{grips, Asks, AllWaitersAsk}
+use Rattle.sect_world.specs.steps.Fits.{Fits, FitsBut, granted, all_granted, take_of}
+use Rattle.sect_world.specs.steps.Fits.{takes, given_to, grants_at, grants_of, entries_left, takes_first}
 use Rattle.sect_world.proofs.Claims.{held-grips, in_the_way, not_claiming, get-changed_other}
 use Rattle.sect_world.proofs.Letting.{take_happens, keys_let_in}
 
 off_of : (a b : ℕ) → a ≢ b → (a == b) ≡ false
-off_of a b ne = elim (cases_of (a == b)) [ inl e ↦ absurd (ne (eqb-true a b e)) | inr e ↦ e ]
+off_of a b ne = elim (cases_Bool (a == b)) [ inl e ↦ absurd (ne (eqb-true a b e)) | inr e ↦ e ]
 
 -- who is among claims has one of them
 among_has : (t : ℕ) (cs : List Claim) → is_among t cs ≡ true → (c : Claim) × Has cs c × (c.thread ≡ t)
 among_has t [] e = absurd (let off : false ≡ true = e in cc)
-among_has t (c ∷ cs) e = elim (cases_of (c.thread == t)) [
+among_has t (c ∷ cs) e = elim (cases_Bool (c.thread == t)) [
   | inl here ↦ (c, inl refl, eqb-true c.thread t here)
   | inr later ↦ let r = among_has t cs (sym (ap (λ b. b || is_among t cs) later) ∙ e) in (r.0, inr r.1, r.2)
 ]
@@ -59,7 +60,7 @@ record Waiting (t : ℕ) (es : List Entry) : Type 0 where
 
 found : (t : ℕ) (es : List Entry) → AreEntriesApart es → list_any (λ e. is_among t e.waiters) es ≡ true → Waiting t es
 found t [] a e = absurd (let off : false ≡ true = e in cc)
-found t (f ∷ fs) a e = elim (cases_of (is_among t f.waiters)) [
+found t (f ∷ fs) a e = elim (cases_Bool (is_among t f.waiters)) [
   | inl here ↦
       let c = among_has t f.waiters here in
       record {
@@ -71,7 +72,7 @@ found t (f ∷ fs) a e = elim (cases_of (is_among t f.waiters)) [
       }
   | inr later ↦
       let r = found t fs a.1 (sym (ap (λ b. b || list_any (λ e. is_among t e.waiters) fs) later) ∙ e) in
-      let other : is_same_key r.key f.key ≡ false = elim (cases_of (is_same_key r.key f.key)) [
+      let other : is_same_key r.key f.key ≡ false = elim (cases_Bool (is_same_key r.key f.key)) [
         | inl same ↦ absurd (subst (λ (z : Entry). Has z.waiters r.claim)
             (ap (λ z. entry_of z fs) (same_key r.key f.key same) ∙ entry-new f.key fs a.0) r.there)
         | inr e ↦ e
@@ -189,7 +190,7 @@ queued_is_blocked c c' s t th k m kept f at a =
 -- a thread that doesn't ask doesn't wait
 pub no_waiter : (c : Contents) (s : State) (t : ℕ) (th : ThreadState) → IsKept c → Fits c s → IsThread s t th
     → ((k : Key) (m : Mode) → th.position ≡ Entered → WantsFirst th k m → ⊥) → is_waiting t c ≡ false
-no_waiter c s t th kept f at none = elim (cases_of (is_waiting t c)) [
+no_waiter c s t th kept f at none = elim (cases_Bool (is_waiting t c)) [
   | inl e ↦
       let a = waiter_asks c s t kept f e in
       let same : a.2.0 ≡ th = some_injective a.2.0 th (sym a.2.1 ∙ at) in
@@ -228,7 +229,7 @@ others_ask t es s s' none keeps all k w h =
 
 pub put_asks : (k : Key) (e : Entry) (es : List Entry) (s : State) → e.key ≡ k → AllWaitersAsk s es
     → ((w : Claim) → Has e.waiters w → Asks s w.thread k w.mode) → AllWaitersAsk s (put e es)
-put_asks k e es s key all own q w h = elim (cases_of (is_same_key q e.key)) [
+put_asks k e es s key all own q w h = elim (cases_Bool (is_same_key q e.key)) [
   | inl same ↦
       let is : q ≡ e.key = same_key q e.key same in
       let at : entry_of q (put e es) ≡ e = ap (λ z. entry_of z (put e es)) is ∙ entry_of-put e es in
@@ -241,7 +242,7 @@ pub granted_happens : (p : CompiledView) (c c' : Contents) (s : State) (g : Gran
     → Asks s g.thread g.key g.mode → IsAnswered Granted g.thread g.key g.mode c c'
     → Happens p s (take_of g) (granted g s)
 granted_happens p c c' s g kept f asks a =
-    let both = and_true (not (is_some (first_of (entry_of g.key c.entries).waiters)))
+    let both = and_parts (not (is_some (first_of (entry_of g.key c.entries).waiters)))
     (may_join (entry_of g.key c.entries).holders g.thread g.mode) a.0 in
     take_happens p s g (entry_of g.key c.entries).holders asks (λ u th at ne. table_tells c s kept f u th at g.key)
     both.1

@@ -10,9 +10,9 @@ use Rattle.sect_types.specs.Meaning.{Change, Unchanged, Written, Added, after_ch
 use Rattle.sect_emit.specs.Compiled.{CompiledView}
 use Rattle.sect_world.specs.Held.{may_write, may_make, Access, Storing, Making, may}
 use Rattle.sect_world.specs.Accesses.{Asks}
-use Rattle.sect_types.proofs.Replaced.{mapped}
-use Rattle.sect_types.proofs.Stores.{object_at-write, object_at-add, same_name-true}
-use Rattle.sect_emit.proofs.Pointing.{none_made}
+use Rattle.sect_lemmas.proofs.Options.{mapped}
+use Rattle.sect_types.proofs.shared.Stores.{object_at-write, object_at-add, same_name-true}
+use Rattle.sect_emit.proofs.shared.Pointing.{none_made}
 use Rattle.sect_emit.specs.Pointed.{ObjectsStay}
 
 -- the change by thread t writes no object of this name and adds none

@@ -3,8 +3,8 @@ use Rattle.std.proofs.Common.{◌≡◌, ◌≢◌, ◌⊎◌, inl, inr, ℕ, ze
 use Rattle.std.proofs.Common.{Option, Some, None, refl, sym, ◌∙◌, ap, subst, arith}
 use Rattle.std.specs.Prelude.{slice_get, ◌==◌, ◌||◌, ◌&&◌, if◌then◌else◌}
 use Rattle.std.specs.List.{list_all}
-use Rattle.std.proofs.lemmas.Bool.{eqb-true, eq-eqb}
-use Rattle.sect_types.specs.Lists.{Has}
+use Rattle.std.proofs.lemmas.Bool.{eqb-true, eq-eqb, and_parts, cases_Bool}
+use Rattle.sect_lemmas.specs.Lists.{Has, changed_at}
 use Rattle.sect_modes.specs.declared.mode.Mode.{Mode}
 use Rattle.sect_modes.specs.declared.key.Key.{Key}
 use Rattle.sect_modes.specs.Key.{is_same_key}
@@ -12,20 +12,21 @@ use Rattle.sect_modes.specs.Mode.{are_compatible}
 use Rattle.sect_table.specs.declared.claims.Claim.{Claim}
 use Rattle.sect_table.specs.declared.claims.Hold.{Hold}
 use Rattle.sect_table.specs.Contents.{mode_in, mode_for, may_join, is_among, stay}
-use Rattle.sect_table.proofs.Shown.{cases_of, key_itself, same_key as key_of_test}
-use Rattle.sect_table.proofs.Claiming.{or_false, and_true, true_or_false, mode_in-here, mode_in-later, mode_for-here}
-use Rattle.sect_table.proofs.Claiming.{mode_for-later}
+use Rattle.sect_table.proofs.shared.Shown.{key_itself, same_key as key_of_test}
+use Rattle.sect_table.proofs.shared.Claiming.{true_or_false, mode_in-here, mode_in-later, mode_for-here}
+use Rattle.sect_table.proofs.shared.Claiming.{mode_for-later}
 use Rattle.sect_emit.specs.declared.plan.Grip.{Grip}
-use Rattle.sect_types.specs.Store.{changed_at, same_number}
+use Rattle.sect_lemmas.specs.Numbers.{same_number}
 use Rattle.sect_emit.specs.Plan.{grip, held_mode}
 use Rattle.sect_world.specs.Events.{all_but, lets}
-use Rattle.sect_types.proofs.Basics.{some_injective, none_or_some}
-use Rattle.sect_types.proofs.Replaced.{get-changed_at, mapped, same_number-true, same_number-refl}
-use Rattle.sect_world.specs.steps.Fits.{grips}
+use Rattle.sect_lemmas.proofs.Options.{some_injective, none_or_some, mapped}
+use Rattle.sect_lemmas.proofs.Replaced.{get-changed_at, same_number-true, same_number-refl}
+use Rattle.sect_world.specs.Waiting.{grips}
+use Rattle.sect_lemmas.proofs.Booleans.{neither}
 
 -- keys, the other way
 pub other_key : (a b : Key) → is_same_key a b ≡ false → is_same_key b a ≡ false
-other_key a b e = elim (cases_of (is_same_key b a)) [
+other_key a b e = elim (cases_Bool (is_same_key b a)) [
   | inl same ↦ absurd (true_or_false (is_same_key a b)
       (subst (λ z. is_same_key a z ≡ true) (sym (key_of_test b a same)) (key_itself a)) e)
   | inr other ↦ other
@@ -44,7 +45,7 @@ held-later k g gs e = ap (λ b. if b then Some g.mode else held_mode k gs) e
 
 pub held-grips : (k : Key) (hs : List Hold) → held_mode k (grips hs) ≡ mode_in k hs
 held-grips k [] = refl
-held-grips k (h ∷ hs) = elim (cases_of (is_same_key k h.key)) [
+held-grips k (h ∷ hs) = elim (cases_Bool (is_same_key k h.key)) [
   | inl here ↦ held-here k (grip h.key h.mode) (grips hs) here ∙ sym (mode_in-here k h hs (this_key k h.key here))
   | inr later ↦ held-later k (grip h.key h.mode) (grips hs) later
       ∙ (held-grips k hs ∙ sym (mode_in-later k h hs (other_key k h.key later)))
@@ -53,7 +54,7 @@ held-grips k (h ∷ hs) = elim (cases_of (is_same_key k h.key)) [
 pub held-push_other : (k : Key) (g : Grip) (gs : List Grip) → is_same_key k g.key ≡ false
     → held_mode k (gs ++ g ∷ []) ≡ held_mode k gs
 held-push_other k g [] e = held-later k g [] e
-held-push_other k g (h ∷ hs) e = elim (cases_of (is_same_key k h.key)) [
+held-push_other k g (h ∷ hs) e = elim (cases_Bool (is_same_key k h.key)) [
   | inl here ↦ held-here k h (hs ++ g ∷ []) here ∙ sym (held-here k h hs here)
   | inr later ↦ held-later k h (hs ++ g ∷ []) later ∙ (held-push_other k g hs e ∙ sym (held-later k h hs later))
 ]
@@ -61,14 +62,14 @@ held-push_other k g (h ∷ hs) e = elim (cases_of (is_same_key k h.key)) [
 pub held-push : (k : Key) (g : Grip) (gs : List Grip) → held_mode k gs ≡ None → is_same_key k g.key ≡ true
     → held_mode k (gs ++ g ∷ []) ≡ Some g.mode
 held-push k g [] none e = held-here k g [] e
-held-push k g (h ∷ hs) none e = elim (cases_of (is_same_key k h.key)) [
+held-push k g (h ∷ hs) none e = elim (cases_Bool (is_same_key k h.key)) [
   | inl here ↦ absurd (none_or_some h.mode (sym none ∙ held-here k h hs here))
   | inr later ↦ held-later k h (hs ++ g ∷ []) later ∙ held-push k g hs (sym (held-later k h hs later) ∙ none) e
 ]
 
 -- who may join is compatible with each holder other than itself
 compatible_beside : (a b : ℕ) (c : Bool) → ((a == b) || c) ≡ true → a ≢ b → c ≡ true
-compatible_beside a b c e ne = elim (cases_of (a == b)) [
+compatible_beside a b c e ne = elim (cases_Bool (a == b)) [
   | inl same ↦ absurd (ne (eqb-true a b same))
   | inr other ↦ sym (ap (λ q. q || c) other) ∙ e
 ]
@@ -77,8 +78,8 @@ pub joins : (hs : List Claim) (t : ℕ) (m : Mode) (u : ℕ) (n : Mode) → may_
     → u ≢ t → are_compatible n m ≡ true
 joins [] t m u n j e ne = absurd (none_or_some n e)
 joins (h ∷ hs) t m u n j e ne =
-    let both = and_true ((h.thread == t) || are_compatible h.mode m) (may_join hs t m) j in
-    elim (cases_of (h.thread == u)) [
+    let both = and_parts ((h.thread == t) || are_compatible h.mode m) (may_join hs t m) j in
+    elim (cases_Bool (h.thread == u)) [
       | inl here ↦
           let mode : h.mode ≡ n = some_injective h.mode n (sym (mode_for-here u h hs here) ∙ e) in
           let own : h.thread ≢ t = λ same. ne (sym (eqb-true h.thread u here) ∙ same) in
@@ -102,7 +103,7 @@ pub in_the_way : (hs : List Claim) (t : ℕ) (m : Mode) → may_join hs t m ≡ 
 in_the_way [] t m e = absurd (let off : true ≡ false = e in cc)
 in_the_way (h ∷ hs) t m e = elim (and_false ((h.thread == t) || are_compatible h.mode m) (may_join hs t m) e) [
   | inl off ↦
-      let both = or_false (h.thread == t) (are_compatible h.mode m) off in
+      let both = neither (h.thread == t) (are_compatible h.mode m) off in
       record {
         who = h;
         there = inl refl;
@@ -139,7 +140,7 @@ lets_of (Some n) m f = f n refl
 -- one element changed
 pub get-changed_other : {A : Type 0} (n m : ℕ) (g : A → A) (xs : List A) → n ≢ m
     → slice_get (changed_at n g xs) m ≡ slice_get xs m
-get-changed_other n m g xs ne = get-changed_at n m g xs ∙ by (cases_of (same_number n m)) where
+get-changed_other n m g xs ne = get-changed_at n m g xs ∙ by (cases_Bool (same_number n m)) where
   by : ((same_number n m ≡ true) ⊎ (same_number n m ≡ false))
       → (if same_number n m then mapped g (slice_get xs m) else slice_get xs m) ≡ slice_get xs m
   by (inl e) = absurd (ne (same_number-true n m e))
@@ -161,12 +162,12 @@ changed-put (suc n) g (y ∷ ys) x e = ap (λ zs. y ∷ zs) (changed-put n g ys 
 pub not_claiming : (t : ℕ) (cs : List Claim) → is_among t cs ≡ false → (c : Claim) → Has cs c → c.thread ≢ t
 not_claiming t (d ∷ ds) e c (inl same) =
     λ own. true_or_false (d.thread == t) (eq-eqb d.thread t (ap (λ (z : Claim). z.thread) same ∙ own))
-    (or_false (d.thread == t) (is_among t ds) e).0
-not_claiming t (d ∷ ds) e c (inr h) = not_claiming t ds (or_false (d.thread == t) (is_among t ds) e).1 c h
+    (neither (d.thread == t) (is_among t ds) e).0
+not_claiming t (d ∷ ds) e c (inr h) = not_claiming t ds (neither (d.thread == t) (is_among t ds) e).1 c h
 not_claiming t [] e c h = absurd h
 
 pub stay-missing : (t : ℕ) (cs : List Claim) → is_among t cs ≡ false → stay t cs ≡ cs
 stay-missing t [] e = refl
 stay-missing t (c ∷ cs) e =
-    let both = or_false (c.thread == t) (is_among t cs) e in
+    let both = neither (c.thread == t) (is_among t cs) e in
     ap (λ b. if not b then c ∷ stay t cs else stay t cs) both.0 ∙ ap (λ z. c ∷ z) (stay-missing t cs both.1)

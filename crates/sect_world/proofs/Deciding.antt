@@ -22,9 +22,9 @@ use Rattle.sect_emit.specs.State.{with_thread}
 use Rattle.sect_world.specs.Events.{all_but, lets_in, IsOver, entering, taking, beginning, giving_back, with_frame}
 use Rattle.sect_world.specs.Events.{after_act, after_leave, step_in, MayDo, Happens}
 use Rattle.sect_world.specs.Runs.{RunsTo}
-use Rattle.sect_types.proofs.Basics.{and_both, some_injective, none_or_some}
-use Rattle.sect_emit.proofs.Tests.{both_hold}
-use Rattle.sect_emit.proofs.Keys.{same_key, key_itself}
+use Rattle.sect_lemmas.proofs.Options.{some_injective, none_or_some}
+use Rattle.sect_emit.proofs.shared.Keys.{same_key, key_itself}
+use Rattle.std.proofs.lemmas.Bool.{and_parts, and_from}
 
 abbrev same_mode : Mode → Mode → Bool
 same_mode mode.IntentionShared mode.IntentionShared = true
@@ -124,7 +124,7 @@ take_sound to s' k m Entered (g ∷ gs) true is = by (is_same_key g.key k && sam
   by : (x : Bool) → (is_same_key g.key k && same_mode g.mode m) ≡ x → (if x then Some (to gs) else None) ≡ Some s'
       → (rest : List Grip) × (Entered ≡ Entered) × (g ∷ gs ≡ grip k m ∷ rest) × (true ≡ true) × (s' ≡ to rest)
   by true e is' =
-      let h = both_hold (is_same_key g.key k) (same_mode g.mode m) e in (
+      let h = and_parts (is_same_key g.key k) (same_mode g.mode m) e in (
         gs,
         refl,
         ap (λ x. grip x g.mode ∷ gs) (same_key g.key k h.0) ∙ ap (λ x. grip k x ∷ gs) (one_mode g.mode m h.1),
@@ -236,7 +236,7 @@ take_complete to k m p gs rest b x y z =
     ap (λ q. take_from to k m q gs b) x ∙ ap (λ hs. take_from to k m Entered hs b) y
     ∙ ap (take_from to k m Entered (grip k m ∷ rest)) z
     ∙ ap (λ a. if a then Some (to rest) else None)
-    (and_both (is_same_key k k) (same_mode m m) (key_itself k) (mode_itself m))
+    (and_from (is_same_key k k) (same_mode m m) (key_itself k) (mode_itself m))
 
 begin_complete : (met : ℕ → Bool) (to : ℕ → TextView → TextView → State) (p : Position) (gs : List Grip) (k : TextView)
     (i : ℕ) (body rest : TextView)

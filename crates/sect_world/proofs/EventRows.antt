@@ -28,9 +28,10 @@ use Rattle.sect_world.specs.Runs.{IsRun, IsComplete, order_of}
 use Rattle.sect_world.specs.Blocked.{IsBlocked}
 use Rattle.sect_world.specs.Held.{may_read, may_write, may_make}
 use Rattle.sect_world.proofs.Deciding.{ran, ran_sound, after}
-use Rattle.sect_types.proofs.ProgramTexts.{numbered, two_bumps, sum_and_push, null_after_write, one_object_twice}
-use Rattle.sect_types.proofs.ProgramTexts.{read_behind, turned_back, link}
-use Rattle.sect_types.proofs.WholeRows.{int, object, ending}
+use Rattle.sect_types.proofs.shared.ProgramTexts.{numbered, two_bumps, sum_and_push, null_after_write}
+use Rattle.sect_types.proofs.shared.ProgramTexts.{one_object_twice}
+use Rattle.sect_types.proofs.shared.ProgramTexts.{read_behind, turned_back, link}
+use Rattle.sect_types.proofs.shared.WholeRows.{int, object, ending}
 
 abbrev compiled : ProgramView → List ℕ → List (Option ℕ) → List (List Lock) → List (List Grip) → CompiledView
 compiled p numbers guards sets parts = record {

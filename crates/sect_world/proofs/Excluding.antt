@@ -14,7 +14,7 @@ use Rattle.sect_emit.specs.State.{ThreadState, State, IsThread}
 use Rattle.sect_emit.specs.ModeTests.{is_reading_object, is_writing}
 use Rattle.sect_world.specs.Held.{holds_all, class_mode_in, mode_of_class, locked_object, may_read, may_write}
 use Rattle.sect_world.specs.Kept.{HaveTheirClass, IsWellKept}
-use Rattle.sect_emit.proofs.Modes.{writing_is, sharing_turned, apart_from_writing, apart_from_making}
+use Rattle.sect_emit.proofs.shared.Modes.{writing_is, sharing_turned, apart_from_writing, apart_from_making}
 use Rattle.sect_world.proofs.Holding.{passes_in, IsHeldPart, IsHeldBy, held_is, class_is}
 
 -- who holds an object or its class holds `all` in some mode

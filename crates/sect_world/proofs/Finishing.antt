@@ -6,18 +6,18 @@ use Rattle.std.specs.List.{list_all}
 use Rattle.sect_types.specs.declared.store.End.{End}
 use Rattle.sect_types.specs.Statements.{TextView}
 use Rattle.sect_types.specs.Whole.{SerialEndView, RunsWhole, has_ended}
-use Rattle.sect_types.proofs.Basics.{some_injective, none_or_some, and_both}
+use Rattle.sect_lemmas.proofs.Options.{some_injective, none_or_some}
 use Rattle.sect_table.specs.declared.claims.Hold.{Hold}
-use Rattle.sect_table.proofs.Claiming.{and_true}
 use Rattle.sect_emit.specs.Compiled.{CompiledView, IsCompiled, program_of}
 use Rattle.sect_emit.specs.State.{ThreadState, State}
 use Rattle.sect_world.specs.declared.event.Event.{Event}
 use Rattle.sect_world.specs.declared.runner.Runner.{Runner}
 use Rattle.sect_world.specs.Runs.{IsRun, IsComplete, order_of}
 use Rattle.sect_world.specs.Worlds.{AllEnded}
-use Rattle.sect_world.specs.steps.Viewing.{threads_of}
+use Rattle.sect_world.specs.Viewing.{threads_of}
 use Rattle.sect_world.proofs.Closing.{runs_are_serial}
 use Rattle.sect_world.proofs.Viewing.{seen, seen_at}
+use Rattle.std.proofs.lemmas.Bool.{and_parts, and_from}
 
 -- how the runners have ended is how the threads have
 pub runners_end : (c : CompiledView) (texts : List TextView) (rs : List Runner) (held : List (List Hold))
@@ -35,14 +35,14 @@ pub passes : {X : Type 0} (test : X → Bool) (xs : List X) → list_all test xs
     → slice_get xs t ≡ Some x → test x ≡ true
 passes test [] all t x at = absurd (none_or_some x at)
 passes test (y ∷ ys) all zero x at =
-    subst (λ z. test z ≡ true) (some_injective y x at) (and_true (test y) (list_all test ys) all).0
-passes test (y ∷ ys) all (suc t) x at = passes test ys (and_true (test y) (list_all test ys) all).1 t x at
+    subst (λ z. test z ≡ true) (some_injective y x at) (and_parts (test y) (list_all test ys) all).0
+passes test (y ∷ ys) all (suc t) x at = passes test ys (and_parts (test y) (list_all test ys) all).1 t x at
 
 -- and the other way round
 pub all_pass : {X : Type 0} (test : X → Bool) (xs : List X)
     → ((t : ℕ) (x : X) → slice_get xs t ≡ Some x → test x ≡ true) → list_all test xs ≡ true
 all_pass test [] each = refl
-all_pass test (y ∷ ys) each = and_both (test y) (list_all test ys) (each 0 y refl)
+all_pass test (y ∷ ys) each = and_from (test y) (list_all test ys) (each 0 y refl)
     (all_pass test ys (λ t. each (suc t)))
 
 -- all threads have ended where all runners have

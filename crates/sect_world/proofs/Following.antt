@@ -10,7 +10,8 @@ use Rattle.sect_modes.specs.declared.mode.Mode.{Mode}
 use Rattle.sect_modes.specs.declared.key.Key.{Key}
 use Rattle.sect_modes.specs.declared.key.Key.TheVariants as key
 use Rattle.sect_modes.specs.Mode.{is_reading}
-use Rattle.sect_types.specs.Store.{ObjectView, StoreView, put_at, count, object_at}
+use Rattle.sect_types.specs.Store.{ObjectView, StoreView, count, object_at}
+use Rattle.sect_lemmas.specs.Lists.{put_at}
 use Rattle.sect_types.specs.Meaning.{Change, Unchanged, after_change, found_at, Next, On, Off, looks, begins_step}
 use Rattle.sect_types.specs.Whole.{FrameView, ahead, local_step, RunView, after_section, section_in, section_of_thread}
 use Rattle.sect_types.specs.Whole.{run_section}
@@ -26,15 +27,15 @@ use Rattle.sect_world.specs.Excluding.{IsInSection, Excludes}
 use Rattle.sect_world.proofs.Tidy.{IsTidy}
 use Rattle.sect_world.specs.Replay.{NobodyWrites}
 use Rattle.sect_world.proofs.SerialFrames.{Agrees, Replayed, IsApart, IsBefore, IsInside, Follows, HasFrame, Serializes}
-use Rattle.sect_types.proofs.Stores.{next_is_free}
-use Rattle.sect_types.proofs.RunningAhead.{ahead_standing, ahead_after_local}
+use Rattle.sect_types.proofs.shared.Stores.{next_is_free}
+use Rattle.sect_types.proofs.shared.RunningAhead.{ahead_standing, ahead_after_local}
 use Rattle.sect_world.specs.Accesses.{change_in, Asks}
 use Rattle.sect_world.proofs.StepChanges.{touches, object_at-after, count-after_other, rows-after, untouched}
 use Rattle.sect_world.proofs.StepChanges.{change_is_asked}
 use Rattle.sect_world.proofs.AllowedChanges.{IsAllowed, asked_is_allowed}
 use Rattle.sect_world.proofs.Rights.{own_grows, other_grows, writers_read, touched_is_written}
-use Rattle.sect_types.proofs.Replaced.{put_same, put_other, each_put, each_before, length-put_at}
-use Rattle.sect_types.proofs.Basics.{some_injective}
+use Rattle.sect_lemmas.proofs.Replaced.{put_same, put_other, each_put, each_before, length-put_at}
+use Rattle.sect_lemmas.proofs.Options.{some_injective}
 use Rattle.sect_world.proofs.Replaying.{still_left, left_at, replay_keeps, not_before, agrees_before, own_step}
 use Rattle.sect_world.proofs.Replaying.{others_step}
 

@@ -16,14 +16,14 @@ use Rattle.sect_types.specs.declared.store.Fault.TheVariants as fault
 use Rattle.sect_types.specs.Meaning.{WorkView, Came, Went, Fell, Unchanged, Added, assigned, On, done, paid, one, going}
 use Rattle.sect_types.specs.Meaning.{taken, next, looked, looks, found_at, fits, computed, stored, result_of}
 use Rattle.sect_types.specs.Meaning.{integer_of, value_datum, base_datum, name_in}
-use Rattle.sect_types.proofs.Basics.{some_injective}
+use Rattle.sect_lemmas.proofs.Options.{some_injective}
 use Rattle.sect_graph.specs.declared.flow.Node.{Node}
 use Rattle.sect_graph.specs.declared.flow.Successors.{Successors}
 use Rattle.sect_graph.specs.declared.flow.Successors.TheVariants.{Next as To}
 use Rattle.sect_graph.specs.Rests.{Begins}
 use Rattle.sect_names.specs.Records.{IsTypedProgram}
 use Rattle.sect_names.specs.Schemes.{guard_of}
-use Rattle.sect_names.proofs.Placing.{statement_sited}
+use Rattle.sect_names.proofs.shared.Placing.{statement_sited}
 use Rattle.sect_points.specs.Statements.{thread_action}
 use Rattle.sect_modes.specs.declared.mode.Mode.TheVariants.{Exclusive}
 use Rattle.sect_table.specs.declared.claims.Answer.TheVariants.{Granted}

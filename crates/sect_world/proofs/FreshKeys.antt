@@ -11,8 +11,8 @@ use Rattle.sect_emit.specs.Plan.{grip, key_of, held_mode}
 use Rattle.sect_emit.specs.Compiled.{CompiledView}
 use Rattle.sect_emit.specs.State.{State}
 use Rattle.sect_world.specs.Kept.{AreGripsKept, IsWellKept}
-use Rattle.sect_types.proofs.Basics.{none_or_some}
-use Rattle.sect_table.proofs.Shown.{key_itself}
+use Rattle.sect_lemmas.proofs.Options.{none_or_some}
+use Rattle.sect_table.proofs.shared.Shown.{key_itself}
 use Rattle.sect_world.specs.steps.Fits.{Fits}
 use Rattle.sect_world.proofs.Claims.{held-here}
 use Rattle.sect_world.proofs.Agreeing.{nobody_claims}

@@ -21,7 +21,7 @@ use Rattle.sect_world.specs.Events.{all_but, lets, lets_in, MayDo}
 use Rattle.sect_world.specs.Blocked.{IsBlocked, CanGoOn}
 use Rattle.sect_world.specs.Laws.{SomethingHappens}
 use Rattle.sect_world.specs.Kept.{IsAt, IsThreadKept, IsWellKept}
-use Rattle.sect_types.proofs.Basics.{some_injective, none_or_some}
+use Rattle.sect_lemmas.proofs.Options.{some_injective, none_or_some}
 use Rattle.sect_world.proofs.Stuck.{none_stuck}
 use Rattle.sect_world.proofs.KeptStates.{runs_are_well_kept}
 

@@ -1,6 +1,6 @@
 -- The states of runs are good, so accesses are held.
 use Rattle.std.proofs.Common.{true, ◌≡◌, ℕ, List, [], ◌∷◌, ◌++◌, refl, sym, ap, ◌∙◌, subst}
-use Rattle.sect_types.proofs.Replaced.{slice_get-map}
+use Rattle.sect_lemmas.proofs.Replaced.{slice_get-map}
 use Rattle.sect_world.proofs.LongerRuns.{run_on}
 use Rattle.sect_types.specs.Statements.{TextView}
 use Rattle.sect_types.specs.declared.action.Field.{Field}

@@ -22,8 +22,8 @@ use Rattle.sect_names.specs.Walks.{StandsInThread}
 use Rattle.sect_names.specs.Along.{read_for}
 use Rattle.sect_emit.specs.Pointed.{IsPointed}
 use Rattle.sect_emit.specs.NeededAccesses.{LooksLocked, MakesLocked}
-use Rattle.sect_names.proofs.Walking.{needed_step}
-use Rattle.sect_emit.proofs.NeedingAccesses.{access_needed}
+use Rattle.sect_names.proofs.shared.Walking.{needed_step}
+use Rattle.sect_emit.proofs.shared.NeedingAccesses.{access_needed}
 use Rattle.sect_modes.specs.declared.mode.Mode.TheVariants.{IntentionExclusive}
 use Rattle.sect_modes.specs.declared.key.Key.TheVariants as key
 use Rattle.sect_modes.specs.Mode.{is_making}
@@ -41,10 +41,11 @@ use Rattle.sect_world.specs.Held.{holds_all, mode_of_class, class_mode_in, is_he
 use Rattle.sect_world.specs.Held.{may_make, may_make_by, Access, Loading, Storing, Making, may, load_of, store_of}
 use Rattle.sect_world.specs.Held.{access_of, if_paid, access_in}
 use Rattle.sect_world.specs.Secured.{may_by, Secured, AllSecured}
-use Rattle.sect_types.proofs.Basics.{either_true, or_left, or_right}
-use Rattle.sect_emit.proofs.Modes.{met_mode}
+use Rattle.sect_lemmas.proofs.Booleans.{or_left, or_right}
+use Rattle.sect_emit.proofs.shared.Modes.{met_mode}
 use Rattle.sect_world.proofs.Holding.{locked_is}
 use Rattle.sect_world.proofs.MetPlans.{guard_of_site, guard_is_there, guard_or_itself}
+use Rattle.std.proofs.lemmas.Bool.{or_cases}
 
 loading : (d : Datum) (x : Access) → load_of (name_in d) ≡ Some x → (o : ObjectName) × (d ≡ Refers o) × (x ≡ Loading o)
 loading (Number n) x e = absurd cc
@@ -79,7 +80,7 @@ module _ (c : CompiledView) (scheme : IsScheme c.scheme) (typed : IsTypedProgram
       → ((l : Lock) → Generated c.scheme t (label.Act a) l → Secured c s w.locals held l)
       → MakesLocked c.scheme t a g site → may_make_by c s held site g ≡ true
   making_secured a r site None is secured (n, class, generated) =
-      elim (either_true (holds_all held) (is_met (held_mode (key.Class n) held) IntentionExclusive)
+      elim (or_cases (holds_all held) (is_met (held_mode (key.Class n) held) IntentionExclusive)
       (secured (lock.Class n right.Make) generated)) [
         | inl all ↦ or_left (holds_all held) (passes is_making (mode_of_class c held site)) all
         | inr met ↦

@@ -19,9 +19,10 @@ use Rattle.sect_world.specs.Held.{holds_all, class_mode_in, mode_of_class, is_he
 use Rattle.sect_world.specs.Held.{locked_object_at, locked_object}
 use Rattle.sect_emit.specs.Pointed.{ObjectsStay}
 use Rattle.sect_world.specs.Secured.{may_by}
-use Rattle.sect_types.proofs.Basics.{either_true, or_left, or_right, false≢true}
-use Rattle.sect_emit.proofs.Modes.{met_mode}
-use Rattle.sect_emit.proofs.Grips.{held_append}
+use Rattle.sect_lemmas.proofs.Booleans.{or_left, or_right}
+use Rattle.sect_emit.proofs.shared.Modes.{met_mode}
+use Rattle.sect_emit.proofs.shared.Grips.{held_append}
+use Rattle.std.proofs.lemmas.Bool.{or_cases, false≢true}
 
 -- the mode in which something is held passes the test
 abbrev pub IsIn : (Mode → Bool) → Option Mode → Type 0
@@ -55,7 +56,7 @@ module _ (c : CompiledView) (for_key for_class : Mode → Bool) where
   part_is : (held : List Grip) (o : ObjectName) (x : ObjectView)
       → (passes for_key (held_mode (key_of o) held) || passes for_class (mode_of_class c held x.site)) ≡ true
       → IsHeldPart held o x
-  part_is held o x h = elim (either_true (passes for_key (held_mode (key_of o) held))
+  part_is held o x h = elim (or_cases (passes for_key (held_mode (key_of o) held))
       (passes for_class (mode_of_class c held x.site)) h) [
         | inl k ↦ inl (passes_in for_key (held_mode (key_of o) held) k)
         | inr k ↦ inr (passes_in for_class (mode_of_class c held x.site) k)
@@ -79,7 +80,7 @@ module _ (c : CompiledView) (for_key for_class : Mode → Bool) where
       by (Some x) is h = (
         x,
         is,
-        elim (either_true (holds_all held)
+        elim (or_cases (holds_all held)
             (passes for_key (held_mode (key_of o) held) || passes for_class (mode_of_class c held x.site)) h) [
               | inl all ↦ inl all
               | inr k ↦ inr (part_is held o x k)

@@ -8,13 +8,13 @@ use Rattle.sect_types.specs.declared.store.ObjectName.{ObjectName}
 use Rattle.sect_types.specs.declared.store.ObjectName.TheVariants.{Global, Made}
 use Rattle.sect_types.specs.Store.{ObjectView, object_at}
 use Rattle.sect_types.specs.Whole.{first_store, first_work}
-use Rattle.sect_types.proofs.Basics.{none_or_some}
-use Rattle.sect_types.proofs.Data.{fresh_refers, length-fresh}
-use Rattle.sect_types.proofs.Starts.{global_is}
+use Rattle.sect_lemmas.proofs.Options.{none_or_some}
+use Rattle.sect_types.proofs.shared.Data.{fresh_refers, length-fresh}
+use Rattle.sect_types.proofs.shared.Starts.{global_is}
 use Rattle.sect_names.specs.Records.{SiteOf}
-use Rattle.sect_names.proofs.Placing.{slice_get-left}
+use Rattle.sect_lemmas.proofs.Elements.{slice_get-left}
 use Rattle.sect_emit.specs.Compiled.{CompiledView, program_of}
-use Rattle.sect_emit.proofs.Starting.{none_made, first_store_pointed}
+use Rattle.sect_emit.proofs.shared.Starting.{none_made, first_store_pointed}
 use Rattle.sect_world.specs.Kept.{IsStoreKept, IsWorkKept}
 
 -- the first store is kept

@@ -5,7 +5,7 @@ use Rattle.std.proofs.Common.{append-nil}
 use Rattle.std.specs.Prelude.{slice_get, slice_index_or, map, ⊤, ℤ, if◌then◌else◌}
 use Rattle.std.specs.List.{list_all}
 use Rattle.std.proofs.lemmas.Option.{slice_get_within, slice_get-get_or}
-use Rattle.sect_types.specs.Lists.{Has}
+use Rattle.sect_lemmas.specs.Lists.{Has, put_at}
 use Rattle.sect_types.specs.Statements.{TextView, Stop, Do, Choose, Loop, Section}
 use Rattle.sect_types.specs.Sections.{SectionView, sections_of}
 use Rattle.sect_types.specs.Programs.{environment_at, sites_of}
@@ -16,7 +16,7 @@ use Rattle.sect_points.specs.Sets.{InSets}
 use Rattle.sect_names.specs.declared.lock.Lock.{Lock}
 use Rattle.sect_names.specs.declared.lock.Lock.TheVariants as lock
 use Rattle.sect_names.specs.declared.lock.Effect.{Effect}
-use Rattle.sect_names.specs.Locks.{IsPathOf, IsPathIn}
+use Rattle.sect_names.specs.Locks.{IsPathOf, IsPathIn, IsOwn}
 use Rattle.sect_modes.specs.declared.mode.Mode.{Mode}
 use Rattle.sect_modes.specs.declared.mode.Mode.TheVariants.{Exclusive}
 use Rattle.sect_modes.specs.declared.key.Key.{Key}
@@ -32,41 +32,41 @@ use Rattle.sect_emit.specs.declared.plan.Grip.{Grip}
 use Rattle.sect_world.specs.declared.event.Deed.{Deed}
 use Rattle.sect_world.specs.declared.event.Deed.TheVariants.{Local, Enter, Take, Begin, Again, Act, Leave}
 use Rattle.sect_world.specs.declared.event.Event.{Event}
-use Rattle.sect_types.specs.Store.{ObjectView, StoreView, object_at, count, put_at}
+use Rattle.sect_types.specs.Store.{ObjectView, StoreView, object_at, count}
 use Rattle.sect_types.specs.Meaning.{WorkView, Change, Unchanged, Written, Added, after_change, Next, On, Off, next}
 use Rattle.sect_types.specs.Whole.{FrameView, settled, failed, frame_after, local_step, first_store, first_work}
 use Rattle.sect_types.specs.Whole.{first_frames}
 use Rattle.sect_emit.specs.Plan.{grip, key_of, path_datum, field_datum, field_of, held_mode, Ascends, IsFixedPart}
 use Rattle.sect_emit.specs.Compiled.{CompiledView, IsCompiled, program_of}
-use Rattle.sect_names.specs.Locks.{IsOwn}
 use Rattle.sect_emit.specs.State.{Position, Outside, Entered, Running, Faulted, ThreadState, State, IsThread, plan_at}
 use Rattle.sect_emit.specs.State.{start, outside}
-use Rattle.sect_world.specs.Events.{all_but, lets, lets_in, guard_at, fresh_grip, grips_of, entering, taking, beginning}
-use Rattle.sect_world.specs.Events.{giving_back, with_frame, emptied, acting, changed_by, frame_out, step_in, IsReady}
-use Rattle.sect_world.specs.Events.{IsOver, MayDo}
+use Rattle.sect_world.specs.Events.{all_but, lets, lets_in, guard_at, fresh_grip, grips_of, entering, taking}
+use Rattle.sect_world.specs.Events.{beginning, giving_back, with_frame, emptied, acting, changed_by, frame_out}
+use Rattle.sect_world.specs.Events.{step_in, IsReady, IsOver, MayDo}
 use Rattle.sect_world.specs.Runs.{RunsTo, IsRun}
 use Rattle.sect_emit.specs.ModeTests.{is_reading_object}
 use Rattle.sect_world.specs.Kept.{IsPlaced, AsksInOrder, IsTextOf, IsObject, IsStoreKept, IsWorkKept, AreGripsKept}
-use Rattle.sect_world.specs.Kept.{AreApart, HaveTheirClass, IsAt, IsThreadKept, AreCompatible, IsWellKept, HoldsClassOf}
-use Rattle.sect_types.proofs.Basics.{some_injective, none_or_some}
-use Rattle.sect_emit.proofs.Tests.{both_hold}
-use Rattle.sect_emit.proofs.Keys.{same_key, key_itself, not_below_itself}
-use Rattle.sect_emit.proofs.Modes.{sharing_turned}
-use Rattle.sect_types.proofs.Replaced.{at-put_at, length-changed_at, slice_get-map}
-use Rattle.sect_emit.proofs.Grips.{held_split}
-use Rattle.sect_emit.proofs.Plans.{mode_is_there, ascending_mode, ascends_left, ascends_right}
-use Rattle.sect_emit.proofs.PlanModes.{plan_object, plan_object_mode, plan_holds_the_classes, key_of-injective}
-use Rattle.sect_emit.proofs.PlanModes.{plan_holds_all}
+use Rattle.sect_world.specs.Kept.{AreApart, HaveTheirClass, IsAt, IsThreadKept, AreCompatible, IsWellKept}
+use Rattle.sect_world.specs.Kept.{HoldsClassOf}
+use Rattle.sect_lemmas.proofs.Options.{some_injective, none_or_some}
+use Rattle.sect_emit.proofs.shared.Keys.{same_key, key_itself, not_below_itself}
+use Rattle.sect_emit.proofs.shared.Modes.{sharing_turned}
+use Rattle.sect_lemmas.proofs.Replaced.{at-put_at, length-changed_at, slice_get-map}
+use Rattle.sect_emit.proofs.shared.Grips.{held_split}
+use Rattle.sect_emit.proofs.shared.Plans.{mode_is_there, ascending_mode, ascends_left, ascends_right}
+use Rattle.sect_emit.proofs.shared.PlanModes.{plan_object, plan_object_mode, plan_holds_the_classes, key_of-injective}
+use Rattle.sect_emit.proofs.shared.PlanModes.{plan_holds_all}
 use Rattle.sect_world.proofs.Planning.{plan_at_ascends}
 use Rattle.sect_world.proofs.Listing.{text_of}
-use Rattle.sect_emit.proofs.Pointing.{others_pointed}
+use Rattle.sect_emit.proofs.shared.Pointing.{others_pointed}
 use Rattle.sect_world.proofs.KeptSteps.{Grows, grows_same, fresh_name, added_there, IsNextKept, next_kept}
 use Rattle.sect_world.proofs.LocalSteps.{local_looks, IsQuiet, local_quiet}
-use Rattle.sect_types.proofs.Data.{refers_injective, null_refers}
+use Rattle.sect_types.proofs.shared.Data.{refers_injective, null_refers}
 use Rattle.sect_world.proofs.KeptStarts.{first_store_kept, first_work_kept}
-use Rattle.sect_types.proofs.Starts.{first_frame, first_frames-length, settled_text, settled_work}
+use Rattle.sect_types.proofs.shared.Starts.{first_frame, first_frames-length, settled_text, settled_work}
 use Rattle.sect_world.specs.Held.{class_mode_in, mode_of_class}
-use Rattle.sect_names.proofs.Sounding.{path_there}
+use Rattle.sect_names.proofs.shared.Sounding.{path_there}
+use Rattle.std.proofs.lemmas.Bool.{and_parts}
 
 -- what is there stays there
 object_on : (t : ℕ) (s after : StoreView) → Grows t s after → (o : ObjectName) → IsObject s o → IsObject after o
@@ -229,8 +229,8 @@ failed_stands why k w e = absurd (none_or_some _ (sym e))
 all_pass : {X : Type 0} (u : ℕ) (test : X → Bool) (xs : List X) (x : X) → list_all test xs ≡ true
     → slice_get xs u ≡ Some x → test x ≡ true
 all_pass u test [] x e at = absurd (none_or_some x at)
-all_pass zero test (y ∷ xs) x e at = ap test (sym (some_injective y x at)) ∙ (both_hold (test y) (list_all test xs) e).0
-all_pass (suc u) test (y ∷ xs) x e at = all_pass u test xs x (both_hold (test y) (list_all test xs) e).1 at
+all_pass zero test (y ∷ xs) x e at = ap test (sym (some_injective y x at)) ∙ (and_parts (test y) (list_all test xs) e).0
+all_pass (suc u) test (y ∷ xs) x e at = all_pass u test xs x (and_parts (test y) (list_all test xs) e).1 at
 
 all_others : {X : Type 0} (t u : ℕ) (test : X → Bool) (xs : List X) (x : X) → all_but t test xs ≡ true → t ≢ u
     → slice_get xs u ≡ Some x → test x ≡ true
@@ -238,9 +238,9 @@ all_others t u test [] x e apart at = absurd (none_or_some x at)
 all_others zero zero test (y ∷ xs) x e apart at = absurd (apart refl)
 all_others zero (suc u) test (y ∷ xs) x e apart at = all_pass u test xs x e at
 all_others (suc t) zero test (y ∷ xs) x e apart at = ap test (sym (some_injective y x at))
-    ∙ (both_hold (test y) (all_but t test xs) e).0
+    ∙ (and_parts (test y) (all_but t test xs) e).0
 all_others (suc t) (suc u) test (y ∷ xs) x e apart at =
-    all_others t u test xs x (both_hold (test y) (all_but t test xs) e).1 (λ same. apart (ap suc same)) at
+    all_others t u test xs x (and_parts (test y) (all_but t test xs) e).1 (λ same. apart (ap suc same)) at
 
 module _ (c : CompiledView) (is : IsCompiled c) where
   -- what a path of a lock denotes is there, at one of the path's sites

@@ -2,7 +2,7 @@
 use Rattle.std.proofs.Common.{◌≡◌, ◌≢◌, ℕ, zero, suc, ◌<◌, Bool, true, false, refl, sym, ap, ◌∙◌, subst, [], length}
 use Rattle.std.proofs.Common.{Option, Some, None}
 use Rattle.std.specs.Prelude.{⊤, slice_index_or, if◌then◌else◌}
-use Rattle.sect_types.specs.Lists.{Has}
+use Rattle.sect_lemmas.specs.Lists.{Has}
 use Rattle.sect_types.specs.declared.action.Condition.{Condition}
 use Rattle.sect_types.specs.declared.action.Action.{Action}
 use Rattle.sect_types.specs.declared.action.Action.TheVariants as action
@@ -20,16 +20,18 @@ use Rattle.sect_types.specs.Store.{ObjectView, StoreView, count, object_at, writ
 use Rattle.sect_types.specs.Meaning.{WorkView, base_datum, value_datum, name_in, fresh, Unchanged, after_change, Came}
 use Rattle.sect_types.specs.Meaning.{Went, Fell, assigned, integer_of, result_of, fits, stored, done, paid, one, looked}
 use Rattle.sect_types.specs.Meaning.{found_at, Next, On, Off, going, taken, is_true, next, looks}
-use Rattle.sect_types.proofs.Basics.{some_injective, none_or_some}
-use Rattle.sect_types.proofs.Data.{length-fresh}
-use Rattle.sect_types.proofs.Replaced.{mapped, length-changed_at}
-use Rattle.sect_types.proofs.Stores.{object_at-write, object_at-add, count-write, count-add_other, rows-write, rows-add}
-use Rattle.sect_types.proofs.Stores.{next_is_free, same_name-refl}
+use Rattle.sect_lemmas.proofs.Options.{some_injective, none_or_some}
+use Rattle.sect_types.proofs.shared.Data.{length-fresh}
+use Rattle.sect_lemmas.proofs.Options.{mapped}
+use Rattle.sect_lemmas.proofs.Replaced.{length-changed_at}
+use Rattle.sect_types.proofs.shared.Stores.{object_at-write, object_at-add, count-write, count-add_other, rows-write}
+use Rattle.sect_types.proofs.shared.Stores.{rows-add}
+use Rattle.sect_types.proofs.shared.Stores.{next_is_free, same_name-refl}
 use Rattle.sect_names.specs.Records.{IsTypedProgram, SiteOf}
-use Rattle.sect_names.proofs.Placing.{statement_sited}
+use Rattle.sect_names.proofs.shared.Placing.{statement_sited}
 use Rattle.sect_emit.specs.Compiled.{CompiledView, IsCompiled, program_of}
 use Rattle.sect_emit.specs.Pointed.{IsPointed, ArePointed, ObjectsStay, StepsTo}
-use Rattle.sect_emit.proofs.Pointing.{HasDone, action_done, step_pointed}
+use Rattle.sect_emit.proofs.shared.Pointing.{HasDone, action_done, step_pointed}
 use Rattle.sect_world.specs.Kept.{IsTextOf, IsStoreKept, IsWorkKept}
 use Rattle.sect_world.proofs.Listing.{text_joined}
 

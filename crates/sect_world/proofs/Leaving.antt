@@ -6,10 +6,11 @@ use Rattle.std.proofs.lemmas.List.{append-nil, length-set}
 use Rattle.std.proofs.lemmas.Option.{slice_get_within, get_or_from_slice_get}
 use Rattle.sect_types.specs.declared.store.Fault.{Fault}
 use Rattle.sect_types.specs.Statements.{TextView, Stop}
-use Rattle.sect_types.specs.Store.{StoreView, changed_at, put_at}
-use Rattle.sect_types.proofs.Basics.{some_injective}
-use Rattle.sect_types.proofs.Changed.{set_put}
-use Rattle.sect_types.proofs.Replaced.{length-changed_at, length-put_at, put_other, put_same, each_put}
+use Rattle.sect_types.specs.Store.{StoreView}
+use Rattle.sect_lemmas.specs.Lists.{changed_at, put_at}
+use Rattle.sect_lemmas.proofs.Options.{some_injective}
+use Rattle.sect_lemmas.proofs.Changed.{set_put}
+use Rattle.sect_lemmas.proofs.Replaced.{length-changed_at, length-put_at, put_other, put_same, each_put}
 use Rattle.sect_table.specs.declared.claims.Hold.{Hold}
 use Rattle.sect_table.specs.declared.claims.Grant.{Grant}
 use Rattle.sect_table.specs.Contents.{Contents, give, hold_of, held_by, is_waiting, released}
@@ -27,10 +28,11 @@ use Rattle.sect_world.specs.Runs.{RunsTo, order_of, leaver}
 use Rattle.sect_world.specs.Kept.{IsPlaced}
 use Rattle.sect_world.specs.declared.turned.Turned.TheVariants.{Moved}
 use Rattle.sect_world.specs.Worlds.{AreTakesOfOthers, MayFollow, kind_of, threads_of as threads_in}
-use Rattle.sect_world.specs.steps.Fits.{Fits, takes_first, all_granted, takes, given_to, grants_of, AllWaitersAsk}
+use Rattle.sect_world.specs.steps.Fits.{Fits, takes_first, all_granted, takes, given_to, grants_of}
+use Rattle.sect_world.specs.Waiting.{AllWaitersAsk}
 use Rattle.sect_world.specs.steps.Taking.{CanAdvance, advanced, advanced_at, all_advanced, takers}
-use Rattle.sect_world.specs.steps.Viewing.{text_at, position_of, frame_of, thread_of, threads_of, state_of, IsSited}
-use Rattle.sect_world.specs.steps.Viewing.{IsWorld}
+use Rattle.sect_world.specs.Viewing.{text_at, position_of, frame_of, thread_of, threads_of, state_of, IsSited}
+use Rattle.sect_world.specs.Viewing.{IsWorld}
 use Rattle.sect_world.proofs.Agreeing.{ReleaseLeads, no_waiter, out_fits, release_leads, released_as}
 use Rattle.sect_world.proofs.Claims.{changed-put}
 use Rattle.sect_world.proofs.KeptStates.{runs_are_well_kept}

@@ -1,10 +1,10 @@
 -- The grants of a release are `take` events that may happen one after another.
-use Rattle.std.proofs.Common.{◌≡◌, ◌≢◌, ◌⊎◌, inl, inr, ℕ, ◌+◌, ◌≤◌, List, [], ◌∷◌, ◌++◌, length, map, drop, true, false}
-use Rattle.std.proofs.Common.{Some, None, refl, sym, ◌∙◌, ap, subst, arith, append_assoc}
+use Rattle.std.proofs.Common.{◌≡◌, ◌≢◌, ◌⊎◌, inl, inr, ℕ, ◌+◌, ◌≤◌, List, [], ◌∷◌, ◌++◌, length, map, drop, true}
+use Rattle.std.proofs.Common.{false, Some, None, refl, sym, ◌∙◌, ap, subst, arith, append_assoc}
 use Rattle.std.specs.Prelude.{slice_get, ◌==◌}
-use Rattle.std.proofs.lemmas.Bool.{eqb-true, eq-eqb}
+use Rattle.std.proofs.lemmas.Bool.{eqb-true, eq-eqb, cases_Bool}
 use Rattle.std.proofs.lemmas.List.{append-nil, map-append}
-use Rattle.sect_types.specs.Lists.{Has}
+use Rattle.sect_lemmas.specs.Lists.{Has, changed_at}
 use Rattle.sect_modes.specs.declared.mode.Mode.{Mode}
 use Rattle.sect_modes.specs.declared.key.Key.{Key}
 use Rattle.sect_modes.specs.Key.{is_same_key}
@@ -14,26 +14,28 @@ use Rattle.sect_table.specs.declared.claims.Grant.{Grant}
 use Rattle.sect_table.specs.Contents.{Entry, entry_of, put, mode_for, stay, is_among, may_join, let_in, let_through}
 use Rattle.sect_table.specs.Contents.{without_holder, grant_of, AreApart}
 use Rattle.sect_table.specs.Sound.{waits_of, claims_by}
-use Rattle.sect_table.proofs.Shown.{cases_of, same_key, key_itself}
-use Rattle.sect_table.proofs.Entries.{entry_key, entry_of-put, entry_of-put_other, put-put}
-use Rattle.sect_table.proofs.Claiming.{or_false, true_or_false, among-append, among_append, among_one, apart_swap}
-use Rattle.sect_table.proofs.Claiming.{apart_stay, mode_for-missing, mode_for-push, mode_for-push_other, missing_stay}
-use Rattle.sect_table.proofs.Claiming.{missing-claims_by, claims_by-drop}
-use Rattle.sect_table.proofs.Sounding.{put_all, waits_of-put, waits_at-le}
-use Rattle.sect_table.proofs.Passing.{let_through-yes, let_through-no}
+use Rattle.sect_table.proofs.shared.Shown.{same_key, key_itself}
+use Rattle.sect_table.proofs.shared.Entries.{entry_key, entry_of-put, entry_of-put_other, put-put}
+use Rattle.sect_table.proofs.shared.Claiming.{true_or_false, among-append, among_append, among_one, apart_swap}
+use Rattle.sect_table.proofs.shared.Claiming.{apart_stay}
+use Rattle.sect_table.proofs.shared.Claiming.{mode_for-missing, mode_for-push, mode_for-push_other, missing_stay}
+use Rattle.sect_table.proofs.shared.Claiming.{missing-claims_by, claims_by-drop}
+use Rattle.sect_table.proofs.shared.Sounding.{put_all, waits_of-put, waits_at-le}
+use Rattle.sect_table.proofs.shared.Passing.{let_through-yes, let_through-no}
 use Rattle.sect_emit.specs.declared.plan.Grip.{Grip}
 use Rattle.sect_world.specs.declared.event.Event.{Event}
-use Rattle.sect_types.specs.Store.{changed_at}
 use Rattle.sect_emit.specs.Plan.{grip, held_mode}
 use Rattle.sect_emit.specs.Compiled.{CompiledView}
 use Rattle.sect_emit.specs.State.{ThreadState, State, IsThread}
 use Rattle.sect_world.specs.Events.{taking, lets_in, all_but, Happens}
 use Rattle.sect_world.specs.Runs.{RunsTo}
-use Rattle.sect_types.proofs.Basics.{some_injective}
-use Rattle.sect_world.specs.steps.Fits.{Asks, FitsBut, takes_first, granted, all_granted, take_of, takes, grants_at}
+use Rattle.sect_lemmas.proofs.Options.{some_injective}
+use Rattle.sect_world.specs.Waiting.{Asks}
+use Rattle.sect_world.specs.steps.Fits.{FitsBut, takes_first, granted, all_granted, take_of, takes, grants_at}
 use Rattle.sect_world.specs.steps.Fits.{entries_after, grants_of, entries_left}
 use Rattle.sect_world.proofs.Claims.{held-push, held-push_other, joins, all_but_of, lets_of, get-changed_other}
 use Rattle.sect_world.proofs.Claims.{get-changed_here, changed-put, not_claiming, stay-missing}
+use Rattle.sect_lemmas.proofs.Booleans.{neither}
 
 abbrev entry : Key → List Claim → List Claim → Entry
 entry k hs ws = record { key = k; holders = hs; waiters = ws }
@@ -88,7 +90,7 @@ record Was (s : State) (g : Grant) (u : ℕ) (th : ThreadState) : Type 0 where
   is : ((u ≡ g.thread) × (th.held ≡ old.held ++ grip g.key g.mode ∷ [])) ⊎ ((u ≢ g.thread) × (th.held ≡ old.held))
 
 number_cases : (u t : ℕ) → (u ≡ t) ⊎ (u ≢ t)
-number_cases u t = elim (cases_of (u == t)) [
+number_cases u t = elim (cases_Bool (u == t)) [
   | inl e ↦ inl (eqb-true u t e)
   | inr e ↦ inr (λ same. true_or_false (u == t) (eq-eqb u t same) e)
 ]
@@ -121,7 +123,7 @@ was s g a u th at = elim (number_cases u g.thread) [
 stay_push : (t : ℕ) (hs : List Claim) (w : Claim) → is_among t hs ≡ false → w.thread ≢ t
     → is_among t (hs ++ w ∷ []) ≡ false
 stay_push t hs w e ne = among_append t hs (w ∷ []) e
-    (among_one t w (elim (cases_of (w.thread == t))
+    (among_one t w (elim (cases_Bool (w.thread == t))
     [ inl own ↦ absurd (ne (eqb-true w.thread t own)) | inr other ↦ other ]))
 
 -- how these entries fit where one is put in the place of another
@@ -139,14 +141,14 @@ record Puts (t : ℕ) (k : Key) (e : Entry) (es : List Entry) (s s' : State) : T
 put_fits : (t : ℕ) (k : Key) (e : Entry) (es : List Entry) (s s' : State) → FitsBut t es s → Puts t k e es s s'
     → FitsBut t (put e es) s'
 put_fits t k e es s s' f p = record {
-  agree = λ u th at q. elim (cases_of (is_same_key q k)) [
+  agree = λ u th at q. elim (cases_Bool (is_same_key q k)) [
     | inl same ↦
         let is : q ≡ k = same_key q k same in
         subst (λ z. held_mode z th.held ≡ mode_for u (stay t (entry_of z (put e es)).holders)) (sym is)
         (p.here u th at ∙ ap (λ (z : Entry). mode_for u (stay t z.holders)) (sym at_k))
     | inr other ↦ p.others u th at q other ∙ ap (λ (z : Entry). mode_for u (stay t z.holders)) (sym (at_other q other))
   ];
-  waits = λ q w h. elim (cases_of (is_same_key q k)) [
+  waits = λ q w h. elim (cases_Bool (is_same_key q k)) [
     | inl same ↦
         let is : q ≡ k = same_key q k same in
         subst (λ z. Asks s' w.thread z w.mode) (sym is)
@@ -235,7 +237,7 @@ grant_fits t es s k hs w ws f out ne is = put_fits t k (entry k (hs ++ w ∷ [])
             (eq-eqb w.thread u (sym own.0))) ∙ sym after))
         | inr other ↦
             let not_own : (w.thread == u) ≡ false =
-            elim (cases_of (w.thread == u))
+            elim (cases_Bool (w.thread == u))
             [ inl e ↦ absurd (other.0 (sym (eqb-true w.thread u e))) | inr e ↦ e ] in
             ap (held_mode k) other.1 ∙ (before ∙ (sym (mode_for-push_other u hs w not_own) ∙ sym after))
       ];
@@ -329,9 +331,9 @@ through : (c : CompiledView) (t : ℕ) (k : Key) (ws hs : List Claim) (es : List
 through c t k [] hs es s f out away is = stays c t k [] hs es s f is refl
 through c t k (w ∷ ws) hs es s f out away is =
     by (λ hs1 es1 s1 f1 out1 away1 is1. through c t k ws hs1 es1 s1 f1 out1 away1 is1)
-    (cases_of (may_join hs w.thread w.mode)) where
+    (cases_Bool (may_join hs w.thread w.mode)) where
       off : ((w.thread == t) ≡ false) × (is_among t ws ≡ false)
-      off = or_false (w.thread == t) (is_among t ws) away
+      off = neither (w.thread == t) (is_among t ws) away
 
       other : w.thread ≢ t
       other e = true_or_false (w.thread == t) (eq-eqb w.thread t e) off.0

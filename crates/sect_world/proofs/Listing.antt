@@ -1,10 +1,10 @@
 -- The texts of a program's threads.
 use Rattle.std.proofs.Common.{◌≡◌, ℕ, zero, suc, ◌+◌, Bool, true, false, refl, sym, ap, ◌∙◌, subst, inl, inr, List, []}
 use Rattle.std.proofs.Common.{◌∷◌, ◌++◌, length, Some, arith, None}
-use Rattle.sect_types.proofs.Membership.{Has-left, Has-right}
+use Rattle.sect_lemmas.proofs.Membership.{Has-left, Has-right}
 use Rattle.std.specs.Prelude.{slice_get, map}
 use Rattle.std.proofs.lemmas.Option.{get_or_from_slice_get, slice_get-map}
-use Rattle.sect_types.specs.Lists.{Has}
+use Rattle.sect_lemmas.specs.Lists.{Has}
 use Rattle.sect_types.specs.declared.types.ValueType.{ValueType}
 use Rattle.sect_types.specs.declared.action.Action.{Action}
 use Rattle.sect_types.specs.Statements.{TextView, Stop, Do, Choose, Loop, Section, joined, section_bodies}
@@ -16,12 +16,13 @@ use Rattle.sect_points.specs.Flow.{actions_of}
 use Rattle.sect_points.specs.Statements.{thread_action, actions_from, thread_actions}
 use Rattle.sect_points.specs.declared.holders.ThreadAction.{ThreadAction}
 use Rattle.sect_world.specs.Kept.{Each, IsTextOf}
-use Rattle.sect_names.proofs.Placing.{slice_get-left}
-use Rattle.sect_types.proofs.Basics.{false≢true, some_injective, none_or_some}
-use Rattle.sect_types.proofs.Joining.{sound_joined}
+use Rattle.sect_lemmas.proofs.Elements.{slice_get-left}
+use Rattle.sect_lemmas.proofs.Options.{some_injective, none_or_some}
+use Rattle.sect_types.proofs.shared.Joining.{sound_joined}
 use Rattle.std.proofs.lemmas.List.{length-map}
-use Rattle.sect_names.proofs.Finiteness.{Has-map}
+use Rattle.sect_lemmas.proofs.Listing.{Has-map}
 use Rattle.std.specs.Option.{option_map}
+use Rattle.std.proofs.lemmas.Bool.{false≢true}
 
 -- what holds of the statements of both holds of the joined ones
 pub each_joined : (A : Action → Type 0) (S : ℕ → TextView → Type 0) (p k : TextView) → Each A S p → Each A S k

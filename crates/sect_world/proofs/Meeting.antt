@@ -7,7 +7,7 @@ use Rattle.sect_table.specs.declared.claims.Hold.{Hold}
 use Rattle.sect_table.specs.Contents.{mode_in}
 use Rattle.sect_emit.specs.declared.plan.Grip.{Grip}
 use Rattle.sect_emit.specs.Plan.{is_met, meets}
-use Rattle.sect_world.specs.steps.Fits.{grips}
+use Rattle.sect_world.specs.Waiting.{grips}
 use Rattle.sect_world.proofs.Claims.{held-grips}
 
 drop_at : (i : ℕ) (gs : List Grip) (d : Grip) → i < length gs → drop i gs ≡ get_or gs i d ∷ drop (i + 1) gs

@@ -2,7 +2,7 @@
 use Rattle.std.proofs.Common.{◌≡◌, inl, inr, ℕ, List, Bool, true, ◌||◌, Option, Some, None, refl, sym, ap, ◌∙◌, subst}
 use Rattle.std.specs.Prelude.{slice_get}
 use Rattle.std.proofs.lemmas.Option.{get_or_from_slice_get}
-use Rattle.sect_types.specs.Lists.{Has}
+use Rattle.sect_lemmas.specs.Lists.{Has}
 use Rattle.sect_types.specs.Programs.{sites_of, all_made}
 use Rattle.sect_types.specs.Statements.{TextView}
 use Rattle.sect_types.specs.declared.action.Field.{Field}
@@ -13,22 +13,19 @@ use Rattle.sect_names.specs.declared.lock.Effect.TheVariants as effect
 use Rattle.sect_names.specs.declared.lock.Lock.{Lock}
 use Rattle.sect_names.specs.declared.lock.Lock.TheVariants as lock
 use Rattle.sect_names.specs.Schemes.{IsScheme, guard_of}
-use Rattle.sect_names.specs.Locks.{Allows, Covers}
-use Rattle.sect_names.specs.Locks.{PathTo}
-use Rattle.sect_names.specs.Records.{IsTypedProgram, SiteOf}
+use Rattle.sect_names.specs.Locks.{Allows, Covers, PathTo, IsOwn}
+use Rattle.sect_names.specs.Records.{IsTypedProgram, SiteOf, IsNeedable}
 use Rattle.sect_names.specs.Walks.{StandsInThread}
 use Rattle.sect_names.specs.Needed.{end_of}
 use Rattle.sect_names.specs.Along.{NeededIn, GoesBy, read_for}
 use Rattle.sect_emit.specs.Pointed.{IsPointedStore, IsPointed}
-use Rattle.sect_names.specs.Locks.{IsOwn}
-use Rattle.sect_names.specs.Records.{IsNeedable}
-use Rattle.sect_names.proofs.Placing.{slice_get-left}
-use Rattle.sect_names.proofs.Walking.{reads_in}
-use Rattle.sect_emit.proofs.Pointing.{denoted}
-use Rattle.sect_types.proofs.Basics.{either_true, or_left, or_right}
-use Rattle.sect_names.proofs.Ends.{end_needable, end_reads}
-use Rattle.sect_names.proofs.Needing.{needed_needable}
-use Rattle.sect_names.proofs.Beginning.{begins_to, begins_own}
+use Rattle.sect_lemmas.proofs.Elements.{slice_get-left}
+use Rattle.sect_names.proofs.shared.Walking.{reads_in}
+use Rattle.sect_emit.proofs.shared.Pointing.{denoted}
+use Rattle.sect_lemmas.proofs.Booleans.{or_left, or_right}
+use Rattle.sect_names.proofs.shared.Ends.{end_needable, end_reads}
+use Rattle.sect_names.proofs.shared.Needing.{needed_needable}
+use Rattle.sect_names.proofs.shared.Beginning.{begins_to, begins_own}
 use Rattle.sect_modes.specs.declared.mode.Mode.{Mode}
 use Rattle.sect_modes.specs.declared.mode.Mode.TheVariants.{Exclusive}
 use Rattle.sect_modes.specs.declared.key.Key.TheVariants as key
@@ -45,11 +42,12 @@ use Rattle.sect_world.specs.Events.{guard_at}
 use Rattle.sect_emit.specs.ModeTests.{passes, is_reading_object, is_writing}
 use Rattle.sect_world.specs.Held.{holds_all, class_mode_in, is_held, locked_object, guard_or, may_read}
 use Rattle.sect_world.specs.Kept.{AreGripsKept}
-use Rattle.sect_emit.proofs.Modes.{at_least_along, writing_is, met_mode, met_less, allows_mode, grants_mode}
-use Rattle.sect_emit.proofs.Modes.{includes_mode}
+use Rattle.sect_emit.proofs.shared.Modes.{at_least_along, writing_is, met_mode, met_less, allows_mode, grants_mode}
+use Rattle.sect_emit.proofs.shared.Modes.{includes_mode}
 use Rattle.sect_world.specs.Secured.{may_by, Secured, AllSecured}
-use Rattle.sect_emit.proofs.Grips.{path_met, class_met, all_met}
+use Rattle.sect_emit.proofs.shared.Grips.{path_met, class_met, all_met}
 use Rattle.sect_world.proofs.Holding.{IsHeldBy, held_is, is_held_so, locked_is}
+use Rattle.std.proofs.lemmas.Bool.{or_cases}
 
 -- the modes of a key and of a class that are enough for an effect
 abbrev pub key_test : Effect → Mode → Bool
@@ -192,13 +190,13 @@ module _ (c : CompiledView) (scheme : IsScheme c.scheme) (typed : IsTypedProgram
   what_covers_secures (lock.Path p e) (lock.Path q f) own (same, allows) secured = λ o is.
       may_less c s held e f allows o (secured o (subst (λ z. path_datum s w.locals z ≡ Refers o) (sym same) is))
   what_covers_secures (lock.Class n r) (lock.Path q f) own (class, grants) secured =
-      elim (either_true (holds_all held) (is_met (held_mode (key.Class n) held) (class_mode r)) secured) [
+      elim (or_cases (holds_all held) (is_met (held_mode (key.Class n) held) (class_mode r)) secured) [
         | inl all ↦ all_secures q f own all
         | inr met ↦ class_allows_path n (class_mode r) q f class met (grants_mode r f grants) own
       ]
   what_covers_secures (lock.Class n r) (lock.Class d q) own (same, includes) secured =
       subst (λ z. (holds_all held || is_met (held_mode (key.Class z) held) (class_mode q)) ≡ true) same
-      (elim (either_true (holds_all held) (is_met (held_mode (key.Class n) held) (class_mode r)) secured) [
+      (elim (or_cases (holds_all held) (is_met (held_mode (key.Class n) held) (class_mode r)) secured) [
         | inl all ↦ or_left (holds_all held) (is_met (held_mode (key.Class n) held) (class_mode q)) all
         | inr met ↦ or_right (holds_all held) (is_met (held_mode (key.Class n) held) (class_mode q))
             (met_less (held_mode (key.Class n) held) (class_mode r) (class_mode q) met (includes_mode r q includes))

@@ -6,13 +6,14 @@ use Rattle.std.proofs.lemmas.Bool.{cases_lt}
 use Rattle.std.proofs.lemmas.Option.{slice_get_within}
 use Rattle.sect_types.specs.Statements.{TextView, Stop, Do, Choose, Loop, Section}
 use Rattle.sect_types.specs.Sections.{sections_of}
-use Rattle.sect_types.specs.Store.{StoreView, put_at}
+use Rattle.sect_types.specs.Store.{StoreView}
+use Rattle.sect_lemmas.specs.Lists.{put_at}
 use Rattle.sect_types.specs.Sound.{IsSound}
 use Rattle.sect_types.specs.Programs.{environment_at}
 use Rattle.sect_types.specs.Meaning.{begins_step}
 use Rattle.sect_types.specs.Whole.{local_step}
-use Rattle.sect_types.proofs.Basics.{some_injective}
-use Rattle.sect_types.proofs.Places.{at_of}
+use Rattle.sect_lemmas.proofs.Options.{some_injective}
+use Rattle.sect_lemmas.proofs.Places.{at_of}
 use Rattle.sect_types.specs.declared.action.Label.{Label}
 use Rattle.sect_graph.specs.declared.flow.Node.{Node}
 use Rattle.sect_graph.specs.Rests.{Begins, rest_at}
@@ -30,10 +31,10 @@ use Rattle.sect_world.specs.declared.turned.Kind.TheVariants as kind
 use Rattle.sect_world.specs.declared.turned.Turned.TheVariants.{Moved}
 use Rattle.sect_world.specs.Events.{IsFree, IsReady, with_frame, entering, beginning, acting, step_in, changed_by}
 use Rattle.sect_world.specs.Kept.{IsTextOf, IsThreadKept, IsAt}
-use Rattle.sect_world.specs.steps.Fits.{grips}
+use Rattle.sect_world.specs.Waiting.{grips}
 use Rattle.sect_world.specs.steps.Moves.{HoldsMore, IsNext, grips_by}
-use Rattle.sect_world.specs.steps.Viewing.{text_at, body_at, body_in, position_of, frame_of, thread_of, threads_of}
-use Rattle.sect_world.specs.steps.Viewing.{state_of, shown, IsSited, IsWorld}
+use Rattle.sect_world.specs.Viewing.{text_at, body_at, body_in, position_of, frame_of, thread_of, threads_of}
+use Rattle.sect_world.specs.Viewing.{state_of, shown, IsSited, IsWorld}
 use Rattle.sect_world.proofs.FreshKeys.{next_key_free}
 use Rattle.sect_world.proofs.FreshGrips.{looked_up}
 use Rattle.sect_world.proofs.KeptStates.{runs_are_well_kept}

@@ -16,7 +16,7 @@ use Rattle.sect_types.specs.Store.{StoreView}
 use Rattle.sect_types.specs.Meaning.{WorkView, Next, On, Off, next, looks, found_at, begins_step, after_change}
 use Rattle.sect_types.specs.Traces.{node_count}
 use Rattle.sect_types.specs.Whole.{settled, failed, frame_after}
-use Rattle.sect_types.proofs.Places.{at_of}
+use Rattle.sect_lemmas.proofs.Places.{at_of}
 use Rattle.sect_graph.specs.declared.flow.Node.{Node}
 use Rattle.sect_graph.specs.declared.flow.Successors.{Successors}
 use Rattle.sect_graph.specs.Graphs.{IsGraphOf}
@@ -32,8 +32,8 @@ use Rattle.sect_world.specs.declared.runner.Stage.TheVariants as stage
 use Rattle.sect_world.specs.declared.runner.Runner.{Runner}
 use Rattle.sect_world.specs.Events.{acting, changed_by}
 use Rattle.sect_world.specs.Kept.{IsTextOf}
-use Rattle.sect_world.specs.steps.Fits.{grips}
-use Rattle.sect_world.specs.steps.Viewing.{body_in, body_at, text_at, thread_of}
+use Rattle.sect_world.specs.Waiting.{grips}
+use Rattle.sect_world.specs.Viewing.{body_in, body_at, text_at, thread_of}
 use Rattle.sect_world.specs.steps.Moves.{Goes, IsStep, HoldsMore, StepsLocally, chosen, grips_by}
 use Rattle.sect_world.proofs.LocalSteps.{local_looks, local_quiet, IsQuiet}
 

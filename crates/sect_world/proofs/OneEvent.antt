@@ -1,28 +1,17 @@
 -- A thread has at most one event in a state, and it leads to one state.
-use Rattle.std.proofs.Common.{◌≡◌, ℕ, zero, suc, Bool, true, false, refl, sym, ap, ◌∙◌, subst, inl, inr, List, [], ◌∷◌}
-use Rattle.std.proofs.Common.{Option, Some, None, true≢false}
-use Rattle.std.specs.Prelude.{slice_get, if◌then◌else◌}
+use Rattle.std.proofs.Common.{◌≡◌, ℕ, Bool, true, refl, sym, ap, ◌∙◌, List, [], ◌∷◌, Option, Some, None, true≢false}
+use Rattle.std.specs.Prelude.{if◌then◌else◌}
 use Rattle.sect_types.specs.Statements.{TextView, Stop, Do, Choose, Loop, Section}
-use Rattle.sect_graph.specs.declared.flow.Node.{Node}
-use Rattle.sect_graph.specs.declared.flow.Successors.{Successors}
-use Rattle.sect_graph.specs.Paths.{LeadsTo, IsSuccessor}
-use Rattle.sect_graph.specs.Rests.{Begins}
-use Rattle.sect_types.specs.Programs.{ProgramView}
-use Rattle.sect_types.specs.declared.action.Condition.{Condition}
 use Rattle.sect_types.specs.declared.store.Fault.{Fault}
 use Rattle.sect_types.specs.declared.store.End.{End}
 use Rattle.sect_emit.specs.declared.plan.Grip.{Grip}
 use Rattle.sect_world.specs.declared.event.Deed.{Deed}
 use Rattle.sect_world.specs.declared.event.Deed.TheVariants.{Local, Enter, Take, Begin, Again, Act, Leave}
-use Rattle.sect_world.specs.declared.event.Event.{Event}
-use Rattle.sect_types.specs.Store.{ObjectView}
-use Rattle.sect_types.specs.Meaning.{WorkView, Change, Came, Went, Fell, is_true, one, Next, On, Off, going, taken}
-use Rattle.sect_types.specs.Meaning.{next, begins_step}
+use Rattle.sect_types.specs.Meaning.{begins_step}
 use Rattle.sect_emit.specs.Plan.{meets}
 use Rattle.sect_emit.specs.Compiled.{CompiledView}
 use Rattle.sect_emit.specs.State.{Position, Outside, Entered, Running, Faulted, ThreadState, State, plan_at}
-use Rattle.sect_world.specs.Events.{IsOver, MayDo, Happens}
-use Rattle.sect_types.proofs.Basics.{some_injective}
+use Rattle.sect_world.specs.Events.{IsOver, MayDo}
 
 -- the event that a place allows, if any; whether a key can be taken isn't looked at
 abbrev outside_deed : Option End → TextView → Option Deed
@@ -97,55 +86,3 @@ module _ (c : CompiledView) (s : State) (t : ℕ) (th : ThreadState) where
     by : (how : Option Fault) → IsOver th.position how → deed_from met th th.position ≡ Some Leave
     by None over = ap (deed_from met th) over.1
     by (Some why) over = ap (deed_from met th) over.1
-
--- one event a thread
-pub one_event : (c : CompiledView) (s a b : State) (e f : Event) → e.thread ≡ f.thread → Happens c s e a
-    → Happens c s f b → e.deed ≡ f.deed
-one_event c s a b e f same x y =
-    let th : x.0 ≡ y.0 = some_injective x.0 y.0 (sym x.1 ∙ ap (slice_get s.threads) same ∙ y.1) in
-    some_injective e.deed f.deed (sym (only_deed c s e.thread x.0 e.deed a x.2) ∙ ap (deed_at c s) th
-    ∙ only_deed c s f.thread y.0 f.deed b y.2)
-
--- a step goes to what is still to run at a successor of the node
-step_on : Next → (TextView → Type 0) → Type 0
-step_on (On k w ch) P = P k
-step_on (Off why w) P = Unit {0}
-
-going_on : (P : TextView → Type 0) (rest : TextView) (came : Came) → P rest → step_on (going rest came) P
-unfolding step_on
-going_on P rest (Went w ch) h = h
-going_on P rest (Fell why w) h = tt
-
-taken_on : (P : TextView → Type 0) (n : ℕ) (d : Condition) (a b : TextView) (w : WorkView) → P a → P b
-    → step_on (taken n d a b w) P
-unfolding step_on
-taken_on P zero d a b w x y = tt
-taken_on P (suc n) d a b w x y = by (is_true w.locals d) where
-  by : (z : Bool) → P (if z then a else b)
-  by true = x
-  by false = y
-
-next_on : (rest : ℕ → TextView) (x : Node) (k : TextView) → begins_step k ≡ true → Begins rest x k
-    → (p : ProgramView) (t : ℕ) (found : Option ObjectView) (w : WorkView)
-    → step_on (next p t k found w) (λ l. (m : ℕ) × LeadsTo x m × (l ≡ rest m))
-next_on rest x Stop e b p t found w = absurd b
-next_on rest x (Do a r) e b p t found w =
-    going_on (λ l. (m : ℕ) × LeadsTo x m × (l ≡ rest m)) r (one p t a found w)
-    (b.0, subst (λ (n : Successors). IsSuccessor n b.0) (sym (ap (λ (y : Node). y.next) b.1)) refl, sym b.2)
-next_on rest x (Choose d q r k) e b p t found w =
-    taken_on (λ l. (m : ℕ) × LeadsTo x m × (l ≡ rest m)) w.fuel d _ _ w
-    (b.0, subst (λ (n : Successors). IsSuccessor n b.0) (sym (ap (λ (y : Node). y.next) b.2)) (inl refl), sym b.3)
-    (b.1, subst (λ (n : Successors). IsSuccessor n b.1) (sym (ap (λ (y : Node). y.next) b.2)) (inr refl), sym b.4)
-next_on rest x (Loop d q k) e b p t found w =
-    taken_on (λ l. (m : ℕ) × LeadsTo x m × (l ≡ rest m)) w.fuel d _ _ w
-    (b.0, subst (λ (n : Successors). IsSuccessor n b.0) (sym (ap (λ (y : Node). y.next) b.2)) (inl refl), sym b.3)
-    (b.1, subst (λ (n : Successors). IsSuccessor n b.1) (sym (ap (λ (y : Node). y.next) b.2)) (inr refl), sym b.4)
-next_on rest x (Section i q k) e b p t found w = absurd (true≢false (sym e))
-
--- what a step at a node of flat code goes on with is what is still to run at one of the node's successors
-pub next_goes : (rest : ℕ → TextView) (x : Node) (k : TextView) → begins_step k ≡ true → Begins rest x k
-    → (p : ProgramView) (t : ℕ) (found : Option ObjectView) (w v : WorkView) (l : TextView) (ch : Change)
-    → next p t k found w ≡ On l v ch → (m : ℕ) × LeadsTo x m × (l ≡ rest m)
-unfolding step_on
-next_goes rest x k e b p t found w v l ch is =
-    subst (λ n. step_on n (λ l. (m : ℕ) × LeadsTo x m × (l ≡ rest m))) is (next_on rest x k e b p t found w)

@@ -9,8 +9,8 @@ use Rattle.sect_types.specs.Store.{StoreView}
 use Rattle.sect_emit.specs.Plan.{plan_of, Ascends}
 use Rattle.sect_emit.specs.Compiled.{CompiledView, IsCompiled}
 use Rattle.sect_emit.specs.State.{plan_at}
-use Rattle.sect_types.proofs.Basics.{none_or_some}
-use Rattle.sect_emit.proofs.Plans.{plan_ascends}
+use Rattle.sect_lemmas.proofs.Options.{none_or_some}
+use Rattle.sect_emit.proofs.shared.Plans.{plan_ascends}
 use Rattle.sect_world.proofs.Listing.{none_in_both}
 
 past_end : {A : Type 0} (xs : List A) (i : ℕ) (d : A) → slice_get xs i ≡ None → slice_index_or xs i d ≡ d

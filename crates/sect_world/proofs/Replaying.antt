@@ -18,7 +18,7 @@ use Rattle.sect_world.proofs.SerialFrames.{Agrees, Replayed}
 use Rattle.sect_modes.specs.declared.key.Key.TheVariants as key
 use Rattle.sect_modes.specs.Mode.{is_reading}
 use Rattle.sect_emit.specs.Plan.{held_mode}
-use Rattle.sect_types.proofs.BodySteps.{left_after, step_keeps}
+use Rattle.sect_types.proofs.shared.BodySteps.{left_after, step_keeps}
 use Rattle.sect_world.specs.Accesses.{change_in, Asks}
 use Rattle.sect_world.proofs.StepChanges.{is_new, touches, object_after, count_after, object_at-after, count-after_own}
 use Rattle.sect_world.proofs.StepChanges.{count-after_other, rows-after, untouched, new_whatever, untouched_is_old}

@@ -19,13 +19,13 @@ use Rattle.sect_world.specs.Events.{guard_at, fresh_grip, grips_of}
 use Rattle.sect_emit.specs.ModeTests.{passes, is_reading_object, is_writing}
 use Rattle.sect_world.specs.Held.{holds_all, class_mode_in, mode_of_class, is_held_at, is_held, guard_or}
 use Rattle.sect_world.specs.Held.{locked_object_at, locked_object, may_read, may_write, may_make_by}
-use Rattle.sect_types.proofs.Basics.{or_right}
-use Rattle.sect_emit.proofs.Keys.{same_key}
-use Rattle.sect_emit.proofs.PlanModes.{key_of-injective}
-use Rattle.sect_emit.proofs.Grips.{held_more, held_one}
+use Rattle.sect_lemmas.proofs.Booleans.{or_right}
+use Rattle.sect_emit.proofs.shared.Keys.{same_key}
+use Rattle.sect_emit.proofs.shared.PlanModes.{key_of-injective}
+use Rattle.sect_emit.proofs.shared.Grips.{held_more, held_one}
 use Rattle.sect_world.proofs.AllowedChanges.{IsAllowed, sites_stay}
-use Rattle.sect_types.proofs.Replaced.{mapped}
-use Rattle.sect_types.proofs.Stores.{same_name-true, same_name-eq}
+use Rattle.sect_lemmas.proofs.Options.{mapped}
+use Rattle.sect_types.proofs.shared.Stores.{same_name-true, same_name-eq}
 use Rattle.sect_world.proofs.StepChanges.{is_new, touches, object_at-after, site_stays, global_is_old}
 use Rattle.sect_world.proofs.Holding.{holds_same, holds_append, holding_grows}
 

@@ -11,16 +11,15 @@ use Rattle.sect_names.specs.declared.lock.Effect.TheVariants as effect
 use Rattle.sect_names.specs.declared.lock.Lock.TheVariants as lock
 use Rattle.sect_names.specs.Schemes.{IsScheme}
 use Rattle.sect_names.specs.Carrying.{right_for, CarriedBack}
-use Rattle.sect_names.specs.Records.{IsTypedProgram}
+use Rattle.sect_names.specs.Records.{IsTypedProgram, IsNeedable}
 use Rattle.sect_names.specs.Walks.{Leads, StandsInThread}
 use Rattle.sect_names.specs.Needed.{end_of}
 use Rattle.sect_names.specs.Along.{NeededIn}
 use Rattle.sect_emit.specs.Pointed.{IsPointed, StepsTo, IsMade}
-use Rattle.sect_names.specs.Records.{IsNeedable}
-use Rattle.sect_names.proofs.Walking.{needed_step, leads_stands}
-use Rattle.sect_emit.proofs.Pointing.{step_pointed}
-use Rattle.sect_names.proofs.Needing.{needed_needable}
-use Rattle.sect_emit.proofs.Securing.{needed_secures}
+use Rattle.sect_names.proofs.shared.Walking.{needed_step, leads_stands}
+use Rattle.sect_emit.proofs.shared.Pointing.{step_pointed}
+use Rattle.sect_names.proofs.shared.Needing.{needed_needable}
+use Rattle.sect_emit.proofs.shared.Securing.{needed_secures}
 use Rattle.sect_modes.specs.declared.mode.Mode.{Mode}
 use Rattle.sect_modes.specs.declared.mode.Mode.TheVariants.{Exclusive}
 use Rattle.sect_modes.specs.declared.key.Key.TheVariants as key
@@ -39,9 +38,9 @@ use Rattle.sect_emit.specs.ModeTests.{passes}
 use Rattle.sect_world.specs.Held.{holds_all, mode_of_class, may_read, may_make_by}
 use Rattle.sect_world.specs.Kept.{AreGripsKept, HoldsClassOf, HaveTheirClass}
 use Rattle.sect_world.specs.Secured.{may_by, AllSecured, Good}
-use Rattle.sect_types.proofs.Basics.{either_true, or_left, or_right}
-use Rattle.sect_names.proofs.Ends.{end_needable}
-use Rattle.sect_emit.proofs.Grips.{held_split, held_more, held_one, held_only}
+use Rattle.sect_lemmas.proofs.Booleans.{or_left, or_right}
+use Rattle.sect_names.proofs.shared.Ends.{end_needable}
+use Rattle.sect_emit.proofs.shared.Grips.{held_split, held_more, held_one, held_only}
 use Rattle.sect_world.proofs.KeptPointed.{pointed_thread, stands_inside}
 use Rattle.sect_world.proofs.Holding.{passes_in, holds_same, holds_append, all_more, mode_of_class_more, met_more}
 use Rattle.sect_world.proofs.Holding.{may_grows}
@@ -50,6 +49,7 @@ use Rattle.sect_world.proofs.MetPlans.{key_test, may_itself, may_by_class, denot
 use Rattle.sect_world.proofs.AllowedChanges.{was_there, LeavesAlone, left_alone, next_is_none, sites_stay, IsAllowed}
 use Rattle.sect_world.proofs.Denoting.{path_stays}
 use Rattle.sect_names.specs.declared.lock.Lock.{Lock}
+use Rattle.std.proofs.lemmas.Bool.{or_cases}
 
 -- with what it holds a thread keeps the classes of its objects over a change of the store
 pub classes_stay : (c : CompiledView) (u : ℕ) (s : StoreView) → u < length s.made → (change : Change) (held : List Grip)
@@ -183,7 +183,7 @@ module _ (c : CompiledView) (scheme : IsScheme c.scheme) (typed : IsTypedProgram
   step_keeps_secured lock.All needed =
       all_more held (held ++ more) (holds_append held more) (inside.secured lock.All (before lock.All refl needed))
   step_keeps_secured (lock.Class n r) needed =
-      elim (either_true (holds_all held) (is_met (held_mode (key.Class n) held) (class_mode r))
+      elim (or_cases (holds_all held) (is_met (held_mode (key.Class n) held) (class_mode r))
       (inside.secured (lock.Class n r) (before (lock.Class n r) refl needed))) [
         | inl all ↦ or_left (holds_all (held ++ more)) (is_met (held_mode (key.Class n) (held ++ more)) (class_mode r))
             (all_more held (held ++ more) (holds_append held more) all)
@@ -221,7 +221,7 @@ module _ (c : CompiledView) (scheme : IsScheme c.scheme) (typed : IsTypedProgram
                 ∙ ap (guard_at c) same
                 ∙ (there o is).2 in
                 grows e o
-                (elim (either_true (holds_all held) (is_met (held_mode (key.Class n) held) (class_mode (right_for e)))
+                (elim (or_cases (holds_all held) (is_met (held_mode (key.Class n) held) (class_mode (right_for e)))
                 (inside.secured (lock.Class n (right_for e)) needs)) [
                   | inl all ↦ may_itself c s held e o y is_there none (inl all)
                   | inr met ↦ may_by_class c s held e n (class_mode (right_for e)) o y is_there none class met
@@ -284,7 +284,7 @@ step_keeps_classes c t s room change held made counted of whole allowed = record
   where
     made_by : (x : ObjectView) (m : Mode) → may_make_by c s held x.site None ≡ true → Exclusive ≡ m
         → HoldsClassOf c held x.site m
-    made_by x m makes is = elim (either_true (holds_all held) (passes is_making (mode_of_class c held x.site)) makes) [
+    made_by x m makes is = elim (or_cases (holds_all held) (passes is_making (mode_of_class c held x.site)) makes) [
       | inl all ↦ inl all
       | inr passed ↦ (let k = passes_in is_making (mode_of_class c held x.site) passed in
           inr (k.0, k.1, subst (λ z. is_at_least k.0 (intention_of z) ≡ true) is k.2))

@@ -21,11 +21,12 @@ use Rattle.sect_world.specs.Excluding.{IsInSection, Excludes, ReadersAndWritersE
 use Rattle.sect_world.proofs.Tidy.{IsTidy, StatesAreTidy}
 use Rattle.sect_world.specs.SerialFacts.{OnlySectionsDiffer, IsReplayed, SectionsAreReplayed}
 use Rattle.sect_world.proofs.SerialFrames.{Replayed, IsApart, IsInside, Follows, HasFrame, Serializes}
-use Rattle.sect_types.proofs.Replaced.{mapped}
-use Rattle.sect_types.proofs.Basics.{same_elements, IsThere, some_injective}
-use Rattle.sect_types.proofs.Stores.{same_store}
-use Rattle.sect_types.proofs.RunningAhead.{ahead_standing, get-all_ahead}
-use Rattle.sect_world.proofs.LongerRuns.{leads_more}
+use Rattle.sect_lemmas.proofs.Options.{mapped}
+use Rattle.sect_lemmas.proofs.Elements.{same_elements}
+use Rattle.sect_lemmas.proofs.Options.{IsThere, some_injective}
+use Rattle.sect_types.proofs.shared.Stores.{same_store}
+use Rattle.sect_types.proofs.shared.RunningAhead.{ahead_standing, get-all_ahead}
+use Rattle.sect_world.proofs.shared.LongerRuns.{leads_more}
 use Rattle.sect_world.proofs.Following.{inside_of, local, enter, take, begin, again, act, leave}
 use Rattle.sect_world.proofs.Listing.{none_in_both}
 

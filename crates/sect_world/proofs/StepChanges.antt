@@ -15,9 +15,10 @@ use Rattle.sect_types.specs.Meaning.{after_change, name_in, base_datum, value_da
 use Rattle.sect_types.specs.Meaning.{computed, stored, done, paid, looks, found_at, going, taken, next}
 use Rattle.sect_world.specs.Accesses.{change_in, Asks}
 use Rattle.sect_world.specs.Held.{Loading, next_access, if_paid, access_of, load_of, store_of}
-use Rattle.sect_types.proofs.Replaced.{mapped}
-use Rattle.sect_types.proofs.Stores.{object_at-write, object_at-add, count-write, count-add_own, count-add_other}
-use Rattle.sect_types.proofs.Stores.{rows-write, rows-add}
+use Rattle.sect_lemmas.proofs.Options.{mapped}
+use Rattle.sect_types.proofs.shared.Stores.{object_at-write, object_at-add, count-write, count-add_own}
+use Rattle.sect_types.proofs.shared.Stores.{count-add_other}
+use Rattle.sect_types.proofs.shared.Stores.{rows-write, rows-add}
 
 -- the change by thread t, which has made n objects so far, makes this object
 abbrev pub is_new : ℕ → ℕ → Change → ObjectName → Bool

@@ -13,9 +13,9 @@ use Rattle.sect_emit.specs.State.{Position, Outside, Entered, Running, Faulted, 
 use Rattle.sect_world.specs.Blocked.{WantsFirst, IsBlocked, IsStuck}
 use Rattle.sect_world.specs.Laws.{NoStateIsStuck}
 use Rattle.sect_world.specs.Kept.{IsPlaced, AsksInOrder}
-use Rattle.sect_types.proofs.Basics.{some_injective, none_or_some}
-use Rattle.sect_emit.proofs.Keys.{not_below_itself, below_along}
-use Rattle.sect_emit.proofs.Plans.{mode_is_there, ascending_across}
+use Rattle.sect_lemmas.proofs.Options.{some_injective, none_or_some}
+use Rattle.sect_emit.proofs.shared.Keys.{not_below_itself, below_along}
+use Rattle.sect_emit.proofs.shared.Plans.{mode_is_there, ascending_across}
 use Rattle.sect_world.proofs.KeptStates.{runs_are_well_kept}
 
 nothing_first : (g : Grip) (gs : List Grip) → g ∷ gs ≡ [] → ⊥

@@ -2,7 +2,8 @@
 use Rattle.std.proofs.Common.{◌≡◌, ◌-◌, ℕ, zero, suc, List, [], ◌∷◌, ◌++◌, length, take, refl, ap, ◌∙◌, arith}
 use Rattle.std.proofs.lemmas.List.{length-append}
 use Rattle.std.proofs.Math.Seq.{take-append_seam}
-use Rattle.sect_types.specs.Store.{ObjectView, StoreView, changed_at, add}
+use Rattle.sect_types.specs.Store.{ObjectView, StoreView, add}
+use Rattle.sect_lemmas.specs.Lists.{changed_at}
 use Rattle.sect_store.specs.Undoing.{without_end, without_last}
 
 end_off : {X : Type 0} (xs : List X) (x : X) → without_end (xs ++ x ∷ []) ≡ xs

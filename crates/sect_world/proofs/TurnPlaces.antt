@@ -8,7 +8,7 @@ use Rattle.sect_types.specs.Statements.{TextView, Stop, Section}
 use Rattle.sect_types.specs.Store.{StoreView}
 use Rattle.sect_types.specs.Meaning.{begins_step}
 use Rattle.sect_types.specs.Whole.{has_ended}
-use Rattle.sect_types.proofs.Places.{at_of}
+use Rattle.sect_lemmas.proofs.Places.{at_of}
 use Rattle.sect_graph.specs.Rests.{rest_at}
 use Rattle.sect_modes.specs.declared.mode.Mode.{Mode}
 use Rattle.sect_modes.specs.declared.key.Key.{Key}
@@ -21,8 +21,8 @@ use Rattle.sect_world.specs.declared.event.Event.{Event}
 use Rattle.sect_world.specs.declared.runner.Runner.{Runner}
 use Rattle.sect_world.specs.Events.{Happens, IsReady, giving_back}
 use Rattle.sect_world.specs.Kept.{IsAt}
-use Rattle.sect_world.specs.steps.Fits.{grips, Asks}
-use Rattle.sect_world.specs.steps.Viewing.{text_at, state_of, IsWorld}
+use Rattle.sect_world.specs.Waiting.{grips, Asks}
+use Rattle.sect_world.specs.Viewing.{text_at, state_of, IsWorld}
 use Rattle.sect_world.proofs.MoveTurns.{stands, kept, text_is, section_on}
 use Rattle.sect_world.proofs.Viewing.{drop_first}
 

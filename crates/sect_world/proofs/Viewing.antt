@@ -5,8 +5,9 @@ use Rattle.std.specs.Prelude.{ℤ, slice_get, slice_set}
 use Rattle.std.proofs.lemmas.List.{map-append}
 use Rattle.std.proofs.lemmas.Option.{get_or_from_slice_get, slice_get_within}
 use Rattle.sect_types.specs.Statements.{TextView}
-use Rattle.sect_types.specs.Store.{StoreView, changed_at, put_at}
-use Rattle.sect_types.proofs.Basics.{some_injective, none_or_some}
+use Rattle.sect_types.specs.Store.{StoreView}
+use Rattle.sect_lemmas.specs.Lists.{changed_at, put_at}
+use Rattle.sect_lemmas.proofs.Options.{some_injective, none_or_some}
 use Rattle.sect_table.specs.declared.claims.Hold.{Hold}
 use Rattle.sect_table.specs.declared.claims.Grant.{Grant}
 use Rattle.sect_modes.specs.declared.mode.Mode.{Mode}
@@ -20,10 +21,11 @@ use Rattle.sect_world.specs.declared.event.Event.{Event}
 use Rattle.sect_world.specs.declared.runner.Runner.{Runner}
 use Rattle.sect_world.specs.declared.turned.Turned.{Turned}
 use Rattle.sect_world.specs.Worlds.{WorldView, IsTurned}
-use Rattle.sect_world.specs.steps.Fits.{grips, Fits, takes_first, granted, all_granted, given_to}
+use Rattle.sect_world.specs.Waiting.{grips}
+use Rattle.sect_world.specs.steps.Fits.{Fits, takes_first, granted, all_granted, given_to}
 use Rattle.sect_world.specs.steps.Taking.{advanced, advanced_at, all_advanced}
 use Rattle.std.proofs.lemmas.Option.{slice_get_read}
-use Rattle.sect_world.specs.steps.Viewing.{position_of, thread_of, threads_of, state_of, shown, IsWorld, HasRoom}
+use Rattle.sect_world.specs.Viewing.{position_of, thread_of, threads_of, state_of, shown, IsWorld, HasRoom}
 
 -- numbers don't compute under a sum
 plus_one : (n : ℕ) → suc n + 1 ≡ suc (n + 1)

@@ -5,8 +5,8 @@ use Rattle.std.specs.Prelude.{ℤ, slice_get, slice_index_or, is_some}
 use Rattle.std.proofs.lemmas.List.{append-nil, length-set}
 use Rattle.std.proofs.lemmas.Option.{slice_get_within}
 use Rattle.sect_types.specs.Store.{StoreView}
-use Rattle.sect_types.proofs.Membership.{Has-right}
-use Rattle.sect_types.proofs.Replaced.{length-changed_at}
+use Rattle.sect_lemmas.proofs.Membership.{Has-right}
+use Rattle.sect_lemmas.proofs.Replaced.{length-changed_at}
 use Rattle.sect_modes.specs.declared.mode.Mode.{Mode}
 use Rattle.sect_modes.specs.declared.key.Key.{Key}
 use Rattle.sect_modes.specs.Key.{is_same_key, is_key_below}
@@ -15,12 +15,12 @@ use Rattle.sect_table.specs.declared.claims.Answer.TheVariants.{Granted, Queued}
 use Rattle.sect_table.specs.Contents.{Contents, hold_of, held_by, holds, is_waiting}
 use Rattle.sect_table.specs.Answers.{IsAnswered}
 use Rattle.sect_table.specs.Sound.{IsKept as IsTableKept}
-use Rattle.sect_table.proofs.Shown.{cases_of, same_key}
+use Rattle.sect_table.proofs.shared.Shown.{same_key}
 use Rattle.sect_emit.specs.declared.plan.Grip.{Grip}
 use Rattle.sect_emit.specs.Plan.{grip, held_mode, Ascends}
 use Rattle.sect_emit.specs.Compiled.{CompiledView, program_of}
 use Rattle.sect_emit.specs.State.{Entered, ThreadState, State, IsThread}
-use Rattle.sect_emit.proofs.Keys.{not_below_itself}
+use Rattle.sect_emit.proofs.shared.Keys.{not_below_itself}
 use Rattle.sect_world.specs.declared.event.Event.{Event}
 use Rattle.sect_world.specs.declared.runner.Stage.{Stage}
 use Rattle.sect_world.specs.declared.runner.Stage.TheVariants as stage
@@ -32,15 +32,17 @@ use Rattle.sect_world.specs.Runs.{IsRun, order_of}
 use Rattle.sect_world.specs.Blocked.{IsBlocked}
 use Rattle.sect_world.specs.Kept.{IsPlaced}
 use Rattle.sect_world.specs.Worlds.{WorldView}
-use Rattle.sect_world.specs.steps.Fits.{Asks, AllWaitersAsk, granted, take_of}
+use Rattle.sect_world.specs.Waiting.{Asks, AllWaitersAsk}
+use Rattle.sect_world.specs.steps.Fits.{granted, take_of}
 use Rattle.sect_world.specs.steps.Taking.{Wishes, IsAsked, advanced, advanced_at, grant_to, turn_by}
-use Rattle.sect_world.specs.steps.Viewing.{position_of, state_of, shown, IsWorld}
+use Rattle.sect_world.specs.Viewing.{position_of, state_of, shown, IsWorld}
 use Rattle.sect_world.proofs.Agreeing.{granted_happens, granted_asks, queued_fits, queued_is_blocked, waiter_asks}
 use Rattle.sect_world.proofs.Agreeing.{waiter_is_blocked}
 use Rattle.sect_world.proofs.Claims.{held-later, held-grips}
 use Rattle.sect_world.proofs.KeptStates.{runs_are_well_kept}
 use Rattle.sect_world.proofs.LongerRuns.{run_on, order_of-more}
 use Rattle.sect_world.proofs.Viewing.{seen, world_fits, state_granted, each_advanced, first_dropped, TurnsInto}
+use Rattle.std.proofs.lemmas.Bool.{cases_Bool}
 
 -- a runner is seen as entered where it is
 entered_stage : (c : CompiledView) (s : Stage) → position_of c s ≡ Entered → s ≡ stage.Entered
@@ -52,7 +54,7 @@ entered_stage c (stage.Faulted i why) e = absurd (let off : position_of c (stage
 -- what lies below a key isn't the key
 unheld : (hs : List Grip) (g : Grip) (rest : List Grip) → Ascends (hs ++ g ∷ rest) → held_mode g.key hs ≡ None
 unheld [] g rest a = refl
-unheld (h ∷ hs) g rest a = elim (cases_of (is_same_key g.key h.key)) [
+unheld (h ∷ hs) g rest a = elim (cases_Bool (is_same_key g.key h.key)) [
   | inl same ↦ absurd (not_below_itself h.key
       (subst (λ z. is_key_below h.key z ≡ true) (same_key g.key h.key same)
       (a.0 g (Has-right hs (g ∷ rest) g (inl refl)))))

@@ -15,7 +15,8 @@ use Rattle.sect_emit.specs.declared.plan.Grip.{Grip}
 use Rattle.sect_world.specs.declared.event.Deed.{Deed}
 use Rattle.sect_world.specs.declared.event.Deed.TheVariants.{Local, Enter, Take, Begin, Again, Act, Leave}
 use Rattle.sect_world.specs.declared.event.Event.{Event}
-use Rattle.sect_types.specs.Store.{StoreView, put_at}
+use Rattle.sect_types.specs.Store.{StoreView}
+use Rattle.sect_lemmas.specs.Lists.{put_at}
 use Rattle.sect_types.specs.Meaning.{WorkView, Change, Unchanged, Written, Added, after_change, found_at, Next, On, Off}
 use Rattle.sect_types.specs.Meaning.{next, looks, begins_step}
 use Rattle.sect_types.specs.Whole.{FrameView, settled, failed, local_step}

@@ -1,7 +1,7 @@
 -- What running a schedule comes to. `run_schedule` cites it.
 use Rattle.std.specs.Prelude.{◌≡◌, ◌<◌, ◌≤◌, ⊤, ℕ, List, [], ◌∷◌, ◌++◌, map, length}
 use Rattle.std.specs.List.{flat_map}
-use Rattle.sect_types.specs.Lists.{Has}
+use Rattle.sect_lemmas.specs.Lists.{Has}
 use Rattle.sect_types.specs.Whole.{SerialEndView, RunsWhole}
 use Rattle.sect_emit.specs.Compiled.{CompiledView, program_of}
 use Rattle.sect_emit.specs.State.{State, start}

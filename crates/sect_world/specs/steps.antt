@@ -3,4 +3,3 @@ pub mod Counting
 pub mod Fits
 pub mod Moves
 pub mod Taking
-pub mod Viewing

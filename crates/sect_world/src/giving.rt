@@ -10,7 +10,7 @@ ghost use Rattle.sect_world.specs.declared.runner.Stage.TheVariants.{Outside};
 ghost use Rattle.sect_world.specs.Events.{frame_out};
 ghost use Rattle.sect_world.specs.steps.Fits.{takes};
 ghost use Rattle.sect_world.specs.steps.Taking.{CanAdvance, all_advanced, takers};
-ghost use Rattle.sect_world.specs.steps.Viewing.{EndsSo, text_at, frame_of};
+ghost use Rattle.sect_world.specs.Viewing.{EndsSo, text_at, frame_of};
 
 use crate::asking::take;
 use crate::event::Event;

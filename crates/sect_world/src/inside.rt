@@ -18,7 +18,7 @@ ghost use Rattle.sect_emit.specs.Plan.{key_of as key_by};
 ghost use Rattle.sect_emit.specs.Compiled.{program_of};
 ghost use Rattle.sect_world.specs.Events.{step_in, changed_by, acting};
 ghost use Rattle.sect_world.specs.Kept.{IsTextOf};
-ghost use Rattle.sect_world.specs.steps.Viewing.{body_at, thread_of, IsSited};
+ghost use Rattle.sect_world.specs.Viewing.{body_at, thread_of, IsSited};
 ghost use Rattle.sect_world.specs.steps.Moves.{Goes, IsStep, GivesKey, HoldsMore, grips_by, object_by};
 
 use crate::moving::{chosen, run_node};

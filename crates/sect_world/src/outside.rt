@@ -15,8 +15,8 @@ ghost use Rattle.sect_emit.specs.Plan.{meets as meets_by};
 ghost use Rattle.sect_emit.specs.Compiled.{program_of};
 ghost use Rattle.sect_emit.specs.State.{plan_at};
 ghost use Rattle.sect_world.specs.declared.runner.Stage.TheVariants.{Entered, Running};
-ghost use Rattle.sect_world.specs.steps.Fits.{grips};
-ghost use Rattle.sect_world.specs.steps.Viewing.{text_at, frame_of};
+ghost use Rattle.sect_world.specs.Waiting.{grips};
+ghost use Rattle.sect_world.specs.Viewing.{text_at, frame_of};
 ghost use Rattle.sect_world.specs.steps.Moves.{StepsLocally};
 
 use crate::moving::{chosen, run_node};

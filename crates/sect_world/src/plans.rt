@@ -2,13 +2,13 @@
 
 ghost use Rattle.std.specs.Prelude.{◌≡◌, ◌∷◌, [], ◌++◌, List, IfOk, OnOk};
 ghost use Rattle.sect_emit.specs.declared.plan.Grip.{Grip};
-ghost use Rattle.sect_emit.specs.Plan.{key_of as key_by, object_mode as mode_by, gathered, object_wishes};
+ghost use Rattle.sect_emit.specs.Plan.{key_of as key_by, gathered, object_wishes};
 ghost use Rattle.sect_emit.specs.Plan.{plan_of as plan_by};
 
 use crate::lookup::path_datum;
-use sect_emit::{Grip, add_grip};
-use sect_modes::{Key, Mode};
-use sect_names::{Effect, Lock};
+use sect_emit::{Grip, add_grip, object_mode};
+use sect_modes::Key;
+use sect_names::Lock;
 use sect_store::{Store, Work};
 use sect_types::{Datum, ObjectName};
 use std::alloc::{AllocError, Global};
@@ -20,16 +20,6 @@ pub fn key_of(name: ObjectName) -> Key
     match name {
         ObjectName::Global(global) => Key::Global(global),
         ObjectName::Made { thread, number } => Key::Made { thread, number },
-    }
-}
-
-/// The mode of an object for a lock on its path.
-fn object_mode(effect: Effect) -> Mode
-    ensures { result ≡ mode_by effect }
-{
-    match effect {
-        Effect::Read => Mode::Shared,
-        Effect::Write => Mode::Exclusive,
     }
 }
 

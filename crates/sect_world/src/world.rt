@@ -17,9 +17,9 @@ ghost use Rattle.sect_world.specs.Blocked.{IsStuck};
 ghost use Rattle.sect_world.specs.declared.event.Deed.TheVariants.{Again};
 ghost use Rattle.sect_world.specs.Moments.{IsMoment, world_at};
 ghost use Rattle.sect_world.specs.Worlds.{IsTurned, IsRefused, IsRunOf, AllEnded, first_world, outcome_at};
-ghost use Rattle.sect_world.specs.steps.Fits.{Asks};
+ghost use Rattle.sect_world.specs.Waiting.{Asks};
 ghost use Rattle.sect_world.specs.steps.Moves.{IsNext};
-ghost use Rattle.sect_world.specs.steps.Viewing.{body_at, position_of, IsSited};
+ghost use Rattle.sect_world.specs.Viewing.{body_at, position_of, IsSited};
 
 use crate::asking::{ask, turned_by};
 use crate::event::{Deed, Event};

@@ -1,26 +1,17 @@
 -- The steps of chains, one from another.
-use Rattle.std.specs.Prelude.{◌≡◌, ◌<◌, ℕ, List, [], ◌∷◌, length, slice_get}
-use Rattle.std.specs.Prelude.{Option, Some, None}
-use Rattle.sect_types.specs.Lists.{Has}
+use Rattle.std.specs.Prelude.{◌≡◌, ◌<◌, ℕ, List, [], ◌∷◌, length, slice_get, Option, Some, None}
+use Rattle.sect_lemmas.specs.Lists.{Has}
 use Rattle.sect_graph.specs.declared.flow.Node.{Node}
 use Rattle.sect_names.specs.declared.link.Link.{Link}
 use Rattle.sect_names.specs.declared.lock.Lock.{Lock}
 use Rattle.sect_names.specs.Schemes.{SchemeView}
-use Rattle.sect_names.specs.Locks.{IsLockOf, Covers}
+use Rattle.sect_names.specs.Locks.{Covers}
 use Rattle.sect_names.specs.Laws.{RespectsCover}
-use Rattle.sect_names.specs.Carrying.{Generated, CarriedBack}
 use Rattle.sect_names.specs.Chains.{link, IsGeneratedAt, LinksTo, AreLinked}
 
 -- steps lead on from this one to where a lock is generated
 abbrev pub HasTrail : SchemeView → ℕ → List Lock → List Node → Link → Type 0
 HasTrail s t last g a = (links : List Link) × AreLinked s t last g a links
-
--- the locks that the nodes and the section's end generate, and those that the nodes carry back, are the program's
-pub record AreLawful (s : SchemeView) (t : ℕ) (last : List Lock) (g : List Node) : Type 0 where
-  pub generated : (j : ℕ) (y : Node) → slice_get g j ≡ Some y → (l : Lock) → Generated s t y.label l → IsLockOf s t l
-  pub ended : (l : Lock) → Has last l → IsLockOf s t l
-  pub carried : (j : ℕ) (y : Node) → slice_get g j ≡ Some y → (l r : Lock) → IsLockOf s t l
-      → CarriedBack s t y.label l r → IsLockOf s t r
 
 -- what is carried back of a lock that covers another covers what is carried back of that
 abbrev pub RespectCover : SchemeView → ℕ → List Node → Type 0

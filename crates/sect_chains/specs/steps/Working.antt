@@ -1,7 +1,7 @@
 -- The search for what is needed at the nodes of a section's graph: what has been found, and which steps are kept.
 use Rattle.std.specs.Prelude.{◌≡◌, ◌<◌, ◌+◌, ℕ, List, [], ◌++◌, map, Option, Some, None, length, slice_get}
 use Rattle.std.specs.Prelude.{slice_index_or}
-use Rattle.sect_types.specs.Lists.{Has}
+use Rattle.sect_lemmas.specs.Lists.{Has}
 use Rattle.sect_graph.specs.declared.flow.Node.{Node}
 use Rattle.sect_names.specs.declared.link.Link.{Link}
 use Rattle.sect_names.specs.declared.lock.Lock.{Lock}
@@ -11,7 +11,7 @@ use Rattle.sect_names.specs.Carrying.{Generated}
 use Rattle.sect_names.specs.Chains.{link, IsGeneratedAt, LinksTo}
 use Rattle.sect_infer.specs.Numbers.{AreApart}
 use Rattle.sect_infer.specs.Numberings.{NumberingView, HasLock, AreNumbers, IsNumbering, Extends}
-use Rattle.sect_infer.specs.steps.Listing.{lock_at}
+use Rattle.sect_infer.specs.Numberings.{lock_at}
 use Rattle.sect_chains.specs.declared.keep.KeptLink.{KeptLink}
 use Rattle.sect_chains.specs.declared.work.Trail.{Trail}
 use Rattle.sect_chains.specs.steps.Keeping.{KeptView, kept}

@@ -1,7 +1,7 @@
 //! Laws of plans: of the keys that a lock set asks for in a state, each in the join of its modes.
 
 ghost use Rattle.std.specs.Prelude.{◌≡◌, Bool, true, List, []};
-ghost use Rattle.sect_types.specs.Lists.{Has};
+ghost use Rattle.sect_lemmas.specs.Lists.{Has};
 ghost use Rattle.sect_types.specs.Store.{StoreView};
 ghost use Rattle.sect_types.specs.declared.store.Datum.{Datum};
 ghost use Rattle.sect_modes.specs.declared.key.Key.{Key};

@@ -1,7 +1,7 @@
 //! Laws of what paths denote while threads run.
 
 ghost use Rattle.std.specs.Prelude.{◌≡◌, ◌<◌, ◌⊎◌, ℕ, length, List};
-ghost use Rattle.sect_types.specs.Lists.{Has};
+ghost use Rattle.sect_lemmas.specs.Lists.{Has};
 ghost use Rattle.sect_types.specs.Programs.{ProgramView};
 ghost use Rattle.sect_types.specs.Statements.{TextView};
 ghost use Rattle.sect_types.specs.Store.{StoreView};

@@ -3,7 +3,7 @@ use Rattle.std.specs.Prelude.{ℕ, ◌+◌, ◌-◌, ◌*◌, ◌&&◌, ◌==◌
 use Rattle.std.specs.Prelude.{length, codes}
 use Rattle.std.specs.List.{list_all}
 use Rattle.std.specs.Str.{bytes_eq}
-use Rattle.sect_front.specs.declared.limits.TheConstants.{MOST_NAME_BYTES}
+use Rattle.sect_front.specs.Limits.{most_name_bytes}
 use Rattle.sect_front.specs.Spelling.{spelling_of}
 use Rattle.sect_front.specs.Words.{is_letter, is_digit, is_name_byte}
 use Rattle.sect_front.specs.declared.token.Token.{Token}
@@ -94,7 +94,7 @@ abbrev pub spelled : List ℕ → Option Token
 spelled [] = None
 spelled (b ∷ bs) =
     if is_letter b
-    then (if list_all is_name_byte bs && nat_lt (length bs) MOST_NAME_BYTES then Some (word_token (b ∷ bs)) else None)
+    then (if list_all is_name_byte bs && nat_lt (length bs) most_name_bytes then Some (word_token (b ∷ bs)) else None)
     else (if is_digit b then as_number (number_of (b ∷ bs)) else sign_token b bs)
 
 -- the spelling of a keyword or a sign, and nothing for a name or an integer

@@ -1,15 +1,10 @@
 -- Locks in canonical order by their numbers.
-use Rattle.std.specs.Prelude.{◌≡◌, ◌<◌, ◌&&◌, ℕ, Bool, not, List, [], map, filter, length, slice_index_or}
-use Rattle.sect_types.specs.Lists.{Has}
+use Rattle.std.specs.Prelude.{◌≡◌, ◌<◌, ◌&&◌, ℕ, Bool, not, List, [], map, filter, length}
+use Rattle.sect_lemmas.specs.Lists.{Has}
 use Rattle.sect_names.specs.declared.lock.Lock.{Lock}
-use Rattle.sect_names.specs.declared.lock.Lock.TheVariants as lock
 use Rattle.sect_names.specs.Order.{AreInOrder}
 use Rattle.sect_infer.specs.Numbers.{has_number, with_numbers}
-use Rattle.sect_infer.specs.Numberings.{NumberingView, is_under}
-
--- the lock with a number
-abbrev pub lock_at : List Lock → ℕ → Lock
-lock_at keys n = slice_index_or keys n lock.All
+use Rattle.sect_infer.specs.Numberings.{NumberingView, is_under, lock_at}
 
 -- these are the numbers of all locks, in the canonical order of these
 pub record IsOrder (keys : List Lock) (order : List ℕ) : Type 0 where

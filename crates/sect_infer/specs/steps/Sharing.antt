@@ -1,5 +1,6 @@
 -- Locks of sections that workers have found. The private functions under `infer_all` cite it.
-use Rattle.std.specs.Prelude.{◌≡◌, ◌<◌, ℕ, List, Option, Some, length, slice_get, Result}
+use Rattle.std.specs.Prelude.{◌≡◌, ◌<◌, ◌%◌, ◌==◌, ℕ, List, Option, Some, length, map, filter, slice_get, Result}
+use Rattle.std.specs.List.{range_with_len}
 use Rattle.std.specs.Global.{Global}
 use Rattle.std.specs.declared.vec.Vec.{Vec}
 use Rattle.std.specs.declared.alloc.AllocError.{AllocError}
@@ -14,6 +15,19 @@ use Rattle.sect_infer.specs.declared.workers.ShareOf.{ShareOf}
 pub record AreFound (s : SchemeView) (found : List SectionLocks) : Type 0 where
   pub each : (k : ℕ) (x : SectionLocks) → slice_get found k ≡ Some x
       → (x.section < length (sections_of s.program.texts)) × AreInferredAt s x.section x.locks
+
+-- the sections below `count` that fall to a worker: those whose number, divided by how many workers there are, leaves
+-- the worker's over
+abbrev pub dealt : ℕ → ℕ → ℕ → List ℕ
+dealt workers worker count = filter (λ i. i % workers == worker) (range_with_len 0 count)
+
+abbrev pub sections_in : List SectionLocks → List ℕ
+sections_in found = map (λ (x : SectionLocks). x.section) found
+
+-- what a worker hands on: the locks of exactly the sections that fall to it, in order
+pub record IsShare (s : SchemeView) (workers worker : ℕ) (found : List SectionLocks) : Type 0 where
+  pub sections : sections_in found ≡ dealt workers worker (length (sections_of s.program.texts))
+  pub each : AreFound s found
 
 -- a place for each section; what stands there are its locks
 pub record AreInPlace (s : SchemeView) (places : List (Option LocksView)) : Type 0 where

@@ -1,7 +1,7 @@
 //! Laws of what is needed, step by step, whatever the end of a section generates.
 
 ghost use Rattle.std.specs.Prelude.{◌≡◌, ◌≤◌, ◌↔◌, ◌⊎◌, ℕ, length, List, Some, slice_get};
-ghost use Rattle.sect_types.specs.Lists.{Has};
+ghost use Rattle.sect_lemmas.specs.Lists.{Has};
 ghost use Rattle.sect_types.specs.Sections.{SectionView, sections_of};
 ghost use Rattle.sect_types.specs.Statements.{TextView, Stop};
 ghost use Rattle.sect_types.specs.Traces.{Visit};

@@ -1,10 +1,11 @@
 -- Which procedures call which, and which reach one.
-use Rattle.std.specs.Prelude.{◌≡◌, ◌<◌, ◌+◌, ◌⊎◌, ℕ, Bool, true, false, List, [], ◌∷◌, ◌++◌, length, Some}
-use Rattle.std.specs.Prelude.{slice_get, slice_index_or, eqb}
+use Rattle.std.specs.Prelude.{◌≡◌, ◌<◌, ◌+◌, ◌⊎◌, ℕ, Bool, true, false, List, [], ◌∷◌, ◌++◌, length, Some, slice_get}
+use Rattle.std.specs.Prelude.{slice_index_or, eqb}
 use Rattle.std.specs.List.{list_any}
 use Rattle.sect_front.specs.declared.tree.Procedure.{Procedure}
-use Rattle.sect_types.specs.Store.{put_at}
-use Rattle.sect_types.specs.Sums.{calls_in, returns}
+use Rattle.sect_lemmas.specs.Lists.{put_at}
+use Rattle.sect_types.specs.Sums.{calls_in}
+use Rattle.sect_types.specs.steps.Search.{returns}
 
 abbrev pub IsAmong : List ℕ → ℕ → Type 0
 IsAmong xs x = list_any (eqb x) xs ≡ true

@@ -2,7 +2,7 @@
 use Rattle.std.specs.Prelude.{◌≤◌, ◌+◌, min, List, length}
 use Rattle.std.specs.List.{AllByRecursion}
 use Rattle.sect_front.specs.declared.tree.Procedure.{Procedure}
-use Rattle.sect_types.specs.declared.limits.TheConstants.{MOST_LOCALS}
+use Rattle.sect_types.specs.Limits.{most_locals}
 use Rattle.sect_types.specs.declared.sums.Sums.{Sums}
 use Rattle.sect_types.specs.declared.sums.TheConstants.{PAST_STATEMENTS, PAST_SITES, PAST_CALLS, PAST_DEPTH}
 
@@ -26,6 +26,6 @@ pub record IsSmall (s : Sums) : Type 0 where
 abbrev pub AreSmall : List Sums → Type 0
 AreSmall table = AllByRecursion IsSmall table
 
--- each has at most `MOST_LOCALS` parameters and locals
+-- each has at most `most_locals` parameters and locals
 abbrev pub HaveFewVariables : List Procedure → Type 0
-HaveFewVariables ps = AllByRecursion (λ (p : Procedure). length p.parameters + length p.locals ≤ MOST_LOCALS) ps
+HaveFewVariables ps = AllByRecursion (λ (p : Procedure). length p.parameters + length p.locals ≤ most_locals) ps

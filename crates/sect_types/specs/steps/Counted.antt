@@ -1,32 +1,27 @@
 -- What a walk through a whole tree tells.
 use Rattle.std.specs.Prelude.{◌≡◌, ◌≤◌, List, [], true, length}
 use Rattle.sect_front.specs.TreeView.{TreeView}
-use Rattle.sect_types.specs.declared.limits.TheConstants.{MOST_GLOBALS, MOST_PROCEDURES, MOST_RECORDS, MOST_THREADS}
+use Rattle.sect_front.specs.Depth.{threads_depth}
+use Rattle.sect_front.specs.Limits.{most_depth}
+use Rattle.sect_types.specs.Limits.{most_globals, most_procedures, most_records, most_threads}
 use Rattle.sect_types.specs.Sight.{names_of_records}
 use Rattle.sect_types.specs.Items.{Item, items, record_items, global_items}
-use Rattle.sect_types.specs.Rules.{Counts, judge, Fine, declared_in}
+use Rattle.sect_types.specs.Rules.{Counts, declared_in}
+use Rattle.sect_types.specs.steps.Judging.{judge, Fine}
 use Rattle.sect_types.specs.First.{none_yet}
 use Rattle.sect_types.specs.steps.Listing.{fields_fine, globals_known, locals_fine}
 use Rattle.sect_types.specs.steps.Threads.{variables_fine}
 
--- what a walk through the declarations of records and globals has told: that none breaks a rule, the counts behind
--- them, and that all is few and known
-pub record AreDeclared (t : TreeView) (behind : Counts) : Type 0 where
-  pub lead : (w : List Item) → judge (declared_in t) none_yet (record_items [] t.records (global_items [] t.globals w))
-      ≡ judge (declared_in t) behind w
-  pub few_records : length t.records ≤ MOST_RECORDS
-  pub fine_fields : fields_fine (names_of_records t.records) t.records ≡ true
-  pub few_globals : length t.globals ≤ MOST_GLOBALS
-  pub known_globals : globals_known (names_of_records t.records) t.globals ≡ true
-
--- what a walk through all items has told: that none breaks a rule, the counts at the end, and that all is few and known
+-- what a walk through all items has told: that none breaks a rule, the counts at the end, and that all is few, known
+-- and shallow
 pub record IsCounted (t : TreeView) (end : Counts) : Type 0 where
   pub fine : judge (declared_in t) none_yet (items t) ≡ Fine end
-  pub few_records : length t.records ≤ MOST_RECORDS
+  pub few_records : length t.records ≤ most_records
   pub fine_fields : fields_fine (names_of_records t.records) t.records ≡ true
-  pub few_globals : length t.globals ≤ MOST_GLOBALS
+  pub few_globals : length t.globals ≤ most_globals
   pub known_globals : globals_known (names_of_records t.records) t.globals ≡ true
-  pub few_procedures : length t.procedures ≤ MOST_PROCEDURES
+  pub few_procedures : length t.procedures ≤ most_procedures
   pub fine_variables : variables_fine (names_of_records t.records) t.procedures ≡ true
-  pub few_threads : length t.threads ≤ MOST_THREADS
+  pub few_threads : length t.threads ≤ most_threads
   pub fine_locals : locals_fine (names_of_records t.records) t.threads ≡ true
+  pub shallow : threads_depth t.threads ≤ most_depth

@@ -2,7 +2,7 @@
 use Rattle.std.specs.Prelude.{◌≡◌, ◌≤◌, ◌+◌, ◌*◌, ℕ, ⊤, List, [], ◌∷◌, ◌++◌, map, length, slice_get}
 use Rattle.sect_front.specs.declared.tree.Thread.{Thread}
 use Rattle.sect_front.specs.TreeView.{TreeView}
-use Rattle.sect_types.specs.declared.limits.TheConstants.{MOST_LOCALS}
+use Rattle.sect_types.specs.Limits.{most_locals}
 use Rattle.sect_types.specs.Rules.{sight}
 use Rattle.sect_front.specs.declared.tree.Record.{Record}
 use Rattle.sect_front.specs.declared.tree.GlobalObject.{GlobalObject}
@@ -10,7 +10,7 @@ use Rattle.sect_front.specs.declared.tree.Procedure.{Procedure}
 use Rattle.sect_front.specs.declared.tree.Operand.{Operand}
 use Rattle.sect_front.specs.Syntax.{StatementView, BlockView}
 use Rattle.sect_front.specs.Trees.{block_size}
-use Rattle.sect_types.specs.declared.limits.TheConstants.{MOST_ALL_LOCALS, MOST_SITES, MOST_SECTIONS, MOST_CALLS}
+use Rattle.sect_types.specs.Limits.{most_all_locals, most_sites, most_sections, most_calls}
 use Rattle.sect_types.specs.declared.expand.Fresh.{Fresh}
 use Rattle.std.specs.Prelude.{Option, Some, None}
 use Rattle.sect_types.specs.declared.action.Value.{Value}
@@ -20,7 +20,7 @@ use Rattle.sect_types.specs.Expanded.{argument_in}
 use Rattle.sect_types.specs.Sight.{operand_of, names_of_records, names_of_globals, all_fields}
 use Rattle.sect_types.specs.Statements.{TextView, joined}
 use Rattle.sect_types.specs.Sums.{sums_within, statement_sums, block_sums}
-use Rattle.sect_types.specs.Expanded.{Scene, Ahead, past_statement, past_block, expanded_statement, expanded_block}
+use Rattle.sect_types.specs.Expanded.{Scene, NextNumbers, past_statement, past_block, expanded_statement, expanded_block}
 use Rattle.sect_types.specs.Expanded.{expand_within, statement_fresh, block_fresh, fresh_within}
 use Rattle.sect_types.specs.steps.Threads.{VariablesView, variables_shown}
 
@@ -45,16 +45,16 @@ pub record IsSetting (w : SettingView) (record_names : List (List ℕ)) (field_n
 
 -- the next site, section and fresh local, the number of the next call of the thread, and its fresh locals
 pub record FrontView : Type 0 where
-  pub at : Ahead
+  pub at : NextNumbers
   pub calls : ℕ
   pub fresh : List Fresh
 
 -- all is within the limits
 pub record Fits (f : FrontView) : Type 0 where
-  pub few_sites : f.at.sites ≤ MOST_SITES
-  pub few_sections : f.at.sections ≤ MOST_SECTIONS
-  pub few_locals : f.at.fresh ≤ MOST_ALL_LOCALS
-  pub few_calls : f.calls ≤ MOST_CALLS
+  pub few_sites : f.at.sites ≤ most_sites
+  pub few_sections : f.at.sections ≤ most_sections
+  pub few_locals : f.at.fresh ≤ most_all_locals
+  pub few_calls : f.calls ≤ most_calls
 
 -- past a statement, where calls stand in one another at most n deep
 abbrev pub front_past_statement : SettingView → ℕ → FrontView → StatementView → FrontView
@@ -101,7 +101,7 @@ thread_text w sites sections h =
 abbrev pub AllFit : SettingView → ℕ → ℕ → List Thread → Type 0
 AllFit w sites sections [] = ⊤
 AllFit w sites sections (h ∷ hs) =
-    (length h.locals ≤ MOST_LOCALS) × Fits (thread_end w sites sections h)
+    (length h.locals ≤ most_locals) × Fits (thread_end w sites sections h)
     × AllFit w (thread_end w sites sections h).at.sites (thread_end w sites sections h).at.sections hs
 
 abbrev pub tree_of : SettingView → List Thread → TreeView

@@ -7,8 +7,8 @@ use Rattle.sect_front.specs.declared.tree.Thread.{Thread}
 use Rattle.sect_front.specs.TreeView.{TreeView}
 use Rattle.sect_front.specs.Syntax.{StatementView, BlockView}
 use Rattle.sect_front.specs.Trees.{block_size}
-use Rattle.sect_types.specs.declared.limits.TheConstants.{MOST_CALLS, MOST_LOCALS, MOST_ALL_LOCALS, MOST_SITES}
-use Rattle.sect_types.specs.declared.limits.TheConstants.{MOST_SECTIONS}
+use Rattle.sect_types.specs.Limits.{most_calls, most_locals, most_all_locals, most_sites}
+use Rattle.sect_types.specs.Limits.{most_sections}
 use Rattle.sect_types.specs.declared.sums.Sums.{Sums}
 use Rattle.sect_types.specs.declared.action.Value.{Value}
 use Rattle.sect_types.specs.declared.action.Value.TheVariants as value
@@ -18,7 +18,7 @@ use Rattle.sect_types.specs.Rules.{knows_kind}
 use Rattle.sect_types.specs.Sums.{sums, sums_within, block_sums}
 use Rattle.sect_types.specs.Statements.{TextView, joined}
 use Rattle.sect_types.specs.declared.expand.Fresh.{Fresh}
-use Rattle.sect_types.specs.Expanded.{Scene, Ahead, Expander, argument_in, block_sections, expanded_statement}
+use Rattle.sect_types.specs.Expanded.{Scene, NextNumbers, Expander, argument_in, block_sections, expanded_statement}
 use Rattle.sect_types.specs.Expanded.{expanded_block, expand_within}
 use Rattle.sect_types.specs.Expanded.{fresh_in, past_thread}
 use Rattle.sect_types.specs.Expanded.{expanded_threads, texts_of}
@@ -28,16 +28,16 @@ abbrev pub Appends : TextView → TextView → (TextView → TextView) → Type 
 Appends old new f = (k : TextView) → joined new k ≡ joined old (f k)
 
 -- between two positions stands what comes to these sums, and so many sections
-pub record IsPast (old new : Ahead) (s : Sums) (sections : ℕ) : Type 0 where
+pub record IsPast (old new : NextNumbers) (s : Sums) (sections : ℕ) : Type 0 where
   pub of_sites : new.sites ≡ old.sites + s.sites
   pub of_sections : new.sections ≡ old.sections + sections
   pub of_fresh : new.fresh ≡ old.fresh + s.fresh
 
 -- behind it the limits aren't passed
-pub record HasRoom (a : Ahead) (s : Sums) (sections : ℕ) : Type 0 where
-  pub for_sites : a.sites + s.sites ≤ MOST_SITES
-  pub for_sections : a.sections + sections ≤ MOST_SECTIONS
-  pub for_fresh : a.fresh + s.fresh ≤ MOST_ALL_LOCALS
+pub record HasRoom (a : NextNumbers) (s : Sums) (sections : ℕ) : Type 0 where
+  pub for_sites : a.sites + s.sites ≤ most_sites
+  pub for_sections : a.sections + sections ≤ most_sections
+  pub for_fresh : a.fresh + s.fresh ≤ most_all_locals
 
 -- what a call comes to, and what is put in its place, where calls stand in one another at most n deep
 abbrev pub table_by : TreeView → ℕ → List Sums
@@ -49,10 +49,10 @@ calls_by t n = expand_within n t.records t.globals t.procedures
 abbrev pub view_of : Sight → ℕ → Scene
 view_of s n = record { sight = s; first = n }
 
-abbrev pub statement_by : TreeView → ℕ → Sight → ℕ → Ahead → StatementView → TextView → TextView
+abbrev pub statement_by : TreeView → ℕ → Sight → ℕ → NextNumbers → StatementView → TextView → TextView
 statement_by t n s first a f k = expanded_statement t.procedures (table_by t n) (calls_by t n) (view_of s first) a f k
 
-abbrev pub block_by : TreeView → ℕ → Sight → ℕ → Ahead → BlockView → TextView
+abbrev pub block_by : TreeView → ℕ → Sight → ℕ → NextNumbers → BlockView → TextView
 block_by t n s first a b = expanded_block t.procedures (table_by t n) (calls_by t n) (view_of s first) a b
 
 -- how many statements with blocks all bodies have
@@ -62,12 +62,12 @@ total_size (p ∷ ps) = block_size p.body + total_size ps
 
 -- the statements `rest` are left of a block
 pub record IsExpanding (t : TreeView) (n : ℕ) (s : Sight) (first : ℕ) (block all rest : BlockView)
-    (old now : Ahead) (before text : TextView) : Type 0 where
+    (old now : NextNumbers) (before text : TextView) : Type 0 where
   pub whole : all ≡ block
   pub written : (k : TextView)
       → joined text (joined (block_by t n s first now rest) k) ≡ joined before
       (joined (block_by t n s first old block) k)
-  pub past : (e : Ahead) → IsPast now e (block_sums t.procedures (table_by t n) rest) (block_sections rest)
+  pub past : (e : NextNumbers) → IsPast now e (block_sums t.procedures (table_by t n) rest) (block_sections rest)
       → IsPast old e (block_sums t.procedures (table_by t n) block) (block_sections block)
   pub room : HasRoom now (block_sums t.procedures (table_by t n) rest) (block_sections rest)
 
@@ -80,19 +80,19 @@ abbrev pub argument_at : Scene → List Operand → ℕ → Value
 argument_at v vs i = argument_of v (slice_get vs i)
 
 -- before the body of a thread
-abbrev pub at_thread : Ahead → Thread → Ahead
+abbrev pub at_thread : NextNumbers → Thread → NextNumbers
 at_thread a h = record a { fresh = length h.locals }
 
 -- the expanded texts of these threads pass no limit
-abbrev pub RoomFor : TreeView → Ahead → List Thread → Type 0
+abbrev pub RoomFor : TreeView → NextNumbers → List Thread → Type 0
 RoomFor t a [] = ⊤
 RoomFor t a (h ∷ hs) =
-    (length h.locals ≤ MOST_LOCALS)
+    (length h.locals ≤ most_locals)
     × HasRoom (at_thread a h) (block_sums t.procedures (sums t.procedures) h.body) (block_sections h.body)
     × RoomFor t (past_thread t a h) hs
 
 -- the threads `rest` are left, before which these texts were written
-pub record AreExpanded (t : TreeView) (now : Ahead) (rest : List Thread) (texts : List TextView) : Type 0 where
+pub record AreExpanded (t : TreeView) (now : NextNumbers) (rest : List Thread) (texts : List TextView) : Type 0 where
   pub written : texts ++ expanded_threads t now rest ≡ texts_of t
   pub room : RoomFor t now rest
 
@@ -105,7 +105,7 @@ fresh_known records (f ∷ fs) = knows_kind records f.declared.kind && fresh_kno
 pub record IsReadyForTypes (t : TreeView) (records : List (List ℕ)) (h : Thread) : Type 0 where
   pub known : all_known records h.locals ≡ true
   pub known_fresh : fresh_known records (fresh_in t h) ≡ true
-  pub room : (block_sums t.procedures (sums t.procedures) h.body).calls ≤ MOST_CALLS
+  pub room : (block_sums t.procedures (sums t.procedures) h.body).calls ≤ most_calls
 
 abbrev pub AllReadyForTypes : TreeView → List (List ℕ) → List Thread → Type 0
 AllReadyForTypes t records [] = ⊤

@@ -3,12 +3,13 @@ use Rattle.std.specs.Prelude.{◌≡◌, ◌≤◌, ℕ, ◌+◌, Bool, true, �
 use Rattle.sect_front.specs.declared.tree.Record.{Record}
 use Rattle.sect_front.specs.declared.tree.GlobalObject.{GlobalObject}
 use Rattle.sect_front.specs.declared.tree.Declaration.{Declaration}
-use Rattle.sect_types.specs.declared.limits.TheConstants.{MOST_FIELDS, MOST_GLOBALS, MOST_LOCALS, MOST_RECORDS}
+use Rattle.sect_types.specs.Limits.{most_fields, most_globals, most_locals, most_records}
 use Rattle.sect_types.specs.Sight.{has_name, names_of_records, names_of_globals, names_of_declared, all_fields}
 use Rattle.sect_types.specs.declared.types.ValueType.{ValueType}
 use Rattle.sect_types.specs.Environments.{types_of, field_types, global_records}
 use Rattle.sect_types.specs.Items.{Item, record_items, field_items, global_items, local_items}
-use Rattle.sect_types.specs.Rules.{Declared, Counts, judge, knows_kind}
+use Rattle.sect_types.specs.Rules.{Declared, Counts, knows_kind}
+use Rattle.sect_types.specs.steps.Judging.{judge}
 use Rattle.sect_front.specs.declared.tree.Thread.{Thread}
 
 -- the set has the names of these records
@@ -24,7 +25,7 @@ all_known records (d ∷ ds) = knows_kind records d.kind && all_known records ds
 abbrev pub fields_fine : List (List ℕ) → List Record → Bool
 fields_fine records [] = true
 fields_fine records (r ∷ rs) =
-    (all_known records r.fields && nat_le (length r.fields) MOST_FIELDS) && fields_fine records rs
+    (all_known records r.fields && nat_le (length r.fields) most_fields) && fields_fine records rs
 
 abbrev pub globals_known : List (List ℕ) → List GlobalObject → Bool
 globals_known records [] = true
@@ -34,7 +35,7 @@ globals_known records (g ∷ gs) = has_name g.of records && globals_known record
 abbrev pub locals_fine : List (List ℕ) → List Thread → Bool
 locals_fine records [] = true
 locals_fine records (t ∷ ts) =
-    (all_known records t.locals && nat_le (length t.locals) MOST_LOCALS) && locals_fine records ts
+    (all_known records t.locals && nat_le (length t.locals) most_locals) && locals_fine records ts
 
 -- the fields `rest` of `all` are left, and those before them have these names
 pub record IsListed (d : Declared) (all rest : List Declaration) (names : List (List ℕ))
@@ -42,7 +43,7 @@ pub record IsListed (d : Declared) (all rest : List Declaration) (names : List (
   pub walks : (w : List Item) → judge d old (field_items [] all w) ≡ judge d now (field_items names rest w)
   pub named : names ++ names_of_declared rest ≡ names_of_declared all
   pub sites : now.sites ≡ old.sites
-  pub few : length names ≤ MOST_FIELDS
+  pub few : length names ≤ most_fields
   pub known : all_known (names_of_records d.records) all ≡ all_known (names_of_records d.records) rest
 
 -- the records `rest` of `all` are left
@@ -52,7 +53,7 @@ pub record AreRecords (d : Declared) (all rest : List Record) (names : List (Lis
   pub named : names ++ names_of_records rest ≡ names_of_records all
   pub with_fields : fields ++ all_fields rest ≡ all_fields all
   pub sites : now.sites ≡ old.sites
-  pub few : length names ≤ MOST_RECORDS
+  pub few : length names ≤ most_records
   pub fine : fields_fine (names_of_records d.records) all ≡ fields_fine (names_of_records d.records) rest
 
 pub record AreGlobals (d : Declared) (all rest : List GlobalObject) (names : List (List ℕ))
@@ -60,7 +61,7 @@ pub record AreGlobals (d : Declared) (all rest : List GlobalObject) (names : Lis
   pub walks : (w : List Item) → judge d old (global_items [] all w) ≡ judge d now (global_items names rest w)
   pub named : names ++ names_of_globals rest ≡ names_of_globals all
   pub sites : now.sites ≡ old.sites + length names
-  pub few : length names ≤ MOST_GLOBALS
+  pub few : length names ≤ most_globals
   pub known : globals_known (names_of_records d.records) all ≡ globals_known (names_of_records d.records) rest
 
 -- the locals `rest` of `all` are left, before which these names stand
@@ -68,7 +69,7 @@ pub record AreLocals (d : Declared) (all rest : List Declaration) (names : List 
     (old now : Counts) : Type 0 where
   pub walks : (w : List Item) → judge d old (local_items [] all w) ≡ judge d now (local_items names rest w)
   pub named : names ++ names_of_declared rest ≡ names_of_declared all
-  pub few : length names ≤ MOST_LOCALS
+  pub few : length names ≤ most_locals
   pub known : all_known (names_of_records d.records) all ≡ all_known (names_of_records d.records) rest
 
 -- the declarations `rest` of `all` have no types yet, and those before them have these

@@ -4,7 +4,8 @@ use Rattle.sect_front.specs.declared.tree.Procedure.{Procedure}
 use Rattle.sect_types.specs.declared.place.Place.{Place}
 use Rattle.sect_types.specs.declared.place.Place.TheVariants.{InThread, InProcedure}
 use Rattle.sect_types.specs.declared.sums.Sums.{Sums}
-use Rattle.sect_types.specs.Sums.{sums, returns}
+use Rattle.sect_types.specs.Sums.{sums}
+use Rattle.sect_types.specs.steps.Search.{returns}
 use Rattle.sect_types.specs.Sight.{Sight}
 use Rattle.sect_types.specs.Rules.{Declared}
 use Rattle.sect_types.specs.steps.Capped.{capped}

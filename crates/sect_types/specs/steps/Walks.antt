@@ -5,7 +5,8 @@ use Rattle.sect_types.specs.declared.rule.Rule.TheVariants.{Unknown, Twice, Shar
 use Rattle.sect_types.specs.declared.rule.Fault.{Fault}
 use Rattle.sect_types.specs.declared.rule.Fault.TheVariants as fault
 use Rattle.sect_types.specs.Items.{Item}
-use Rattle.sect_types.specs.Rules.{Declared, Counts, judge, Faulty}
+use Rattle.sect_types.specs.Rules.{Declared, Counts}
+use Rattle.sect_types.specs.steps.Judging.{judge, Faulty}
 
 -- these items, given before those of what follows, lead from the old counts to the new ones, or to the fault
 abbrev pub Walks : {A : Type 0} → Declared → (List Item → List Item) → Counts → Counts → Result A Fault → Type 0

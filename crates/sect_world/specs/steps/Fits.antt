@@ -1,34 +1,19 @@
 -- How a lock table agrees with a state of the machine.
 use Rattle.std.specs.Prelude.{◌≡◌, ◌≤◌, ℕ, List, [], ◌∷◌, ◌++◌, length, map, drop}
-use Rattle.sect_types.specs.Lists.{Has}
 use Rattle.sect_modes.specs.declared.mode.Mode.{Mode}
 use Rattle.sect_modes.specs.declared.key.Key.{Key}
-use Rattle.sect_table.specs.declared.claims.Claim.{Claim}
 use Rattle.sect_table.specs.declared.claims.Hold.{Hold}
 use Rattle.sect_table.specs.declared.claims.Grant.{Grant}
 use Rattle.sect_table.specs.Contents.{Entry, Contents, entry_of, put, mode_for, stay, held_by, let_in, let_through}
 use Rattle.sect_table.specs.Contents.{without_holder, give, grant_of, AreApart}
 use Rattle.sect_table.specs.Sound.{waits_of}
-use Rattle.sect_emit.specs.declared.plan.Grip.{Grip}
 use Rattle.sect_world.specs.declared.event.Event.{Event}
 use Rattle.sect_world.specs.declared.event.Deed.TheVariants.{Take}
-use Rattle.sect_types.specs.Store.{changed_at}
-use Rattle.sect_emit.specs.Plan.{grip, held_mode}
-use Rattle.sect_emit.specs.State.{Entered, ThreadState, State, IsThread}
+use Rattle.sect_lemmas.specs.Lists.{changed_at}
+use Rattle.sect_emit.specs.Plan.{held_mode}
+use Rattle.sect_emit.specs.State.{ThreadState, State, IsThread}
 use Rattle.sect_world.specs.Events.{taking}
-use Rattle.sect_world.specs.Blocked.{WantsFirst}
-
--- what the table says that a thread holds, as the machine has it
-abbrev pub grips : List Hold → List Grip
-grips = map (λ h. grip h.key h.mode)
-
--- thread t has entered and wants this key first, in this mode
-abbrev pub Asks : State → ℕ → Key → Mode → Type 0
-Asks s t k m = (th : ThreadState) × IsThread s t th × (th.position ≡ Entered) × WantsFirst th k m
-
--- who waits in the table wants that key first
-abbrev pub AllWaitersAsk : State → List Entry → Type 0
-AllWaitersAsk s entries = (k : Key) (w : Claim) → Has (entry_of k entries).waiters w → Asks s w.thread k w.mode
+use Rattle.sect_world.specs.Waiting.{grips, AllWaitersAsk}
 
 -- between turns: the threads hold what the table says, and who waits there wants that key first
 pub record Fits (c : Contents) (s : State) : Type 0 where

@@ -23,7 +23,7 @@ use Rattle.sect_emit.specs.declared.plan.Grip.{Grip}
 use Rattle.sect_emit.specs.Compiled.{CompiledView, program_of}
 use Rattle.sect_world.specs.declared.inside.Making.{Making}
 use Rattle.sect_world.specs.Events.{grips_of}
-use Rattle.sect_world.specs.steps.Viewing.{text_at}
+use Rattle.sect_world.specs.Viewing.{text_at}
 
 -- where control goes on; from a test by whether it holds
 abbrev pub chosen : Successors → Bool → ℕ

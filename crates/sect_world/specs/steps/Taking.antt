@@ -1,6 +1,6 @@
 -- What taking keys makes of the runners. `ask`, `take` and `give_back` cite it.
 use Rattle.std.specs.Prelude.{◌≡◌, ◌⊎◌, ⊤, ℕ, ◌+◌, ◌<◌, ◌^◌, true, false, List, [], ◌∷◌, ◌++◌, Some, map, slice_get}
-use Rattle.sect_types.specs.Store.{changed_at}
+use Rattle.sect_lemmas.specs.Lists.{changed_at}
 use Rattle.sect_table.specs.declared.claims.Answer.{Answer}
 use Rattle.sect_table.specs.declared.claims.Answer.TheVariants.{Granted, Queued}
 use Rattle.sect_table.specs.declared.claims.Grant.{Grant}

@@ -43,6 +43,10 @@ struct KeepsTheFirst<'a> {
 }
 
 impl<'a> Gate for KeepsTheFirst<'a> {
+    fn starts(&self, _thread: u16) -> bool {
+        true
+    }
+
     fn at(&self, thread: u16, kind: Kind) {
         if thread == 1 && kind == Kind::Leave {
             self.left.store(true, Ordering::SeqCst);
@@ -69,6 +73,10 @@ fn have_met(rt: &HostRuntime, own: &AtomicBool, other: &AtomicBool) -> bool {
 }
 
 impl<'a> Gate for KeepsBoth<'a> {
+    fn starts(&self, _thread: u16) -> bool {
+        true
+    }
+
     fn at(&self, thread: u16, kind: Kind) {
         if kind != Kind::Begin {
             return;

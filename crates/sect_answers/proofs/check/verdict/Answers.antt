@@ -1,7 +1,7 @@
 use Rattle.std.proofs.Common.{◌≡◌, List, ℕ, ap, subst}
 use Rattle.sect_check.specs.Valid.{IsValid}
 use Rattle.sect_check.specs.Verdicts.{IsRead}
-use Rattle.sect_names.proofs.Refusing.{given}
+use Rattle.sect_lemmas.proofs.Results.{given}
 use Rattle.sect_answers.specs.declared.refusal.Refusal.TheVariants as refusal
 use Rattle.sect_answers.specs.Checking.{IsCheckDue, of_check}
 use Rattle.sect_answers.proofs.Cutting.{split_once}

@@ -1,5 +1,5 @@
 use Rattle.std.proofs.Common.{◌≡◌, refl, ap}
-use Rattle.sect_names.proofs.Refusing.{given}
+use Rattle.sect_lemmas.proofs.Results.{given}
 use Rattle.sect_answers.specs.Compiling.{IsCompileDue, of_compile}
 use Rattle.sect_answers.proofs.Refusing.{compile_due}
 use Rattle.sect_answers.specs.declared.refusal.Refusal.TheVariants as refusal

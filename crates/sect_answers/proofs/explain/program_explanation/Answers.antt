@@ -1,5 +1,5 @@
 use Rattle.std.proofs.Common.{◌≡◌, refl}
-use Rattle.sect_names.proofs.Refusing.{given}
+use Rattle.sect_lemmas.proofs.Results.{given}
 use Rattle.sect_answers.specs.declared.refusal.Refusal.TheVariants as refusal
 use Rattle.sect_answers.proofs.explain.program_explanation.Goals as goal
 

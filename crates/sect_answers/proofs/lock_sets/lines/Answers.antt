@@ -1,7 +1,7 @@
 use Rattle.std.proofs.Common.{◌≡◌, ℕ, sym, ap, ◌∙◌, subst, arith}
 use Rattle.std.specs.Prelude.{length}
 use Rattle.std.specs.String.{string_bytes}
-use Rattle.sect_types.proofs.Places.{at_of}
+use Rattle.sect_lemmas.proofs.Places.{at_of}
 use Rattle.sect_types.specs.Programs.{ProgramView}
 use Rattle.sect_types.specs.Sections.{sections_of}
 use Rattle.sect_names.specs.Schemes.{SchemeView}

@@ -6,7 +6,7 @@ use Rattle.std.proofs.lemmas.List.{append_assoc}
 use Rattle.sect_types.specs.Programs.{ProgramView}
 use Rattle.sect_names.specs.Schemes.{SchemeView}
 use Rattle.sect_names.specs.Printing.{AreNamed, locks_text}
-use Rattle.sect_emit.proofs.Wholes.{set_named}
+use Rattle.sect_emit.proofs.shared.Sets.{set_named}
 use Rattle.sect_answers.proofs.lock_sets.put_section.Goals as goal
 
 pub put_locks-requires : goal.put_locks-requires

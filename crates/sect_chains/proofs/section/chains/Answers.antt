@@ -1,10 +1,11 @@
 use Rattle.std.proofs.Common.{◌≡◌, Some, sym, ◌∙◌, subst}
 use Rattle.std.specs.Prelude.{slice_get}
 use Rattle.sect_types.specs.Sections.{sections_of}
-use Rattle.sect_types.specs.steps.Found.{section_shown}
+use Rattle.sect_types.specs.Sections.{section_shown}
 use Rattle.sect_names.specs.Needed.{end_of}
-use Rattle.sect_names.proofs.Ending.{section_read, end_is}
-use Rattle.sect_chains.specs.steps.Trails.{AreLawful, AreTops}
+use Rattle.sect_names.proofs.shared.Ending.{section_read, end_is}
+use Rattle.sect_names.specs.Laws.{AreLawful}
+use Rattle.sect_chains.specs.steps.Trails.{AreTops}
 use Rattle.sect_chains.proofs.section.chains.Goals.{After-entry}
 use Rattle.sect_chains.proofs.section.chains.Goals as goal
 

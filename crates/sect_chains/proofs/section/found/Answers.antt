@@ -1,7 +1,7 @@
 use Rattle.std.proofs.Common.{◌<◌, length, subst, sym, arith}
-use Rattle.sect_types.specs.Lists.{Has}
-use Rattle.sect_types.proofs.Membership.{Has-get_or}
-use Rattle.sect_types.proofs.Places.{zip_more}
+use Rattle.sect_lemmas.specs.Lists.{Has}
+use Rattle.sect_lemmas.proofs.Membership.{Has-get_or}
+use Rattle.sect_lemmas.proofs.Places.{zip_more}
 use Rattle.sect_names.specs.Chains.{link, IsChain}
 use Rattle.sect_chains.specs.steps.Working.{links_of, nexts_of, kept_of}
 use Rattle.sect_chains.proofs.Growing.{kept_numbers, kept_trail}

@@ -4,7 +4,7 @@ use Rattle.sect_types.specs.Programs.{ProgramView}
 use Rattle.sect_types.specs.Sound.{AreSound}
 use Rattle.sect_graph.specs.declared.flow.Node.{Node}
 use Rattle.sect_names.specs.Laws.{IsSoundStep}
-use Rattle.sect_chains.proofs.Meaning.{ended_lawful}
+use Rattle.sect_names.proofs.shared.Ends.{ended_lawful}
 use Rattle.sect_chains.proofs.section.only_the_programs.Goals as goal
 
 pub returns-clause-lawful : goal.returns-clause-lawful

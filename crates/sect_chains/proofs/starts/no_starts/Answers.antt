@@ -1,5 +1,5 @@
 use Rattle.std.proofs.Common.{[], ◌∷◌, ◌+◌, None, length-append, sym, ap, ◌∙◌, inl, inr}
-use Rattle.sect_types.proofs.Membership.{Has-cases}
+use Rattle.sect_lemmas.proofs.Membership.{Has-cases}
 use Rattle.sect_chains.proofs.starts.no_starts.Goals as goal
 
 pub loop-preserved : goal.loop-preserved

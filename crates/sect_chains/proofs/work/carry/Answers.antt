@@ -2,9 +2,9 @@ use Rattle.std.proofs.Common.{◌≡◌, ◌<◌, ◌≤◌, Some, length, lengt
 use Rattle.std.specs.Prelude.{slice_get}
 use Rattle.std.proofs.lemmas.List.{get_or_default}
 use Rattle.std.proofs.lemmas.Option.{slice_get_within}
-use Rattle.sect_types.proofs.Membership.{Has-get_or, Has-slice_get}
-use Rattle.sect_types.proofs.Places.{at_of, one_at}
-use Rattle.sect_types.specs.Lists.{Has}
+use Rattle.sect_lemmas.proofs.Membership.{Has-get_or, Has-slice_get}
+use Rattle.sect_lemmas.proofs.Places.{at_of, one_at}
+use Rattle.sect_lemmas.specs.Lists.{Has}
 use Rattle.sect_graph.specs.Paths.{LeadsTo}
 use Rattle.sect_names.specs.Chains.{LinksTo}
 use Rattle.sect_chains.specs.declared.keep.KeptLink.{KeptLink}

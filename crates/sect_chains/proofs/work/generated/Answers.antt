@@ -1,5 +1,5 @@
 use Rattle.std.proofs.Common.{◌≡◌, length}
-use Rattle.sect_types.specs.Lists.{Has}
+use Rattle.sect_lemmas.specs.Lists.{Has}
 use Rattle.sect_names.specs.declared.link.Link.{Link}
 use Rattle.sect_chains.specs.steps.Working.{kept_of}
 use Rattle.sect_chains.proofs.Growing.{grows_found}

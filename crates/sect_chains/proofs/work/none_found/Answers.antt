@@ -1,5 +1,5 @@
 use Rattle.std.proofs.Common.{[], ◌∷◌, ◌+◌, length-append, ap, ◌∙◌}
-use Rattle.sect_graph.proofs.Adding.{empty_more}
+use Rattle.sect_lemmas.proofs.Elements.{empty_more}
 use Rattle.sect_chains.proofs.work.none_found.Goals as goal
 
 pub loop-preserved : goal.loop-preserved

@@ -1,6 +1,6 @@
 use Rattle.std.proofs.Common.{◌<◌, length, inr, sym, subst, arith}
-use Rattle.sect_types.specs.Lists.{Has}
-use Rattle.sect_types.proofs.Membership.{Has-get_or}
+use Rattle.sect_lemmas.specs.Lists.{Has}
+use Rattle.sect_lemmas.proofs.Membership.{Has-get_or}
 use Rattle.sect_chains.specs.steps.Working.{kept_of}
 use Rattle.sect_chains.proofs.Carrying.{end_next}
 use Rattle.sect_chains.proofs.work.put_at_end.Goals as goal

@@ -3,7 +3,7 @@ use Rattle.std.proofs.lemmas.Result.{on_ok_weaker}
 use Rattle.sect_names.specs.declared.lock.Lock.{Lock}
 use Rattle.sect_names.specs.Carrying.{Generated}
 use Rattle.sect_graph.specs.declared.flow.Node.{Node}
-use Rattle.sect_types.proofs.Places.{told_at}
+use Rattle.sect_lemmas.proofs.Places.{told_at}
 use Rattle.sect_chains.specs.steps.Working.{kept_of}
 use Rattle.sect_chains.proofs.Carrying.{by_node_none, by_node_one, generated_here}
 use Rattle.sect_chains.proofs.work.put_by_node.Goals as goal

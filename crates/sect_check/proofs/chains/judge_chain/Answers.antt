@@ -1,5 +1,5 @@
 use Rattle.std.proofs.Common.{List, refl, subst}
-use Rattle.sect_types.specs.Lists.{Has}
+use Rattle.sect_lemmas.specs.Lists.{Has}
 use Rattle.sect_names.specs.Needed.{end_locks}
 use Rattle.sect_check.specs.declared.claims.ChainClaim.{ChainClaim}
 use Rattle.sect_check.proofs.Chaining.{broken_at}

@@ -8,7 +8,7 @@ use Rattle.sect_check.specs.steps.Resolving.{DenotesAt}
 use Rattle.sect_check.proofs.Resolving.{passes}
 use Rattle.sect_check.proofs.Judging.{first_more, denotes_all, none_denoted}
 use Rattle.sect_types.specs.Sight.{names_of_globals}
-use Rattle.sect_types.proofs.Repeating.{globals_apart}
+use Rattle.sect_types.proofs.shared.Repeating.{globals_apart}
 use Rattle.sect_hints.specs.Names.{AreDifferent}
 use Rattle.sect_check.proofs.checking.all_claims.Goals as goal
 

@@ -1,7 +1,7 @@
 use Rattle.std.proofs.Common.{length, refl, subst}
 use Rattle.std.proofs.lemmas.Option.{slice_get_read}
-use Rattle.sect_types.specs.steps.Found.{section_shown}
-use Rattle.sect_names.proofs.Ending.{section_read}
+use Rattle.sect_types.specs.Sections.{section_shown}
+use Rattle.sect_names.proofs.shared.Ending.{section_read}
 use Rattle.sect_check.specs.Meaning.{DenotesSection}
 use Rattle.sect_check.specs.steps.Resolving.{NamingView, Resolves}
 use Rattle.sect_check.proofs.Judging.{denotes_at}

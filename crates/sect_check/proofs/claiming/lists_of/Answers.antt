@@ -3,7 +3,7 @@ use Rattle.std.specs.List.{AllZip}
 use Rattle.sect_cert.specs.declared.lock.CertLock.{CertLock}
 use Rattle.sect_names.specs.declared.lock.Lock.{Lock}
 use Rattle.sect_check.specs.Names.{Denotes}
-use Rattle.sect_types.proofs.Places.{zip_more}
+use Rattle.sect_lemmas.proofs.Places.{zip_more}
 use Rattle.sect_check.proofs.Resolving.{refuses}
 use Rattle.sect_check.proofs.claiming.lists_of.Goals as goal
 

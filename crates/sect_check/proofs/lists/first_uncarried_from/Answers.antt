@@ -1,5 +1,5 @@
 use Rattle.std.proofs.Common.{inl, inr, refl, arith, sym, ◌∙◌, subst, true≢false}
-use Rattle.sect_types.specs.Lists.{Has}
+use Rattle.sect_lemmas.specs.Lists.{Has}
 use Rattle.sect_check.proofs.Edges.{stays, first_is, second_is, all_hold, one_holds}
 use Rattle.sect_check.proofs.lists.first_uncarried_from.Goals as goal
 

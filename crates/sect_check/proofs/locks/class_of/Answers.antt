@@ -1,6 +1,6 @@
 use Rattle.std.proofs.Common.{refl, sym, subst, arith}
 use Rattle.sect_points.specs.Partitions.{ClassesView}
-use Rattle.sect_types.specs.Lists.{Has}
+use Rattle.sect_lemmas.specs.Lists.{Has}
 use Rattle.sect_check.proofs.Resolving.{class_there, class_below}
 use Rattle.sect_check.proofs.locks.class_of.Goals as goal
 

@@ -1,6 +1,6 @@
 use Rattle.std.proofs.Common.{◌≡◌, ◌≤◌, ◌∙◌, true, ap, subst, sym}
 use Rattle.std.specs.Option.{option_map}
-use Rattle.sect_types.proofs.Basics.{some_injective}
+use Rattle.sect_lemmas.proofs.Options.{some_injective}
 use Rattle.sect_names.specs.declared.lock.Lock.TheVariants as lock
 use Rattle.sect_names.specs.Locks.{depth, IsClassed, IsLockOf}
 use Rattle.sect_names.specs.Schemes.{SchemeView}

@@ -4,7 +4,7 @@ use Rattle.std.proofs.lemmas.Bool.{ltb-true}
 use Rattle.sect_front.specs.TreeView.{TreeView}
 use Rattle.sect_front.specs.declared.tree.Record.{Record}
 use Rattle.std.proofs.lemmas.Option.{slice_get_read}
-use Rattle.sect_types.proofs.Naming.{few_fields}
+use Rattle.sect_types.proofs.shared.Naming.{few_fields}
 use Rattle.sect_check.proofs.names.field_named.Goals as goal
 
 pub overflow_cast-result : goal.overflow_cast-result

@@ -1,5 +1,6 @@
 use Rattle.std.proofs.Common.{◌+◌, sym, subst}
-use Rattle.sect_infer.proofs.Sharing.{AreInferredBelow, one_inferred}
+use Rattle.sect_infer.specs.Sets.{AreInferredBelow}
+use Rattle.sect_infer.proofs.shared.Sets.{one_inferred}
 use Rattle.sect_emit.proofs.compiling.all_locks.Goals as goal
 
 pub loop-section-preserved : goal.loop-section-preserved

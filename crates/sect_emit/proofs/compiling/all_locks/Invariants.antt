@@ -1,4 +1,4 @@
-use Rattle.sect_infer.proofs.Sharing.{AreInferredBelow}
+use Rattle.sect_infer.specs.Sets.{AreInferredBelow}
 use Rattle.sect_emit.proofs.compiling.all_locks.Given as goal
 
 abbrev pub invariant-loop-section : goal.invariant-loop-section

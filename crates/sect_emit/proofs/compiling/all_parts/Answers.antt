@@ -2,7 +2,7 @@ use Rattle.std.proofs.Common.{◌≡◌, List, Vec, Global, ◌+◌, ◌++◌, �
 use Rattle.std.proofs.Common.{subst}
 use Rattle.std.proofs.lemmas.List.{map-append}
 use Rattle.sect_infer.specs.Sets.{LocksView}
-use Rattle.sect_types.specs.Lists.{Has}
+use Rattle.sect_lemmas.specs.Lists.{Has}
 use Rattle.sect_emit.specs.steps.Inferred.{entries_of, AreFixedParts}
 use Rattle.sect_emit.specs.steps.Wishes.{IsClassedLock}
 use Rattle.sect_emit.proofs.Wholes.{one_part, classed_entry}

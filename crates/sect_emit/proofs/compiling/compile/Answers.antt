@@ -1,5 +1,5 @@
 use Rattle.std.proofs.Common.{◌≡◌, refl}
-use Rattle.sect_names.proofs.Refusing.{given}
+use Rattle.sect_lemmas.proofs.Results.{given}
 use Rattle.sect_names.specs.declared.refusal.Refusal.TheVariants.{Memory}
 use Rattle.sect_emit.proofs.compiling.compile.Goals as goal
 

@@ -1,5 +1,5 @@
 use Rattle.std.proofs.Common.{◌≡◌, Err, ap}
-use Rattle.sect_names.proofs.Refusing.{given}
+use Rattle.sect_lemmas.proofs.Results.{given}
 use Rattle.sect_infer.specs.declared.workers.InferFault.{InferFault}
 use Rattle.sect_emit.specs.declared.fault.CompileFault.TheVariants as fault
 use Rattle.sect_emit.specs.Faults.{IsDueBy, of_workers, of_source}

@@ -3,7 +3,7 @@ use Rattle.std.specs.Prelude.{slice_get}
 use Rattle.std.specs.String.{string_bytes}
 use Rattle.sect_types.specs.Programs.{ProgramView}
 use Rattle.sect_types.specs.Sections.{sections_of}
-use Rattle.sect_types.specs.steps.Found.{section_shown}
+use Rattle.sect_types.specs.Sections.{section_shown}
 use Rattle.sect_graph.specs.Graphs.{GraphView}
 use Rattle.sect_names.specs.Schemes.{SchemeView}
 use Rattle.sect_emit.proofs.Explained.{explained}

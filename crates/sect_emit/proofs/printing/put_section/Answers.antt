@@ -4,14 +4,14 @@ use Rattle.std.specs.String.{string_bytes}
 use Rattle.std.proofs.lemmas.Option.{get_or_from_slice_get}
 use Rattle.sect_types.specs.Programs.{ProgramView}
 use Rattle.sect_types.specs.Sections.{SectionView, sections_of}
-use Rattle.sect_types.specs.steps.Found.{section_shown}
-use Rattle.sect_types.proofs.Places.{one_at}
+use Rattle.sect_types.specs.Sections.{section_shown}
+use Rattle.sect_lemmas.proofs.Places.{one_at}
 use Rattle.sect_names.specs.Schemes.{SchemeView}
 use Rattle.sect_names.specs.Printing.{AreNamed}
 use Rattle.sect_emit.specs.Listing.{section_lines}
 use Rattle.sect_emit.proofs.Graphed.{section_graph, section_named}
 use Rattle.sect_emit.proofs.Numbered.{on_ok}
-use Rattle.sect_emit.proofs.Wholes.{set_named}
+use Rattle.sect_emit.proofs.shared.Sets.{set_named}
 use Rattle.sect_emit.proofs.printing.put_section.Goals as goal
 
 pub put_section_lines-requires-clause-locks : goal.put_section_lines-requires-clause-locks

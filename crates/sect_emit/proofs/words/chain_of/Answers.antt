@@ -1,6 +1,6 @@
 use Rattle.std.proofs.Common.{◌<◌, length, arith, sym, subst}
-use Rattle.sect_types.specs.Lists.{Has}
-use Rattle.sect_types.proofs.Membership.{Has-get_or}
+use Rattle.sect_lemmas.specs.Lists.{Has}
+use Rattle.sect_lemmas.proofs.Membership.{Has-get_or}
 use Rattle.sect_emit.proofs.words.chain_of.Goals as goal
 
 pub step_of-requires : goal.step_of-requires

@@ -1,7 +1,7 @@
 use Rattle.std.proofs.Common.{◌<◌, length, arith, sym, subst}
 use Rattle.std.specs.List.{AllByRecursion}
-use Rattle.sect_types.specs.Lists.{Has}
-use Rattle.sect_types.proofs.Membership.{Has-get_or}
+use Rattle.sect_lemmas.specs.Lists.{Has}
+use Rattle.sect_lemmas.proofs.Membership.{Has-get_or}
 use Rattle.sect_cert.specs.Texts.{IsChain}
 use Rattle.sect_emit.proofs.Spelling.{next_chain, all_more}
 use Rattle.sect_emit.proofs.words.chains_of.Goals as goal

@@ -1,4 +1,4 @@
-use Rattle.sect_names.proofs.Named.{base_there, item_there}
+use Rattle.sect_names.proofs.shared.Named.{base_there, item_there}
 use Rattle.sect_emit.proofs.words.path_of.Goals as goal
 
 pub field_name-name-requires : goal.field_name-name-requires

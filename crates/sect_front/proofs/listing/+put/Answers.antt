@@ -1,6 +1,6 @@
 use Rattle.std.proofs.Common.{arith, ap}
 use Rattle.sect_front.specs.Trees.{statement_of, statement_size, block_size}
-use Rattle.sect_front.proofs.Bodies.{size_at}
+use Rattle.sect_front.proofs.shared.Bodies.{size_at}
 use Rattle.sect_front.proofs.listing.+put.Goals as goal
 
 pub put_block-put_statement-requires : goal.put_block-put_statement-requires

@@ -1,6 +1,6 @@
 use Rattle.std.proofs.Common.{◌≡◌, ◌<◌, ◌∙◌, sym, ap, arith, length, true≢false}
 use Rattle.sect_front.specs.Trees.{statement_of, statement_size, block_size}
-use Rattle.sect_front.proofs.Bodies.{size_at}
+use Rattle.sect_front.proofs.shared.Bodies.{size_at}
 use Rattle.sect_front.proofs.Sameness.{same_length, same_at, same_so_far}
 use Rattle.sect_front.proofs.same.+same.Goals as goal
 

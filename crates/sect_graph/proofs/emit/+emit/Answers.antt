@@ -4,7 +4,7 @@ use Rattle.sect_types.specs.Statements.{Stop, weight}
 use Rattle.sect_types.specs.Texts.{step_then, statements_of}
 use Rattle.sect_types.specs.Traces.{node_count}
 use Rattle.sect_graph.specs.Layout.{entry_of}
-use Rattle.sect_types.proofs.FindLemmas.{weight_at}
+use Rattle.sect_types.proofs.shared.FindLemmas.{weight_at}
 use Rattle.sect_graph.proofs.Emitting.{count_more, emit_more, room_more, nodes_if, after_more, after_last, room_if}
 use Rattle.sect_graph.proofs.emit.+emit.Goals as goal
 use Rattle.sect_graph.proofs.emit.+emit.Goals.{emit_text-then-i-steps, emit_text-else-i-steps}

@@ -1,5 +1,5 @@
 use Rattle.std.proofs.Common.{take}
-use Rattle.sect_types.specs.Lists.{Has}
+use Rattle.sect_lemmas.specs.Lists.{Has}
 use Rattle.sect_infer.specs.Numberings.{Finds}
 use Rattle.sect_infer.proofs.carry.find_all.Given as goal
 

@@ -1,9 +1,9 @@
 use Rattle.std.proofs.Common.{◌∙◌, ◌<◌, ◌≤◌, inl, inr, length, sym, subst, arith}
 use Rattle.std.proofs.lemmas.List.{take_all}
 use Rattle.std.proofs.lemmas.Option.{slice_get_within}
-use Rattle.sect_types.specs.Lists.{Has}
-use Rattle.sect_types.proofs.Membership.{Has-get_or}
-use Rattle.sect_names.proofs.Inserting.{behind}
+use Rattle.sect_lemmas.specs.Lists.{Has}
+use Rattle.sect_lemmas.proofs.Membership.{Has-get_or}
+use Rattle.sect_lemmas.proofs.Inserting.{behind}
 use Rattle.sect_infer.proofs.Listing.{order_next, order_is}
 use Rattle.sect_infer.proofs.locks.in_order.Goals as goal
 use Rattle.sect_infer.proofs.locks.in_order.Goals.{in-Some+in_ok-push, in_default}

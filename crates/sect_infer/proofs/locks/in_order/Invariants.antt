@@ -1,6 +1,6 @@
 use Rattle.std.proofs.Common.{◌≡◌, ◌<◌, ℕ, map, take, length}
-use Rattle.sect_types.specs.Lists.{Has}
-use Rattle.sect_infer.specs.steps.Listing.{lock_at}
+use Rattle.sect_lemmas.specs.Lists.{Has}
+use Rattle.sect_infer.specs.Numberings.{lock_at}
 use Rattle.sect_infer.proofs.locks.in_order.Given as goal
 
 abbrev pub invariant-loop-lock : goal.invariant-loop-lock

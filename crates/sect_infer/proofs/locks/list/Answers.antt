@@ -1,9 +1,10 @@
 use Rattle.std.proofs.Common.{◌≡◌, ◌<◌, ◌≤◌, ◌∙◌, Bool, List, ℕ, [], ◌∷◌, ◌++◌, length, get_or, map, sym, ap, arith}
 use Rattle.std.specs.List.{filter}
 use Rattle.std.proofs.lemmas.List.{get_or_default, take_all}
-use Rattle.sect_types.proofs.Membership.{Has-get_or}
+use Rattle.sect_lemmas.proofs.Membership.{Has-get_or}
 use Rattle.sect_infer.specs.Numbers.{with_numbers}
-use Rattle.sect_infer.specs.steps.Listing.{lock_at, is_kept}
+use Rattle.sect_infer.specs.Numberings.{lock_at}
+use Rattle.sect_infer.specs.steps.Listing.{is_kept}
 use Rattle.sect_infer.proofs.Listing.{list_next, list_skip}
 use Rattle.sect_infer.proofs.locks.list.Goals as goal
 use Rattle.sect_infer.proofs.locks.list.Goals.{then-is_kept+in_ok-try_clone+in_ok-push, else-is_kept}

@@ -1,7 +1,8 @@
 use Rattle.std.proofs.Common.{◌≡◌, [], map, take}
 use Rattle.std.specs.List.{filter}
 use Rattle.sect_infer.specs.Numbers.{with_numbers}
-use Rattle.sect_infer.specs.steps.Listing.{lock_at, is_kept}
+use Rattle.sect_infer.specs.Numberings.{lock_at}
+use Rattle.sect_infer.specs.steps.Listing.{is_kept}
 use Rattle.sect_infer.proofs.locks.list.Given as goal
 
 abbrev pub invariant-loop-number : goal.invariant-loop-number

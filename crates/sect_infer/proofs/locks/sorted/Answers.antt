@@ -3,9 +3,9 @@ use Rattle.std.proofs.lemmas.Iterator.{items_from_collect}
 use Rattle.std.proofs.lemmas.Iterator.Consumers.{YieldsList-from_rest}
 use Rattle.std.proofs.lemmas.List.{take_all}
 use Rattle.std.proofs.lemmas.Option.{slice_get_within, get_or_from_slice_get}
-use Rattle.sect_types.specs.Lists.{Has}
-use Rattle.sect_names.proofs.Making.{last_of, so_far}
-use Rattle.sect_names.proofs.Ranking.{in_order, put_has}
+use Rattle.sect_lemmas.specs.Lists.{Has}
+use Rattle.sect_lemmas.proofs.Making.{last_of, so_far}
+use Rattle.sect_names.proofs.shared.Ranking.{in_order, put_has}
 use Rattle.sect_infer.proofs.locks.sorted.Goals as goal
 
 pub loop-number-preserved : goal.loop-number-preserved

@@ -1,6 +1,6 @@
 use Rattle.std.proofs.Common.{◌<◌, ◌∙◌, length, get_or, take, refl, sym, arith, true≢false}
 use Rattle.std.proofs.lemmas.List.{get_or_default}
-use Rattle.sect_types.proofs.Membership.{Has-get_or}
+use Rattle.sect_lemmas.proofs.Membership.{Has-get_or}
 use Rattle.sect_infer.specs.Numberings.{fresh_from}
 use Rattle.sect_infer.proofs.Appending.{fresh_next, fresh_skip, behind_none, behind_next, some_behind}
 use Rattle.sect_infer.proofs.work.append.Goals as goal

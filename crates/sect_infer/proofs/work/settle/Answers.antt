@@ -1,5 +1,5 @@
 use Rattle.std.proofs.Common.{◌<◌, ◌↔◌, ◌∷◌, ◌++◌, [], ℕ, sym, subst, refl, arith}
-use Rattle.sect_types.specs.Lists.{Has}
+use Rattle.sect_lemmas.specs.Lists.{Has}
 use Rattle.sect_graph.specs.Predecessors.{AreBefore}
 use Rattle.sect_infer.specs.steps.Working.{IsWorking}
 use Rattle.sect_infer.proofs.Settling.{work_begins, last_within, work_quiet, work_busy, work_ends, lawful_at}

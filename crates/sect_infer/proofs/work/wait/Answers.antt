@@ -1,6 +1,6 @@
 use Rattle.std.proofs.Common.{◌<◌, length, get_or, arith, inl, inr}
 use Rattle.std.proofs.lemmas.List.{get_or_default}
-use Rattle.sect_names.proofs.Making.{last_of, so_far}
+use Rattle.sect_lemmas.proofs.Making.{last_of, so_far}
 use Rattle.sect_infer.proofs.Waiting.{put_node}
 use Rattle.sect_infer.proofs.work.wait.Goals as goal
 

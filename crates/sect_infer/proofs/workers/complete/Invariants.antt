@@ -1,5 +1,5 @@
 use Rattle.std.proofs.Common.{◌≡◌, length}
-use Rattle.sect_infer.proofs.Sharing.{AreInferredBelow}
+use Rattle.sect_infer.specs.Sets.{AreInferredBelow}
 use Rattle.sect_infer.proofs.workers.complete.Given as goal
 
 abbrev pub invariant-loop-place : goal.invariant-loop-place

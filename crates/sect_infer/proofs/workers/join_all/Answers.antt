@@ -1,7 +1,7 @@
 use Rattle.std.proofs.Common.{◌∙◌, subst, length}
 use Rattle.std.proofs.lemmas.Iterator.Adapters.{YieldsList-from_vec}
 use Rattle.std.proofs.lemmas.Iterator.Consumers.{YieldsList-turn}
-use Rattle.sect_types.proofs.Changed.{get_there}
+use Rattle.sect_lemmas.proofs.Changed.{get_there}
 use Rattle.sect_infer.specs.steps.Sharing.{AreFound}
 use Rattle.sect_infer.proofs.workers.join_all.Goals as goal
 
@@ -14,4 +14,4 @@ put_all-requires-clause-found g c =
     c.in-Some.handle c.in-Some.is c.next.ensures.steps in
     let at = get_there (length c.loop-handle.yielded) c.in-Some.handle started.items turn.0 turn.1 in
     subst (λ s. AreFound s c.in_ok-found.found.items)
-    (c.requires.each (length c.loop-handle.yielded) c.in-Some.handle at) c.in_ok-found.ensures
+    (c.requires.each (length c.loop-handle.yielded) c.in-Some.handle at) c.in_ok-found.ensures.each

@@ -1,7 +1,7 @@
 use Rattle.std.proofs.Common.{◌∙◌, length}
 use Rattle.std.proofs.lemmas.Iterator.Adapters.{YieldsList-from_vec}
 use Rattle.std.proofs.lemmas.Iterator.Consumers.{YieldsList-turn}
-use Rattle.sect_types.proofs.Changed.{get_there}
+use Rattle.sect_lemmas.proofs.Changed.{get_there}
 use Rattle.sect_infer.proofs.Sharing.{one_placed, has_place}
 use Rattle.sect_infer.proofs.workers.put_all.Goals as goal
 

@@ -1,5 +1,5 @@
 use Rattle.std.proofs.Common.{◌≡◌, ◌↔◌, drop}
-use Rattle.sect_types.specs.Lists.{Has}
+use Rattle.sect_lemmas.specs.Lists.{Has}
 use Rattle.sect_points.specs.Paths.{PathView, dots}
 use Rattle.sect_names.specs.Carrying.{BeforeStore}
 use Rattle.sect_names.proofs.carry.field_by_field.Given as goal

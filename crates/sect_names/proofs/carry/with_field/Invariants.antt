@@ -1,6 +1,6 @@
 use Rattle.std.proofs.Common.{take}
 use Rattle.sect_names.specs.Carrying.{GoesOn}
-use Rattle.sect_names.proofs.Making.{Makes}
+use Rattle.sect_lemmas.proofs.Making.{Makes}
 use Rattle.sect_names.proofs.carry.with_field.Given as goal
 
 abbrev pub invariant-loop-path : goal.invariant-loop-path

@@ -1,4 +1,4 @@
-use Rattle.sect_names.proofs.Respecting.{respects_cover}
+use Rattle.sect_names.proofs.shared.Respecting.{respects_cover}
 use Rattle.sect_names.proofs.laws.carrying_back_respects_covering.Goals as goal
 
 pub returns : goal.returns

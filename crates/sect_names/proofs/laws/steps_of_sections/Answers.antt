@@ -1,4 +1,5 @@
-use Rattle.sect_names.proofs.SectionSteps.{section_step, section_step_sound, section_thread}
+use Rattle.sect_names.proofs.shared.SectionSteps.{section_step}
+use Rattle.sect_names.proofs.SectionSteps.{section_step_sound, section_thread}
 use Rattle.sect_names.proofs.laws.steps_of_sections.Goals as goal
 
 pub returns-clause-program : goal.returns-clause-program

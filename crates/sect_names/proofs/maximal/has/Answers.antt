@@ -1,6 +1,7 @@
 use Rattle.std.proofs.Common.{sym, ◌∙◌}
 use Rattle.sect_names.specs.contracts.lock.LockPartialEq.TheImpl.{ghosts as the_lock_eq}
-use Rattle.sect_names.proofs.Telling.{any_tells, lock_tells}
+use Rattle.sect_lemmas.proofs.Finding.{any_tells}
+use Rattle.sect_names.proofs.shared.Telling.{lock_tells}
 use Rattle.sect_names.proofs.maximal.has.Goals as goal
 
 pub returns : goal.returns

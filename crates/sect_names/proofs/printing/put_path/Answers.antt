@@ -1,4 +1,4 @@
-use Rattle.sect_names.proofs.Named.{base_there, item_there}
+use Rattle.sect_names.proofs.shared.Named.{base_there, item_there}
 use Rattle.sect_names.proofs.printing.put_path.Goals as goal
 
 pub put_variable-requires : goal.put_variable-requires

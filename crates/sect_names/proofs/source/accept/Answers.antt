@@ -1,5 +1,6 @@
 use Rattle.sect_names.specs.Sources.{IsDue, of_scheme}
-use Rattle.sect_names.proofs.Refusing.{given, scheme_due}
+use Rattle.sect_lemmas.proofs.Results.{given}
+use Rattle.sect_names.proofs.Refusing.{scheme_due}
 use Rattle.sect_names.proofs.source.accept.Goals as goal
 
 pub returns-in_err-scheme-clause-refuses : goal.returns-in_err-scheme-clause-refuses

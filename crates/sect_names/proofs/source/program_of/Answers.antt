@@ -1,7 +1,8 @@
 use Rattle.std.proofs.Common.{sym, ap, ◌∙◌, subst}
 use Rattle.sect_types.specs.First.{IsTyped}
 use Rattle.sect_names.specs.Sources.{of_front, of_types}
-use Rattle.sect_names.proofs.Refusing.{gives_memory, one_program, spelled_gives}
+use Rattle.sect_names.proofs.Refusing.{gives_memory, spelled_gives}
+use Rattle.sect_names.proofs.shared.Refusing.{one_program}
 use Rattle.sect_names.proofs.source.program_of.Goals as goal
 
 pub returns-in_err-tree-clause-only : goal.returns-in_err-tree-clause-only

@@ -8,5 +8,5 @@ returns c =
     let labels = c.in_ok-labels.labels.items in
     let numbers = c.in_ok-numbers.numbers.items in
     let numbering = subst (λ xs. IsNumbering xs numbers) c.as_slice.ensures.value c.in_ok-numbers.ensures in
-    numbering_parted c.args.points.now labels numbers c.requires c.bounds.ensures.slots
+    numbering_parted c.args.points.now labels numbers c.bounds.ensures.below c.bounds.ensures.slots
     (omega (arith, c.in_ok-labels.ensures.long)) c.in_ok-labels.ensures.finest numbering

@@ -11,7 +11,7 @@ loop-field-preserved c =
     let l = c.loop-field in
     path_more c.args.points.now c.args.base c.args.fields.now l.field-index (record { of = 0; number = 0 })
     l.sites.words c.field_sites-sites.result.words
-    c.requires.below c.requires.slots (omega arith) l.invariant c.field_sites-sites.ensures
+    c.bounds.ensures.below c.bounds.ensures.slots (omega arith) l.invariant c.field_sites-sites.ensures
 
 pub returns : goal.returns
 returns c =

@@ -1,6 +1,6 @@
 use Rattle.std.proofs.Common.{◌≡◌, ◌||◌, refl, arith, subst, sym}
-use Rattle.sect_types.specs.Lists.{Has}
-use Rattle.sect_types.proofs.Membership.{Has-get_or}
+use Rattle.sect_lemmas.specs.Lists.{Has}
+use Rattle.sect_lemmas.proofs.Membership.{Has-get_or}
 use Rattle.sect_points.specs.steps.Marks.{grown}
 use Rattle.sect_points.proofs.MarkLaws.{stretch_none, stretch_then, stretch_by, handled_more, handled_past, handled_all}
 use Rattle.sect_points.proofs.MarkLaws.{fits_after, there_after}

@@ -1,7 +1,7 @@
 use Rattle.std.proofs.Common.{arith, ap}
 use Rattle.sect_types.specs.Statements.{Stop, weight}
 use Rattle.sect_types.specs.Texts.{step_then}
-use Rattle.sect_types.proofs.FindLemmas.{weight_at}
+use Rattle.sect_types.proofs.shared.FindLemmas.{weight_at}
 use Rattle.sect_store.proofs.site.+made.Goals as goal
 
 pub put_made-put_made_by-requires : goal.put_made-put_made_by-requires

@@ -1,5 +1,5 @@
 use Rattle.std.proofs.Common.{◌∙◌}
-use Rattle.sect_types.proofs.SameData.{same_tells}
+use Rattle.sect_types.proofs.shared.SameData.{same_tells}
 use Rattle.sect_store.proofs.value.same.Goals as goal
 
 pub returns : goal.returns

@@ -1,5 +1,5 @@
 use Rattle.std.proofs.Common.{inr, true}
-use Rattle.sect_types.proofs.Changed.{set_put}
+use Rattle.sect_lemmas.proofs.Changed.{set_put}
 use Rattle.sect_types.proofs.Marking.{read_false}
 use Rattle.sect_types.proofs.called.mark.Goals as goal
 

@@ -1,6 +1,6 @@
 use Rattle.std.proofs.Common.{◌∙◌, ◌++◌, ◌∷◌, [], ap, sym, refl, arith, subst, take, ◌+◌}
 use Rattle.std.specs.Prelude.{slice_index_or}
-use Rattle.sect_types.proofs.Changed.{set_put}
+use Rattle.sect_lemmas.proofs.Changed.{set_put}
 use Rattle.sect_types.proofs.Reversing.{AreReversed, one_reversed, all_reversed, called_there, gathered, read_call}
 use Rattle.sect_types.proofs.Reversing.{read_row}
 use Rattle.sect_types.proofs.called.put_callers.Goals as goal

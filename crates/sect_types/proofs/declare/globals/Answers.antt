@@ -1,8 +1,9 @@
 use Rattle.std.proofs.Common.{[], ◌∷◌, ◌++◌, ◌+◌, drop, arith, ap, sym, ◌∙◌, append-nil}
 use Rattle.sect_types.specs.Items.{AGlobal, global_items}
-use Rattle.sect_types.specs.Rules.{declared_in, judge}
+use Rattle.sect_types.specs.Rules.{declared_in, Counts}
+use Rattle.sect_types.specs.steps.Judging.{judge}
 use Rattle.sect_types.specs.steps.Listing.{AreGlobals}
-use Rattle.sect_types.proofs.Lists.{drop_next}
+use Rattle.sect_lemmas.proofs.Elements.{drop_next}
 use Rattle.sect_types.proofs.Records.{fault_after}
 use Rattle.sect_types.proofs.Listed.{global_more}
 use Rattle.sect_types.proofs.Passed.{none_left}
@@ -11,27 +12,27 @@ use Rattle.sect_types.proofs.declare.globals.Goals as goal
 
 pub loop-global-preserved : goal.loop-global-preserved
 loop-global-preserved c =
-    let after = c.in_ok-pass_global.ensures in
+    let after = c.in_ok-pass.ensures in
     global_more (declared_in c.args.tree.now) c.args.tree.now.globals c.globals-global-items.result.now
     c.loop-global.global-index c.global-item.result
-    c.loop-global.names c.pass_global.new.names c.args.spot.now c.loop-global.spot c.pass_global.new.spot (omega arith)
-    c.global-item.is c.loop-global.invariant after.walks after.names after.sites after.few after.known
+    c.loop-global.names c.pass.new.names c.args.spot.now c.loop-global.spot c.pass.new.spot (omega arith)
+    c.global-item.is c.loop-global.invariant after.walks after.names (ap (λ (s : Counts). s.sites) after.counts) after.few after.known
 
-pub returns-in_err-pass_global-clause-walks : goal.returns-in_err-pass_global-clause-walks
-returns-in_err-pass_global-clause-walks c =
+pub returns-in_err-pass-clause-walks : goal.returns-in_err-pass-clause-walks
+returns-in_err-pass-clause-walks c =
     let d = declared_in c.args.tree.now in
     let x = c.global-item.result in
     let names = c.loop-global.names in
-    let e = c.in_err-pass_global.field-0.0 in
-    handed_on d (global_items [] c.args.tree.now.globals) c.args.spot.now c.pass_global.new.spot e
+    let e = c.in_err-pass.field-0.0 in
+    handed_on d (global_items [] c.args.tree.now.globals) c.args.spot.now c.pass.new.spot e
     c.from_residual.result
     c.from_residual.ensures.1
     (fault_after d (global_items [] c.args.tree.now.globals) (λ w. AGlobal x.of x.name names ∷ w)
     (global_items (names ++ x.name ∷ []) (drop (c.loop-global.global-index + 1) c.globals-global-items.result.now))
-    c.args.spot.now c.loop-global.spot c.pass_global.new.spot e
+    c.args.spot.now c.loop-global.spot c.pass.new.spot e
     (λ w. c.loop-global.invariant.walks w ∙ ap (λ l. judge d c.loop-global.spot (global_items names l w))
     (drop_next c.globals-global-items.result.now c.loop-global.global-index x (omega arith) c.global-item.is))
-    c.in_err-pass_global.ensures.walks)
+    c.in_err-pass.ensures.walks)
 
 done : (c : goal.After-loop-global) → AreGlobals (declared_in c.args.tree.now) c.args.tree.now.globals []
     c.loop-global.names

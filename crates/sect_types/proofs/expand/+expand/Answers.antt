@@ -1,7 +1,7 @@
 use Rattle.std.proofs.Common.{◌≡◌, suc, arith, ap, sym, ◌∙◌, length, length-append}
 use Rattle.std.specs.Prelude.{ℕ, ◌-◌, []}
 use Rattle.sect_front.specs.Trees.{statement_of, statement_size, block_size}
-use Rattle.sect_front.proofs.Bodies.{size_at}
+use Rattle.sect_front.proofs.shared.Bodies.{size_at}
 use Rattle.sect_types.specs.steps.Threads.{VariablesView}
 use Rattle.sect_types.specs.steps.Expanding.{FrontView, most_size, tree_of}
 use Rattle.sect_types.specs.steps.Expansion.{view_of}

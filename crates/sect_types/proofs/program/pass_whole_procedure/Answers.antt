@@ -15,8 +15,8 @@ returns-in_err-walk_procedure-clause-walks c =
     (block_items (variables p) at p.body w)) c.args.spot.now c.walk_procedure.new.spot e
     c.from_residual-in_err-walk_procedure.result c.from_residual-in_err-walk_procedure.ensures.1
     (walks_body {A = ℕ} d (AProcedure p.name c.args.names.now) (variables p) at p.body c.args.spot.now
-    c.pass_procedure.new.spot c.pass_variables.new.spot c.walk_procedure.new.spot (Err e)
-    c.in_ok-pass_procedure.ensures.walks c.in_ok-variables.ensures.walks
+    c.pass.new.spot c.pass_variables.new.spot c.walk_procedure.new.spot (Err e)
+    c.in_ok-pass.ensures.walks c.in_ok-variables.ensures.walks
     (walks_at {A = ℕ} d (variables p) (variables p) at (InProcedure c.len-number.result) p.body
     c.pass_variables.new.spot c.walk_procedure.new.spot (Err e) refl (ap InProcedure c.len-number.ensures)
     c.in_err-walk_procedure.ensures))
@@ -27,8 +27,8 @@ returns-clause-walks c =
     let p = c.args.procedure.now in
     let at = InProcedure (length c.args.names.now) in
     walks_body {A = ℕ} d (AProcedure p.name c.args.names.now) (variables p) at p.body c.args.spot.now
-    c.pass_procedure.new.spot c.pass_variables.new.spot c.walk_procedure.new.spot (Ok 0)
-    c.in_ok-pass_procedure.ensures.walks c.in_ok-variables.ensures.walks
+    c.pass.new.spot c.pass_variables.new.spot c.walk_procedure.new.spot (Ok 0)
+    c.in_ok-pass.ensures.walks c.in_ok-variables.ensures.walks
     (walks_at {A = ℕ} d (variables p) (variables p) at (InProcedure c.len-number.result) p.body
     c.pass_variables.new.spot c.walk_procedure.new.spot (Ok 0) refl (ap InProcedure c.len-number.ensures)
     c.in_ok-walk_procedure.ensures)

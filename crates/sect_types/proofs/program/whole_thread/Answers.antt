@@ -1,5 +1,6 @@
 use Rattle.std.proofs.Common.{Ok, Err, [], ◌∷◌, ℕ, List, ap, subst, ◌≡◌, false}
-use Rattle.sect_types.specs.Rules.{declared_in, judge}
+use Rattle.sect_types.specs.Rules.{declared_in}
+use Rattle.sect_types.specs.steps.Judging.{judge}
 use Rattle.sect_types.specs.Items.{Item, AThread, local_items, block_items}
 use Rattle.sect_types.specs.declared.place.Place.TheVariants.{InThread}
 use Rattle.sect_types.specs.steps.Standing.{StandingView}
@@ -15,9 +16,9 @@ returns-in_err-walk_body-clause-walks c =
     (block_items h.locals (InThread false 1) h.body w)) c.args.spot.now c.walk_body.new.spot e
     c.from_residual-in_err-walk_body.result c.from_residual-in_err-walk_body.ensures.1
     (walks_body {A = ℕ} d (AThread h.name c.args.names.now) h.locals (InThread false 1) h.body c.args.spot.now
-    c.pass_thread.new.spot c.locals.new.spot c.walk_body.new.spot (Err e)
-    c.in_ok-pass_thread.ensures.walks
-    (subst (λ l. (w : List Item) → judge d c.pass_thread.new.spot (local_items [] l w)
+    c.pass.new.spot c.locals.new.spot c.walk_body.new.spot (Err e)
+    c.in_ok-pass.ensures.walks
+    (subst (λ l. (w : List Item) → judge d c.pass.new.spot (local_items [] l w)
     ≡ judge d c.locals.new.spot w) c.as_slice-list.ensures c.in_ok-local_names.ensures.walks)
     (walks_at {A = ℕ} d h.locals c.as_slice-list.result.now (InThread false 1) c.args.standing.now.at h.body
     c.locals.new.spot c.walk_body.new.spot (Err e) c.as_slice-list.ensures
@@ -28,9 +29,9 @@ returns-clause-walks c =
     let d = declared_in c.args.tree.now in
     let h = c.args.thread.now in
     walks_body {A = ℕ} d (AThread h.name c.args.names.now) h.locals (InThread false 1) h.body c.args.spot.now
-    c.pass_thread.new.spot c.locals.new.spot c.walk_body.new.spot (Ok 0)
-    c.in_ok-pass_thread.ensures.walks
-    (subst (λ l. (w : List Item) → judge d c.pass_thread.new.spot (local_items [] l w)
+    c.pass.new.spot c.locals.new.spot c.walk_body.new.spot (Ok 0)
+    c.in_ok-pass.ensures.walks
+    (subst (λ l. (w : List Item) → judge d c.pass.new.spot (local_items [] l w)
     ≡ judge d c.locals.new.spot w) c.as_slice-list.ensures c.in_ok-local_names.ensures.walks)
     (walks_at {A = ℕ} d h.locals c.as_slice-list.result.now (InThread false 1) c.args.standing.now.at h.body
     c.locals.new.spot c.walk_body.new.spot (Ok 0) c.as_slice-list.ensures

@@ -1,6 +1,6 @@
 use Rattle.std.proofs.Common.{arith, ap}
 use Rattle.sect_front.specs.Trees.{statement_of, statement_size, block_size}
-use Rattle.sect_front.proofs.Bodies.{size_at}
+use Rattle.sect_front.proofs.shared.Bodies.{size_at}
 use Rattle.sect_types.proofs.sums.+sum.Goals as goal
 
 pub add_block-add_statement-requires : goal.add_block-add_statement-requires

@@ -5,7 +5,7 @@ use Rattle.sect_types.specs.declared.store.End.TheVariants.{Done}
 use Rattle.sect_graph.specs.Graphs.{GraphView}
 use Rattle.sect_names.specs.Schemes.{SchemeView}
 use Rattle.sect_graph.specs.Rests.{rest_at}
-use Rattle.sect_world.specs.steps.Viewing.{EndsSo, text_at}
+use Rattle.sect_world.specs.Viewing.{EndsSo, text_at}
 use Rattle.sect_world.proofs.Opening.{ends_on, ends_off}
 use Rattle.sect_world.proofs.giving.end_after.Goals as goal
 

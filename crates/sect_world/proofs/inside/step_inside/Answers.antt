@@ -1,6 +1,6 @@
 use Rattle.std.proofs.Common.{◌≡◌, true, sym, ap, ◌∙◌, slice_get, Some}
 use Rattle.sect_types.specs.Meaning.{begins_step}
-use Rattle.sect_types.proofs.Places.{at_of}
+use Rattle.sect_lemmas.proofs.Places.{at_of}
 use Rattle.sect_graph.specs.declared.flow.Node.{Node}
 use Rattle.sect_graph.specs.Graphs.{GraphView}
 use Rattle.sect_graph.specs.Rests.{Begins, rest_at}
@@ -8,7 +8,7 @@ use Rattle.sect_names.specs.Schemes.{SchemeView}
 use Rattle.sect_table.specs.Contents.{held_by}
 use Rattle.sect_world.specs.declared.runner.Stage.{Stage}
 use Rattle.sect_world.specs.Events.{step_in}
-use Rattle.sect_world.specs.steps.Viewing.{body_at, thread_of}
+use Rattle.sect_world.specs.Viewing.{body_at, thread_of}
 use Rattle.sect_world.specs.steps.Moves.{grips_by}
 use Rattle.sect_world.proofs.NodeSteps.{inside_step, step_label, stage_by, acted, acted_store, more_held}
 use Rattle.sect_world.proofs.inside.step_inside.Goals as goal

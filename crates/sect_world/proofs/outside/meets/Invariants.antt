@@ -1,7 +1,7 @@
 use Rattle.std.proofs.Common.{◌≡◌, drop}
 use Rattle.sect_table.specs.Contents.{held_by}
 use Rattle.sect_emit.specs.Plan.{meets}
-use Rattle.sect_world.specs.steps.Fits.{grips}
+use Rattle.sect_world.specs.Waiting.{grips}
 use Rattle.sect_world.proofs.outside.meets.Given as goal
 
 abbrev pub invariant-loop-grip : goal.invariant-loop-grip

@@ -6,7 +6,8 @@ use Rattle.sect_check.specs.Valid.{IsValid}
 use Rattle.sect_emit.specs.Certificates.{IsCertificateOf}
 use Rattle.sect_emit.specs.Compiled.{CompiledView}
 use Rattle.sect_emit.specs.steps.Spelled.{IsSpelled}
-use Rattle.sect_emit.proofs.Spelling.{if_ok, if_ok_both}
+use Rattle.sect_lemmas.proofs.Results.{if_ok}
+use Rattle.sect_emit.proofs.Spelling.{if_ok_both}
 use Rattle.sect_emit.proofs.Wholes.{is_certificate}
 use Rattle.sect_emit.proofs.compiled.Compiled.certificate.Goals as goal
 

@@ -1,4 +1,4 @@
-use Rattle.sect_emit.proofs.Plans.{plan_ascends}
+use Rattle.sect_emit.proofs.shared.Plans.{plan_ascends}
 use Rattle.sect_emit.proofs.laws.plans.plans_ascend.Goals as goal
 
 pub returns : goal.returns

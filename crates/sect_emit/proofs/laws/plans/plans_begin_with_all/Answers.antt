@@ -1,4 +1,5 @@
-use Rattle.sect_emit.proofs.PlanModes.{plan_begins, no_plan}
+use Rattle.sect_emit.proofs.shared.PlanModes.{plan_begins}
+use Rattle.sect_emit.proofs.PlanModes.{no_plan}
 use Rattle.sect_emit.proofs.laws.plans.plans_begin_with_all.Goals as goal
 
 pub returns-clause-first : goal.returns-clause-first

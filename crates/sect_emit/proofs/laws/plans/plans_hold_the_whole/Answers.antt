@@ -1,4 +1,4 @@
-use Rattle.sect_emit.proofs.PlanModes.{plan_whole}
+use Rattle.sect_emit.proofs.shared.PlanModes.{plan_whole}
 use Rattle.sect_emit.proofs.laws.plans.plans_hold_the_whole.Goals as goal
 
 pub returns : goal.returns

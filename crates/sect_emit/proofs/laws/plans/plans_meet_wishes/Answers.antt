@@ -1,4 +1,4 @@
-use Rattle.sect_emit.proofs.PlanModes.{plan_meets}
+use Rattle.sect_emit.proofs.shared.PlanModes.{plan_meets}
 use Rattle.sect_emit.proofs.laws.plans.plans_meet_wishes.Goals as goal
 
 pub returns : goal.returns

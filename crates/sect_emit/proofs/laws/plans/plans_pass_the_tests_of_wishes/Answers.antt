@@ -1,4 +1,4 @@
-use Rattle.sect_emit.proofs.PlanModes.{plan_passes}
+use Rattle.sect_emit.proofs.shared.PlanModes.{plan_passes}
 use Rattle.sect_emit.proofs.laws.plans.plans_pass_the_tests_of_wishes.Goals as goal
 
 pub returns : goal.returns

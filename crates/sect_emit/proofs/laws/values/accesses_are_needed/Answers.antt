@@ -1,4 +1,4 @@
-use Rattle.sect_emit.proofs.NeedingAccesses.{access_needed}
+use Rattle.sect_emit.proofs.shared.NeedingAccesses.{access_needed}
 use Rattle.sect_emit.proofs.laws.values.accesses_are_needed.Goals as goal
 
 pub returns : goal.returns

@@ -1,4 +1,4 @@
-use Rattle.sect_emit.proofs.Securing.{next_does}
+use Rattle.sect_emit.proofs.shared.Securing.{next_does}
 use Rattle.sect_emit.proofs.laws.values.running_texts_follow_their_steps.Goals as goal
 
 pub returns : goal.returns

@@ -1,4 +1,4 @@
-use Rattle.sect_emit.proofs.Securing.{secured_by, needed_secures}
+use Rattle.sect_emit.proofs.shared.Securing.{secured_by, needed_secures}
 use Rattle.sect_emit.proofs.laws.values.secured_back.Goals as goal
 
 pub returns-clause-step : goal.returns-clause-step

@@ -1,4 +1,4 @@
-use Rattle.sect_emit.proofs.Pointing.{step_pointed, others_pointed}
+use Rattle.sect_emit.proofs.shared.Pointing.{step_pointed, others_pointed}
 use Rattle.sect_emit.proofs.laws.values.steps_keep_references_in_their_sets.Goals as goal
 
 pub returns-clause-own : goal.returns-clause-own

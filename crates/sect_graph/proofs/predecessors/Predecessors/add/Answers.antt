@@ -2,7 +2,8 @@ use Rattle.std.proofs.Common.{◌≡◌, ◌<◌, ℕ, List, [], ◌∷◌, ◌+
 use Rattle.std.specs.Prelude.{slice_index_or}
 use Rattle.std.proofs.lemmas.List.{get_or-map, length-map}
 use Rattle.sect_graph.specs.Predecessors.{IsAdded}
-use Rattle.sect_graph.proofs.Adding.{map-set, push_at}
+use Rattle.sect_lemmas.proofs.Elements.{map-set}
+use Rattle.sect_graph.proofs.Adding.{push_at}
 use Rattle.sect_graph.proofs.predecessors.Predecessors.add.Goals as goal
 
 pub returns-clause-added : goal.returns-clause-added

@@ -1,7 +1,7 @@
 use Rattle.std.proofs.Common.{◌≡◌, ◌+◌, ℕ, List, [], ◌∷◌, ◌++◌, map, length, ap, ◌∙◌, length-append}
 use Rattle.std.specs.Prelude.{slice_index_or}
 use Rattle.std.proofs.lemmas.List.{map-append}
-use Rattle.sect_graph.proofs.Adding.{empty_more}
+use Rattle.sect_lemmas.proofs.Elements.{empty_more}
 use Rattle.sect_infer.proofs.lists.Lists.new.Goals as goal
 
 pub loop-preserved : goal.loop-preserved

@@ -1,7 +1,7 @@
 use Rattle.std.proofs.Common.{◌≡◌, ◌<◌, ℕ, List, [], ◌∷◌, ◌++◌, map, set, length, ap, ◌∙◌, sym, arith}
 use Rattle.std.specs.Prelude.{slice_index_or}
 use Rattle.std.proofs.lemmas.List.{get_or-map, length-map}
-use Rattle.sect_graph.proofs.Adding.{map-set}
+use Rattle.sect_lemmas.proofs.Elements.{map-set}
 use Rattle.sect_infer.proofs.lists.Lists.push.Goals as goal
 
 pub returns : goal.returns

@@ -1,9 +1,9 @@
 use Rattle.std.proofs.Common.{◌≡◌, Some, ap, subst}
 use Rattle.std.specs.Prelude.{slice_get, position, MatchOption}
-use Rattle.sect_types.specs.Lists.{Has}
+use Rattle.sect_lemmas.specs.Lists.{Has}
 use Rattle.sect_names.specs.contracts.lock.LockPartialEq.TheImpl.{ghosts as the_lock_eq}
-use Rattle.sect_names.proofs.Telling.{lock_tells}
-use Rattle.sect_names.proofs.Seeking.{place_tells}
+use Rattle.sect_names.proofs.shared.Telling.{lock_tells}
+use Rattle.sect_lemmas.proofs.Finding.{place_tells}
 use Rattle.sect_infer.proofs.numbering.Numbering.find.Goals as goal
 
 pub returns : goal.returns

@@ -1,6 +1,6 @@
 use Rattle.std.proofs.Common.{sym, subst}
 use Rattle.std.proofs.lemmas.Result.{IfOk-weaker}
-use Rattle.sect_types.specs.Lists.{Has}
+use Rattle.sect_lemmas.specs.Lists.{Has}
 use Rattle.sect_infer.specs.Numberings.{IsNumbered}
 use Rattle.sect_infer.proofs.Extending.{numbered_after}
 use Rattle.sect_infer.proofs.numbering.Numbering.number.Goals as goal

@@ -1,7 +1,7 @@
 use Rattle.std.proofs.Common.{◌≡◌, ◌∙◌, Some, [], ◌∷◌, ◌++◌, map, length, sym, ap, subst, refl}
 use Rattle.std.specs.Prelude.{slice_get}
 use Rattle.std.proofs.lemmas.List.{map-append}
-use Rattle.sect_types.specs.Lists.{Has}
+use Rattle.sect_lemmas.specs.Lists.{Has}
 use Rattle.sect_infer.specs.Numberings.{NumberingView, AreOf}
 use Rattle.sect_infer.proofs.Extending.{put_last, numbering_put, get_end}
 use Rattle.sect_infer.proofs.numbering.Numbering.put.Goals as goal

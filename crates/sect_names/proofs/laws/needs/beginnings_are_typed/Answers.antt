@@ -1,4 +1,4 @@
-use Rattle.sect_names.proofs.Beginning.{begins_to, begins_own}
+use Rattle.sect_names.proofs.shared.Beginning.{begins_to, begins_own}
 use Rattle.sect_names.proofs.laws.needs.beginnings_are_typed.Goals as goal
 
 pub returns : goal.returns

@@ -1,4 +1,4 @@
-use Rattle.sect_names.proofs.Needing.{needed_needable}
+use Rattle.sect_names.proofs.shared.Needing.{needed_needable}
 use Rattle.sect_names.proofs.laws.needs.needed_locks_are_the_threads.Goals as goal
 
 pub returns : goal.returns

@@ -1,4 +1,4 @@
-use Rattle.sect_names.proofs.Recording.{locals_fit, fields_fit, paths_fit}
+use Rattle.sect_names.proofs.shared.Recording.{locals_fit, fields_fit, paths_fit}
 use Rattle.sect_names.proofs.laws.records.sets_have_the_record.Goals as goal
 
 pub returns-clause-locals : goal.returns-clause-locals

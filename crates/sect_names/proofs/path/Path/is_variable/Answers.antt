@@ -1,7 +1,7 @@
 use Rattle.std.proofs.Common.{◌≡◌, sym, ap, ◌∙◌, length, rules}
 use Rattle.sect_points.specs.Paths.{base_of, fields_of}
 use Rattle.sect_names.proofs.Paths.{variable_parts}
-use Rattle.sect_names.proofs.Telling.{variable_tells}
+use Rattle.sect_names.proofs.shared.Telling.{variable_tells}
 use Rattle.sect_names.proofs.path.Path.is_variable.Goals as goal
 
 pub returns-then-eq : goal.returns-then-eq

@@ -1,5 +1,5 @@
 use Rattle.std.proofs.Common.{◌≡◌, sym, ◌∙◌, Some, rules, true≢false}
-use Rattle.sect_names.proofs.Telling.{path_tells}
+use Rattle.sect_names.proofs.shared.Telling.{path_tells}
 use Rattle.sect_names.proofs.scheme.Scheme.covers.Goals as goal
 
 pub returns-then-eq : goal.returns-then-eq

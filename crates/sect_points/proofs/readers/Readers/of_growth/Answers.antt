@@ -1,5 +1,5 @@
 use Rattle.std.proofs.Common.{◌≡◌, subst, sym, arith}
-use Rattle.sect_types.specs.Lists.{Has}
+use Rattle.sect_lemmas.specs.Lists.{Has}
 use Rattle.sect_points.specs.steps.Readers.{row_of, row_at}
 use Rattle.sect_points.proofs.ReaderLaws.{found_each, row_found}
 use Rattle.sect_points.proofs.readers.Readers.of_growth.Goals as goal

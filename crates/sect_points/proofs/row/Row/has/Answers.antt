@@ -1,6 +1,6 @@
 use Rattle.std.proofs.Common.{◌∙◌, subst, sym, arith}
-use Rattle.sect_types.specs.Lists.{Has}
-use Rattle.sect_types.proofs.Membership.{Has-get_or}
+use Rattle.sect_lemmas.specs.Lists.{Has}
+use Rattle.sect_lemmas.proofs.Membership.{Has-get_or}
 use Rattle.sect_points.proofs.row.Row.has.Goals as goal
 
 pub returns-then-is_same : goal.returns-then-is_same

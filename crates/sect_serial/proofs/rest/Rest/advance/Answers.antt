@@ -2,7 +2,7 @@ use Rattle.std.proofs.Common.{rules, arith, ◌≡◌, ◌-◌, ◌<◌, ap, sym
 use Rattle.std.proofs.Common.{Some, suc}
 use Rattle.sect_types.specs.Statements.{Stop, joined}
 use Rattle.sect_serial.specs.steps.Rests.{rest_of, AreFull, after_first}
-use Rattle.sect_types.proofs.Changed.{get_there}
+use Rattle.sect_lemmas.proofs.Changed.{get_there}
 use Rattle.sect_serial.proofs.RestLemmas.{rest_last, rest_set, full_last, full_take, full_set, take_set, after_joined}
 use Rattle.sect_serial.proofs.RestLemmas.{stopped}
 use Rattle.sect_serial.proofs.rest.Rest.advance.Goals as goal

@@ -1,7 +1,7 @@
 use Rattle.std.proofs.Common.{ap, ◌∙◌}
 use Rattle.sect_types.specs.Statements.{joined}
 use Rattle.sect_serial.specs.steps.Rests.{rest_of}
-use Rattle.sect_types.proofs.Joining.{joined_stop}
+use Rattle.sect_types.proofs.shared.Joining.{joined_stop}
 use Rattle.sect_serial.proofs.rest.Rest.of.Goals as goal
 
 pub returns : goal.returns

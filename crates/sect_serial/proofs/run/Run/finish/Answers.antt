@@ -4,7 +4,7 @@ use Rattle.std.proofs.lemmas.Iterator.Consumers.{YieldsList-turn, YieldsList-so_
 use Rattle.std.proofs.lemmas.List.{map-id}
 use Rattle.sect_types.specs.Programs.{environment_at}
 use Rattle.sect_types.specs.Whole.{FrameView, RunView, ahead, all_ahead}
-use Rattle.sect_types.proofs.Changed.{get_there}
+use Rattle.sect_lemmas.proofs.Changed.{get_there}
 use Rattle.sect_serial.specs.steps.Frames.{AreReady, IsReady}
 use Rattle.sect_serial.proofs.FinishLemmas.{ends_more, least_left}
 use Rattle.sect_serial.proofs.RunLemmas.{long_more, ready_get}

@@ -1,6 +1,7 @@
 use Rattle.std.proofs.Common.{rules, ◌≡◌, ap, sym, ◌∙◌, length, vec_len, slice_set}
-use Rattle.sect_types.specs.Store.{with_field, changed_at}
-use Rattle.sect_types.proofs.Changed.{set_changed, changed_past, not_below}
+use Rattle.sect_types.specs.Store.{with_field}
+use Rattle.sect_lemmas.specs.Lists.{changed_at}
+use Rattle.sect_lemmas.proofs.Changed.{set_changed, changed_past, not_below}
 use Rattle.sect_store.proofs.object.Objects.put.Goals as goal
 use Rattle.sect_store.proofs.object.Objects.put.Goals.{in-Some, in_default}
 

@@ -1,6 +1,7 @@
 use Rattle.std.proofs.Common.{rules, ◌≡◌, ap, sym, ◌∙◌, length, vec_len, slice_set, List}
-use Rattle.sect_types.specs.Store.{ObjectView, StoreView, with_field, changed_at}
-use Rattle.sect_types.proofs.Changed.{set_changed, changed_past, not_below}
+use Rattle.sect_types.specs.Store.{ObjectView, StoreView, with_field}
+use Rattle.sect_lemmas.specs.Lists.{changed_at}
+use Rattle.sect_lemmas.proofs.Changed.{set_changed, changed_past, not_below}
 use Rattle.sect_store.proofs.store.Store.write.Goals as goal
 
 pub returns-in-Some : goal.returns-in-Some

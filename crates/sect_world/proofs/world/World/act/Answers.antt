@@ -8,7 +8,7 @@ use Rattle.sect_world.specs.declared.turned.Kind.TheVariants as kind
 use Rattle.sect_world.specs.declared.turned.Turned.TheVariants.{Moved}
 use Rattle.sect_world.specs.Moments.{world_at}
 use Rattle.sect_world.specs.Worlds.{WorldView}
-use Rattle.sect_world.specs.steps.Viewing.{body_at}
+use Rattle.sect_world.specs.Viewing.{body_at}
 use Rattle.sect_world.proofs.MoveTurns.{text_inside, running_there, before_end, free_key, turns_inside}
 use Rattle.sect_world.proofs.Turning.{standing}
 use Rattle.sect_world.proofs.Viewing.{runs_here, read_here, TurnsInto, still_room}

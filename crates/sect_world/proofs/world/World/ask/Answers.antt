@@ -1,9 +1,9 @@
 -- A thread that asks comes to hold the key, or is blocked.
 use Rattle.std.proofs.Common.{[], refl, sym, ◌∙◌, subst}
-use Rattle.sect_types.proofs.Basics.{some_injective}
+use Rattle.sect_lemmas.proofs.Options.{some_injective}
 use Rattle.sect_emit.specs.Plan.{grip}
 use Rattle.sect_world.specs.Worlds.{WorldView}
-use Rattle.sect_world.specs.steps.Fits.{Asks}
+use Rattle.sect_world.specs.Waiting.{Asks}
 use Rattle.sect_world.specs.steps.Taking.{Wishes, turn_by}
 use Rattle.sect_world.specs.Moments.{world_at}
 use Rattle.sect_world.proofs.Viewing.{TurnsInto, still_room}

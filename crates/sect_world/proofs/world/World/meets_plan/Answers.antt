@@ -5,7 +5,7 @@ use Rattle.sect_world.specs.Worlds.{WorldView}
 use Rattle.sect_world.proofs.Viewing.{runs_here, read_here}
 use Rattle.sect_types.specs.Statements.{TextView, Section}
 use Rattle.sect_emit.specs.Plan.{meets}
-use Rattle.sect_emit.proofs.Spelling.{if_ok}
+use Rattle.sect_lemmas.proofs.Results.{if_ok}
 use Rattle.sect_world.proofs.MoveTurns.{section_there}
 use Rattle.sect_world.proofs.Turning.{standing}
 use Rattle.sect_world.proofs.TurnPlaces.{meets_as}

@@ -6,7 +6,7 @@ use Rattle.sect_emit.specs.State.{ThreadState, IsThread, Entered}
 use Rattle.sect_world.specs.Moments.{world_at}
 use Rattle.sect_world.specs.Worlds.{WorldView}
 use Rattle.sect_world.specs.steps.Moves.{IsNext}
-use Rattle.sect_world.specs.steps.Viewing.{text_at}
+use Rattle.sect_world.specs.Viewing.{text_at}
 use Rattle.sect_world.proofs.MoveTurns.{text_is}
 use Rattle.sect_world.proofs.TurnPlaces.{on_entered, no_step_entered}
 use Rattle.sect_world.proofs.Viewing.{runs_here, read_here}

@@ -3,7 +3,7 @@ use Rattle.std.proofs.Common.{◌≡◌, ◌<◌, length, refl, sym, subst, arit
 use Rattle.std.proofs.lemmas.Option.{slice_get_read}
 use Rattle.sect_emit.specs.State.{ThreadState, IsThread}
 use Rattle.sect_world.specs.Worlds.{WorldView}
-use Rattle.sect_world.specs.steps.Viewing.{position_of, IsSited}
+use Rattle.sect_world.specs.Viewing.{position_of, IsSited}
 use Rattle.sect_world.proofs.Viewing.{runner_there, place_of}
 use Rattle.sect_world.proofs.world.World.stage_of.Goals as goal
 

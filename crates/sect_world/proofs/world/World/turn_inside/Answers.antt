@@ -6,12 +6,12 @@ use Rattle.std.specs.Prelude.{ℕ, slice_get}
 use Rattle.sect_types.specs.Meaning.{begins_step}
 use Rattle.sect_types.specs.Sections.{sections_of}
 use Rattle.sect_types.specs.Statements.{Stop}
-use Rattle.sect_types.proofs.Places.{at_of}
+use Rattle.sect_lemmas.proofs.Places.{at_of}
 use Rattle.sect_graph.specs.Graphs.{GraphView}
 use Rattle.sect_graph.specs.Rests.{rest_at}
 use Rattle.sect_names.specs.Schemes.{SchemeView}
 use Rattle.sect_emit.specs.Compiled.{program_of}
-use Rattle.sect_world.specs.steps.Viewing.{body_at}
+use Rattle.sect_world.specs.Viewing.{body_at}
 use Rattle.sect_world.proofs.MoveTurns.{text_inside}
 use Rattle.sect_world.proofs.NodeSteps.{at_end, inside_step}
 use Rattle.sect_world.proofs.Turning.{standing}

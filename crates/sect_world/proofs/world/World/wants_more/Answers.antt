@@ -6,7 +6,7 @@ use Rattle.sect_world.proofs.Viewing.{runs_here, read_here}
 use Rattle.std.proofs.lemmas.Bool.Decides.{Decides-ltb, not_from_Decides}
 use Rattle.sect_modes.specs.declared.key.Key.{Key}
 use Rattle.sect_modes.specs.declared.mode.Mode.{Mode}
-use Rattle.sect_world.specs.steps.Fits.{Asks}
+use Rattle.sect_world.specs.Waiting.{Asks}
 use Rattle.sect_world.proofs.TurnPlaces.{asks_first, wants_none}
 use Rattle.sect_world.proofs.world.World.wants_more.Goals as goal
 

@@ -1,7 +1,7 @@
 use Rattle.std.proofs.Common.{rules}
 use denote.Param.{param}
 use denote.Param.Send.{IsSend, IsSync, sendable}
-use Rattle.sect_run.proofs.Crossing.{compiled_sync}
+use Rattle.sect_emit.proofs.shared.Crossing.{compiled_sync}
 use Rattle.sect_run.specs.contracts.share.Post as Post
 use Rattle.sect_run.specs.contracts.worker.Shared as Shared
 use Rattle.sect_run.proofs.share.Post.TheSendSync as PostSend

@@ -1,0 +1,13 @@
+pub mod Booleans
+pub mod Changed
+pub mod Elements
+pub mod Finding
+pub mod Inserting
+pub mod Listing
+pub mod Making
+pub mod Membership
+pub mod Options
+pub mod Places
+pub mod Positions
+pub mod Replaced
+pub mod Results

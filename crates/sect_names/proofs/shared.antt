@@ -1,0 +1,24 @@
+-- What follows from the public words of this crate, for the proofs of the crates above.
+pub mod Alike
+pub mod Beginning
+pub mod Covering
+pub mod Crossing
+pub mod Ending
+pub mod Ends
+pub mod Finiteness
+pub mod Maximals
+pub mod Named
+pub mod Needing
+pub mod OneScheme
+pub mod Owning
+pub mod Placing
+pub mod Ranking
+pub mod Recording
+pub mod Refusing
+pub mod Respecting
+pub mod SectionSteps
+pub mod Sounding
+pub mod Telling
+pub mod Typing
+pub mod Uniqueness
+pub mod Walking

@@ -1,0 +1,29 @@
+-- Which refusals are due, and which are not.
+use Rattle.std.proofs.Common.{◌≡◌, sym, ap, ◌∙◌}
+use Rattle.sect_front.specs.TreeView.{TreeView}
+use Rattle.sect_types.specs.Sight.{names_of_records}
+use Rattle.sect_types.specs.Environments.{field_types, global_records}
+use Rattle.sect_types.specs.Expanded.{all_local_types, texts_of}
+use Rattle.sect_types.specs.Lockings.{lockings_of}
+use Rattle.sect_types.specs.Programs.{ProgramView, IsOfTree, numbered_by}
+
+-- a program has the numbers of its tree
+abbrev numbered : TreeView → ProgramView
+numbered t = numbered_by t (field_types (names_of_records t.records) t.records)
+    (global_records (names_of_records t.records) t.globals) (all_local_types t) (texts_of t) (lockings_of t)
+
+is_numbered : (p : ProgramView) → IsOfTree p → p ≡ numbered p.source
+is_numbered p is =
+    let names = names_of_records p.source.records in
+    let records = field_types names p.source.records in
+    let globals = global_records names p.source.globals in
+    let locals = all_local_types p.source in
+    ap (λ r. numbered_by p.source r p.globals p.locals p.texts p.lockings) is.records_are
+    ∙ ap (λ g. numbered_by p.source records g p.locals p.texts p.lockings) is.globals_are
+    ∙ ap (λ l. numbered_by p.source records globals l p.texts p.lockings) is.locals_are
+    ∙ ap (λ t. numbered_by p.source records globals locals t p.lockings) is.texts_are
+    ∙ ap (numbered_by p.source records globals locals (texts_of p.source)) is.lockings_are
+
+-- a text has one program
+pub one_program : (p q : ProgramView) → IsOfTree p → IsOfTree q → q.source ≡ p.source → q ≡ p
+one_program p q of_p of_q same = is_numbered q of_q ∙ ap numbered same ∙ sym (is_numbered p of_p)

@@ -1,0 +1,4 @@
+-- What follows from the public words of this crate, for the proofs of the crates above.
+pub mod SetLaws
+pub mod SolvingLaws
+pub mod Crossing

@@ -1,0 +1,260 @@
+//! Compiled programs run by threads: who is started, what the gate is told, and who is woken.
+
+use sect_emit::{Compiled, compile};
+use sect_run::{Gate, run_threads};
+use sect_world::{Deed, Event, Kind, Run};
+use std::alloc::{AllocError, Global};
+use std::process::Abort;
+use std::sync::Wait;
+use std::sync::atomic::{AtomicU32, Ordering};
+use std::test::Fail;
+use std::thread;
+use std::thread::Threads;
+use std::time::{Clock, Duration};
+
+/// Threads whose objects are in different classes, so that none waits.
+const APART: &str = "record Acct { int bal; } record Node { int val; }
+global Acct a; global Node b;
+thread p { int v; v = 1; atomic { a.bal = v; v = a.bal; a.bal = 3; } v = 2; }
+thread q { atomic { b.val = 2; } }
+";
+
+/// Two threads that add to one object.
+const ADDING: &str = "record Acct { int bal; } global Acct a;
+thread p { int t; atomic { t = a.bal; t = t + 1; a.bal = t; } }
+thread q { int t; atomic { t = a.bal; t = t + 1; a.bal = t; } }
+";
+
+/// Three threads that read what thread 0 writes.
+const READERS: &str = "record Acct { int bal; } global Acct a;
+thread w { atomic { a.bal = 1; } }
+thread p { int v; atomic { v = a.bal; } }
+thread q { int v; atomic { v = a.bal; } }
+thread r { int v; atomic { v = a.bal; } }
+";
+
+/// How many kinds of events there are.
+const KINDS: usize = 7;
+
+/// How often a gate looks before it gives up, a millisecond apart.
+const LOOKS: u32 = 10_000;
+
+/// The place of a kind among all.
+fn place_of(kind: Kind) -> usize {
+    match kind {
+        Kind::Local => 0,
+        Kind::Enter => 1,
+        Kind::Take => 2,
+        Kind::Begin => 3,
+        Kind::Again => 4,
+        Kind::Act => 5,
+        Kind::Leave => 6,
+    }
+}
+
+/// The kind of an event.
+fn kind_of(event: &Event) -> Kind {
+    match event.deed {
+        Deed::Local => Kind::Local,
+        Deed::Enter => Kind::Enter,
+        Deed::Take { key: _, mode: _ } => Kind::Take,
+        Deed::Begin => Kind::Begin,
+        Deed::Again => Kind::Again,
+        Deed::Act => Kind::Act,
+        Deed::Leave => Kind::Leave,
+    }
+}
+
+/// Counts events by thread and kind, and has workers started for the threads from this one on.
+#[derive(Drop)]
+struct Counts {
+    first: u16,
+    counts: Vec<AtomicU32>,
+}
+
+impl Counts {
+    /// None so far, of so many threads.
+    fn new(alloc: Global, threads: usize, first: u16) -> Result<Counts, AllocError> {
+        let mut counts = Vec::new(alloc);
+        for _ in 0..threads {
+            for _ in 0..KINDS {
+                counts.push(AtomicU32::new(0))?;
+            }
+        }
+        Ok(Counts { first, counts })
+    }
+
+    /// How many events of a kind a thread has made.
+    fn of(&self, thread: u16, kind: Kind) -> u32 {
+        match self.counts.get(thread as usize * KINDS + place_of(kind)) {
+            Some(count) => count.load(Ordering::SeqCst),
+            None => 0,
+        }
+    }
+}
+
+impl Gate for Counts {
+    fn starts(&self, thread: u16) -> bool {
+        thread >= self.first
+    }
+
+    fn at(&self, thread: u16, kind: Kind) {
+        if let Some(count) = self.counts.get(thread as usize * KINDS + place_of(kind)) {
+            count.fetch_add(1, Ordering::SeqCst);
+        }
+    }
+}
+
+/// All kinds but `Take`: a key may be taken in another thread's turn.
+const OWN: [Kind; 6] = [
+    Kind::Local,
+    Kind::Enter,
+    Kind::Begin,
+    Kind::Again,
+    Kind::Act,
+    Kind::Leave,
+];
+
+/// How many events of a kind a thread has in a run.
+fn made(run: &Run, thread: u16, kind: Kind) -> usize {
+    run.events
+        .iter()
+        .filter(|event| event.thread == thread && kind_of(event) == kind)
+        .count()
+}
+
+/// A program compiled for paths of two fields.
+fn compiled(alloc: Global, text: &str) -> Result<Compiled, Fail> {
+    Ok(compile(alloc, text.as_bytes(), 2)?)
+}
+
+/// A run whose gate has the workers of threads from this one on started is told of each of a thread's own events, once.
+fn expect_told(
+    rt: &(impl Threads + Wait + Sync + AllocGlobal + Abort),
+    text: &str,
+    kinds: &[Kind],
+    first: u16,
+) -> Result<(), Fail> {
+    let compiled = compiled(rt.alloc(), text)?;
+    let gate = Counts::new(rt.alloc(), 2, first)?;
+    let run = run_threads(rt, rt.alloc(), &compiled, 10_000, &gate)?;
+    for thread in 0..2u16 {
+        assert_eq!(rt; made(&run, thread, Kind::Leave), 1);
+        for kind in kinds {
+            let told = gate.of(thread, *kind) as usize;
+            assert_eq!(rt; told, made(&run, thread, *kind), "{thread}");
+        }
+    }
+    Ok(())
+}
+
+#[test]
+fn gate_is_told_of_each_event(rt: HostRuntime) -> Result<(), Fail> {
+    expect_told(&rt, APART, &OWN, 0)?;
+    expect_told(&rt, APART, &[Kind::Take], 0)?;
+    expect_told(&rt, ADDING, &OWN, 0)
+}
+
+#[test]
+fn caller_makes_the_turns_of_the_first_thread(rt: HostRuntime) -> Result<(), Fail> {
+    expect_told(&rt, APART, &OWN, 1)?;
+    expect_told(&rt, APART, &[Kind::Take], 1)?;
+    expect_told(&rt, ADDING, &OWN, 1)
+}
+
+#[test]
+fn caller_makes_all_turns_where_no_worker_is_started(rt: HostRuntime) -> Result<(), Fail> {
+    expect_told(&rt, APART, &OWN, 2)?;
+    expect_told(&rt, APART, &[Kind::Take], 2)?;
+    expect_told(&rt, ADDING, &OWN, 2)
+}
+
+/// Keeps the readers before their sections until the writer has begun, the writer in its section until the three wait
+/// for its key, and each reader in its section until all three are in theirs.
+#[derive(Drop)]
+struct KeepsReaders<'a> {
+    clock: &'a HostRuntime,
+    begun: AtomicU32,
+    taken: AtomicU32,
+    inside: AtomicU32,
+    late: AtomicU32,
+}
+
+/// Looks until so many were counted, and says whether they were.
+fn was_reached(clock: &impl Clock, count: &AtomicU32, wanted: u32) -> bool {
+    for _ in 0..LOOKS {
+        if count.load(Ordering::SeqCst) >= wanted {
+            return true;
+        }
+        thread::sleep(clock, Duration::from_millis(1));
+    }
+    false
+}
+
+impl<'a> KeepsReaders<'a> {
+    /// Keeps the caller until so many were counted. Whoever waits in vain is late.
+    fn keep(&self, count: &AtomicU32, wanted: u32) {
+        if !was_reached(self.clock, count, wanted) {
+            self.late.fetch_add(1, Ordering::SeqCst);
+        }
+    }
+}
+
+impl<'a> Gate for KeepsReaders<'a> {
+    fn starts(&self, _thread: u16) -> bool {
+        true
+    }
+
+    fn at(&self, thread: u16, kind: Kind) {
+        match (thread, kind) {
+            // Each reader takes the keys of all and of the class, and then waits for that of the object.
+            (0, Kind::Begin) => {
+                self.begun.fetch_add(1, Ordering::SeqCst);
+                self.keep(&self.taken, 6);
+                thread::sleep(self.clock, Duration::from_millis(200));
+            }
+            (0, _) => {}
+            (_, Kind::Enter) => self.keep(&self.begun, 1),
+            (_, Kind::Take) => {
+                self.taken.fetch_add(1, Ordering::SeqCst);
+            }
+            (_, Kind::Begin) => {
+                self.inside.fetch_add(1, Ordering::SeqCst);
+                self.keep(&self.inside, 3);
+            }
+            _ => {}
+        }
+    }
+}
+
+/// How many events of the others are in the turn in which thread 0 leaves: those that follow at once.
+fn let_in(events: &[Event]) -> usize {
+    let mut count = 0;
+    let mut left = false;
+    for event in events {
+        if left && kind_of(event) == Kind::Take {
+            count += 1;
+        } else if left {
+            return count;
+        }
+        left = left || event.thread == 0 && kind_of(event) == Kind::Leave;
+    }
+    count
+}
+
+#[test]
+fn one_leave_wakes_three_readers(rt: HostRuntime) -> Result<(), Fail> {
+    let compiled = compiled(rt.alloc(), READERS)?;
+    let gate = KeepsReaders {
+        clock: &rt,
+        begun: AtomicU32::new(0),
+        taken: AtomicU32::new(0),
+        inside: AtomicU32::new(0),
+        late: AtomicU32::new(0),
+    };
+    let run = run_threads(&rt, rt.alloc(), &compiled, 10_000, &gate)?;
+    assert_eq!(rt; gate.late.load(Ordering::SeqCst), 0);
+    assert_eq!(rt; gate.inside.load(Ordering::SeqCst), 3);
+    assert_eq!(rt; let_in(run.events.as_slice()), 3);
+    Ok(())
+}

@@ -1,0 +1,19 @@
+-- What follows from the public words of this crate, for the proofs of the crates above.
+pub mod BodySteps
+pub mod Crossing
+pub mod Data
+pub mod Endings
+pub mod FindLemmas
+pub mod Joining
+pub mod LocalFacts
+pub mod LocalRows
+pub mod Naming
+pub mod ProgramTexts
+pub mod Repeating
+pub mod RunningAhead
+pub mod SameData
+pub mod SectionSound
+pub mod SoundLemmas
+pub mod Starts
+pub mod Stores
+pub mod WholeRows

@@ -1,0 +1,21 @@
+//! What the definitions of typed programs say together.
+
+ghost use Rattle.sect_front.specs.TreeView.{TreeView};
+ghost use Rattle.sect_types.specs.First.{IsTyped};
+ghost use Rattle.sect_types.specs.Unfolding.{SumsUnfold, SumsCount, TextsUnfold, FreshUnfold};
+
+/// In a typed text each call is expanded to its end: what it comes to, its text and its fresh locals are those of its
+/// procedure, the calls in it likewise.
+#[tactic(auto, using(crate::proofs::Unfolding::sums_unfold, crate::proofs::Unfolding::texts_unfold, crate::proofs::Unfolding::fresh_unfold))]
+pub fn calls_unfold()
+    ensures sums { (t : TreeView) → IsTyped t → SumsUnfold t }
+    ensures texts { (t : TreeView) → IsTyped t → TextsUnfold t }
+    ensures fresh { (t : TreeView) → IsTyped t → FreshUnfold t }
+{}
+
+/// The sums, which are found without expanding, are those of the expanded text: its statements, and how deep its blocks
+/// stand in one another.
+#[tactic(auto, using(crate::proofs::CountLaws::thread_counts, crate::proofs::DepthLaws::thread_deep))]
+pub fn sums_are_of_texts()
+    ensures { (t : TreeView) → SumsCount t }
+{}

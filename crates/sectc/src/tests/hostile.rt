@@ -1,6 +1,6 @@
 //! Texts that are cut short: each is answered or refused by name, and all commands refuse alike.
 
-use super::examples::EXAMPLES;
+use super::programs::PROGRAMS;
 use super::{answer_of, expect_bytes};
 use std::process::Abort;
 use std::sync::Wait;
@@ -166,7 +166,7 @@ fn expect_beginnings(
 
 #[test]
 fn beginnings_of_programs(rt: HostRuntime) -> Result<(), Fail> {
-    for (source, _) in EXAMPLES {
+    for source in PROGRAMS {
         expect_beginnings(&rt, source.as_bytes(), CUT)?;
     }
     Ok(())
@@ -198,7 +198,7 @@ fn expect_cuts(
 
 #[test]
 fn beginnings_of_certificates(rt: HostRuntime) -> Result<(), Fail> {
-    for (source, _) in EXAMPLES {
+    for source in PROGRAMS {
         expect_cuts(&rt, source)?;
     }
     Ok(())

@@ -10,7 +10,11 @@ use std::rt::Files;
 fn put_bytes(input: &mut Vec<u8>, text: &str, line: usize) -> Result<(), Failure> {
     let mut first = true;
     for part in text.split("\\x") {
-        let (digits, rest) = if first { ("", part) } else { halves(part, line)? };
+        let (digits, rest) = if first {
+            ("", part)
+        } else {
+            halves(part, line)?
+        };
         if !digits.is_empty() {
             input.push(byte_of(digits, line)?)?;
         }

@@ -95,7 +95,8 @@ fn expect_all_judged(
     source: &[u8],
     chance: &mut Chance,
 ) -> Result<(), Fail> {
-    let (_, certificate) = answer_of(rt, "compile --cert", source)?;
+    let (status, certificate) = answer_of(rt, "compile --cert", source)?;
+    assert_eq!(rt; status, 0, "{certificate}");
     for _ in 0..TEXTS {
         expect_judged(rt, certificate.as_bytes(), source, chance)?;
     }

@@ -188,7 +188,8 @@ fn expect_cuts(
     rt: &(impl Threads + Wait + Sync + AllocGlobal + Abort),
     source: &str,
 ) -> Result<(), Fail> {
-    let (_, certificate) = answer_of(rt, "compile --cert", source.as_bytes())?;
+    let (status, certificate) = answer_of(rt, "compile --cert", source.as_bytes())?;
+    assert_eq!(rt; status, 0, "{certificate}");
     let bytes = certificate.as_bytes();
     for count in 0..bytes.len() {
         expect_cut(rt, &bytes[..count])?;

@@ -1,8 +1,8 @@
 //! Texts whose bytes are swapped, dropped or doubled: each is answered or refused by name.
 
 use super::answer_of;
-use super::examples::EXAMPLES;
 use super::hostile::{expect_any, expect_verdict};
+use super::programs::PROGRAMS;
 use std::alloc::{AllocError, Global};
 use std::process::Abort;
 use std::sync::Wait;
@@ -53,7 +53,7 @@ fn changed(alloc: Global, text: &[u8], chance: &mut Chance) -> Result<Vec<u8>, A
     Ok(bytes)
 }
 
-/// How many texts are made of each example, and as many of its certificate.
+/// How many texts are made of each program, and as many of its certificate.
 const TEXTS: u16 = 360;
 
 /// The text with some changes is answered, or refused by name.
@@ -69,7 +69,7 @@ fn expect_answered(
 #[test]
 fn changed_programs(rt: HostRuntime) -> Result<(), Fail> {
     let mut chance = Chance { state: 1 };
-    for (source, _) in EXAMPLES {
+    for source in PROGRAMS {
         for _ in 0..TEXTS {
             expect_answered(&rt, source.as_bytes(), &mut chance)?;
         }
@@ -95,7 +95,8 @@ fn expect_all_judged(
     source: &[u8],
     chance: &mut Chance,
 ) -> Result<(), Fail> {
-    let (_, certificate) = answer_of(rt, "compile --cert", source)?;
+    let (status, certificate) = answer_of(rt, "compile --cert", source)?;
+    assert_eq!(rt; status, 0, "{certificate}");
     for _ in 0..TEXTS {
         expect_judged(rt, certificate.as_bytes(), source, chance)?;
     }
@@ -105,7 +106,7 @@ fn expect_all_judged(
 #[test]
 fn changed_certificates(rt: HostRuntime) -> Result<(), Fail> {
     let mut chance = Chance { state: 2 };
-    for (source, _) in EXAMPLES {
+    for source in PROGRAMS {
         expect_all_judged(&rt, source.as_bytes(), &mut chance)?;
     }
     Ok(())

@@ -1,6 +1,6 @@
 //! Texts that are cut short: each is answered or refused by name, and all commands refuse alike.
 
-use super::examples::EXAMPLES;
+use super::programs::PROGRAMS;
 use super::{answer_of, expect_bytes};
 use std::process::Abort;
 use std::sync::Wait;
@@ -166,7 +166,7 @@ fn expect_beginnings(
 
 #[test]
 fn beginnings_of_programs(rt: HostRuntime) -> Result<(), Fail> {
-    for (source, _) in EXAMPLES {
+    for source in PROGRAMS {
         expect_beginnings(&rt, source.as_bytes(), CUT)?;
     }
     Ok(())
@@ -188,7 +188,8 @@ fn expect_cuts(
     rt: &(impl Threads + Wait + Sync + AllocGlobal + Abort),
     source: &str,
 ) -> Result<(), Fail> {
-    let (_, certificate) = answer_of(rt, "compile --cert", source.as_bytes())?;
+    let (status, certificate) = answer_of(rt, "compile --cert", source.as_bytes())?;
+    assert_eq!(rt; status, 0, "{certificate}");
     let bytes = certificate.as_bytes();
     for count in 0..bytes.len() {
         expect_cut(rt, &bytes[..count])?;
@@ -198,7 +199,7 @@ fn expect_cuts(
 
 #[test]
 fn beginnings_of_certificates(rt: HostRuntime) -> Result<(), Fail> {
-    for (source, _) in EXAMPLES {
+    for source in PROGRAMS {
         expect_cuts(&rt, source)?;
     }
     Ok(())

@@ -1,6 +1,7 @@
 //! The command `run` over memory, and runs whose threads are kept at a gate.
 
-use super::{LIST, Row, TWO_ADD, answer_of, expect_rows, expect_runs_in_order};
+use super::programs::PROCEDURE;
+use super::{LIST, TWO_ADD, answer_of, expect_runs_in_order};
 use sect_answers::run_outcome;
 use sect_run::Gate;
 use sect_world::Kind;
@@ -131,35 +132,6 @@ fn two_workers_were_seen(rt: HostRuntime) -> Result<(), Fail> {
     Ok(())
 }
 
-/// Runs of one order, and refusals.
-const RUNS: &[Row<'static>] = &[
-    ("run", "", 0, "order none\n"),
-    (
-        "run",
-        "thread t { atomic {",
-        1,
-        "refused 5 UnexpectedEnd line 1\n",
-    ),
-    ("run --k 4", "", 1, "refused 60 BadK\n"),
-    (
-        "run --fuel 1",
-        "thread f { int x; x = 1; x = 2; }",
-        0,
-        "thread 0 fuel\norder none\n",
-    ),
-    (
-        "run --k 0",
-        "thread e { atomic { print 7; } }",
-        0,
-        "thread 0 done\norder 0\nout 7\n",
-    ),
-];
-
-#[test]
-fn runs_to_the_end(rt: HostRuntime) -> Result<(), Fail> {
-    expect_rows(&rt, RUNS)
-}
-
 /// A run of two threads that add to one object loses neither addition.
 fn expect_two(rt: &(impl Threads + Wait + Sync + AllocGlobal + Abort)) -> Result<(), Fail> {
     let (status, shown) = answer_of(rt, "run", TWO_ADD.as_bytes())?;
@@ -180,6 +152,11 @@ fn no_addition_is_lost(rt: HostRuntime) -> Result<(), Fail> {
 #[test]
 fn whole_sections_come_to_the_same(rt: HostRuntime) -> Result<(), Fail> {
     expect_runs_in_order(&rt, LIST, 100)
+}
+
+#[test]
+fn whole_sections_with_calls_come_to_the_same(rt: HostRuntime) -> Result<(), Fail> {
+    expect_runs_in_order(&rt, PROCEDURE, 20)
 }
 
 /// 64 threads, each of which adds 1 to one object so many times.

@@ -1,6 +1,6 @@
 //! Readers and writers that fail, for each command.
 
-use super::examples::TWO_THREADS;
+use super::programs::TWO_THREADS;
 use super::{answer_of, words_of};
 use sect_command::command;
 use std::io;

@@ -1,6 +1,9 @@
 //! Runs in many interleavings, each compared with the run by whole sections in the order that it has come to.
 
-use super::examples::*;
+use super::programs::{
+    ACCOUNT, ALIASED_STORE, CHANGED_PATH, EMPTY_SECTION, LINKED_LIST, LOCAL_ONLY, LOCKS_EVERYTHING,
+    NEVER_FILLED, NULL_REFERENCE, ONE_CLASS, PROCEDURE, PROTECTED, TWO_NAMES, TWO_THREADS, WALK,
+};
 use super::{answer_of, expect_bytes};
 use std::alloc::{AllocError, Global};
 use std::fmt::Write;
@@ -9,8 +12,8 @@ use std::sync::Wait;
 use std::test::Fail;
 use std::thread::Threads;
 
-/// The program of each example, and how many threads it has.
-const PROGRAMS: &[(&str, u8)] = &[
+/// The programs, and how many threads each has.
+const THREADS: &[(&str, u8)] = &[
     (EMPTY_SECTION, 1),
     (ACCOUNT, 1),
     (TWO_THREADS, 2),
@@ -137,7 +140,7 @@ fn expect_stretches(
 
 #[test]
 fn stretches_of_turns_come_to_whole_sections(rt: HostRuntime) -> Result<(), Fail> {
-    for (source, threads) in PROGRAMS {
+    for (source, threads) in THREADS {
         for stretch in 1..8u8 {
             expect_stretches(&rt, source, *threads, stretch)?;
         }

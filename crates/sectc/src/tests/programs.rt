@@ -1,15 +1,10 @@
-//! The examples of the repository: the text of each, as it stands in its file, and what `sectc locks` prints of it.
+//! The programs over which the sweeps go.
 
-use super::expect_locks;
-use std::test::Fail;
-
-/// `examples/empty_section.sect`
 pub(super) const EMPTY_SECTION: &str = "// A section that does nothing takes no lock.
 // section 0: none
 thread e { atomic { } }
 ";
 
-/// `examples/account.sect`
 pub(super) const ACCOUNT: &str =
     "// One thread adds to an account: the section reads and writes one object, and the lock to write it covers both.
 // section 0: W a
@@ -18,7 +13,6 @@ global Acct a;
 thread p { int t; atomic { t = a.bal; t = t + 1; a.bal = t; } }
 ";
 
-/// `examples/two_threads.sect`
 pub(super) const TWO_THREADS: &str =
     "// Two threads add to one account: both sections take the lock to write it, so no update is lost.
 // section 0: W a
@@ -29,13 +23,11 @@ thread p { int t; atomic { t = a.bal; t = t + 1; a.bal = t; } }
 thread q { int t; atomic { t = a.bal; t = t + 1; a.bal = t; } }
 ";
 
-/// `examples/local_only.sect`
 pub(super) const LOCAL_ONLY: &str =
     "// A thread without a section has no line: nobody else sees its locals, so they need no lock.
 thread f { int x; x = 1; x = 2; }
 ";
 
-/// `examples/two_names.sect`
 pub(super) const TWO_NAMES: &str =
     "// Two locals refer to one object. Each path is locked for what is done through it: x is read, y is written.
 // section 0: R x, W y
@@ -45,7 +37,6 @@ thread t { Cell x; Cell y; int v; x = a; y = a;
   atomic { v = x.val; y.val = 3; } }
 ";
 
-/// `examples/one_class.sect`
 pub(super) const ONE_CLASS: &str =
     "// Two globals that one local may refer to are in one class; each section still locks one object, by its path.
 // section 0: W x
@@ -56,7 +47,6 @@ thread p { Acct x; x = b; x = a; atomic { x.bal = 1; } }
 thread q { atomic { b.bal = 2; } }
 ";
 
-/// `examples/changed_path.sect`
 pub(super) const CHANGED_PATH: &str =
     "// The reader follows a reference and locks both objects on its way; the writer changes both objects.
 // section 0: R head, R head.next
@@ -67,7 +57,6 @@ thread r { Node p; int v; atomic { p = head.next; v = p.val; print v; } }
 thread w { atomic { head.next = two; two.val = 7; } }
 ";
 
-/// `examples/aliased_store.sect`
 pub(super) const ALIASED_STORE: &str =
     "// x and y may be one object: after the store y.next may be z's object, so z is locked as y.next is.
 // section 0: W x, R y, W y.next, W z
@@ -79,7 +68,6 @@ thread t { Node x; Node y; Node z; Node w;
   atomic { x.next = z; w = y.next; w.val = 1; } }
 ";
 
-/// `examples/linked_list.sect`
 pub(super) const LINKED_LIST: &str =
     "// One thread sums a list, another pushes to it. Past two fields a path becomes the lock on its class.
 // section 0: R class 1, R head
@@ -94,7 +82,6 @@ thread push { Node n; Node p; int v; v = 5;
   atomic { n = new Node; n.val = v; p = head.next; n.next = p; head.next = n; } }
 ";
 
-/// `examples/walk.sect`
 pub(super) const WALK: &str =
     "// A loop along a list of two globals: p.next.next is always null and needs no lock.
 // section 0: W a
@@ -109,7 +96,6 @@ thread s { Node p; int v;
 thread r { Node q; int v; q = b; atomic { v = q.val; print v; } }
 ";
 
-/// `examples/null_reference.sect`
 pub(super) const NULL_REFERENCE: &str =
     "// Nothing is ever stored to head.next, so p is always null, and the load through p needs no lock.
 // section 0: R head, W b
@@ -120,7 +106,6 @@ thread s { Node p; int v; atomic { b.val = 4; p = head.next; v = p.val; } }
 thread r { int v; atomic { v = b.val; print v; } }
 ";
 
-/// `examples/never_filled.sect`
 pub(super) const NEVER_FILLED: &str =
     "// Nothing is ever stored to a field n: p and q are always null, and only the load from a needs a lock.
 // section 0: R a
@@ -129,7 +114,6 @@ global Cell a;
 thread t { Cell p; Cell q; int i; atomic { p = a.n; q = p.n; i = q.v; } }
 ";
 
-/// `examples/protected.sect`
 pub(super) const PROTECTED: &str =
     "// All objects of Cell are protected by the global g: its lock stands for theirs.
 // section 0: W g
@@ -139,7 +123,6 @@ global Lock g; global Cell c; global Cell d;
 thread t { int v; atomic { c.val = 1; v = d.val; } }
 ";
 
-/// `examples/locks_everything.sect`
 pub(super) const LOCKS_EVERYTHING: &str =
     "// A section marked `all` takes one lock that keeps every other section with locks out.
 // section 0: W all
@@ -150,7 +133,6 @@ thread p { int t; atomic all { t = a.bal; } }
 thread q { atomic { a.bal = 2; } }
 ";
 
-/// `examples/procedure.sect`
 pub(super) const PROCEDURE: &str =
     "// Two threads move money by one procedure: its statements stand for each call, so both accounts are locked.
 // section 0: W a, W b
@@ -165,35 +147,21 @@ thread p { atomic { call move(a, b, 3); } }
 thread q { atomic { call move(b, a, 1); } }
 ";
 
-/// The text of each example, and the lines that are printed of it.
-pub(super) const EXAMPLES: &[(&str, &str)] = &[
-    (EMPTY_SECTION, "section 0: none\n"),
-    (ACCOUNT, "section 0: W a\n"),
-    (TWO_THREADS, "section 0: W a\nsection 1: W a\n"),
-    (LOCAL_ONLY, ""),
-    (TWO_NAMES, "section 0: R x, W y\n"),
-    (ONE_CLASS, "section 0: W x\nsection 1: W b\n"),
-    (
-        CHANGED_PATH,
-        "section 0: R head, R head.next\nsection 1: W head, W two\n",
-    ),
-    (ALIASED_STORE, "section 0: W x, R y, W y.next, W z\n"),
-    (
-        LINKED_LIST,
-        "section 0: R class 1, R head\nsection 1: M class 1, W head\n",
-    ),
-    (
-        WALK,
-        "section 0: W a\nsection 1: W a, R p, R p.next\nsection 2: R q\n",
-    ),
-    (NULL_REFERENCE, "section 0: R head, W b\nsection 1: R b\n"),
-    (NEVER_FILLED, "section 0: R a\n"),
-    (PROTECTED, "section 0: W g\n"),
-    (PROCEDURE, "section 0: W a, W b\nsection 1: W a, W b\n"),
-    (LOCKS_EVERYTHING, "section 0: W all\nsection 1: W a\n"),
+/// All of them.
+pub(super) const PROGRAMS: &[&str] = &[
+    EMPTY_SECTION,
+    ACCOUNT,
+    TWO_THREADS,
+    LOCAL_ONLY,
+    TWO_NAMES,
+    ONE_CLASS,
+    CHANGED_PATH,
+    ALIASED_STORE,
+    LINKED_LIST,
+    WALK,
+    NULL_REFERENCE,
+    NEVER_FILLED,
+    PROTECTED,
+    LOCKS_EVERYTHING,
+    PROCEDURE,
 ];
-
-#[test]
-fn examples_have_these_locks(rt: HostRuntime) -> Result<(), Fail> {
-    expect_locks(&rt, 0, EXAMPLES)
-}

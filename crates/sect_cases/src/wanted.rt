@@ -1,0 +1,102 @@
+//! Whether an answer is as a case says, and how the two differ.
+
+use crate::answer::Answer;
+use crate::case::Case;
+use crate::form::Print;
+use std::alloc::{AllocError, Global};
+use std::io;
+use std::io::Write;
+
+/// Whether a line is what is printed next. Any lines are no line.
+fn is_line(print: &Print<'_>, line: &str) -> bool {
+    match print {
+        Print::Line(text) => line == *text,
+        Print::Holding(text) => line.contains(*text),
+        Print::AnyLines => false,
+    }
+}
+
+/// Where the lines go on behind the first from here on that is what is printed next, which has to be the very first
+/// unless lines may be left out.
+fn behind(print: &Print<'_>, lines: &[&str], from: usize, skips: bool) -> Option<usize> {
+    let rest = lines.get(from..)?;
+    let at = rest.iter().position(|line| is_line(print, *line))?;
+    if at == 0 || skips {
+        Some(from.saturating_add(at).saturating_add(1))
+    } else {
+        None
+    }
+}
+
+/// Whether nothing but the empty line behind the last line feed is left from here on.
+fn is_end(lines: &[&str], from: usize) -> bool {
+    match lines.last() {
+        Some(line) => line.is_empty() && from.saturating_add(1) == lines.len(),
+        None => false,
+    }
+}
+
+/// Whether these lines are what is printed, to the end.
+fn are_printed(prints: &[Print<'_>], lines: &[&str]) -> bool {
+    let mut from = 0usize;
+    let mut skips = false;
+    for print in prints {
+        if matches!(print, Print::AnyLines) {
+            skips = true;
+            continue;
+        }
+        let Some(next) = behind(print, lines, from, skips) else {
+            return false;
+        };
+        from = next;
+        skips = false;
+    }
+    skips || is_end(lines, from)
+}
+
+/// Whether an answer is as the case says.
+pub fn is_expected(alloc: Global, case: &Case<'_>, answer: &Answer) -> Result<bool, AllocError> {
+    // A text whose last line has its line feed has an empty line behind it.
+    let lines: Vec<&str> = answer.text.split('\n').collect(alloc)?;
+    let printed = are_printed(case.prints.as_slice(), lines.as_slice());
+    Ok(printed && answer.status == case.status.unwrap_or(0))
+}
+
+/// Prints a line of what a case wants.
+fn put_print(output: &mut impl Write, print: &Print<'_>) -> io::Result<()> {
+    match print {
+        Print::Line(text) => writeln!(output, "> {text}"),
+        Print::Holding(text) => writeln!(output, ">~ {text}"),
+        Print::AnyLines => writeln!(output, ">.."),
+    }
+}
+
+/// Prints what a case wants.
+fn put_wanted(output: &mut impl Write, case: &Case<'_>) -> io::Result<()> {
+    for print in case.prints.iter() {
+        put_print(output, print)?;
+    }
+    writeln!(output, "= {}", case.status.unwrap_or(0))
+}
+
+/// Prints an answer as a case would say it.
+fn put_got(output: &mut impl Write, answer: &Answer) -> io::Result<()> {
+    for line in answer.text.lines() {
+        writeln!(output, "> {line}")?;
+    }
+    writeln!(output, "= {}", answer.status)
+}
+
+/// Prints what a case wants and what was got.
+pub fn put_difference(
+    output: &mut impl Write,
+    name: &str,
+    case: &Case<'_>,
+    answer: &Answer,
+) -> io::Result<()> {
+    writeln!(output, "{name}: line {}: sectc{}", case.line, case.words)?;
+    writeln!(output, "wanted:")?;
+    put_wanted(output, case)?;
+    writeln!(output, "got:")?;
+    put_got(output, answer)
+}

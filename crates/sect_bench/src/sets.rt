@@ -2,7 +2,7 @@
 
 use crate::failure::Failure;
 use sect_front::parse;
-use sect_points::{points_to, classes};
+use sect_points::{classes, points_to};
 use sect_types::{Program, check_types};
 use std::alloc::Global;
 

@@ -7,8 +7,8 @@ use Rattle.sect_world.specs.declared.world.Run.{Run}
 use Rattle.sect_run.specs.Ends.{IsWholeRun}
 use Rattle.sect_answers.specs.Serial.{IsOutcome}
 
--- the source is accepted, and this is the outcome of a complete run of its compiled program; it is what `serial` answers
--- for the order of that run's `leave` events
+-- the source is accepted, and this is the outcome of a complete run of its compiled program; it is what `serial`
+-- answers for the order of that run's `leave` events
 pub record IsOutcomeOfRun (source : List ℕ) (k fuel : ℕ) (text : List ℕ) : Type 0 where
   pub compiled : CompiledView
   pub from : IsCompiledFrom source k compiled

@@ -31,8 +31,8 @@ pub fn schedule_outcome(
 ) -> Result<String, Refusal>
     // The source is accepted, and these are the turns of its compiled program.
     ensures answers { IfOk result (λ text. IsScheduled source.now k fuel schedule.items (string_bytes text)) }
-    // Where a text is accepted and the schedule has numbers of its threads alone, the turns are made, unless memory runs
-    // out.
+    // Where a text is accepted and the schedule has numbers of its threads alone, the turns are made, unless memory
+    // runs out.
     ensures only { (s : SchemeView) → IsAccepted source.now k s → AreThreads s schedule.items
         → IsOkUnless result Memory }
     // A refusal is due: the text is judged first, and then the schedule.

@@ -208,8 +208,8 @@ abbrev pub fresh_within : ℕ → List Procedure → Freshens
 fresh_within zero ps q c = []
 fresh_within (suc n) ps q c = fresh_of ps (sums_within n ps) (fresh_within n ps) (procedure_numbered ps q) c
 
--- the fresh locals of a thread: where it declares n locals, number n + i is the i-th of these, and where that is q of call
--- c it is called `q#c`
+-- the fresh locals of a thread: where it declares n locals, number n + i is the i-th of these, and where that is q of
+-- call c it is called `q#c`
 abbrev pub fresh_in : TreeView → Thread → List Fresh
 fresh_in t h = block_fresh t.procedures (sums t.procedures) (fresh_within (length t.procedures) t.procedures) 0 h.body
 

@@ -6,7 +6,8 @@ use Rattle.sect_front.specs.TreeView.{TreeView}
 use Rattle.sect_front.specs.declared.tree.Thread.{Thread}
 use Rattle.sect_types.specs.Statements.{TextView, statement_count, text_depth}
 use Rattle.sect_types.specs.Sums.{sums, sums_at, sums_of, block_sums}
-use Rattle.sect_types.specs.Expanded.{Scene, NextNumbers, Expander, Freshens, call_of, expand_within, fresh_of, fresh_within}
+use Rattle.sect_types.specs.Expanded.{Scene, NextNumbers, Expander, Freshens, call_of, expand_within, fresh_of}
+use Rattle.sect_types.specs.Expanded.{fresh_within}
 use Rattle.sect_types.specs.Expanded.{expanded_thread}
 
 -- what stands for a call in the text of a thread

@@ -1,4 +1,5 @@
 -- What may happen, tested: `after` gives the state that an event leads to, where it is enabled.
+-- Only `EventRows`, which tests definitions, cites it.
 use Rattle.std.proofs.Common.{◌≡◌, ℕ, Bool, true, false, refl, sym, ap, ◌∙◌, List, [], ◌∷◌, Option, Some, None}
 use Rattle.std.proofs.Common.{true≢false}
 use Rattle.std.specs.Prelude.{◌&&◌, slice_get, if◌then◌else◌}

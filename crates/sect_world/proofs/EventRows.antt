@@ -1,4 +1,5 @@
 -- What happens in some programs, event by event.
+-- Nothing cites this: it tests definitions.
 use Rattle.std.proofs.Common.{◌≡◌, ℕ, List, [], ◌∷◌, ◌++◌, Option, Some, None, true, false, refl, arith, Bool}
 use Rattle.std.specs.Prelude.{map, slice_get}
 use Rattle.sect_types.specs.declared.types.ValueType.TheVariants.{Int}

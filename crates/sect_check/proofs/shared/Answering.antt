@@ -1,4 +1,4 @@
--- The answers of the checker to bytes.
+-- A certificate that the checker finds valid is valid for the scheme of the source.
 use Rattle.std.proofs.Common.{◌≡◌, ℕ, List, Ok, sym, ◌∙◌, subst}
 use Rattle.sect_front.proofs.shared.Only.{only}
 use Rattle.sect_types.specs.Programs.{ProgramView}

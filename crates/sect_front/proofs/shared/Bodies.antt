@@ -1,4 +1,4 @@
--- Lemmas on bodies.
+-- A statement is no larger than the block that it stands in.
 use Rattle.std.proofs.Common.{ℕ, zero, suc, ◌<◌, ◌≤◌, List, [], ◌∷◌, length, get_or, arith}
 use Rattle.sect_front.specs.Trees.{statement_of, block_of, statement_size, block_size}
 use Rattle.sect_front.specs.declared.tree.Statement.{Statement}

@@ -1,4 +1,4 @@
--- The worklist ends, since the lists that only grow have bounded lengths.
+-- The lock that has a number.
 use Rattle.std.proofs.Common.{◌≡◌, ℕ, ◌<◌, List, Some, length, sym, ap, ◌∙◌}
 use Rattle.std.specs.Prelude.{slice_get}
 use Rattle.std.specs.List.{All}

@@ -1,4 +1,4 @@
--- Which refusals are due, and which are not.
+-- A tree has one program.
 use Rattle.std.proofs.Common.{◌≡◌, sym, ap, ◌∙◌}
 use Rattle.sect_front.specs.TreeView.{TreeView}
 use Rattle.sect_types.specs.Sight.{names_of_records}

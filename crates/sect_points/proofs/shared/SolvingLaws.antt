@@ -1,4 +1,4 @@
--- Laws of what statements move.
+-- What a statement moves grows with the sets that it moves from.
 use Rattle.std.proofs.Common.{ℕ}
 use Rattle.sect_types.specs.declared.action.Value.{Value}
 use Rattle.sect_types.specs.declared.action.Value.TheVariants as value

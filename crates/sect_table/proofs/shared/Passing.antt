@@ -1,4 +1,4 @@
--- Letting waiters in, one by one.
+-- Who is let in next.
 use Rattle.std.proofs.Common.{◌≡◌, ◌+◌, List, [], ◌∷◌, ◌++◌, true, false, ap}
 use Rattle.std.specs.Prelude.{if◌then◌else◌}
 use Rattle.sect_table.specs.declared.claims.Claim.{Claim}

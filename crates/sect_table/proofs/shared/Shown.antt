@@ -1,4 +1,4 @@
--- What an arena shows of its lists.
+-- The entry of a key among others.
 use Rattle.std.proofs.Common.{◌≡◌, suc, List, ◌∷◌, get_or, true, false, refl, ◌∙◌, ap}
 use Rattle.std.specs.Prelude.{if◌then◌else◌, ◌==◌, ◌&&◌}
 use Rattle.std.proofs.lemmas.Bool.{eqb-true, eq-eqb, and_parts}

@@ -1,4 +1,4 @@
--- A step keeps what statements leave.
+-- What statements leave, step by step.
 use Rattle.std.proofs.Common.{◌≡◌, ℕ, ℤ, zero, suc, ◌<◌, ◌≤◌, Option, Some, None, Bool, true, false, refl, sym, ap}
 use Rattle.std.proofs.Common.{◌∙◌, arith, if◌then◌else◌}
 use Rattle.sect_types.specs.declared.action.Condition.{Condition}

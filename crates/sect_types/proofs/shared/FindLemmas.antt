@@ -1,4 +1,4 @@
--- The section of a number is found.
+-- A statement weighs no more than the statements that it stands in.
 use Rattle.std.proofs.Common.{ℕ, zero, suc, ◌<◌, ◌≤◌, List, [], ◌∷◌, get_or, length, arith}
 use Rattle.sect_types.specs.Statements.{Stop, weight}
 use Rattle.sect_types.specs.Texts.{step_then, statements_of}

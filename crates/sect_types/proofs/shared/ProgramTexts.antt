@@ -1,4 +1,4 @@
--- Programs of the rows, by numbers.
+-- Worked examples by numbers, on which definitions are tested.
 use Rattle.std.specs.Prelude.{ℕ, List, [], ◌∷◌}
 use Rattle.sect_front.specs.declared.tree.Operator.TheVariants as operator
 use Rattle.sect_front.specs.declared.tree.Comparison.TheVariants as comparison

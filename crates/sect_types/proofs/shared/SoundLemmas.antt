@@ -1,4 +1,4 @@
--- What is typed is sound by number.
+-- Names that the test of names finds equal are equal.
 use Rattle.std.proofs.Common.{◌≡◌, ℕ, nat_eq, true, List, refl}
 use Rattle.std.proofs.lemmas.Slice.Eq.{slice_eq-Decides}
 use Rattle.std.proofs.lemmas.Bool.Decides.{Decides-eqb}

@@ -1,4 +1,4 @@
--- What some programs come to, run by whole sections.
+-- The objects and the ends of worked examples, on which definitions are tested.
 use Rattle.std.proofs.Common.{ℕ, List}
 use Rattle.std.specs.Prelude.{pos, map}
 use Rattle.sect_types.specs.declared.store.Datum.{Datum}

@@ -1,6 +1,6 @@
 -- A text that breaks no rule isn't deeper than the limit when it is expanded.
 use Rattle.std.specs.Prelude.{Bool, true, false, ◌&&◌, ◌||◌, nat_lt, is_some, max, All}
-use Rattle.std.proofs.Common.{◌≡◌, ℕ, ◌+◌, ◌≤◌, List, [], ◌∷◌, ◌++◌, arith, ap, subst, sym}
+use Rattle.std.proofs.Common.{◌≡◌, ℕ, ◌+◌, ◌≤◌, List, [], ◌∷◌, ◌++◌, arith, ap}
 use Rattle.std.proofs.Math.Nat.{le-max_left, le-max_right}
 use Rattle.std.proofs.lemmas.List.Elements.{All-nil, All-cons}
 use Rattle.sect_front.specs.Depth.{statement_depth, block_depth, threads_depth}
@@ -16,7 +16,7 @@ use Rattle.sect_types.specs.Limits.{most_statements, most_sites, most_calls}
 use Rattle.sect_types.specs.Statements.{TextView, text_depth}
 use Rattle.sect_types.specs.Items.{Item, AThread, AStatement, TestHead, AtomicHead, CallHead, statement_items, block_items}
 use Rattle.sect_types.specs.Items.{global_items, local_items, procedure_items, thread_items}
-use Rattle.sect_types.specs.Sums.{sums, number_of, statement_sums, block_sums}
+use Rattle.sect_types.specs.Sums.{number_of, statement_sums, block_sums}
 use Rattle.sect_types.specs.Rules.{Declared, Counts, seen, after, passes_by, sums_of_call, as_many, procedure_of}
 use Rattle.sect_types.specs.Rules.{knows_operands, declared_in}
 use Rattle.sect_types.specs.First.{none_yet, IsTyped}

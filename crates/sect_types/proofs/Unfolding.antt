@@ -1,5 +1,5 @@
 -- In a typed text calls are expanded to their end.
-use Rattle.std.proofs.Common.{◌≡◌, Some, sym, ◌∙◌}
+use Rattle.std.proofs.Common.{Some, sym, ◌∙◌}
 use Rattle.sect_front.specs.TreeView.{TreeView}
 use Rattle.sect_types.specs.Sums.{sums}
 use Rattle.sect_types.specs.First.{IsTyped}

@@ -1,5 +1,5 @@
 -- Paths of graphs, put together and taken apart.
-use Rattle.std.proofs.Common.{◌≡◌, ℕ, List, [], ◌∷◌, ◌++◌, Some, length, ap, ◌∙◌, subst, sym, arith, ◌+◌}
+use Rattle.std.proofs.Common.{◌≡◌, ℕ, List, [], ◌∷◌, ◌++◌, Some, length, ap, ◌∙◌, subst, sym, arith}
 use Rattle.std.specs.Prelude.{slice_get}
 use Rattle.std.proofs.lemmas.Option.{slice_get_within}
 use Rattle.sect_types.specs.Traces.{Visit, visit}

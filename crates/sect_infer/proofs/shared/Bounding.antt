@@ -1,7 +1,6 @@
 -- The lock that has a number.
 use Rattle.std.proofs.Common.{◌≡◌, ℕ, ◌<◌, List, Some, length, sym, ap, ◌∙◌}
 use Rattle.std.specs.Prelude.{slice_get}
-use Rattle.std.specs.List.{All}
 use Rattle.std.proofs.lemmas.Option.{get_or_from_slice_get}
 use Rattle.sect_lemmas.proofs.Places.{at_of}
 use Rattle.sect_names.specs.declared.lock.Lock.{Lock}

@@ -6,7 +6,6 @@ use Rattle.sect_types.specs.declared.action.Base.{Base}
 use Rattle.sect_types.specs.declared.action.Base.TheVariants as base
 use Rattle.sect_types.specs.declared.action.Action.{Action}
 use Rattle.sect_types.specs.declared.action.Action.TheVariants as action
-use Rattle.sect_points.specs.declared.holders.Holder.TheVariants.{Local}
 use Rattle.sect_points.specs.Flow.{Family, ValueHas, BaseHas, Moved, Within}
 
 -- more there, more is moved

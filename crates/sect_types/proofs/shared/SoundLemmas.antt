@@ -3,7 +3,6 @@ use Rattle.std.proofs.Common.{◌≡◌, ℕ, nat_eq, true, List, refl}
 use Rattle.std.proofs.lemmas.Slice.Eq.{slice_eq-Decides}
 use Rattle.std.proofs.lemmas.Bool.Decides.{Decides-eqb}
 use Rattle.std.specs.Cmp.Lexicographic.{pointwise}
-use borrow.Author.Tests.{ltb-true}
 use Rattle.sect_types.specs.Sight.{same_name}
 
 pub same_names : (r q : List ℕ) → same_name r q ≡ true → r ≡ q

@@ -1,11 +1,11 @@
 -- What a walk through a whole tree tells.
-use Rattle.std.specs.Prelude.{◌≡◌, ◌≤◌, List, [], true, length}
+use Rattle.std.specs.Prelude.{◌≡◌, ◌≤◌, true, length}
 use Rattle.sect_front.specs.TreeView.{TreeView}
 use Rattle.sect_front.specs.Depth.{threads_depth}
 use Rattle.sect_front.specs.Limits.{most_depth}
 use Rattle.sect_types.specs.Limits.{most_globals, most_procedures, most_records, most_threads}
 use Rattle.sect_types.specs.Sight.{names_of_records}
-use Rattle.sect_types.specs.Items.{Item, items, record_items, global_items}
+use Rattle.sect_types.specs.Items.{items}
 use Rattle.sect_types.specs.Rules.{Counts, declared_in}
 use Rattle.sect_types.specs.steps.Judging.{judge, Fine}
 use Rattle.sect_types.specs.First.{none_yet}

@@ -2,7 +2,6 @@
 use Rattle.std.proofs.Common.{◌≡◌, ℕ, List, refl}
 use Rattle.sect_types.specs.declared.action.Base.{Base}
 use Rattle.sect_types.specs.declared.action.Base.TheVariants as base
-use Rattle.sect_points.specs.declared.holders.Holder.TheVariants.{Local}
 use Rattle.sect_types.specs.declared.store.Datum.{Datum}
 use Rattle.sect_types.specs.Meaning.{base_datum}
 use Rattle.sect_emit.specs.Plan.{variable_datum}

@@ -7,7 +7,6 @@ use Rattle.sect_names.specs.Sources.{IsTypedText, IsAccepted}
 use Rattle.sect_names.proofs.shared.Refusing.{one_program}
 use Rattle.sect_names.proofs.shared.OneScheme.{one_scheme}
 use Rattle.sect_cert.specs.declared.certificate.Cert.{Cert}
-use Rattle.sect_cert.specs.declared.fault.CertFault.TheVariants as text
 use Rattle.sect_check.specs.Valid.{IsValid}
 use Rattle.sect_check.specs.Verdicts.{IsRead}
 use Rattle.sect_check.proofs.Either.{valid_either}

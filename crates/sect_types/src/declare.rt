@@ -1,6 +1,7 @@
 //! A walk through the declarations.
 
-ghost use Rattle.std.specs.Prelude.{◌≡◌, ◌≤◌, ◌<◌, ◌+◌, ◌++◌, ◌∷◌, [], ◌||◌, not, true, false, IfOk, OnOk, nat_le, length};
+ghost use Rattle.std.specs.Prelude.{◌≡◌, ◌≤◌, ◌<◌, ◌+◌, ◌++◌, ◌∷◌, [], ◌||◌, not, true, false, IfOk, OnOk};
+ghost use Rattle.std.specs.Prelude.{nat_le, length};
 ghost use Rattle.sect_types.specs.Sight.{has_name, names_of_records, names_of_globals, names_of_declared, all_fields};
 ghost use Rattle.sect_types.specs.Items.{ARecord, record_items};
 ghost use Rattle.sect_types.specs.Items.{field_items};

@@ -20,7 +20,8 @@ use Rattle.sect_types.specs.Expanded.{argument_in}
 use Rattle.sect_types.specs.Sight.{operand_of, names_of_records, names_of_globals, all_fields}
 use Rattle.sect_types.specs.Statements.{TextView, joined}
 use Rattle.sect_types.specs.Sums.{sums_within, statement_sums, block_sums}
-use Rattle.sect_types.specs.Expanded.{Scene, NextNumbers, past_statement, past_block, expanded_statement, expanded_block}
+use Rattle.sect_types.specs.Expanded.{Scene, NextNumbers, past_statement, past_block, expanded_statement}
+use Rattle.sect_types.specs.Expanded.{expanded_block}
 use Rattle.sect_types.specs.Expanded.{expand_within, statement_fresh, block_fresh, fresh_within}
 use Rattle.sect_types.specs.steps.Threads.{VariablesView, variables_shown}
 

@@ -15,4 +15,4 @@ pub use locks::Locks;
 pub use numbering::Numbering;
 pub use numbers::Numbers;
 pub use section::infer;
-pub use workers::{InferFault, MOST_WORKERS, Seen, check_workers, infer_all};
+pub use workers::{InferFault, MOST_WORKERS, Seen, check_workers, infer_all, limit_of_workers};

@@ -3,7 +3,7 @@
 ghost use Rattle.std.specs.Prelude.{◌≡◌, ◌<◌, ◌↔◌, ℕ, Some, length, slice_set};
 ghost use Rattle.std.specs.Prelude.{IfOk, IfErr, OnOk, IsErrOf};
 ghost use Rattle.sect_infer.specs.Sets.{AreAllInferred};
-ghost use Rattle.sect_infer.specs.Workers.{AreOffered, AreRefused};
+ghost use Rattle.sect_infer.specs.Workers.{most_workers, AreOffered, AreRefused};
 ghost use Rattle.sect_infer.specs.declared.workers.InferFault.TheVariants.{BadWorkers};
 ghost use Rattle.sect_infer.specs.steps.Sharing.{AreFound, IsShare, AreInPlace, AreOf};
 
@@ -18,6 +18,11 @@ use thiserror::Error;
 
 /// The most workers.
 pub const MOST_WORKERS: u16 = 16;
+
+/// The constant is the limit that the definitions state.
+pub fn limit_of_workers()
+    ensures { MOST_WORKERS ≡ most_workers }
+{}
 
 /// Why the locks of a program aren't inferred by several workers. `Display` is the refusal that the program prints.
 #[derive(Clone, Copy, Debug, PartialEq, Eq, Error)]
@@ -54,6 +59,11 @@ pub fn check_workers(workers: u16) -> Result<(), InferFault>
 
 /// Is told of each section once its locks are inferred, by whoever inferred them.
 pub trait Seen: Sync {
+    /// Whether this worker is to be started. The sections of a worker that isn't started are the caller's, as where the
+    /// system can't start one.
+    fn starts(&self, worker: u16) -> bool;
+
+    /// The locks of this section are inferred.
     fn at(&self, section: u16);
 }
 
@@ -183,8 +193,8 @@ fn join_all<'a, R: Threads>(
 }
 
 /// The locks of all sections, in order, each as `infer` gives them, by 1 to 16 workers: `BadWorkers` where the number
-/// is another. Section i falls to worker i modulo `workers`; where a worker can't be started its sections fall to the
-/// caller. `Memory` is answered only where a growth was refused.
+/// is another. Section i falls to worker i modulo `workers`; those of a worker that isn't or can't be started fall to
+/// the caller. `Memory` is answered only where a growth was refused.
 pub fn infer_all<R: Threads + Wait + Sync, S: Seen>(
     rt: &R,
     alloc: Global,
@@ -205,6 +215,9 @@ pub fn infer_all<R: Threads + Wait + Sync, S: Seen>(
         {
             let mut started = Vec::with_capacity(alloc, usize::from(workers))?;
             for worker in 0..workers {
+                if !seen.starts(worker) {
+                    continue;
+                }
                 let job = move || -> Result<Vec<SectionLocks>, AllocError>
                     requires { 0 < workers }
                     ensures { IfOk result (λ found. IsShare scheme.entry.now workers worker found.items) }

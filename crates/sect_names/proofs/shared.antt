@@ -10,6 +10,7 @@ pub mod Maximals
 pub mod Named
 pub mod Needing
 pub mod OneScheme
+pub mod Ordering
 pub mod Owning
 pub mod Placing
 pub mod Ranking

@@ -1,118 +1,115 @@
 -- What a statement by numbers names is declared.
-use Rattle.std.proofs.Common.{◌≡◌, Bool, ℕ, ◌≤◌, length, Some, Result, Ok, Err, IfOk}
-use Rattle.std.proofs.Common.{IfSome}
+use Rattle.std.proofs.Common.{◌≡◌, ℕ, ◌≤◌, ◌<◌, List, length, Option, Some, None, IfSome}
 use Rattle.std.proofs.Common.{subst, arith}
 use Rattle.std.proofs.lemmas.List.{length-map}
 use Rattle.std.proofs.lemmas.Option.{slice_get_within}
-use Rattle.sect_front.specs.declared.tree.Comparison.{Comparison}
-use Rattle.sect_front.specs.declared.tree.Comparison.TheVariants as comparison
 use Rattle.sect_front.specs.declared.tree.Declaration.{Declaration}
 use Rattle.sect_front.specs.declared.tree.Operand.{Operand}
 use Rattle.sect_front.specs.declared.tree.Primitive as leaf
+use Rattle.sect_front.specs.declared.tree.Primitive.TheVariants as primitive
 use Rattle.sect_front.specs.declared.tree.Test.{Test}
-use Rattle.sect_types.specs.declared.rule.Rule.{Rule}
+use Rattle.sect_types.specs.declared.resolve.Denoted.{Denoted}
 use Rattle.sect_types.specs.declared.resolve.Denoted.TheVariants as denoted
 use Rattle.sect_types.specs.declared.resolve.Given.{Given}
 use Rattle.sect_types.specs.declared.resolve.Given.TheVariants as given
 use Rattle.sect_types.specs.declared.types.ValueType.{ValueType}
-use Rattle.sect_types.specs.declared.types.ValueType.TheVariants.{Int, Refers}
 use Rattle.sect_types.specs.declared.action.Base.{Base}
-use Rattle.sect_types.specs.declared.action.Base.TheVariants as base
 use Rattle.sect_types.specs.declared.action.Value.{Value}
-use Rattle.sect_types.specs.declared.action.Value.TheVariants as value
 use Rattle.sect_types.specs.declared.action.Condition.{Condition}
 use Rattle.sect_types.specs.declared.action.Action.{Action}
 use Rattle.sect_types.specs.declared.action.Action.TheVariants as action
-use Rattle.sect_types.specs.Sight.{Sight, names_of_records, operand_of}
-use Rattle.sect_types.specs.Resolve.{primitive_of, test_of, value_by}
-use Rattle.sect_types.specs.Environments.{Environment, environment, type_of}
-use Rattle.sect_types.specs.Sound.{HasType, IsSoundAction, IsSoundCondition, AreComparable, type_at, is_shared}
-use Rattle.sect_types.specs.Items.{PrimitiveHead}
-use Rattle.sect_types.specs.Rules.{shares}
+use Rattle.sect_types.specs.Sight.{Sight, names_of_records, place, base_of, operand_of}
+use Rattle.sect_types.specs.Numbered.{base_by, value_by, local_by, target_of, source_of, field_behind, value_of}
+use Rattle.sect_types.specs.Numbered.{action_of, condition_of}
+use Rattle.sect_types.specs.Environments.{environment, type_of}
 use Rattle.sect_types.specs.steps.Below.{IsValueBelow, IsBaseBelow, IsActionBelow, IsConditionBelow}
-use Rattle.sect_types.proofs.SoundLemmas.{IsGiven, operand_there, primitive_sound, test_sound}
-
-value_below : (e : Environment) (v : Value) (t : ValueType) → HasType e v t → IsValueBelow (length e.locals) v
-value_below e (value.Number m) t h = tt
-value_below e value.Null t h = tt
-value_below e (value.Local i) t h = slice_get_within e.locals i t h
-value_below e (value.Global g) t h = tt
-
-base_below : (e : Environment) (b : Base) (t : ValueType) → type_at e b ≡ Some t → IsBaseBelow (length e.locals) b
-base_below e (base.Local i) t h = slice_get_within e.locals i t h
-base_below e (base.Global g) t h = tt
-
-action_below : (e : Environment) (a : Action) → IsSoundAction e a → IsActionBelow (length e.locals) a
-action_below e (action.Assign x v) h = (slice_get_within e.locals x h.0 h.1, value_below e v h.0 h.2)
-action_below e (action.Compute x v o w) h =
-    (slice_get_within e.locals x Int h.0, value_below e v Int h.1, value_below e w Int h.2)
-action_below e (action.New x r site) h = slice_get_within e.locals x (Refers r) h.1
-action_below e (action.Load x b f) h = (slice_get_within e.locals x h.0 h.3, base_below e b (Refers f.of) h.1)
-action_below e (action.Store b f v) h = (base_below e b (Refers f.of) h.1, value_below e v h.0 h.3)
-action_below e (action.Print v) h = value_below e v Int h
-
-compared_below : (e : Environment) (c : Comparison) (v w : Value) → AreComparable e c v w
-    → IsValueBelow (length e.locals) v × IsValueBelow (length e.locals) w
-compared_below e comparison.Equal v w h = (value_below e v h.0 h.1, value_below e w h.0 h.2)
-compared_below e comparison.NotEqual v w h = (value_below e v h.0 h.1, value_below e w h.0 h.2)
-compared_below e comparison.Less v w h = (value_below e v Int h.0, value_below e w Int h.1)
-compared_below e comparison.LessOrEqual v w h = (value_below e v Int h.0, value_below e w Int h.1)
+use Rattle.sect_lemmas.proofs.Options.{some_injective, none_or_some}
+use Rattle.sect_types.proofs.Optional.{both_parts, three_parts, map_part}
+use Rattle.sect_types.proofs.SoundLemmas.{IsThere, IsGiven, base_there, operand_there}
 
 -- as many types as declarations
 long : (s : Sight) → length (environment s).locals ≡ length s.locals
 long s = length-map {B = ValueType} s.locals (λ (d : Declaration). type_of (names_of_records s.records) d.kind)
 
--- more numbers are allowed
-wider_value : (m n : ℕ) → m ≤ n → (v : Value) → IsValueBelow m v → IsValueBelow n v
-wider_value m n le (value.Number i) h = h
-wider_value m n le value.Null h = h
-wider_value m n le (value.Local i) h = omega (arith, le, h)
-wider_value m n le (value.Global g) h = h
-
-wider_base : (m n : ℕ) → m ≤ n → (b : Base) → IsBaseBelow m b → IsBaseBelow n b
-wider_base m n le (base.Local i) h = omega (arith, le, h)
-wider_base m n le (base.Global g) h = h
-
-wider : (m n : ℕ) → m ≤ n → (a : Action) → IsActionBelow m a → IsActionBelow n a
-wider m n le (action.Assign x v) h = (omega (arith, le, h.0), wider_value m n le v h.1)
-wider m n le (action.Compute x v o w) h = (omega (arith, le, h.0), wider_value m n le v h.1, wider_value m n le w h.2)
-wider m n le (action.New x r site) h = omega (arith, le, h)
-wider m n le (action.Load x b f) h = (omega (arith, le, h.0), wider_base m n le b h.1)
-wider m n le (action.Store b f v) h = (wider_base m n le b h.0, wider_value m n le v h.1)
-wider m n le (action.Print v) h = wider_value m n le v h
-
-sound_part : (e : Environment) (b : Bool) (r : Result Action Rule) → IfOk r (λ a. IsSoundAction e a × (is_shared a ≡ b))
-    → IfOk r (λ a. IsSoundAction e a)
-sound_part e b (Ok a) h = h.0
-sound_part e b (Err q) h = tt
-
--- the locals of a statement, of a test and of an operand are declared
-pub primitive_below : (s : Sight) (site : ℕ) (p : leaf.Primitive) (a : Action) (n : ℕ) → primitive_of s site p ≡ Ok a
-    → length s.locals ≤ n → IsActionBelow n a
-primitive_below s site p a n e le =
-    let h = subst (λ r. IfOk r (λ x. IsSoundAction (environment s) x)) e
-    (sound_part (environment s) (shares (PrimitiveHead p)) (primitive_of s site p) (primitive_sound s site p)) in
-    wider (length (environment s).locals) n (omega (arith, le, long s)) a (action_below (environment s) a h)
-
-pub test_below : (s : Sight) (t : Test) (c : Condition) (n : ℕ) → test_of s t ≡ Ok c → length s.locals ≤ n
-    → IsConditionBelow n c
-test_below s t c n e le =
-    let h = subst (λ r. IfOk r (IsSoundCondition (environment s))) e (test_sound s t) in
-    let x = compared_below (environment s) c.comparison c.left c.right h in
-    let w : length (environment s).locals ≤ n = omega (arith, le, long s) in (
-      wider_value (length (environment s).locals) n w c.left x.0,
-      wider_value (length (environment s).locals) n w c.right x.1,
+-- a local that is there has its number below n, where so many locals are declared
+local_below : (s : Sight) (n i : ℕ) (o : Option Denoted) → length s.locals ≤ n → IfSome o (IsThere s)
+    → local_by o ≡ Some i → i < n
+local_below s n i (Some (denoted.Local k t)) le h e =
+    let same = some_injective k i e in
+    omega (
+      arith,
+      le,
+      long s,
+      same,
+      slice_get_within (environment s).locals k (type_of (names_of_records s.records) t) h,
     )
+local_below s n i (Some (denoted.Global g r)) le h e = absurd (none_or_some i e)
+local_below s n i None le h e = absurd (none_or_some i e)
 
-given_below : (s : Sight) (v : Given) → IsGiven s v → IsValueBelow (length (environment s).locals) (value_by v)
-given_below s (given.Number n) h = tt
-given_below s given.Null h = tt
-given_below s (given.Base (denoted.Local i k)) h =
-    slice_get_within (environment s).locals i (type_of (names_of_records s.records) k) h
-given_below s (given.Base (denoted.Global g r)) h = tt
+denoted_below : (s : Sight) (n : ℕ) (d : Denoted) → length s.locals ≤ n → IsThere s d → IsBaseBelow n (base_by d)
+denoted_below s n (denoted.Local i t) le h =
+    omega (
+      arith,
+      le,
+      long s,
+      slice_get_within (environment s).locals i (type_of (names_of_records s.records) t) h,
+    )
+denoted_below s n (denoted.Global g r) le h = tt
 
-pub operand_below : (s : Sight) (v : Operand) (g : Given) (n : ℕ) → operand_of s v ≡ Some g → length s.locals ≤ n
-    → IsValueBelow n (value_by g)
-operand_below s v g n e le =
-    let h = subst (λ o. IfSome o (IsGiven s)) e (operand_there s v) in
-    wider_value (length (environment s).locals) n (omega (arith, le, long s)) (value_by g) (given_below s g h)
+given_below : (s : Sight) (n : ℕ) (v : Given) → length s.locals ≤ n → IsGiven s v → IsValueBelow n (value_by v)
+given_below s n (given.Number m) le h = tt
+given_below s n given.Null le h = tt
+given_below s n (given.Base (denoted.Local i t)) le h = denoted_below s n (denoted.Local i t) le h
+given_below s n (given.Base (denoted.Global g r)) le h = tt
+
+target_below : (s : Sight) (n : ℕ) (x : List ℕ) (i : ℕ) → length s.locals ≤ n → target_of s x ≡ Some i → i < n
+target_below s n x i le e = local_below s n i (base_of s x) le (base_there s x) e
+
+source_below : (s : Sight) (n : ℕ) (x : List ℕ) (b : Base) → length s.locals ≤ n → source_of s x ≡ Some b
+    → IsBaseBelow n b
+source_below s n x b le e =
+    let p = map_part base_by (base_of s x) b e in
+    subst (IsBaseBelow n) p.2 (denoted_below s n p.0 le (subst (λ o. IfSome o (IsThere s)) p.1 (base_there s x)))
+
+-- the locals of an operand, of a statement and of a test are declared
+pub value_below : (s : Sight) (n : ℕ) (v : Operand) (w : Value) → length s.locals ≤ n → value_of s v ≡ Some w
+    → IsValueBelow n w
+value_below s n v w le e =
+    let p = map_part value_by (operand_of s v) w e in
+    subst (IsValueBelow n) p.2 (given_below s n p.0 le (subst (λ o. IfSome o (IsGiven s)) p.1 (operand_there s v)))
+
+pub action_below : (s : Sight) (site : ℕ) (p : leaf.Primitive) (a : Action) (n : ℕ) → action_of s site p ≡ Some a
+    → length s.locals ≤ n → IsActionBelow n a
+action_below s site (primitive.Assign x v) a n e le =
+    let p = both_parts action.Assign (target_of s x) (value_of s v) a e in
+    subst (IsActionBelow n) p.is
+    (target_below s n x p.first le p.first_is, value_below s n v p.second le p.second_is)
+action_below s site (primitive.Compute x v o w) a n e le =
+    let p = three_parts (λ i b c. action.Compute i b o c) (target_of s x) (value_of s v) (value_of s w) a e in
+    subst (IsActionBelow n) p.is (
+      target_below s n x p.first le p.first_is,
+      value_below s n v p.second le p.second_is,
+      value_below s n w p.third le p.third_is,
+    )
+action_below s site (primitive.New x r) a n e le =
+    let p = both_parts (λ i m. action.New i m site) (target_of s x) (place r (names_of_records s.records)) a e in
+    subst (IsActionBelow n) p.is (target_below s n x p.first le p.first_is)
+action_below s site (primitive.Load x y f) a n e le =
+    let p = three_parts action.Load (target_of s x) (source_of s y) (field_behind s y f) a e in
+    subst (IsActionBelow n) p.is
+    (target_below s n x p.first le p.first_is, source_below s n y p.second le p.second_is)
+action_below s site (primitive.Store y f v) a n e le =
+    let p = three_parts action.Store (source_of s y) (field_behind s y f) (value_of s v) a e in
+    subst (IsActionBelow n) p.is
+    (source_below s n y p.first le p.first_is, value_below s n v p.third le p.third_is)
+action_below s site (primitive.Print v) a n e le =
+    let p = map_part action.Print (value_of s v) a e in
+    subst (IsActionBelow n) p.2 (value_below s n v p.0 le p.1)
+
+pub condition_below : (s : Sight) (t : Test) (c : Condition) (n : ℕ) → condition_of s t ≡ Some c → length s.locals ≤ n
+    → IsConditionBelow n c
+condition_below s t c n e le =
+    let p = both_parts (λ v w. record { left = v; comparison = t.comparison; right = w }) (value_of s t.left)
+    (value_of s t.right) c e in
+    subst (IsConditionBelow n) p.is
+    (value_below s n t.left p.first le p.first_is, value_below s n t.right p.second le p.second_is)

@@ -18,9 +18,11 @@ use Rattle.sect_types.specs.Items.{variables}
 use Rattle.sect_types.specs.declared.sums.Sums.{Sums}
 use Rattle.sect_types.specs.Sums.{nothing, sums, sums_at, or_nothing, sums_within, procedure_sums, statement_sums}
 use Rattle.sect_types.specs.Sums.{block_sums, primitive_sums, number_of, sums_of}
-use Rattle.sect_types.specs.Expanded.{Scene, NextNumbers, Expander, Freshens, of_call, past_statement, past_block}
-use Rattle.sect_types.specs.Expanded.{expanded_statement, expanded_block, expand_within, call_of, procedure_numbered}
-use Rattle.sect_types.specs.Expanded.{after_call, set_parameters, clear_locals, expanded_thread, statement_fresh}
+use Rattle.sect_types.specs.Expanded.{Scene, NextNumbers, Freshens, of_call, past_statement, past_block}
+use Rattle.sect_types.specs.steps.Written.{Writer, written_statement, written_block, written_within, written_call}
+use Rattle.sect_types.specs.steps.Written.{write_parameters, write_locals, written_thread}
+use Rattle.sect_types.specs.Expanded.{procedure_numbered}
+use Rattle.sect_types.specs.Expanded.{after_call, statement_fresh}
 use Rattle.sect_types.specs.Expanded.{block_fresh, fresh_of, fresh_within, fresh_in}
 
 -- a primitive statement is one statement, with a site at most, and nothing else
@@ -41,14 +43,14 @@ joined_count (Loop t p r) k = omega (arith, joined_count r k)
 joined_count (Section i p r) k = omega (arith, joined_count r k)
 
 -- each call comes to what the table says
-abbrev CountsCalls : List Sums → Expander → Type 0
+abbrev CountsCalls : List Sums → Writer → Type 0
 CountsCalls table call = (q : Option ℕ) (v : Scene) (a : NextNumbers) (vs : List Operand) (k : TextView) →
     statement_count (call q v a vs k) ≡ (sums_at table q).statements + statement_count k
 
 mutual
-  statement_comes : (ps : List Procedure) (table : List Sums) (call : Expander) → CountsCalls table call
+  statement_comes : (ps : List Procedure) (table : List Sums) (call : Writer) → CountsCalls table call
       → (v : Scene) (a : NextNumbers) (s : StatementView) (k : TextView) →
-      statement_count (expanded_statement ps table call v a s k) ≡ (statement_sums ps table s).statements +
+      statement_count (written_statement ps table call v a s k) ≡ (statement_sums ps table s).statements +
       statement_count k
   statement_comes ps table call h v a (Primitive p) k =
       omega (arith, ap (λ (s : Sums). s.statements) (primitive_comes p))
@@ -60,24 +62,24 @@ mutual
       omega (arith, block_count ps table call h v (record a { sections = a.sections + 1 }) b)
   statement_comes ps table call h v a (Call f vs) k = h (number_of ps f) v a vs k
 
-  pub block_count : (ps : List Procedure) (table : List Sums) (call : Expander) → CountsCalls table call
+  pub block_count : (ps : List Procedure) (table : List Sums) (call : Writer) → CountsCalls table call
       → (v : Scene) (a : NextNumbers) (b : BlockView) →
-      statement_count (expanded_block ps table call v a b) ≡ (block_sums ps table b).statements
+      statement_count (written_block ps table call v a b) ≡ (block_sums ps table b).statements
   block_count ps table call h v a End = refl
   block_count ps table call h v a (Then s b) =
       omega (
         arith,
-        statement_comes ps table call h v a s (expanded_block ps table call v (past_statement ps table a s) b),
+        statement_comes ps table call h v a s (written_block ps table call v (past_statement ps table a s) b),
         block_count ps table call h v (past_statement ps table a s) b,
       )
 
 cleared_count : (x : ℕ) (ds : List Declaration) (k : TextView)
-    → statement_count (clear_locals x ds k) ≡ length ds + statement_count k
+    → statement_count (write_locals x ds k) ≡ length ds + statement_count k
 cleared_count x [] k = omega arith
 cleared_count x (d ∷ ds) k = omega (arith, cleared_count (x + 1) ds k)
 
 set_count : (v : Scene) (x : ℕ) (ds : List Declaration) (vs : List Operand) (k : TextView)
-    → statement_count (set_parameters v x ds vs k) ≡ length ds + statement_count k
+    → statement_count (write_parameters v x ds vs k) ≡ length ds + statement_count k
 set_count v x [] vs k = omega arith
 set_count v x (d ∷ ds) [] k = omega (arith, set_count v (x + 1) ds [] k)
 set_count v x (d ∷ ds) (u ∷ us) k = omega (arith, set_count v (x + 1) ds us k)
@@ -94,17 +96,17 @@ pub looked : (ps : List Procedure) (table : List Sums) (q : Option ℕ)
 looked ps table None = refl
 looked ps table (Some q) = mapped ps ps table q
 
-call_count : (rs : List Record) (gs : List GlobalObject) (ps : List Procedure) (table : List Sums) (call : Expander)
+call_count : (rs : List Record) (gs : List GlobalObject) (ps : List Procedure) (table : List Sums) (call : Writer)
     → CountsCalls table call →
     (o : Option Procedure) (q : Option ℕ) (v : Scene) (a : NextNumbers) (vs : List Operand) (k : TextView) →
-    statement_count (call_of rs gs ps table call o q v a vs k) ≡ (sums_of ps table o).statements + statement_count k
+    statement_count (written_call rs gs ps table call o q v a vs k) ≡ (sums_of ps table o).statements + statement_count k
 call_count rs gs ps table call h None q v a vs k = omega arith
 call_count rs gs ps table call h (Some p) q v a vs k =
     let inner : Scene = record { sight = sight rs gs (variables p); first = a.fresh } in
-    let text = expanded_block ps table call inner (after_call a p) p.body in
+    let text = written_block ps table call inner (after_call a p) p.body in
     omega (
       arith,
-      set_count v a.fresh p.parameters vs (clear_locals (a.fresh + length p.parameters) p.locals (joined text k)),
+      set_count v a.fresh p.parameters vs (write_locals (a.fresh + length p.parameters) p.locals (joined text k)),
       cleared_count (a.fresh + length p.parameters) p.locals (joined text k),
       joined_count text k,
       block_count ps table call h inner (after_call a p) p.body,
@@ -112,19 +114,19 @@ call_count rs gs ps table call h (Some p) q v a vs k =
 
 -- the expansion of a call has as many statements as the sums say
 pub call_counts : (n : ℕ) (rs : List Record) (gs : List GlobalObject) (ps : List Procedure)
-    → CountsCalls (sums_within n ps) (expand_within n rs gs ps)
+    → CountsCalls (sums_within n ps) (written_within n rs gs ps)
 call_counts zero rs gs ps None v a vs k = omega arith
 call_counts zero rs gs ps (Some q) v a vs k = omega arith
 call_counts (suc n) rs gs ps q v a vs k =
-    call_count rs gs ps (sums_within n ps) (expand_within n rs gs ps) (call_counts n rs gs ps)
+    call_count rs gs ps (sums_within n ps) (written_within n rs gs ps) (call_counts n rs gs ps)
     (procedure_numbered ps q) q v a vs k
     ∙ ap (λ (s : Sums). s.statements + statement_count k) (sym (looked ps (sums_within n ps) q))
 
 -- the text of a thread has as many statements as the sums say
 pub thread_counts : (t : TreeView) (a : NextNumbers) (h : Thread)
-    → statement_count (expanded_thread t a h) ≡ (block_sums t.procedures (sums t.procedures) h.body).statements
+    → statement_count (written_thread t a h) ≡ (block_sums t.procedures (sums t.procedures) h.body).statements
 thread_counts t a h =
-    block_count t.procedures (sums t.procedures) (expand_within (length t.procedures) t.records t.globals t.procedures)
+    block_count t.procedures (sums t.procedures) (written_within (length t.procedures) t.records t.globals t.procedures)
     (call_counts (length t.procedures) t.records t.globals t.procedures) (record {
       sight =
           sight t.records t.globals h.locals;

@@ -31,8 +31,8 @@ use Rattle.sect_types.specs.Rules.{declared_in, after_item}
 use Rattle.sect_types.specs.steps.Judging.{least}
 use Rattle.sect_types.specs.First.{none_yet, IsTyped}
 use Rattle.sect_types.specs.steps.Clean.{AreCleanThreads}
-use Rattle.sect_types.specs.Expanded.{NextNumbers, statement_sections, block_sections, past_thread, expanded_thread}
-use Rattle.sect_types.specs.Expanded.{expanded_threads, texts_of}
+use Rattle.sect_types.specs.Expanded.{NextNumbers, statement_sections, block_sections, past_thread}
+use Rattle.sect_types.specs.steps.Written.{written_thread, written_threads, written_texts}
 use Rattle.sect_types.proofs.CountLaws.{thread_counts}
 use Rattle.sect_types.proofs.Walked.{NoneBroken, statement_after, block_after, declared_after}
 use Rattle.sect_types.proofs.Ways.{rule_breaks}
@@ -370,27 +370,27 @@ before_add t =
 
 -- the texts have as many statements, and as many sites, as the sums of their bodies
 threads_count : (t : TreeView) (a : NextNumbers) (hs : List Thread)
-    → total_statements (expanded_threads t a hs) ≡ (thread_sums (declared_in t) hs).statements
+    → total_statements (written_threads t a hs) ≡ (thread_sums (declared_in t) hs).statements
 threads_count t a [] = refl
 threads_count t a (h ∷ hs) = omega (arith, thread_counts t a h, threads_count t (past_thread t a h) hs)
 
 threads_make : (t : TreeView) → AreClean (declared_in t) t.procedures → (a : NextNumbers) (hs : List Thread)
     → AreCleanThreads (declared_in t) hs
-    → length (all_made (expanded_threads t a hs)) ≡ (thread_sums (declared_in t) hs).sites
+    → length (all_made (written_threads t a hs)) ≡ (thread_sums (declared_in t) hs).sites
 threads_make t c a [] g = refl
 threads_make t c a (h ∷ hs) g =
     omega (
       arith,
-      length-append (made_in (expanded_thread t a h)) (all_made (expanded_threads t (past_thread t a h) hs)),
+      length-append (made_in (written_thread t a h)) (all_made (written_threads t (past_thread t a h) hs)),
       thread_makes t c a h g.0,
       threads_make t c (past_thread t a h) hs g.1,
     )
 
 -- the counts at the end are those of the texts
 pub record AreCounted (t : TreeView) (c : Counts) : Type 0 where
-  pub statements_are : c.statements ≡ total_statements (texts_of t)
-  pub sites_are : c.sites ≡ length t.globals + length (all_made (texts_of t))
-  pub sections_are : c.sections ≡ length (sections_of (texts_of t))
+  pub statements_are : c.statements ≡ total_statements (written_texts t)
+  pub sites_are : c.sites ≡ length t.globals + length (all_made (written_texts t))
+  pub sections_are : c.sections ≡ length (sections_of (written_texts t))
   pub calls_are : c.calls ≡ (thread_sums (declared_in t) t.threads).calls
 
 pub typed_counts : (t : TreeView) → IsTyped t → AreCounted t (end_of t)

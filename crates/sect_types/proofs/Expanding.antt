@@ -12,21 +12,22 @@ use Rattle.sect_types.specs.declared.action.Action.TheVariants as action
 use Rattle.sect_types.specs.declared.action.Value.TheVariants as value
 use Rattle.sect_types.specs.Sight.{operand_of}
 use Rattle.sect_types.specs.Statements.{TextView, Stop, Do, joined}
-use Rattle.sect_types.specs.Expanded.{Scene, argument_in, cleared, set_parameters, clear_locals}
+use Rattle.sect_types.specs.Expanded.{Scene, cleared}
+use Rattle.sect_types.specs.steps.Written.{argument_in, write_parameters, write_locals}
 use Rattle.sect_types.specs.steps.Expanding.{SettingView, FrontView, front_past_block, expanded_there, block_there}
 use Rattle.sect_lemmas.proofs.Elements.{drop_next}
 use Rattle.sect_types.proofs.Filling.{joined_step}
 use Rattle.sect_types.proofs.shared.Joining.{joined_stop}
 
 set_on : (v : Scene) (x : ℕ) (ds : List Declaration) (us : List Operand) (b k : TextView)
-    → set_parameters v x ds us (joined b k) ≡ joined (set_parameters v x ds us b) k
+    → write_parameters v x ds us (joined b k) ≡ joined (write_parameters v x ds us b) k
 set_on v x [] us b k = refl
 set_on v x (d ∷ ds) [] b k = ap (Do (action.Assign x value.Null)) (set_on v (x + 1) ds [] b k)
 set_on v x (d ∷ ds) (u ∷ us) b k =
     ap (Do (action.Assign x (argument_in v.first (operand_of v.sight u)))) (set_on v (x + 1) ds us b k)
 
 clear_on : (x : ℕ) (ds : List Declaration) (b k : TextView)
-    → clear_locals x ds (joined b k) ≡ joined (clear_locals x ds b) k
+    → write_locals x ds (joined b k) ≡ joined (write_locals x ds b) k
 clear_on x [] b k = refl
 clear_on x (d ∷ ds) b k = ap (Do (action.Assign x (cleared d.kind))) (clear_on (x + 1) ds b k)
 

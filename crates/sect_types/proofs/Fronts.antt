@@ -16,11 +16,14 @@ use Rattle.sect_types.specs.Items.{variables}
 use Rattle.sect_types.specs.Sums.{sums_within, block_sums, sums_at, number_of}
 use Rattle.sect_types.specs.Statements.{TextView, Stop, Choose, joined}
 use Rattle.sect_types.specs.declared.action.Condition.{Condition}
-use Rattle.sect_types.specs.Resolve.{test_of}
-use Rattle.sect_types.specs.Numbered.{condition_in}
-use Rattle.sect_types.specs.Expanded.{moved_condition, Scene, expand_within, set_parameters, clear_locals, of_call}
+use Rattle.sect_types.specs.Numbered.{condition_of}
+use Rattle.sect_types.specs.steps.Written.{condition_in, written_within, write_parameters, write_locals}
+use Rattle.sect_types.specs.Expanded.{moved_condition, Scene, of_call}
 use Rattle.sect_types.specs.Expanded.{block_fresh, fresh_of, fresh_within}
 use Rattle.sect_types.specs.steps.Expanding.{SettingView, FrontView, Fits, front_past_statement, front_past_block}
+use Rattle.std.specs.Prelude.{IsSome}
+use Rattle.sect_types.proofs.Optional.{first_there, second_there}
+use Rattle.sect_types.specs.steps.Expanding.{numbered_there, numbered_block}
 use Rattle.sect_types.specs.steps.Expanding.{expanded_there, block_there, IsFront, most_size, tree_of, AreFlat}
 use Rattle.sect_types.specs.steps.Expansion.{Appends, view_of}
 use Rattle.sect_types.specs.Sight.{Sight, names_of_declared}
@@ -49,12 +52,13 @@ then_front w n f s b =
 
 -- at the start of a block
 pub starts : (w : SettingView) (n : ℕ) (v : Scene) (block all : BlockView) (f : FrontView) (text : TextView)
-    → all ≡ block
+    → all ≡ block → IsSome (numbered_block w n v f block)
     → IsFront w n v block all all f f text text
-starts w n v block all f text e = record {
+starts w n v block all f text e k = record {
   whole = e;
   written = λ k. ap (λ b. joined text (joined (block_there w n v f b) k)) e;
   past = ap (front_past_block w n f) e;
+  known = subst (λ b. IsSome (numbered_block w n v f b)) (sym e) k;
 }
 
 next_of : (ss : List Statement) (i : ℕ) (x : Statement) → i < length ss → x ≡ get_or ss i x
@@ -80,6 +84,15 @@ next_fits w n v block ss i x old now before text lt is h fits =
     part_fits w n now (statement_of x) (block_of (drop (i + 1) ss))
     (subst (λ b. Fits (front_past_block w n now b)) (next_of ss i x lt is) (subst Fits (sym h.past) fits))
 
+-- and is there by numbers
+pub next_known : (w : SettingView) (n : ℕ) (v : Scene) (block : BlockView) (ss : List Statement) (i : ℕ)
+    (x : Statement) (old now : FrontView) (before text : TextView) → i < length ss → x ≡ get_or ss i x
+    → IsFront w n v block (block_of ss) (block_of (drop i ss)) old now before text
+    → IsSome (numbered_there w n v now (statement_of x))
+next_known w n v block ss i x old now before text lt is h =
+    first_there joined (numbered_there w n v now (statement_of x)) _
+    (subst (λ b. IsSome (numbered_block w n v now b)) (next_of ss i x lt is) h.known)
+
 goes_on : (w : SettingView) (n : ℕ) (v : Scene) (block all : BlockView) (s : StatementView) (rest : BlockView)
     (old now next : FrontView) (before text new : TextView) → IsFront w n v block all (Then s rest) old now before text
     → next ≡ front_past_statement w n now s → Appends text new (expanded_there w n v now s)
@@ -93,6 +106,9 @@ goes_on w n v block all s rest old now next before text new h e writes = record 
       ∙ ap (λ (x : FrontView). joined text (joined (expanded_there w n v now s (block_there w n v x rest)) k)) e
       ∙ h.written k;
   past = ap (λ x. front_past_block w n x rest) e ∙ then_front w n now s rest ∙ h.past;
+  known = subst (λ x. IsSome (numbered_block w n v x rest)) (sym e)
+      (second_there joined (numbered_there w n v now s) (numbered_block w n v (front_past_statement w n now s) rest)
+      h.known);
 }
 
 -- the next statement is written
@@ -209,14 +225,42 @@ call_fits w n most f two x vs q p ds flat e g h i j fits =
       few_before = omega (arith, fits.few_calls, is.calls_are);
     }
 
+-- there is room for its variables, and for its number
+pub record CallRoom (f : FrontView) (p : Procedure) : Type 0 where
+  pub few_own : f.at.fresh + (length p.parameters + length p.locals) ≤ most_all_locals
+  pub few_before : f.calls < most_calls
+
+pub call_room : (w : SettingView) (n most : ℕ) (f : FrontView) (x : List ℕ) (vs : List Operand) (q : ℕ)
+    (p : Procedure) → most ≡ suc n → number_of w.procedures x ≡ Some q → slice_get w.procedures q ≡ Some p
+    → Fits (front_past_statement w most f (Call x vs)) → CallRoom f p
+call_room w n most f x vs q p e g h fits =
+    let is = call_is w n most f x q p e g h in
+    record {
+      few_own = omega (arith, fits.few_locals, is.fresh_is);
+      few_before = omega (arith, fits.few_calls, is.calls_are);
+    }
+
+-- where both branches of a test fit, the second does behind the first
+pub other_fits : (w : SettingView) (n : ℕ) (f one : FrontView) (s : StatementView) (t : Test) (b d : BlockView)
+    → s ≡ IfElse t b d → one ≡ front_past_block w n f b → Fits (front_past_statement w n f s)
+    → Fits (front_past_block w n one d)
+other_fits w n f one s t b d e g fits =
+    let h = subst (λ x. Fits (front_past_statement w n f x)) e fits in
+    subst (λ x. Fits (front_past_block w n x d)) (sym g) (record {
+      few_sites = omega (arith, h.few_sites);
+      few_sections = omega (arith, h.few_sections);
+      few_locals = omega (arith, h.few_locals);
+      few_calls = omega (arith, h.few_calls);
+    })
+
 -- the text of a call, as the code has it
 pub call_text : (w : SettingView) (n most : ℕ) (f two : FrontView) (x : List ℕ) (vs : List Operand) (q : ℕ)
     (p : Procedure)
     (s inner : Sight) (first own : ℕ) (ps ls ds : List Declaration) (old one more new : TextView) → most ≡ suc n
     → number_of w.procedures x ≡ Some q → slice_get w.procedures q ≡ Some p → ds ≡ variables p → two ≡ with_call f ds
     → inner ≡ sight w.records w.globals ds → own ≡ f.at.fresh → ps ≡ p.parameters → ls ≡ p.locals
-    → Appends old one (set_parameters (view_of s first) own ps vs)
-    → Appends one more (clear_locals (own + length ps) ls)
+    → Appends old one (write_parameters (view_of s first) own ps vs)
+    → Appends one more (write_locals (own + length ps) ls)
     → Appends more new (joined (block_there w n (view_of inner own) two p.body))
     → Appends old new (expanded_there w most (view_of s first) f (Call x vs))
 call_text w n most f two x vs q p s inner first own ps ls ds old one more new e g h i j o r y z a b c k =
@@ -225,7 +269,7 @@ call_text w n most f two x vs q p s inner first own ps ls ds old one more new e 
     let at = ap (λ (m : FrontView). m.at) j ∙ (λ m. record f.at { fresh = f.at.fresh + count m }) in
     call_by_parts (tree_of w []) n most q p s inner first own f.at two.at ps ls vs old one more new e h
     (o ∙ ap (sight w.records w.globals) i) r y z at a b c k
-    ∙ ap (λ m. joined old (expand_within most w.records w.globals w.procedures m (view_of s first) f.at vs k)) (sym g)
+    ∙ ap (λ m. joined old (written_within most w.records w.globals w.procedures m (view_of s first) f.at vs k)) (sym g)
 
 -- the measure
 pub size_most : (ps : List Procedure) (q : ℕ) (p : Procedure) → slice_get ps q ≡ Some p
@@ -256,7 +300,7 @@ anew start new e h g = alone new e (subst (λ x. Appends x new (joined e)) h g)
 
 pub either_text : (w : SettingView) (n : ℕ) (v : Sight) (first : ℕ) (f one : FrontView) (s : StatementView) (t : Test)
     (b d : BlockView) (c : Condition) (p q old new : TextView) → s ≡ IfElse t b d
-    → c ≡ moved_condition first (condition_in (test_of v t)) → p ≡ block_there w n (view_of v first) f b
+    → c ≡ moved_condition first (condition_in (condition_of v t)) → p ≡ block_there w n (view_of v first) f b
     → one ≡ front_past_block w n f b → q ≡ block_there w n (view_of v first) one d
     → new ≡ joined old (Choose c p q Stop)
     → Appends old new (expanded_there w n (view_of v first) f s)

@@ -20,9 +20,10 @@ use Rattle.sect_types.specs.declared.resolve.Looked.TheVariants as looked
 use Rattle.sect_types.specs.declared.action.Action.{Action}
 use Rattle.sect_types.specs.declared.action.Condition.{Condition}
 use Rattle.sect_types.specs.Sight.{Sight, place, has_name, names_of_records, base_of, operand_of}
-use Rattle.sect_types.specs.Resolve.{well_typed, well_typed_test, same_kind, accepts, comparable, assign_of, compute_of}
-use Rattle.sect_types.specs.Resolve.{new_of, load_of, store_of, print_of, condition_of, looked_of, primitive_of}
-use Rattle.sect_types.specs.Resolve.{test_of}
+use Rattle.sect_types.proofs.Typing.{well_typed, well_typed_test, assign_of, compute_of, new_of, load_of, store_of}
+use Rattle.sect_types.proofs.Typing.{print_of, compared_of, primitive_of, test_of}
+use Rattle.sect_types.specs.Kinds.{same_kind, accepts, comparable}
+use Rattle.sect_types.specs.Sight.{looked_of}
 use Rattle.std.specs.Prelude.{nat_le}
 use Rattle.sect_front.specs.declared.tree.Procedure.{Procedure}
 use Rattle.sect_types.specs.declared.place.Place.{Place}
@@ -31,18 +32,12 @@ use Rattle.sect_types.specs.Limits.{most_statements}
 use Rattle.sect_types.specs.Items.{Head, PrimitiveHead, TestHead, Item, AStatement, is_inside}
 use Rattle.sect_types.specs.steps.Spots.{full_for}
 use Rattle.sect_types.specs.steps.Standing.{declared_by}
-use Rattle.sect_types.specs.Rules.{knows_primitive, primitive_agrees, knows_test, compares, has_field, local_accepts}
+use Rattle.sect_types.specs.Rules.{knows_primitive, primitive_agrees, knows_test, test_agrees, compares, has_field, local_accepts}
 use Rattle.sect_types.specs.Rules.{local_is, local_gets, field_accepts, is_int, Declared, Counts, shares}
 use Rattle.sect_types.specs.steps.Judging.{rule_of}
 use Rattle.sect_types.specs.Rules.{by_place, after_item, after_primitive, passes_limit, after}
 use Rattle.sect_types.specs.steps.Judging.{judge, fault_or, Faulty}
-use Rattle.sect_types.specs.steps.Walks.{rule_in, then_rest}
-
--- 10, else 12, else none
-abbrev pub of_types : Bool → Bool → Option Rule
-of_types false r = Some Unknown
-of_types true true = None
-of_types true false = Some WrongType
+use Rattle.sect_types.specs.steps.Walks.{rule_in, of_types, then_rest}
 
 well_typed_law : (b : Bool) (a : Action) → rule_in (well_typed b a) ≡ of_types true b
 well_typed_law true a = refl
@@ -100,7 +95,7 @@ print_law (Some v) = well_typed_law (accepts kind.Int v) _
 print_law None = refl
 
 condition_law : (v : Option Given) (c : Comparison) (w : Option Given)
-    → rule_in (condition_of v c w) ≡ of_types (is_some v && is_some w) (compares c v w)
+    → rule_in (compared_of v c w) ≡ of_types (is_some v && is_some w) (compares c v w)
 condition_law (Some v) c (Some w) = well_typed_test_law (comparable c v w) _
 condition_law (Some v) c None = refl
 condition_law None c w = refl
@@ -143,8 +138,7 @@ primitive_law s site (primitive.Store y f v) = store_law (base_of s y) (looked_o
 primitive_law s site (primitive.Print v) = print_law (operand_of s v)
 
 pub test_law : (s : Sight) (t : Test)
-    → rule_in (test_of s t) ≡ of_types (knows_test s t)
-    (compares t.comparison (operand_of s t.left) (operand_of s t.right))
+    → rule_in (test_of s t) ≡ of_types (knows_test s t) (test_agrees s t)
 test_law s t = condition_law (operand_of s t.left) t.comparison (operand_of s t.right)
 
 pub least_law : (k r o m : Bool) → (if not k then Some Unknown else (if k && not r then Some WrongType else
@@ -166,24 +160,22 @@ full_law d c s at (primitive.Print v) = refl
 -- a plain statement
 pub primitive_rule : (s : Sight) (ps : List Procedure) (c : Counts) (at : Place) (p : leaf.Primitive)
     → rule_of (declared_by s ps) c (AStatement (PrimitiveHead p) s.locals at)
-    ≡ then_rest (rule_in (primitive_of s 0 p)) (shares (PrimitiveHead p) && not (is_inside at))
+    ≡ then_rest (of_types (knows_primitive s p) (primitive_agrees s p)) (shares (PrimitiveHead p) && not (is_inside at))
     (by_place at (full_for c p) false)
 primitive_rule s ps c at p =
-    least_law (knows_primitive s p) (primitive_agrees s p) (shares (PrimitiveHead p) && not (is_inside at))
-    (by_place at (passes_limit (declared_by s ps) c s at (PrimitiveHead p)) false)
-    ∙ (ap (λ r. then_rest r (shares (PrimitiveHead p) && not (is_inside at))
-    (by_place at (passes_limit (declared_by s ps) c s at (PrimitiveHead p)) false)) (sym (primitive_law s 0 p))
-    ∙ ap (λ b. then_rest (rule_in (primitive_of s 0 p)) (shares (PrimitiveHead p) && not (is_inside at))
-    (by_place at b false)) (full_law (declared_by s ps) c s at p))
+    let o = shares (PrimitiveHead p) && not (is_inside at) in
+    let full = passes_limit (declared_by s ps) c s at (PrimitiveHead p) in
+    least_law (knows_primitive s p) (primitive_agrees s p) o (by_place at full false)
+    ∙ ap (λ b. then_rest (of_types (knows_primitive s p) (primitive_agrees s p)) o (by_place at b false))
+    (full_law (declared_by s ps) c s at p)
 
 -- a test
 pub test_rule : (s : Sight) (ps : List Procedure) (c : Counts) (at : Place) (t : Test)
     → rule_of (declared_by s ps) c (AStatement (TestHead t) s.locals at)
-    ≡ then_rest (rule_in (test_of s t)) false (by_place at (nat_le most_statements c.statements) false)
-test_rule s ps c at t =
-    least_law (knows_test s t) (compares t.comparison (operand_of s t.left) (operand_of s t.right)) false
+    ≡ then_rest (of_types (knows_test s t) (test_agrees s t)) false
     (by_place at (nat_le most_statements c.statements) false)
-    ∙ ap (λ r. then_rest r false (by_place at (nat_le most_statements c.statements) false)) (sym (test_law s t))
+test_rule s ps c at t =
+    least_law (knows_test s t) (test_agrees s t) false (by_place at (nat_le most_statements c.statements) false)
 
 -- an item that breaks nothing is passed, and another is the fault
 pub passed : (d : Declared) (c e : Counts) (item : Item) → rule_of d c item ≡ None → e ≡ after d c item

@@ -52,3 +52,9 @@ mod Shallow
 mod Expanding
 mod Filling
 mod Naming
+mod Typing
+mod Agreeing
+mod Optional
+mod ByNumbers
+mod Readable
+mod Parts

@@ -1,11 +1,10 @@
 -- How many sites a statement by numbers has.
 use Rattle.std.specs.Prelude.{Bool, true, false, ◌&&◌}
-use Rattle.std.proofs.Common.{◌≡◌, ℕ, List, length, Option, Some, None, Result, Ok, Err, IfOk, refl}
+use Rattle.std.proofs.Common.{◌≡◌, ℕ, List, length, Option, Some, None, IfOk, refl}
 use Rattle.sect_front.specs.declared.tree.Primitive as leaf
 use Rattle.sect_front.specs.declared.tree.Primitive.TheVariants as primitive
 use Rattle.sect_front.specs.declared.tree.Kind.TheVariants as kind
 use Rattle.sect_front.specs.declared.tree.Operator.{Operator}
-use Rattle.sect_types.specs.declared.rule.Rule.{Rule}
 use Rattle.sect_types.specs.declared.action.Action.{Action}
 use Rattle.sect_types.specs.declared.resolve.Denoted.{Denoted}
 use Rattle.sect_types.specs.declared.resolve.Denoted.TheVariants as denoted
@@ -13,13 +12,11 @@ use Rattle.sect_types.specs.declared.resolve.Given.{Given}
 use Rattle.sect_types.specs.declared.resolve.Looked.{Looked}
 use Rattle.sect_types.specs.declared.resolve.Looked.TheVariants as looked
 use Rattle.sect_types.specs.Sight.{Sight, place, names_of_records, base_of, operand_of}
-use Rattle.sect_types.specs.Resolve.{well_typed, same_kind, accepts, primitive_of, assign_of, compute_of, new_of}
-use Rattle.sect_types.specs.Resolve.{load_of}
-use Rattle.sect_types.specs.Resolve.{store_of, print_of, looked_of}
+use Rattle.sect_types.proofs.Typing.{well_typed, primitive_of, assign_of, compute_of, new_of, load_of, store_of}
+use Rattle.sect_types.proofs.Typing.{print_of}
+use Rattle.sect_types.specs.Kinds.{same_kind, accepts}
+use Rattle.sect_types.specs.Sight.{looked_of}
 use Rattle.sect_types.specs.Statements.{made_by}
-use Rattle.sect_types.specs.Numbered.{action_in}
-use Rattle.sect_types.specs.Environments.{Environment}
-use Rattle.sect_types.specs.Sound.{IsSoundAction}
 use Rattle.sect_types.specs.Sections.{IsSite}
 use Rattle.sect_types.specs.Sums.{primitive_sums}
 
@@ -84,9 +81,3 @@ primitive_makes s site (primitive.Load x y f) =
 primitive_makes s site (primitive.Store y f v) =
     store_makes site (base_of s y) (looked_of s (base_of s y) f) (operand_of s v)
 primitive_makes s site (primitive.Print v) = print_makes site (operand_of s v)
-
--- what isn't typed isn't sound
-pub action_makes : (e : Environment) (n site : ℕ) (r : Result Action Rule) → IfOk r (Makes n site)
-    → IsSoundAction e (action_in r) → Makes n site (action_in r)
-action_makes e n site (Ok a) h sound = h
-action_makes e n site (Err q) h sound = absurd sound

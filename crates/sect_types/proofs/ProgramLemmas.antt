@@ -1,7 +1,7 @@
 -- What typing means for the numbers of a program.
 use Rattle.std.specs.Prelude.{All, unwrap_or}
 use Rattle.std.proofs.Common.{◌≡◌, ℕ, zero, suc, ◌+◌, ◌≤◌, ◌<◌, true, false, ◌&&◌, nat_le, List, [], ◌∷◌, ◌++◌, map}
-use Rattle.std.proofs.Common.{length, length-append, refl, sym, ◌∙◌, subst, arith, Option, Some, None, is_some}
+use Rattle.std.proofs.Common.{length, length-append, refl, sym, ap, ◌∙◌, subst, arith, Option, Some, None, is_some}
 use Rattle.std.proofs.Common.{true≢false, slice_get}
 use Rattle.std.proofs.lemmas.List.{length-map, map-append}
 use Rattle.std.proofs.lemmas.List.Elements.{All-nil, All-cons, All-append}
@@ -26,8 +26,9 @@ use Rattle.sect_types.specs.Rules.{Declared, Counts, declared_in, knows_kind}
 use Rattle.sect_types.specs.Sums.{sums, sums_within, number_of, statement_sums, block_sums}
 use Rattle.sect_types.specs.declared.expand.Fresh.{Fresh}
 use Rattle.sect_types.specs.Expanded.{Freshens, of_call, statement_fresh, block_fresh, fresh_of, fresh_within}
-use Rattle.sect_types.specs.Expanded.{fresh_in, procedure_numbered, local_types_of, all_local_types, past_thread}
-use Rattle.sect_types.specs.Expanded.{expanded_threads, texts_of, block_sections, statement_sections, NextNumbers}
+use Rattle.sect_types.specs.steps.Written.{written_threads, written_texts}
+use Rattle.sect_types.specs.Expanded.{fresh_in, texts_of, procedure_numbered, local_types_of, all_local_types, past_thread}
+use Rattle.sect_types.specs.Expanded.{block_sections, statement_sections, NextNumbers}
 use Rattle.sect_types.specs.Statements.{TextView}
 use Rattle.sect_types.specs.steps.Listing.{all_known, fields_fine, locals_fine, globals_known}
 use Rattle.sect_types.specs.steps.Threads.{variables_fine}
@@ -39,6 +40,9 @@ use Rattle.sect_types.specs.Lockings.{statement_lockings, block_lockings, thread
 use Rattle.sect_types.specs.steps.Clean.{IsCleanStatement, IsCleanBlock, AreCleanThreads}
 use Rattle.sect_types.proofs.Heads.{placed}
 use Rattle.sect_types.proofs.SoundLemmas.{place_within}
+use Rattle.sect_types.proofs.Optional.{the}
+use Rattle.sect_types.proofs.ByNumbers.{texts_written}
+use Rattle.sect_types.proofs.Readable.{texts_there}
 use Rattle.sect_types.proofs.Standing.{fresh_types, call_types}
 use Rattle.sect_types.proofs.Walked.{text_clean}
 use Rattle.sect_types.proofs.SiteLaws.{typed_sites}
@@ -208,7 +212,7 @@ all_few : (types : List (List ValueType)) → AreFewTypes types
 all_few [] h = All-nil (λ (ls : List ValueType). length ls ≤ most_all_locals)
 all_few (ls ∷ more) h = All-cons (λ (ls : List ValueType). length ls ≤ most_all_locals) ls more h.0 (all_few more h.1)
 
-as_many_texts : (t : TreeView) (a : NextNumbers) (ts : List Thread) → length (expanded_threads t a ts) ≡ length ts
+as_many_texts : (t : TreeView) (a : NextNumbers) (ts : List Thread) → length (written_threads t a ts) ≡ length ts
 as_many_texts t a [] = refl
 as_many_texts t a (x ∷ ts) = omega (arith, as_many_texts t (past_thread t a x) ts)
 
@@ -244,7 +248,7 @@ abbrev own_globals : TreeView → List ℕ
 own_globals t = global_records (names_of_records t.records) t.globals
 
 abbrev own : TreeView → ProgramView
-own t = numbered_by t (own_records t) (own_globals t) (all_local_types t) (texts_of t) (lockings_of t)
+own t = numbered_by t (own_records t) (own_globals t) (all_local_types t) (written_texts t) (lockings_of t)
 
 -- each reference has one of n records
 record AreThereIn (t : TreeView) (n : ℕ) : Type 0 where
@@ -259,12 +263,13 @@ own_parts t end h =
     let typed = (fine_typed t end h.fine).0 in
     let counts = fine_counts t end h.fine in
     let within = typed_within t typed in
+    let numbered = the (texts_of t) (texts_there t typed) in
     let as_long = length-map t.records (λ (r : Record). r.name) in
     let long_records = length-map t.records (λ (r : Record). types_of names r.fields) in
     let long_globals = length-map t.globals (λ (g : GlobalObject). record_number names g.of) in
     let long_locals = length-map {B = List ValueType} t.threads (local_types_of t) in
     let long_texts = as_many_texts t (record { sites = length t.globals; sections = 0; fresh = 0 }) t.threads in
-    let long_sites = length-append (own_globals t) (all_made (texts_of t)) in
+    let long_sites = length-append (own_globals t) (all_made (written_texts t)) in
     let there : AreThereIn t (length (own_records t)) =
     subst (AreThereIn t) (as_long ∙ sym long_records) (record {
       of_fields = fields_there names t.records h.fine_fields;
@@ -276,7 +281,7 @@ own_parts t end h =
         records_are = refl;
         globals_are = refl;
         locals_are = refl;
-        texts_are = refl;
+        texts_are = numbered.1 ∙ ap Some (sym (texts_written t numbered.0 numbered.1));
         lockings_are =
             refl;
       };
@@ -301,7 +306,7 @@ own_parts t end h =
         shallow = typed_shallow t typed h.shallow;
       };
       numbered = typed_sections t typed;
-      sited = subst (λ n. AllSited n (texts_of t)) (sym long_globals) (typed_sites t typed);
+      sited = subst (λ n. AllSited n (written_texts t)) (sym long_globals) (typed_sites t typed);
       as_many_lockings =
           omega (arith, threads_many (declared_in t) t.threads [] (text_clean t typed).1, typed_section_count t typed);
       section_count = counts.sections_are;
@@ -312,7 +317,7 @@ own_parts t end h =
 pub well_numbered : (t : TreeView) (end : Counts) (records : List (List ValueType)) (globals : List ℕ)
     (locals : List (List ValueType)) (texts : List TextView) (lockings : List Locking) (sections sites statements : ℕ)
     → IsCounted t end → records ≡ own_records t → globals ≡ own_globals t → locals ≡ all_local_types t
-    → texts ≡ texts_of t → lockings ≡ lockings_of t → sections ≡ end.sections → sites ≡ end.sites
+    → texts ≡ written_texts t → lockings ≡ lockings_of t → sections ≡ end.sections → sites ≡ end.sites
     → statements ≡ end.statements
     → IsWellNumbered (numbered_by t records globals locals texts lockings) sections sites statements
 well_numbered t end records globals locals texts lockings sections sites statements h e f g m o i j k =

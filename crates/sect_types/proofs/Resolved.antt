@@ -1,6 +1,6 @@
 -- Clean statements by numbers.
-use Rattle.std.specs.Prelude.{Bool, true, false, not, ◌&&◌}
-use Rattle.std.proofs.Common.{◌≡◌, ℕ, List, Some, None, Result, Ok, Err, IfOk, refl, sym, ◌∙◌}
+use Rattle.std.specs.Prelude.{Bool, true, false, not, ◌&&◌, is_some, IsSome}
+use Rattle.std.proofs.Common.{◌≡◌, ℕ, List, Some, None, Result, IfOk, refl, sym, ap, subst, ◌∙◌}
 use Rattle.std.proofs.Common.{length}
 use Rattle.sect_front.specs.declared.tree.Primitive as leaf
 use Rattle.sect_front.specs.declared.tree.Test.{Test}
@@ -8,19 +8,20 @@ use Rattle.sect_front.specs.declared.tree.Declaration.{Declaration}
 use Rattle.sect_types.specs.declared.rule.Rule.{Rule}
 use Rattle.sect_types.specs.declared.action.Action.{Action}
 use Rattle.sect_types.specs.declared.action.Action.TheVariants as action
-use Rattle.sect_types.specs.declared.action.Condition.{Condition}
-use Rattle.sect_types.specs.Sight.{Sight, operand_of}
-use Rattle.sect_types.specs.Resolve.{primitive_of, test_of}
-use Rattle.sect_types.specs.Rules.{knows_primitive, primitive_agrees, knows_test, compares, shares, Declared, seen}
-use Rattle.sect_types.specs.Numbered.{action_in, condition_in}
+use Rattle.sect_types.specs.Sight.{Sight}
+use Rattle.sect_types.proofs.Typing.{primitive_of, test_of}
+use Rattle.sect_types.specs.steps.Written.{action_in, condition_in}
+use Rattle.sect_types.specs.Rules.{knows_primitive, primitive_agrees, knows_test, test_agrees, shares, Declared, seen}
 use Rattle.sect_types.specs.Environments.{environment}
 use Rattle.sect_types.specs.Sound.{IsSoundAction, IsSoundCondition, is_shared}
 use Rattle.sect_types.specs.Statements.{made_by}
 use Rattle.sect_types.specs.Sections.{IsSite}
-use Rattle.sect_types.specs.steps.Walks.{rule_in}
-use Rattle.sect_types.proofs.Heads.{primitive_law, test_law, of_types}
+use Rattle.sect_types.specs.steps.Walks.{rule_in, of_types}
+use Rattle.sect_types.proofs.Heads.{primitive_law, test_law}
 use Rattle.sect_types.proofs.SoundLemmas.{primitive_sound, test_sound}
-use Rattle.sect_types.proofs.Making.{primitive_makes, action_makes}
+use Rattle.sect_types.proofs.Making.{Makes, primitive_makes}
+use Rattle.sect_types.proofs.Agreeing.{linked, test_linked}
+use Rattle.sect_types.specs.Numbered.{action_of, condition_of}
 use Rattle.sect_types.specs.Items.{PrimitiveHead, TestHead, AStatement}
 use Rattle.sect_types.specs.declared.place.Place.{Place}
 use Rattle.sect_types.specs.Sums.{primitive_sums}
@@ -40,47 +41,66 @@ no_rule : {A : Type 0} (r : Result A Rule) (k a : Bool) → rule_in r ≡ of_typ
     → rule_in r ≡ None
 no_rule r k a e h g = e ∙ (λ i. of_types (h i) (g i))
 
--- what holds of each action that a statement may be holds of its own
-own_action : (P : Action → Type 0) (r : Result Action Rule) → rule_in r ≡ None → IfOk r P → P (action_in r)
-own_action P (Ok a) e h = h
-own_action P (Err q) e h = absurd (let off : Some q ≡ None = e in cc)
+no_rule_of : (s : Sight) (site : ℕ) (p : leaf.Primitive) → knows_primitive s p ≡ true → primitive_agrees s p ≡ true
+    → rule_in (primitive_of s site p) ≡ None
+no_rule_of s site p k a = no_rule (primitive_of s site p) _ _ (primitive_law s site p) k a
 
-own_condition : (P : Condition → Type 0) (r : Result Condition Rule) → rule_in r ≡ None → IfOk r P → P (condition_in r)
-own_condition P (Ok a) e h = h
-own_condition P (Err q) e h = absurd (let off : Some q ≡ None = e in cc)
+-- an action for a statement without a block
+pub record IsFor (s : Sight) (site : ℕ) (p : leaf.Primitive) (a : Action) : Type 0 where
+  pub sound : IsSoundAction (environment s) a
+  pub shared : is_shared a ≡ shares (PrimitiveHead p)
+  pub makes : length (made_by a) ≡ (primitive_sums p).sites
+  pub sited : IsSite site a
 
--- a statement without a block, by numbers
-pub record IsResolved (s : Sight) (site : ℕ) (p : leaf.Primitive) : Type 0 where
-  pub sound : IsSoundAction (environment s) (action_in (primitive_of s site p))
-  pub shared : is_shared (action_in (primitive_of s site p)) ≡ shares (PrimitiveHead p)
-  pub makes : length (made_by (action_in (primitive_of s site p))) ≡ (primitive_sums p).sites
-  pub sited : IsSite site (action_in (primitive_of s site p))
-
-agreed : (s : Sight) (site : ℕ) (p : leaf.Primitive) → rule_in (primitive_of s site p) ≡ None → IsResolved s site p
-agreed s site p e =
-    let r = primitive_of s site p in
-    let x = own_action _ r e (primitive_sound s site p) in
-    let y = action_makes (environment s) (primitive_sums p).sites site r (primitive_makes s site p) x.0 in
-    record { sound = x.0; shared = x.1; makes = y.0; sited = y.1 }
+resolved_to : (s : Sight) (site : ℕ) (p : leaf.Primitive) → rule_in (primitive_of s site p) ≡ None
+    → (a : Action) × (action_of s site p ≡ Some a) × IsFor s site p a
+resolved_to s site p e =
+    let l = linked s site p e in
+    let x = subst (λ r. IfOk r (λ a. IsSoundAction (environment s) a × (is_shared a ≡ shares (PrimitiveHead p)))) l.typed
+    (primitive_sound s site p) in
+    let y = subst (λ r. IfOk r (Makes (primitive_sums p).sites site)) l.typed (primitive_makes s site p) in
+    (l.what, l.numbered, record { sound = x.0; shared = x.1; makes = y.0; sited = y.1 })
 
 -- a clean one is typed
-pub resolved : (d : Declared) (ls : List Declaration) (at : Place) (site : ℕ) (p : leaf.Primitive)
-    → IsClean d (AStatement (PrimitiveHead p) ls at) → IsResolved (seen d ls) site p
-resolved d ls at site p h =
+clean_rule : (d : Declared) (ls : List Declaration) (at : Place) (site : ℕ) (p : leaf.Primitive)
+    → IsClean d (AStatement (PrimitiveHead p) ls at) → rule_in (primitive_of (seen d ls) site p) ≡ None
+clean_rule d ls at site p h =
     let k = not_false (knows_primitive (seen d ls) p) h.known in
     let a = and_not (knows_primitive (seen d ls) p) (primitive_agrees (seen d ls) p) k h.right in
-    agreed (seen d ls) site p (no_rule (primitive_of (seen d ls) site p) _ _ (primitive_law (seen d ls) site p) k a)
+    no_rule_of (seen d ls) site p k a
+
+pub resolved : (d : Declared) (ls : List Declaration) (at : Place) (site : ℕ) (p : leaf.Primitive)
+    → IsClean d (AStatement (PrimitiveHead p) ls at)
+    → IsFor (seen d ls) site p (action_in (action_of (seen d ls) site p))
+resolved d ls at site p h =
+    let x = resolved_to (seen d ls) site p (clean_rule d ls at site p h) in
+    subst (IsFor (seen d ls) site p) (sym (ap action_in x.1)) x.2
+
+pub action_there : (d : Declared) (ls : List Declaration) (at : Place) (site : ℕ) (p : leaf.Primitive)
+    → IsClean d (AStatement (PrimitiveHead p) ls at) → IsSome (action_of (seen d ls) site p)
+action_there d ls at site p h =
+    ap is_some (linked (seen d ls) site p (clean_rule d ls at site p h)).numbered
 
 -- and so is a test
+clean_test : (d : Declared) (ls : List Declaration) (at : Place) (t : Test) → IsClean d (AStatement (TestHead t) ls at)
+    → rule_in (test_of (seen d ls) t) ≡ None
+clean_test d ls at t h =
+    let s = seen d ls in
+    let k = not_false (knows_test s t) h.known in
+    no_rule (test_of s t) _ _ (test_law s t) k (and_not (knows_test s t) (test_agrees s t) k h.right)
+
 pub resolved_test : (d : Declared) (ls : List Declaration) (at : Place) (t : Test)
     → IsClean d (AStatement (TestHead t) ls at)
-    → IsSoundCondition (environment (seen d ls)) (condition_in (test_of (seen d ls) t))
+    → IsSoundCondition (environment (seen d ls)) (condition_in (condition_of (seen d ls) t))
 resolved_test d ls at t h =
     let s = seen d ls in
-    let c = compares t.comparison (operand_of s t.left) (operand_of s t.right) in
-    let k = not_false (knows_test s t) h.known in
-    own_condition _ (test_of s t) (no_rule (test_of s t) _ _ (test_law s t) k (and_not (knows_test s t) c k h.right))
-    (test_sound s t)
+    let l = test_linked s t (clean_test d ls at t h) in
+    subst (IsSoundCondition (environment s)) (sym (ap condition_in l.numbered))
+    (subst (λ r. IfOk r (IsSoundCondition (environment s))) l.typed (test_sound s t))
+
+pub condition_there : (d : Declared) (ls : List Declaration) (at : Place) (t : Test)
+    → IsClean d (AStatement (TestHead t) ls at) → IsSome (condition_of (seen d ls) t)
+condition_there d ls at t h = ap is_some (test_linked (seen d ls) t (clean_test d ls at t h)).numbered
 
 -- moving its variables changes no site
 pub moved_made : (n : ℕ) (a : Action) → made_by (moved_action n a) ≡ made_by a

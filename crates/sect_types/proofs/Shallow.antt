@@ -20,7 +20,8 @@ use Rattle.sect_types.specs.Sums.{number_of, statement_sums, block_sums}
 use Rattle.sect_types.specs.Rules.{Declared, Counts, seen, after, passes_by, sums_of_call, as_many, procedure_of}
 use Rattle.sect_types.specs.Rules.{knows_operands, declared_in}
 use Rattle.sect_types.specs.First.{none_yet, IsTyped}
-use Rattle.sect_types.specs.Expanded.{NextNumbers, past_thread, expanded_thread, expanded_threads, texts_of}
+use Rattle.sect_types.specs.Expanded.{NextNumbers, past_thread}
+use Rattle.sect_types.specs.steps.Written.{written_thread, written_threads, written_texts}
 use Rattle.sect_lemmas.proofs.Booleans.{neither}
 use Rattle.sect_types.proofs.Resolved.{not_false}
 use Rattle.sect_types.proofs.Walked.{NoneBroken, first_clean, first_few, next_none, statement_after, block_after}
@@ -122,7 +123,7 @@ IsShallowText text = 1 + text_depth text ≤ most_depth
 -- so of the threads of a text
 threads_shallow : (t : TreeView) (a : NextNumbers) (c : Counts) (before : List (List ℕ)) (hs : List Thread)
     → NoneBroken (declared_in t) c (thread_items before hs []) → threads_depth hs ≤ most_depth
-    → All IsShallowText (expanded_threads t a hs)
+    → All IsShallowText (written_threads t a hs)
 threads_shallow t a c before [] h k = All-nil IsShallowText
 threads_shallow t a c before (x ∷ hs) h k =
     let d = declared_in t in
@@ -134,7 +135,7 @@ threads_shallow t a c before (x ∷ hs) h k =
     let at_block = locals_walked d e [] x.locals body (next_none d c item (local_items [] x.locals body) h) in
     let deep = block_shallow d x.locals false 1 g x.body rest at_block
     (omega (arith, k, le-max_left (block_depth x.body + 1) (threads_depth hs))) in
-    All-cons IsShallowText (expanded_thread t a x) (expanded_threads t (past_thread t a x) hs)
+    All-cons IsShallowText (written_thread t a x) (written_threads t (past_thread t a x) hs)
     (omega (arith, deep, thread_deep t a x))
     (threads_shallow t (past_thread t a x) (thread_after d c before x) (before ++ x.name ∷ []) hs
     (block_walked d x.locals (InThread false 1) g x.body rest at_block).1
@@ -142,7 +143,7 @@ threads_shallow t a c before (x ∷ hs) h k =
 
 -- and of a typed text
 pub typed_shallow : (t : TreeView) → IsTyped t → threads_depth t.threads ≤ most_depth
-    → All IsShallowText (texts_of t)
+    → All IsShallowText (written_texts t)
 typed_shallow t h k =
     let d = declared_in t in
     let of_threads = thread_items [] t.threads [] in

@@ -19,10 +19,12 @@ use Rattle.sect_types.specs.Sums.{sums, sums_at, sums_within, statement_sums, bl
 use Rattle.sect_types.specs.Rules.{Declared, seen, declared_in}
 use Rattle.sect_types.specs.First.{IsTyped}
 use Rattle.sect_types.specs.steps.Clean.{IsClean, IsCleanStatement, IsCleanBlock, AreCleanProcedures, AreCleanThreads}
-use Rattle.sect_types.specs.Expanded.{Scene, NextNumbers, Expander, past_statement, past_block, action_at, expanded_statement}
-use Rattle.sect_types.specs.Expanded.{expanded_block, set_parameters, clear_locals, after_call, call_of}
-use Rattle.sect_types.specs.Expanded.{procedure_numbered, expand_within, expanded_thread, past_thread}
-use Rattle.sect_types.specs.Expanded.{expanded_threads, texts_of}
+use Rattle.sect_types.specs.Expanded.{Scene, NextNumbers, past_statement, past_block}
+use Rattle.sect_types.specs.steps.Written.{Writer, written_action, written_statement, written_block, write_parameters}
+use Rattle.sect_types.specs.steps.Written.{write_locals, written_call, written_within, written_thread, written_threads}
+use Rattle.sect_types.specs.steps.Written.{written_texts}
+use Rattle.sect_types.specs.Expanded.{after_call}
+use Rattle.sect_types.specs.Expanded.{procedure_numbered, past_thread}
 use Rattle.sect_types.proofs.CountLaws.{looked}
 use Rattle.sect_types.specs.Sums.{sums_of}
 use Rattle.sect_types.proofs.Walked.{text_clean}
@@ -76,31 +78,31 @@ pub joined_sites : (a k : TextView) → length (made_in (joined a k)) ≡ length
 joined_sites a k = ap length (joined_made a k) ∙ length-append (made_in a) (made_in k)
 
 -- each call makes what the table says
-abbrev pub MakesCalls : List Sums → Expander → Type 0
+abbrev pub MakesCalls : List Sums → Writer → Type 0
 MakesCalls table call = (q : Option ℕ) (v : Scene) (a : NextNumbers) (vs : List Operand) (k : TextView)
     → length (made_in (call q v a vs k)) ≡ (sums_at table q).sites + length (made_in k)
 
 action_makes : (d : Declared) (ls : List Declaration) (at : Place) (n : ℕ) (a : NextNumbers) (p : leaf.Primitive)
     → IsClean d (AStatement (PrimitiveHead p) ls at)
-    → length (made_by (action_at (view d ls n) a p)) ≡ (primitive_sums p).sites
+    → length (made_by (written_action (view d ls n) a p)) ≡ (primitive_sums p).sites
 action_makes d ls at n a p h = ap length (moved_made n _) ∙ (resolved d ls at a.sites p h).makes
 
 -- a clean body has as many sites as its sums say
 mutual
-  pub statement_makes : (d : Declared) (ps : List Procedure) (table : List Sums) (call : Expander)
+  pub statement_makes : (d : Declared) (ps : List Procedure) (table : List Sums) (call : Writer)
       → MakesCalls table call
       → (ls : List Declaration) (at : Place) (n : ℕ) (a : NextNumbers) (s : StatementView) (k : TextView)
       → IsCleanStatement d ls at s
-      → length (made_in (expanded_statement ps table call (view d ls n) a s k))
+      → length (made_in (written_statement ps table call (view d ls n) a s k))
       ≡ (statement_sums ps table s).sites + length (made_in k)
   statement_makes d ps table call m ls at n a (Primitive p) k h =
-      omega (arith, length-append (made_by (action_at (view d ls n) a p)) (made_in k), action_makes d ls at n a p h)
+      omega (arith, length-append (made_by (written_action (view d ls n) a p)) (made_in k), action_makes d ls at n a p h)
   statement_makes d ps table call m ls at n a (If t b) k h =
-      let x = expanded_block ps table call (view d ls n) a b in
+      let x = written_block ps table call (view d ls n) a b in
       omega (arith, length-append (made_in x) (made_in k), block_makes d ps table call m ls (deeper at) n a b h.1)
   statement_makes d ps table call m ls at n a (IfElse t b c) k h =
-      let x = expanded_block ps table call (view d ls n) a b in
-      let y = expanded_block ps table call (view d ls n) (past_block ps table a b) c in
+      let x = written_block ps table call (view d ls n) a b in
+      let y = written_block ps table call (view d ls n) (past_block ps table a b) c in
       omega (
         arith,
         length-append (made_in x) (made_in y ++ made_in k),
@@ -109,47 +111,47 @@ mutual
         block_makes d ps table call m ls (deeper at) n (past_block ps table a b) c h.2,
       )
   statement_makes d ps table call m ls at n a (While t b) k h =
-      let x = expanded_block ps table call (view d ls n) a b in
+      let x = written_block ps table call (view d ls n) a b in
       omega (arith, length-append (made_in x) (made_in k), block_makes d ps table call m ls (deeper at) n a b h.1)
   statement_makes d ps table call m ls at n a (Atomic lock b) k h =
       let c : NextNumbers = record a { sections = a.sections + 1 } in
-      let x = expanded_block ps table call (view d ls n) c b in
+      let x = written_block ps table call (view d ls n) c b in
       omega (arith, length-append (made_in x) (made_in k), block_makes d ps table call m ls (in_section at) n c b h.1)
   statement_makes d ps table call m ls at n a (Call f vs) k h = m (number_of ps f) (view d ls n) a vs k
 
-  pub block_makes : (d : Declared) (ps : List Procedure) (table : List Sums) (call : Expander) → MakesCalls table call
+  pub block_makes : (d : Declared) (ps : List Procedure) (table : List Sums) (call : Writer) → MakesCalls table call
       → (ls : List Declaration) (at : Place) (n : ℕ) (a : NextNumbers) (b : BlockView) → IsCleanBlock d ls at b
-      → length (made_in (expanded_block ps table call (view d ls n) a b)) ≡ (block_sums ps table b).sites
+      → length (made_in (written_block ps table call (view d ls n) a b)) ≡ (block_sums ps table b).sites
   block_makes d ps table call m ls at n a End h = refl
   block_makes d ps table call m ls at n a (Then s b) h =
       let c = past_statement ps table a s in
       omega (
         arith,
-        statement_makes d ps table call m ls at n a s (expanded_block ps table call (view d ls n) c b) h.0,
+        statement_makes d ps table call m ls at n a s (written_block ps table call (view d ls n) c b) h.0,
         block_makes d ps table call m ls at n c b h.1,
       )
 
 set_made : (v : Scene) (x : ℕ) (ds : List Declaration) (vs : List Operand) (k : TextView)
-    → made_in (set_parameters v x ds vs k) ≡ made_in k
+    → made_in (write_parameters v x ds vs k) ≡ made_in k
 set_made v x [] vs k = refl
 set_made v x (d ∷ ds) [] k = set_made v (x + 1) ds [] k
 set_made v x (d ∷ ds) (u ∷ us) k = set_made v (x + 1) ds us k
 
-cleared_made : (x : ℕ) (ds : List Declaration) (k : TextView) → made_in (clear_locals x ds k) ≡ made_in k
+cleared_made : (x : ℕ) (ds : List Declaration) (k : TextView) → made_in (write_locals x ds k) ≡ made_in k
 cleared_made x [] k = refl
 cleared_made x (d ∷ ds) k = cleared_made (x + 1) ds k
 
-call_makes : (d : Declared) (ps : List Procedure) → AreClean d ps → (table : List Sums) (call : Expander)
+call_makes : (d : Declared) (ps : List Procedure) → AreClean d ps → (table : List Sums) (call : Writer)
     → MakesCalls table call
     → (o : Option Procedure) (q : Option ℕ) → procedure_numbered ps q ≡ o
     → (r : Option ℕ) (v : Scene) (a : NextNumbers) (vs : List Operand) (k : TextView)
-    → length (made_in (call_of d.records d.globals ps table call o r v a vs k))
+    → length (made_in (written_call d.records d.globals ps table call o r v a vs k))
     ≡ (sums_of ps table o).sites + length (made_in k)
 call_makes d ps c table call m None q e r v a vs k = omega arith
 call_makes d ps c table call m (Some p) q e r v a vs k =
-    let text = expanded_block ps table call (view d (variables p) a.fresh) (after_call a p) p.body in
+    let text = written_block ps table call (view d (variables p) a.fresh) (after_call a p) p.body in
     let clean = called_clean d ps c q p e in
-    let rest = clear_locals (a.fresh + length p.parameters) p.locals (joined text k) in
+    let rest = write_locals (a.fresh + length p.parameters) p.locals (joined text k) in
     omega (
       arith,
       ap length (set_made v a.fresh p.parameters vs rest),
@@ -160,11 +162,11 @@ call_makes d ps c table call m (Some p) q e r v a vs k =
 
 -- the expansion of a call has as many sites as the sums say
 pub calls_make : (n : ℕ) (d : Declared) (ps : List Procedure) → AreClean d ps
-    → MakesCalls (sums_within n ps) (expand_within n d.records d.globals ps)
+    → MakesCalls (sums_within n ps) (written_within n d.records d.globals ps)
 calls_make zero d ps c None v a vs k = omega arith
 calls_make zero d ps c (Some q) v a vs k = omega arith
 calls_make (suc n) d ps c q v a vs k =
-    call_makes d ps c (sums_within n ps) (expand_within n d.records d.globals ps) (calls_make n d ps c)
+    call_makes d ps c (sums_within n ps) (written_within n d.records d.globals ps) (calls_make n d ps c)
     (procedure_numbered ps q) q refl q v a vs k
     ∙ ap (λ (s : Sums). s.sites + length (made_in k)) (sym (looked ps (sums_within n ps) q))
 
@@ -194,18 +196,18 @@ joined_sited n (Section i p r) k h g = (
 )
 
 -- the sites of each call are those from the next one on
-abbrev pub SitesCalls : List Sums → Expander → Type 0
+abbrev pub SitesCalls : List Sums → Writer → Type 0
 SitesCalls table call = (q : Option ℕ) (v : Scene) (a : NextNumbers) (vs : List Operand) (k : TextView)
     → AreSited (a.sites + (sums_at table q).sites) k → AreSited a.sites (call q v a vs k)
 
 -- the sites of a clean body are those from the next one on, in text order
 mutual
-  pub statement_sites : (d : Declared) (ps : List Procedure) (table : List Sums) (call : Expander)
+  pub statement_sites : (d : Declared) (ps : List Procedure) (table : List Sums) (call : Writer)
       → MakesCalls table call
       → SitesCalls table call → (ls : List Declaration) (at : Place) (n : ℕ) (a : NextNumbers) (s : StatementView)
       (k : TextView)
       → IsCleanStatement d ls at s → AreSited (a.sites + (statement_sums ps table s).sites) k
-      → AreSited a.sites (expanded_statement ps table call (view d ls n) a s k)
+      → AreSited a.sites (written_statement ps table call (view d ls n) a s k)
   statement_sites d ps table call m f ls at n a (Primitive p) k h g = (
     moved_site n a.sites _ (resolved d ls at a.sites p h).sited,
     subst (λ i. AreSited (a.sites + i) k) (sym (action_makes d ls at n a p h)) g,
@@ -220,7 +222,7 @@ mutual
       let x = block_makes d ps table call m ls (deeper at) n a b h.1 in
       let y = block_makes d ps table call m ls (deeper at) n e c h.2 in (
         block_sites d ps table call m f ls (deeper at) n a b h.1,
-        subst (λ i. AreSited i (expanded_block ps table call (view d ls n) e c)) (omega (arith, x))
+        subst (λ i. AreSited i (written_block ps table call (view d ls n) e c)) (omega (arith, x))
             (block_sites d ps table call m f ls (deeper at) n e c h.2),
         subst (λ i. AreSited i k) (omega (arith, x, y)) g,
       )
@@ -235,39 +237,39 @@ mutual
       )
   statement_sites d ps table call m f ls at n a (Call x vs) k h g = f (number_of ps x) (view d ls n) a vs k g
 
-  pub block_sites : (d : Declared) (ps : List Procedure) (table : List Sums) (call : Expander) → MakesCalls table call
+  pub block_sites : (d : Declared) (ps : List Procedure) (table : List Sums) (call : Writer) → MakesCalls table call
       → SitesCalls table call → (ls : List Declaration) (at : Place) (n : ℕ) (a : NextNumbers) (b : BlockView)
       → IsCleanBlock d ls at b
-      → AreSited a.sites (expanded_block ps table call (view d ls n) a b)
+      → AreSited a.sites (written_block ps table call (view d ls n) a b)
   block_sites d ps table call m f ls at n a End h = tt
   block_sites d ps table call m f ls at n a (Then s b) h =
       let c = past_statement ps table a s in
-      statement_sites d ps table call m f ls at n a s (expanded_block ps table call (view d ls n) c b) h.0
+      statement_sites d ps table call m f ls at n a s (written_block ps table call (view d ls n) c b) h.0
       (block_sites d ps table call m f ls at n c b h.1)
 
 set_sited : (i : ℕ) (v : Scene) (x : ℕ) (ds : List Declaration) (vs : List Operand) (k : TextView) → AreSited i k
-    → AreSited i (set_parameters v x ds vs k)
+    → AreSited i (write_parameters v x ds vs k)
 set_sited i v x [] vs k h = h
 set_sited i v x (d ∷ ds) [] k h =
-    (tt, subst (λ j. AreSited j (set_parameters v (x + 1) ds [] k)) (omega arith) (set_sited i v (x + 1) ds [] k h))
+    (tt, subst (λ j. AreSited j (write_parameters v (x + 1) ds [] k)) (omega arith) (set_sited i v (x + 1) ds [] k h))
 set_sited i v x (d ∷ ds) (u ∷ us) k h =
-    (tt, subst (λ j. AreSited j (set_parameters v (x + 1) ds us k)) (omega arith) (set_sited i v (x + 1) ds us k h))
+    (tt, subst (λ j. AreSited j (write_parameters v (x + 1) ds us k)) (omega arith) (set_sited i v (x + 1) ds us k h))
 
-cleared_sited : (i x : ℕ) (ds : List Declaration) (k : TextView) → AreSited i k → AreSited i (clear_locals x ds k)
+cleared_sited : (i x : ℕ) (ds : List Declaration) (k : TextView) → AreSited i k → AreSited i (write_locals x ds k)
 cleared_sited i x [] k h = h
 cleared_sited i x (d ∷ ds) k h =
-    (tt, subst (λ j. AreSited j (clear_locals (x + 1) ds k)) (omega arith) (cleared_sited i (x + 1) ds k h))
+    (tt, subst (λ j. AreSited j (write_locals (x + 1) ds k)) (omega arith) (cleared_sited i (x + 1) ds k h))
 
-call_sites : (d : Declared) (ps : List Procedure) → AreClean d ps → (table : List Sums) (call : Expander)
+call_sites : (d : Declared) (ps : List Procedure) → AreClean d ps → (table : List Sums) (call : Writer)
     → MakesCalls table call → SitesCalls table call
     → (o : Option Procedure) (q : Option ℕ) → procedure_numbered ps q ≡ o
     → (r : Option ℕ) (v : Scene) (a : NextNumbers) (vs : List Operand) (k : TextView)
     → AreSited (a.sites + (sums_of ps table o).sites) k
-    → AreSited a.sites (call_of d.records d.globals ps table call o r v a vs k)
+    → AreSited a.sites (written_call d.records d.globals ps table call o r v a vs k)
 call_sites d ps c table call m f None q e r v a vs k g = subst (λ i. AreSited i k) (omega arith) g
 call_sites d ps c table call m f (Some p) q e r v a vs k g =
     let ls = variables p in
-    let text = expanded_block ps table call (view d ls a.fresh) (after_call a p) p.body in
+    let text = written_block ps table call (view d ls a.fresh) (after_call a p) p.body in
     let x = called_clean d ps c q p e in
     let makes = block_makes d ps table call m ls (InProcedure x.0) a.fresh (after_call a p) p.body x.1 in
     set_sited a.sites v a.fresh p.parameters vs _
@@ -278,11 +280,11 @@ call_sites d ps c table call m f (Some p) q e r v a vs k g =
 
 -- the sites of the expansion of a call are those from the next one on
 pub calls_site : (n : ℕ) (d : Declared) (ps : List Procedure) → AreClean d ps
-    → SitesCalls (sums_within n ps) (expand_within n d.records d.globals ps)
+    → SitesCalls (sums_within n ps) (written_within n d.records d.globals ps)
 calls_site zero d ps c None v a vs k g = subst (λ i. AreSited i k) (omega arith) g
 calls_site zero d ps c (Some q) v a vs k g = subst (λ i. AreSited i k) (omega arith) g
 calls_site (suc n) d ps c q v a vs k g =
-    call_sites d ps c (sums_within n ps) (expand_within n d.records d.globals ps) (calls_make n d ps c)
+    call_sites d ps c (sums_within n ps) (written_within n d.records d.globals ps) (calls_make n d ps c)
     (calls_site n d ps c)
     (procedure_numbered ps q) q refl q v a vs k
     (subst (λ (s : Sums). AreSited (a.sites + s.sites) k) (looked ps (sums_within n ps) q) g)
@@ -290,10 +292,10 @@ calls_site (suc n) d ps c q v a vs k g =
 -- the text of a thread has as many sites as the sums say
 pub thread_makes : (t : TreeView) → AreClean (declared_in t) t.procedures → (a : NextNumbers) (h : Thread)
     → IsCleanBlock (declared_in t) h.locals (InThread false 1) h.body
-    → length (made_in (expanded_thread t a h)) ≡ (block_sums t.procedures (sums t.procedures) h.body).sites
+    → length (made_in (written_thread t a h)) ≡ (block_sums t.procedures (sums t.procedures) h.body).sites
 thread_makes t c a h clean =
     let n = length t.procedures in
-    block_makes (declared_in t) t.procedures (sums t.procedures) (expand_within n t.records t.globals t.procedures)
+    block_makes (declared_in t) t.procedures (sums t.procedures) (written_within n t.records t.globals t.procedures)
     (calls_make n (declared_in t) t.procedures c) h.locals (InThread false 1) 0 (record a {
       fresh =
           length h.locals;
@@ -301,24 +303,24 @@ thread_makes t c a h clean =
 
 -- and they are those from the next one on
 pub thread_sites : (t : TreeView) → AreClean (declared_in t) t.procedures → (a : NextNumbers) (h : Thread)
-    → IsCleanBlock (declared_in t) h.locals (InThread false 1) h.body → AreSited a.sites (expanded_thread t a h)
+    → IsCleanBlock (declared_in t) h.locals (InThread false 1) h.body → AreSited a.sites (written_thread t a h)
 thread_sites t c a h clean =
     let n = length t.procedures in
-    block_sites (declared_in t) t.procedures (sums t.procedures) (expand_within n t.records t.globals t.procedures)
+    block_sites (declared_in t) t.procedures (sums t.procedures) (written_within n t.records t.globals t.procedures)
     (calls_make n (declared_in t) t.procedures c) (calls_site n (declared_in t) t.procedures c)
     h.locals (InThread false 1) 0 (record a { fresh = length h.locals }) h.body clean
 
 pub threads_sites : (t : TreeView) → AreClean (declared_in t) t.procedures → (a : NextNumbers) (hs : List Thread)
-    → AreCleanThreads (declared_in t) hs → AllSited a.sites (expanded_threads t a hs)
+    → AreCleanThreads (declared_in t) hs → AllSited a.sites (written_threads t a hs)
 threads_sites t c a [] g = tt
 threads_sites t c a (h ∷ hs) g = (
   thread_sites t c a h g.0,
-  subst (λ i. AllSited (a.sites + i) (expanded_threads t (past_thread t a h) hs)) (sym (thread_makes t c a h g.0))
+  subst (λ i. AllSited (a.sites + i) (written_threads t (past_thread t a h) hs)) (sym (thread_makes t c a h g.0))
       (threads_sites t c (past_thread t a h) hs g.1),
 )
 
 -- the sites of a typed text are numbered behind its globals
-pub typed_sites : (t : TreeView) → IsTyped t → AllSited (length t.globals) (texts_of t)
+pub typed_sites : (t : TreeView) → IsTyped t → AllSited (length t.globals) (written_texts t)
 typed_sites t h =
     threads_sites t (typed_clean t h) (record {
       sites = length t.globals;

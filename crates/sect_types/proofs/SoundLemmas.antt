@@ -36,10 +36,11 @@ use Rattle.sect_types.specs.declared.action.Condition.{Condition}
 use Rattle.sect_types.specs.Sight.{Sight, given_by, base_of, operand_of, kind_of, local_at, local_with, global_at}
 use Rattle.sect_types.specs.Sight.{global_with, or_else, place, names_of_declared, names_of_globals, names_of_records}
 use Rattle.sect_types.specs.Sight.{field_with, field_at, field_in, field_of, field_of_number}
-use Rattle.sect_types.specs.Resolve.{well_typed, well_typed_test, same_kind, is_reference, accepts, of_one_kind}
-use Rattle.sect_types.specs.Resolve.{comparable, base_by, value_at, value_by, assign_of, compute_of, new_of, load_at}
-use Rattle.sect_types.specs.Resolve.{load_of, store_at, store_of, print_of, condition_of, field_looked, looked_in}
-use Rattle.sect_types.specs.Resolve.{looked_of, primitive_of, test_of}
+use Rattle.sect_types.proofs.Typing.{well_typed, well_typed_test, assign_of, compute_of, new_of, load_at, load_of}
+use Rattle.sect_types.proofs.Typing.{store_at, store_of, print_of, compared_of, primitive_of, test_of}
+use Rattle.sect_types.specs.Kinds.{same_kind, is_reference, accepts, of_one_kind, comparable}
+use Rattle.sect_types.specs.Numbered.{base_by, value_at, value_by}
+use Rattle.sect_types.specs.Sight.{field_looked, looked_in, looked_of}
 use Rattle.sect_types.specs.Items.{PrimitiveHead}
 use Rattle.sect_types.specs.Rules.{shares}
 use Rattle.sect_types.specs.Environments.{Environment, environment, record_number, type_of, types_of}
@@ -355,7 +356,7 @@ comparable_have s comparison.LessOrEqual v w p q e = integers_have s v w p q e
 
 condition_sound : (s : Sight) (v : Option Given) (c : Comparison) (w : Option Given) → IfSome v (IsGiven s)
     → IfSome w (IsGiven s)
-    → IfOk (condition_of v c w) (IsSoundCondition (environment s))
+    → IfOk (compared_of v c w) (IsSoundCondition (environment s))
 condition_sound s (Some v) c (Some w) p q =
     well_typed_test_sound (environment s) (comparable c v w) _ (comparable_have s c v w p q)
 condition_sound s (Some v) c None p q = tt

@@ -8,7 +8,10 @@ use Rattle.sect_types.specs.Rules.{declared_in, sight}
 use Rattle.sect_types.specs.Sums.{sums, block_sums}
 use Rattle.sect_types.specs.Statements.{TextView}
 use Rattle.sect_types.specs.First.{IsTyped}
-use Rattle.sect_types.specs.Expanded.{NextNumbers, block_sections, past_thread, expanded_thread, expanded_threads}
+use Rattle.sect_types.specs.Expanded.{NextNumbers, block_sections, past_thread, expanded_block}
+use Rattle.sect_types.specs.Expanded.{expand_within, expanded_thread, expanded_threads}
+use Rattle.sect_types.specs.Numbered.{of_both}
+use Rattle.sect_types.specs.steps.Written.{written_thread, written_threads}
 use Rattle.sect_types.specs.steps.Expansion.{IsPast, HasRoom, block_by, at_thread, RoomFor, AreExpanded}
 use Rattle.sect_lemmas.proofs.Elements.{drop_next}
 use Rattle.sect_types.proofs.SectionLaws.{sections_in}
@@ -31,16 +34,31 @@ same_thread t a b h e = record {
 at_same : (a b : NextNumbers) (h : Thread) → SamePlace a b → at_thread a h ≡ at_thread b h
 at_same a b h e = λ i. record { sites = e.same_sites i; sections = e.same_sections i; fresh = length h.locals }
 
-one_same : (t : TreeView) (a b : NextNumbers) (h : Thread) → SamePlace a b → expanded_thread t a h ≡ expanded_thread t b h
+one_same : (t : TreeView) (a b : NextNumbers) (h : Thread) → SamePlace a b → written_thread t a h ≡ written_thread t b h
 one_same t a b h e =
     ap (λ x. block_by t (length t.procedures) (sight t.records t.globals h.locals) 0 x h.body) (at_same a b h e)
 
 pub same_texts : (t : TreeView) (a b : NextNumbers) (hs : List Thread) → SamePlace a b
-    → expanded_threads t a hs ≡ expanded_threads t b hs
+    → written_threads t a hs ≡ written_threads t b hs
 same_texts t a b [] e = refl
 same_texts t a b (h ∷ hs) e =
     let more = same_texts t (past_thread t a h) (past_thread t b h) hs (same_thread t a b h e) in
     λ i. one_same t a b h e i ∷ more i
+
+-- the same by numbers
+one_numbered : (t : TreeView) (a b : NextNumbers) (h : Thread) → SamePlace a b
+    → expanded_thread t a h ≡ expanded_thread t b h
+one_numbered t a b h e =
+    ap (λ (x : NextNumbers). expanded_block t.procedures (sums t.procedures)
+    (expand_within (length t.procedures) t.records t.globals t.procedures)
+    (record { sight = sight t.records t.globals h.locals; first = 0 }) x h.body) (at_same a b h e)
+
+pub same_numbered : (t : TreeView) (a b : NextNumbers) (hs : List Thread) → SamePlace a b
+    → expanded_threads t a hs ≡ expanded_threads t b hs
+same_numbered t a b [] e = refl
+same_numbered t a b (h ∷ hs) e =
+    let more = same_numbered t (past_thread t a h) (past_thread t b h) hs (same_thread t a b h e) in
+    λ i. of_both (λ x xs. x ∷ xs) (one_numbered t a b h e i) (more i)
 
 same_room : (t : TreeView) (a b : NextNumbers) (hs : List Thread) → SamePlace a b → RoomFor t a hs → RoomFor t b hs
 same_room t a b [] e r = tt
@@ -59,14 +77,14 @@ behind t a next h p = record { same_sites = sym p.of_sites; same_sections = sym 
 
 -- one thread more
 goes_on : (t : TreeView) (now next : NextNumbers) (h : Thread) (rest : List Thread) (texts : List TextView) (text : TextView)
-    → AreExpanded t now (h ∷ rest) texts → text ≡ expanded_thread t now h
+    → AreExpanded t now (h ∷ rest) texts → text ≡ written_thread t now h
     → IsPast (at_thread now h) next (block_sums t.procedures (sums t.procedures) h.body) (block_sections h.body)
     → AreExpanded t next rest (texts ++ text ∷ [])
 goes_on t now next h rest texts text e is p =
     let place = behind t now next h p in
     let same = sym (same_texts t (past_thread t now h) next rest place) in
     record {
-      written = append_assoc texts (text ∷ []) (expanded_threads t next rest) ∙ (λ i. texts ++ (is i ∷ same i))
+      written = append_assoc texts (text ∷ []) (written_threads t next rest) ∙ (λ i. texts ++ (is i ∷ same i))
           ∙ e.written;
       room = same_room t (past_thread t now h) next rest place e.room.2;
     }
@@ -79,7 +97,7 @@ next_thread t now hs i h texts lt is e = subst (λ l. AreExpanded t now l texts)
 
 pub one_thread : (t : TreeView) (now next : NextNumbers) (hs : List Thread) (i : ℕ) (h : Thread) (texts : List TextView)
     (text : TextView) → i < length hs → h ≡ get_or hs i h → AreExpanded t now (drop i hs) texts
-    → text ≡ expanded_thread t now h
+    → text ≡ written_thread t now h
     → IsPast (at_thread now h) next (block_sums t.procedures (sums t.procedures) h.body) (block_sections h.body)
     → AreExpanded t next (drop (i + 1) hs) (texts ++ text ∷ [])
 one_thread t now next hs i h texts text lt is e w p =
@@ -119,7 +137,7 @@ at_start t a e h =
     let sites_are : a.sites ≡ length t.globals = ap (λ (z : NextNumbers). z.sites) e in
     let none : a.sections ≡ 0 = ap (λ (z : NextNumbers). z.sections) e in
     record {
-      written = ap (λ z. expanded_threads t z t.threads) e;
+      written = ap (λ z. written_threads t z t.threads) e;
       room = room_for t a t.threads (omega (arith, sites_are, few.0.few_sites, x.sites_add, y.sites_add))
           (omega (arith, none, few.0.few_sections, x.sections_add, y.sections_add)) few.1
           (omega (arith, few.0.few_statements, x.statements_add, y.statements_add));

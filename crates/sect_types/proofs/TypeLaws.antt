@@ -11,7 +11,10 @@ use Rattle.sect_types.specs.declared.types.ValueType.{ValueType}
 use Rattle.sect_types.specs.declared.action.Action.{Action}
 use Rattle.sect_types.specs.declared.resolve.Given.{Given}
 use Rattle.sect_types.specs.Sight.{names_of_records, operand_of}
-use Rattle.sect_types.specs.Resolve.{value_by}
+use Rattle.sect_types.specs.Numbered.{value_by}
+use Rattle.sect_types.specs.steps.Written.{Writer, written_statement, written_block, argument_in, write_parameters}
+use Rattle.sect_types.specs.steps.Written.{write_locals, written_call, written_within, written_thread, written_threads}
+use Rattle.sect_types.specs.steps.Written.{written_texts}
 use Rattle.sect_types.specs.Environments.{Environment, environment, type_of, field_types, global_records}
 use Rattle.sect_types.specs.Sound.{HasType, IsSound, AreSound, StandsRight, is_shared}
 use Rattle.sect_types.specs.Statements.{TextView, joined}
@@ -29,11 +32,11 @@ use Rattle.sect_types.specs.Rules.{Declared, seen, kind_accepts, all_accept, sha
 use Rattle.sect_types.specs.Rules.{procedure_at, procedure_of, call_agrees, declared_in}
 use Rattle.sect_types.specs.First.{IsTyped}
 use Rattle.sect_types.specs.steps.Clean.{IsClean, IsCleanStatement, IsCleanBlock, AreCleanThreads}
-use Rattle.sect_types.specs.Expanded.{NextNumbers, Expander, Freshens, of_call, past_statement, past_block}
-use Rattle.sect_types.specs.Expanded.{expanded_statement, expanded_block, cleared, argument_in, set_parameters}
-use Rattle.sect_types.specs.Expanded.{clear_locals, after_call, call_of, procedure_numbered, expand_within, fresh_of}
+use Rattle.sect_types.specs.Expanded.{NextNumbers, Freshens, of_call, past_statement, past_block}
+use Rattle.sect_types.specs.Expanded.{cleared}
+use Rattle.sect_types.specs.Expanded.{after_call, procedure_numbered, fresh_of}
 use Rattle.sect_types.specs.Expanded.{fresh_within, fresh_in, statement_fresh, block_fresh, local_types_of}
-use Rattle.sect_types.specs.Expanded.{expanded_thread, past_thread, expanded_threads, texts_of}
+use Rattle.sect_types.specs.Expanded.{past_thread}
 use Rattle.sect_types.specs.declared.expand.Fresh.{Fresh}
 use Rattle.sect_types.proofs.CountLaws.{CountsFresh, statement_freshens, block_freshens, call_freshens, of_call_long}
 use Rattle.sect_types.proofs.MovedLaws.{StandFrom, moved_type, moved_sound, moved_holds}
@@ -74,7 +77,7 @@ cleared_has d all (kind.Record r) = tt
 pub set_sound : (d : Declared) (ls : List Declaration) (n : ℕ) (all : List ValueType) → StandFrom n (types_in d ls) all
     → (x : ℕ) (ps : List Declaration) (vs : List Operand) (k : TextView) → StandFrom x (types_in d ps) all
     → length ps ≡ length vs → all_accept (seen d ls) ps vs ≡ true → IsSound (whole d all) true k
-    → IsSound (whole d all) true (set_parameters (view d ls n) x ps vs k)
+    → IsSound (whole d all) true (write_parameters (view d ls n) x ps vs k)
 set_sound d ls n all stand x [] vs k there same t h = h
 set_sound d ls n all stand x (p ∷ ps) [] k there same t h = absurd (omega (arith, same))
 set_sound d ls n all stand x (p ∷ ps) (u ∷ us) k there same t h =
@@ -93,7 +96,7 @@ set_sound d ls n all stand x (p ∷ ps) (u ∷ us) k there same t h =
 
 -- and locals to 0 or null
 pub clear_sound : (d : Declared) (all : List ValueType) (x : ℕ) (ds : List Declaration) (k : TextView)
-    → StandFrom x (types_in d ds) all → IsSound (whole d all) true k → IsSound (whole d all) true (clear_locals x ds k)
+    → StandFrom x (types_in d ds) all → IsSound (whole d all) true k → IsSound (whole d all) true (write_locals x ds k)
 clear_sound d all x [] k there h = h
 clear_sound d all x (l ∷ ds) k there h =
     let few = types_in d ds in (
@@ -151,7 +154,7 @@ inside_section (InThread inside depth) = refl
 inside_section (InProcedure p) = refl
 
 -- the expansion of a call that takes its arguments is sound where its fresh locals stand from the next one on
-abbrev pub SoundCalls : Declared → List ValueType → Expander → Freshens → Type 0
+abbrev pub SoundCalls : Declared → List ValueType → Writer → Freshens → Type 0
 SoundCalls d all call fresh =
     (q : Option ℕ) (ls : List Declaration) (n : ℕ) (a : NextNumbers) (c : ℕ) (vs : List Operand) (k : TextView)
     → IsTaken d ls q vs → StandFrom n (types_in d ls) all → StandFrom a.fresh (fresh_types d (fresh q c)) all
@@ -159,13 +162,13 @@ SoundCalls d all call fresh =
 
 -- a clean body is sound where its variables stand from n on, and its fresh locals from the next one on
 mutual
-  pub statement_sound : (d : Declared) (all : List ValueType) (table : List Sums) (call : Expander) (fresh : Freshens)
+  pub statement_sound : (d : Declared) (all : List ValueType) (table : List Sums) (call : Writer) (fresh : Freshens)
       → SoundCalls d all call fresh → CountsFresh table fresh
       → (ls : List Declaration) (at : Place) (n : ℕ) (a : NextNumbers) (c : ℕ) (s : StatementView) (k : TextView)
       → StandFrom n (types_in d ls) all → IsCleanStatement d ls at s
       → StandFrom a.fresh (fresh_types d (statement_fresh d.procedures table fresh c s)) all
       → IsSound (whole d all) (is_inside at) k
-      → IsSound (whole d all) (is_inside at) (expanded_statement d.procedures table call (view d ls n) a s k)
+      → IsSound (whole d all) (is_inside at) (written_statement d.procedures table call (view d ls n) a s k)
   statement_sound d all table call fresh m i ls at n a c (Primitive p) k stand h f g =
       let x = resolved d ls at a.sites p h in (
         moved_sound (environment (seen d ls)) n all stand _ x.sound,
@@ -174,7 +177,7 @@ mutual
       )
   statement_sound d all table call fresh m i ls at n a c (If t b) k stand h f g = (
     moved_holds (environment (seen d ls)) n all stand _ (resolved_test d ls at t h.0),
-    subst (λ z. IsSound (whole d all) z (expanded_block d.procedures table call (view d ls n) a b)) (inside_deeper at)
+    subst (λ z. IsSound (whole d all) z (written_block d.procedures table call (view d ls n) a b)) (inside_deeper at)
         (block_sound d all table call fresh m i ls (deeper at) n a c b stand h.1 f),
     tt,
     g,
@@ -185,23 +188,23 @@ mutual
       let x = block_fresh ps table fresh c b in
       let y = block_fresh ps table fresh (c + (block_sums ps table b).calls) e in (
         moved_holds (environment (seen d ls)) n all stand _ (resolved_test d ls at t h.0),
-        subst (λ z. IsSound (whole d all) z (expanded_block ps table call (view d ls n) a b)) (inside_deeper at)
+        subst (λ z. IsSound (whole d all) z (written_block ps table call (view d ls n) a b)) (inside_deeper at)
             (block_sound d all table call fresh m i ls (deeper at) n a c b stand h.1 (fresh_left d a.fresh x y all f)),
-        subst (λ z. IsSound (whole d all) z (expanded_block ps table call (view d ls n) past e)) (inside_deeper at)
+        subst (λ z. IsSound (whole d all) z (written_block ps table call (view d ls n) past e)) (inside_deeper at)
             (block_sound d all table call fresh m i ls (deeper at) n past _ e stand h.2
             (fresh_right d a.fresh _ x y all (block_freshens ps table fresh i c b) f)),
         g,
       )
   statement_sound d all table call fresh m i ls at n a c (While t b) k stand h f g = (
     moved_holds (environment (seen d ls)) n all stand _ (resolved_test d ls at t h.0),
-    subst (λ z. IsSound (whole d all) z (expanded_block d.procedures table call (view d ls n) a b)) (inside_deeper at)
+    subst (λ z. IsSound (whole d all) z (written_block d.procedures table call (view d ls n) a b)) (inside_deeper at)
         (block_sound d all table call fresh m i ls (deeper at) n a c b stand h.1 f),
     g,
   )
   statement_sound d all table call fresh m i ls at n a c (Atomic lock b) k stand h f g =
       let e : NextNumbers = record a { sections = a.sections + 1 } in (
         h.0.flat,
-        subst (λ z. IsSound (whole d all) z (expanded_block d.procedures table call (view d ls n) e b))
+        subst (λ z. IsSound (whole d all) z (written_block d.procedures table call (view d ls n) e b))
             (inside_section at)
             (block_sound d all table call fresh m i ls (in_section at) n e c b stand h.1 f),
         g,
@@ -212,12 +215,12 @@ mutual
       subst (λ z. IsSound (whole d all) z (call q (view d ls n) a vs k)) (sym inside)
       (m q ls n a c vs k (taken d ls at x vs h) stand f (subst (λ z. IsSound (whole d all) z k) inside g))
 
-  pub block_sound : (d : Declared) (all : List ValueType) (table : List Sums) (call : Expander) (fresh : Freshens)
+  pub block_sound : (d : Declared) (all : List ValueType) (table : List Sums) (call : Writer) (fresh : Freshens)
       → SoundCalls d all call fresh → CountsFresh table fresh
       → (ls : List Declaration) (at : Place) (n : ℕ) (a : NextNumbers) (c : ℕ) (b : BlockView)
       → StandFrom n (types_in d ls) all → IsCleanBlock d ls at b
       → StandFrom a.fresh (fresh_types d (block_fresh d.procedures table fresh c b)) all
-      → IsSound (whole d all) (is_inside at) (expanded_block d.procedures table call (view d ls n) a b)
+      → IsSound (whole d all) (is_inside at) (written_block d.procedures table call (view d ls n) a b)
   block_sound d all table call fresh m i ls at n a c End stand h f = tt
   block_sound d all table call fresh m i ls at n a c (Then s b) stand h f =
       let ps = d.procedures in
@@ -252,18 +255,18 @@ call_stands d all n c p more h =
       block_stands = fresh_right d n _ own more all (own_long c p) h;
     }
 
-call_sound : (d : Declared) (all : List ValueType) → AreClean d d.procedures → (table : List Sums) (call : Expander)
+call_sound : (d : Declared) (all : List ValueType) → AreClean d d.procedures → (table : List Sums) (call : Writer)
     (fresh : Freshens) → SoundCalls d all call fresh → CountsFresh table fresh
     → (o : Option Procedure) (q : Option ℕ) → procedure_numbered d.procedures q ≡ o
     → (ls : List Declaration) (n : ℕ) (a : NextNumbers) (c : ℕ) (vs : List Operand) (k : TextView) → IsTaken d ls q vs
     → StandFrom n (types_in d ls) all → StandFrom a.fresh (fresh_types d (fresh_of d.procedures table fresh o c)) all
     → IsSound (whole d all) true k
-    → IsSound (whole d all) true (call_of d.records d.globals d.procedures table call o q (view d ls n) a vs k)
+    → IsSound (whole d all) true (written_call d.records d.globals d.procedures table call o q (view d ls n) a vs k)
 call_sound d all clean table call fresh m i None q e ls n a c vs k t stand f g = g
 call_sound d all clean table call fresh m i (Some p) q e ls n a c vs k t stand f g =
     let x = called_clean d d.procedures clean q p e in
     let b = after_call a p in
-    let text = expanded_block d.procedures table call (view d (variables p) a.fresh) b p.body in
+    let text = written_block d.procedures table call (view d (variables p) a.fresh) b p.body in
     let at = call_stands d all a.fresh c p (block_fresh d.procedures table fresh (c + 1) p.body) f in
     let sound = block_sound d all table call fresh m i (variables p) (InProcedure x.0) a.fresh b (c + 1) p.body
     at.variables_stand x.1 at.block_stands in
@@ -273,24 +276,24 @@ call_sound d all clean table call fresh m i (Some p) q e ls n a c vs k t stand f
 
 -- the expansion of a call is sound
 pub calls_sound : (n : ℕ) (d : Declared) (all : List ValueType) → AreClean d d.procedures
-    → SoundCalls d all (expand_within n d.records d.globals d.procedures) (fresh_within n d.procedures)
+    → SoundCalls d all (written_within n d.records d.globals d.procedures) (fresh_within n d.procedures)
 calls_sound zero d all clean q ls n a c vs k t stand f g = g
 calls_sound (suc i) d all clean q ls n a c vs k t stand f g =
     let ps = d.procedures in
-    call_sound d all clean (sums_within i ps) (expand_within i d.records d.globals ps) (fresh_within i ps)
+    call_sound d all clean (sums_within i ps) (written_within i d.records d.globals ps) (fresh_within i ps)
     (calls_sound i d all clean) (call_freshens i ps) (procedure_numbered ps q) q refl ls n a c vs k t stand f g
 
 -- the text of a thread is sound for its locals, the fresh ones behind its own
 pub thread_sound : (t : TreeView) → AreClean (declared_in t) t.procedures → (a : NextNumbers) (h : Thread)
     → IsCleanBlock (declared_in t) h.locals (InThread false 1) h.body
-    → IsSound (whole (declared_in t) (local_types_of t h)) false (expanded_thread t a h)
+    → IsSound (whole (declared_in t) (local_types_of t h)) false (written_thread t a h)
 thread_sound t clean a h g =
     let d = declared_in t in
     let ps = t.procedures in
     let n = length ps in
     let own = types_in d h.locals in
     let fresh = fresh_types d (fresh_in t h) in
-    block_sound d (local_types_of t h) (sums ps) (expand_within n t.records t.globals ps) (fresh_within n ps)
+    block_sound d (local_types_of t h) (sums ps) (written_within n t.records t.globals ps) (fresh_within n ps)
     (calls_sound n d (local_types_of t h) clean) (call_freshens n ps) h.locals (InThread false 1) 0
     (record a { fresh = length h.locals }) 0 h.body (stand_whole own fresh) g
     (stand_behind (length h.locals) own fresh (types_long d h.locals))
@@ -299,7 +302,7 @@ pub threads_sound : (t : TreeView) → AreClean (declared_in t) t.procedures →
     → AreCleanThreads (declared_in t) hs
     → AreSound (field_types (names_of_records t.records) t.records)
     (global_records (names_of_records t.records) t.globals)
-    (map (local_types_of t) hs) (expanded_threads t a hs)
+    (map (local_types_of t) hs) (written_threads t a hs)
 threads_sound t clean a [] g = tt
 threads_sound t clean a (h ∷ hs) g = (thread_sound t clean a h g.0, threads_sound t clean (past_thread t a h) hs g.1)
 
@@ -307,7 +310,7 @@ threads_sound t clean a (h ∷ hs) g = (thread_sound t clean a h g.0, threads_so
 pub typed_sound : (t : TreeView) → IsTyped t
     → AreSound (field_types (names_of_records t.records) t.records)
     (global_records (names_of_records t.records) t.globals)
-    (map (local_types_of t) t.threads) (texts_of t)
+    (map (local_types_of t) t.threads) (written_texts t)
 typed_sound t h =
     threads_sound t (typed_clean t h) (record { sites = length t.globals; sections = 0; fresh = 0 }) t.threads
     (text_clean t h).1

@@ -29,7 +29,8 @@ use Rattle.sect_types.specs.Rules.{after_item, procedure_of, knows_operands, dec
 use Rattle.sect_types.specs.steps.Clean.{IsClean}
 use Rattle.sect_types.specs.First.{none_yet, IsTyped}
 use Rattle.sect_types.specs.declared.expand.Fresh.{Fresh}
-use Rattle.sect_types.specs.Expanded.{procedure_numbered, fresh_in, local_types_of, texts_of}
+use Rattle.sect_types.specs.Expanded.{procedure_numbered, fresh_in, local_types_of}
+use Rattle.sect_types.specs.steps.Written.{written_texts}
 use Rattle.sect_types.proofs.Resolved.{not_false}
 use Rattle.sect_types.proofs.Walked.{NoneBroken, first_clean, first_few, next_none, statement_after, block_after}
 use Rattle.sect_types.proofs.Walked.{statement_walked, block_walked, declared_after, locals_walked, thread_after}
@@ -273,9 +274,9 @@ typed_few t h =
 
 -- the expanded texts of a typed text are within the limits
 pub record AreWithinLimits (t : TreeView) : Type 0 where
-  pub statements_within : total_statements (texts_of t) ≤ most_statements
-  pub sites_within : length t.globals + length (all_made (texts_of t)) ≤ most_sites
-  pub sections_within : length (sections_of (texts_of t)) ≤ most_sections
+  pub statements_within : total_statements (written_texts t) ≤ most_statements
+  pub sites_within : length t.globals + length (all_made (written_texts t)) ≤ most_sites
+  pub sections_within : length (sections_of (written_texts t)) ≤ most_sections
 
 pub typed_within : (t : TreeView) → IsTyped t → AreWithinLimits t
 typed_within t h =

@@ -17,8 +17,9 @@ use Rattle.sect_front.specs.declared.tree.Test.{Test}
 use Rattle.sect_front.specs.declared.tree.Locking.{Locking}
 use Rattle.sect_types.specs.declared.action.Action.{Action}
 use Rattle.sect_types.specs.declared.action.Condition.{Condition}
-use Rattle.sect_types.specs.Resolve.{primitive_of, test_of}
-use Rattle.sect_types.specs.Numbered.{action_in, condition_in}
+use Rattle.sect_types.specs.Numbered.{action_of, condition_of}
+use Rattle.sect_types.specs.steps.Written.{action_in, condition_in, Writer, written_block, argument_in}
+use Rattle.sect_types.specs.steps.Written.{write_parameters, write_locals, written_call, written_within}
 use Rattle.sect_types.specs.declared.text.Step.{Step}
 use Rattle.sect_types.specs.declared.text.Step.TheVariants as step
 use Rattle.sect_types.specs.declared.sums.Sums.{Sums}
@@ -28,9 +29,9 @@ use Rattle.sect_types.specs.Items.{variables}
 use Rattle.sect_types.specs.Sums.{sums_at, sums_within, block_sums, number_of, statement_sums, sums_of}
 use Rattle.sect_types.specs.Statements.{TextView, Stop, Do, Choose, Loop, Section, joined}
 use Rattle.sect_types.specs.Texts.{step_then}
-use Rattle.sect_types.specs.Expanded.{Scene, Expander, block_sections, past_block, expanded_block, argument_in}
-use Rattle.sect_types.specs.Expanded.{cleared, set_parameters, moved_action, moved_condition, clear_locals, after_call}
-use Rattle.sect_types.specs.Expanded.{call_of, procedure_numbered, expand_within, NextNumbers, statement_sections}
+use Rattle.sect_types.specs.Expanded.{Scene, block_sections, past_block}
+use Rattle.sect_types.specs.Expanded.{cleared, moved_action, moved_condition, after_call}
+use Rattle.sect_types.specs.Expanded.{procedure_numbered, NextNumbers, statement_sections}
 use Rattle.sect_types.specs.Expanded.{past_statement}
 use Rattle.sect_types.specs.steps.Expansion.{Appends, IsPast, table_by, calls_by, view_of, statement_by, block_by}
 use Rattle.sect_types.specs.steps.Expansion.{argument_at, HasRoom, IsExpanding, total_size}
@@ -62,15 +63,15 @@ alone new e h = sym (joined_stop new) ∙ h Stop ∙ joined_stop e
 -- the local at an index is set to 0 or null
 pub cleared_more : (old text new : TextView) (start i : ℕ) (ds : List Declaration) (d : Declaration) (v : Value)
     → i < length ds → d ≡ get_or ds i d → v ≡ cleared (get_or ds i d).kind
-    → ((k : TextView) → joined text (clear_locals (start + i) (drop i ds) k) ≡ joined old (clear_locals start ds k))
+    → ((k : TextView) → joined text (write_locals (start + i) (drop i ds) k) ≡ joined old (write_locals start ds k))
     → new ≡ joined text (step_then (step.Do (action.Assign (start + i) v)) Stop) → (k : TextView)
-    → joined new (clear_locals (start + (i + 1)) (drop (i + 1) ds) k) ≡ joined old (clear_locals start ds k)
+    → joined new (write_locals (start + (i + 1)) (drop (i + 1) ds) k) ≡ joined old (write_locals start ds k)
 cleared_more old text new start i ds d v lt is same inv e k =
     let next : start + (i + 1) ≡ start + i + 1 = omega arith in
     let here = same ∙ ap (λ (x : Declaration). cleared x.kind) (sym is) in
-    pushed text new (step.Do (action.Assign (start + i) v)) e (clear_locals (start + (i + 1)) (drop (i + 1) ds) k)
-    ∙ (λ j. joined text (Do (action.Assign (start + i) (here j)) (clear_locals (next j) (drop (i + 1) ds) k)))
-    ∙ ap (λ l. joined text (clear_locals (start + i) l k)) (sym (drop_next ds i d lt is)) ∙ inv k
+    pushed text new (step.Do (action.Assign (start + i) v)) e (write_locals (start + (i + 1)) (drop (i + 1) ds) k)
+    ∙ (λ j. joined text (Do (action.Assign (start + i) (here j)) (write_locals (next j) (drop (i + 1) ds) k)))
+    ∙ ap (λ l. joined text (write_locals (start + i) l k)) (sym (drop_next ds i d lt is)) ∙ inv k
 
 next_index : (i : ℕ) → suc (i + 1) ≡ suc i + 1
 next_index i = omega arith
@@ -89,8 +90,8 @@ argument_there v [] (suc i) = refl
 argument_there v (u ∷ vs) (suc i) = argument_there v vs i
 
 set_first : (v : Scene) (x : ℕ) (d : Declaration) (ds : List Declaration) (vs : List Operand) (k : TextView)
-    → set_parameters v x (d ∷ ds) vs k ≡ Do (action.Assign x (argument_at v vs 0))
-    (set_parameters v (x + 1) ds (drop 1 vs) k)
+    → write_parameters v x (d ∷ ds) vs k ≡ Do (action.Assign x (argument_at v vs 0))
+    (write_parameters v (x + 1) ds (drop 1 vs) k)
 set_first v x d ds [] k = refl
 set_first v x d ds (u ∷ us) k = refl
 
@@ -107,31 +108,31 @@ pub set_more : (v : Scene) (old text new : TextView) (start i : ℕ) (ds : List 
     (w : Value)
     → i < length ds → w ≡ argument_at v vs i
     → ((k : TextView)
-    → joined text (set_parameters v (start + i) (drop i ds) (drop i vs) k) ≡ joined old
-    (set_parameters v start ds vs k))
+    → joined text (write_parameters v (start + i) (drop i ds) (drop i vs) k) ≡ joined old
+    (write_parameters v start ds vs k))
     → new ≡ joined text (step_then (step.Do (action.Assign (start + i) w)) Stop) → (k : TextView)
-    → joined new (set_parameters v (start + (i + 1)) (drop (i + 1) ds) (drop (i + 1) vs) k)
-    ≡ joined old (set_parameters v start ds vs k)
+    → joined new (write_parameters v (start + (i + 1)) (drop (i + 1) ds) (drop (i + 1) vs) k)
+    ≡ joined old (write_parameters v start ds vs k)
 set_more v old text new start i ds vs w lt same inv e k =
     let next : start + (i + 1) ≡ start + i + 1 = omega arith in
     let here = same ∙ sym (argument_there v vs i) in
     let there = next_there ds i lt in
     let left = drop (i + 1) ds in
     pushed text new (step.Do (action.Assign (start + i) w)) e
-    (set_parameters v (start + (i + 1)) left (drop (i + 1) vs) k)
+    (write_parameters v (start + (i + 1)) left (drop (i + 1) vs) k)
     ∙ (λ j. joined text (Do (action.Assign (start + i) (here j))
-    (set_parameters v (next j) left (sym (drop_one vs i) j) k)))
+    (write_parameters v (next j) left (sym (drop_one vs i) j) k)))
     ∙ ap (joined text) (sym (set_first v (start + i) there.0 left (drop i vs) k))
-    ∙ ap (λ l. joined text (set_parameters v (start + i) l (drop i vs) k)) (sym there.1) ∙ inv k
+    ∙ ap (λ l. joined text (write_parameters v (start + i) l (drop i vs) k)) (sym there.1) ∙ inv k
 
 -- nothing is left to be set
 pub cleared_all : (start i : ℕ) (ds : List Declaration) (k : TextView) → length ds ≤ i
-    → clear_locals (start + i) (drop i ds) k ≡ k
-cleared_all start i ds k le = ap (λ l. clear_locals (start + i) l k) (drop_all i ds le)
+    → write_locals (start + i) (drop i ds) k ≡ k
+cleared_all start i ds k le = ap (λ l. write_locals (start + i) l k) (drop_all i ds le)
 
 pub set_all : (v : Scene) (start i : ℕ) (ds : List Declaration) (vs : List Operand) (k : TextView) → length ds ≤ i
-    → set_parameters v (start + i) (drop i ds) vs k ≡ k
-set_all v start i ds vs k le = ap (λ l. set_parameters v (start + i) l vs k) (drop_all i ds le)
+    → write_parameters v (start + i) (drop i ds) vs k ≡ k
+set_all v start i ds vs k le = ap (λ l. write_parameters v (start + i) l vs k) (drop_all i ds le)
 
 -- the position behind a statement, and behind a block
 pub at_past : (ps : List Procedure) (table : List Sums) (a e : NextNumbers) (s : StatementView)
@@ -143,38 +144,38 @@ pub at_past_block : (ps : List Procedure) (table : List Sums) (a e : NextNumbers
 at_past_block ps table a e b h = λ i. record { sites = h.of_sites i; sections = h.of_sections i; fresh = h.of_fresh i }
 
 -- what follows a call can be written behind it
-abbrev Follows : Expander → Type 0
+abbrev Follows : Writer → Type 0
 Follows call = (q : Option ℕ) (v : Scene) (a : NextNumbers) (vs : List Operand) (k l : TextView)
     → joined (call q v a vs k) l ≡ call q v a vs (joined k l)
 
 set_follows : (v : Scene) (x : ℕ) (ds : List Declaration) (vs : List Operand) (k l : TextView)
-    → joined (set_parameters v x ds vs k) l ≡ set_parameters v x ds vs (joined k l)
+    → joined (write_parameters v x ds vs k) l ≡ write_parameters v x ds vs (joined k l)
 set_follows v x [] vs k l = refl
 set_follows v x (d ∷ ds) [] k l = ap (Do (action.Assign x value.Null)) (set_follows v (x + 1) ds [] k l)
 set_follows v x (d ∷ ds) (u ∷ us) k l =
     ap (Do (action.Assign x (argument_in v.first (operand_of v.sight u)))) (set_follows v (x + 1) ds us k l)
 
 cleared_follows : (x : ℕ) (ds : List Declaration) (k l : TextView)
-    → joined (clear_locals x ds k) l ≡ clear_locals x ds (joined k l)
+    → joined (write_locals x ds k) l ≡ write_locals x ds (joined k l)
 cleared_follows x [] k l = refl
 cleared_follows x (d ∷ ds) k l = ap (Do (action.Assign x (cleared d.kind))) (cleared_follows (x + 1) ds k l)
 
-call_follows : (rs : List Record) (gs : List GlobalObject) (ps : List Procedure) (table : List Sums) (call : Expander)
-    (o : Option Procedure) → Follows (call_of rs gs ps table call o)
+call_follows : (rs : List Record) (gs : List GlobalObject) (ps : List Procedure) (table : List Sums) (call : Writer)
+    (o : Option Procedure) → Follows (written_call rs gs ps table call o)
 call_follows rs gs ps table call None q v a vs k l = refl
 call_follows rs gs ps table call (Some p) q v a vs k l =
     let inner : Scene = record { sight = sight rs gs (variables p); first = a.fresh } in
-    let text = expanded_block ps table call inner (after_call a p) p.body in
+    let text = written_block ps table call inner (after_call a p) p.body in
     let x = a.fresh + length p.parameters in
-    set_follows v a.fresh p.parameters vs (clear_locals x p.locals (joined text k)) l
-    ∙ ap (set_parameters v a.fresh p.parameters vs) (cleared_follows x p.locals (joined text k) l)
-    ∙ ap (λ y. set_parameters v a.fresh p.parameters vs (clear_locals x p.locals y)) (joined_again text k l)
+    set_follows v a.fresh p.parameters vs (write_locals x p.locals (joined text k)) l
+    ∙ ap (write_parameters v a.fresh p.parameters vs) (cleared_follows x p.locals (joined text k) l)
+    ∙ ap (λ y. write_parameters v a.fresh p.parameters vs (write_locals x p.locals y)) (joined_again text k l)
 
 calls_follow : (n : ℕ) (rs : List Record) (gs : List GlobalObject) (ps : List Procedure)
-    → Follows (expand_within n rs gs ps)
+    → Follows (written_within n rs gs ps)
 calls_follow zero rs gs ps q v a vs k l = refl
 calls_follow (suc n) rs gs ps q v a vs k l =
-    call_follows rs gs ps (sums_within n ps) (expand_within n rs gs ps) (procedure_numbered ps q) q v a vs k l
+    call_follows rs gs ps (sums_within n ps) (written_within n rs gs ps) (procedure_numbered ps q) q v a vs k l
 
 pub statement_follows : (t : TreeView) (n : ℕ) (s : Sight) (first : ℕ) (a : NextNumbers) (f : StatementView) (k l : TextView)
     → joined (statement_by t n s first a f k) l ≡ statement_by t n s first a f (joined k l)
@@ -259,17 +260,17 @@ called t n q p e = looked t.procedures (table_by t n) (Some q) ∙ ap (sums_of t
 
 call_written : (t : TreeView) (n q : ℕ) (p : Procedure) (s : Sight) (first : ℕ) (a : NextNumbers) (vs : List Operand)
     (zero_text one_text two_text new : TextView) → slice_get t.procedures q ≡ Some p
-    → Appends zero_text one_text (set_parameters (view_of s first) a.fresh p.parameters vs)
-    → Appends one_text two_text (clear_locals (a.fresh + length p.parameters) p.locals)
+    → Appends zero_text one_text (write_parameters (view_of s first) a.fresh p.parameters vs)
+    → Appends one_text two_text (write_locals (a.fresh + length p.parameters) p.locals)
     → Appends two_text new (joined
     (block_by t n (sight t.records t.globals (variables p)) a.fresh (after_call a p) p.body))
     → Appends zero_text new (calls_by t (suc n) (Some q) (view_of s first) a vs)
 call_written t n q p s first a vs zero_text one_text two_text new e f g h k =
     let inner = sight t.records t.globals (variables p) in
     let text = block_by t n inner a.fresh (after_call a p) p.body in
-    h k ∙ g (joined text k) ∙ f (clear_locals (a.fresh + length p.parameters) p.locals (joined text k))
+    h k ∙ g (joined text k) ∙ f (write_locals (a.fresh + length p.parameters) p.locals (joined text k))
     ∙ ap
-    (λ o. joined zero_text (call_of t.records t.globals t.procedures (table_by t n) (calls_by t n) o (Some q)
+    (λ o. joined zero_text (written_call t.records t.globals t.procedures (table_by t n) (calls_by t n) o (Some q)
     (view_of s first) a vs k))
     (sym e)
 
@@ -278,13 +279,13 @@ pub call_by_parts : (t : TreeView) (n fuel q : ℕ) (p : Procedure) (s inner : S
     (ps ls : List Declaration) (vs : List Operand) (old one two new : TextView) → fuel ≡ suc n
     → slice_get t.procedures q ≡ Some p → inner ≡ sight t.records t.globals (variables p) → own ≡ a.fresh
     → ps ≡ p.parameters → ls ≡ p.locals → b ≡ record a { fresh = a.fresh + (length ps + length ls) }
-    → Appends old one (set_parameters (view_of s first) own ps vs) → Appends one two (clear_locals (own + length ps) ls)
+    → Appends old one (write_parameters (view_of s first) own ps vs) → Appends one two (write_locals (own + length ps) ls)
     → Appends two new (joined (block_by t n inner own b p.body))
     → Appends old new (calls_by t fuel (Some q) (view_of s first) a vs)
 call_by_parts t n fuel q p s inner first own a b ps ls vs old one two new f e i o x y c g h j k =
     call_written t n q p s first a vs old one two new e
-    (λ l. g l ∙ (λ z. joined old (set_parameters (view_of s first) (o z) (x z) vs l)))
-    (λ l. h l ∙ (λ z. joined one (clear_locals (o z + length (x z)) (y z) l)))
+    (λ l. g l ∙ (λ z. joined old (write_parameters (view_of s first) (o z) (x z) vs l)))
+    (λ l. h l ∙ (λ z. joined one (write_locals (o z + length (x z)) (y z) l)))
     (λ l. j l ∙ (λ z. joined two (joined (block_by t n (i z) (o z) (at z) p.body) l))) k
     ∙ ap (λ m. joined old (calls_by t m (Some q) (view_of s first) a vs k)) (sym f)
   where
@@ -339,7 +340,7 @@ own_locals t n fuel q p a s own f g i o h =
 -- a statement is written by one step
 pub primitive_written : (t : TreeView) (n : ℕ) (s : Sight) (first : ℕ) (a : NextNumbers) (f : StatementView)
     (p : leaf.Primitive)
-    (x : Action) (old new : TextView) → f ≡ Primitive p → x ≡ moved_action first (action_in (primitive_of s a.sites p))
+    (x : Action) (old new : TextView) → f ≡ Primitive p → x ≡ moved_action first (action_in (action_of s a.sites p))
     → new ≡ joined old (step_then (step.Do x) Stop) → Appends old new (statement_by t n s first a f)
 primitive_written t n s first a f p x old new e g h k =
     pushed old new (step.Do x) h k ∙ ap (λ y. joined old (Do y k)) g
@@ -347,7 +348,7 @@ primitive_written t n s first a f p x old new e g h k =
 
 pub if_written : (t : TreeView) (n : ℕ) (s : Sight) (first : ℕ) (a : NextNumbers) (f : StatementView) (v : Test)
     (b : BlockView)
-    (c : Condition) (p q old new : TextView) → f ≡ If v b → c ≡ moved_condition first (condition_in (test_of s v))
+    (c : Condition) (p q old new : TextView) → f ≡ If v b → c ≡ moved_condition first (condition_in (condition_of s v))
     → p ≡ block_by t n s first a b → q ≡ Stop → new ≡ joined old (Choose c p q Stop)
     → Appends old new (statement_by t n s first a f)
 if_written t n s first a f v b c p q old new e g h i j k =
@@ -356,7 +357,7 @@ if_written t n s first a f v b c p q old new e g h i j k =
 
 pub either_written : (t : TreeView) (n : ℕ) (s : Sight) (first : ℕ) (a m : NextNumbers) (f : StatementView) (v : Test)
     (b d : BlockView) (c : Condition) (p q old new : TextView) → f ≡ IfElse v b d
-    → c ≡ moved_condition first (condition_in (test_of s v)) → p ≡ block_by t n s first a b
+    → c ≡ moved_condition first (condition_in (condition_of s v)) → p ≡ block_by t n s first a b
     → IsPast a m (block_sums t.procedures (table_by t n) b) (block_sections b) → q ≡ block_by t n s first m d
     → new ≡ joined old (Choose c p q Stop) → Appends old new (statement_by t n s first a f)
 either_written t n s first a m f v b d c p q old new e g h past i j k =
@@ -366,7 +367,7 @@ either_written t n s first a m f v b d c p q old new e g h past i j k =
 
 pub while_written : (t : TreeView) (n : ℕ) (s : Sight) (first : ℕ) (a : NextNumbers) (f : StatementView) (v : Test)
     (b : BlockView)
-    (c : Condition) (inner old new : TextView) → f ≡ While v b → c ≡ moved_condition first (condition_in (test_of s v))
+    (c : Condition) (inner old new : TextView) → f ≡ While v b → c ≡ moved_condition first (condition_in (condition_of s v))
     → inner ≡ block_by t n s first a b → new ≡ joined old (Loop c inner Stop)
     → Appends old new (statement_by t n s first a f)
 while_written t n s first a f v b c inner old new e g h j k =

@@ -1,6 +1,7 @@
 -- The expanded texts of all threads, with their fresh locals.
 use Rattle.std.proofs.Common.{◌≡◌, ℕ, ◌+◌, ◌<◌, ◌≤◌, List, [], ◌∷◌, ◌++◌, map, drop, get_or, refl, sym, ◌∙◌, ap, arith}
-use Rattle.std.proofs.Common.{subst, length, append_assoc}
+use Rattle.std.proofs.Common.{Some, subst, length, append_assoc}
+use Rattle.std.specs.Prelude.{IsSome}
 use Rattle.sect_front.specs.declared.tree.Thread.{Thread}
 use Rattle.sect_front.specs.TreeView.{TreeView}
 use Rattle.sect_types.specs.declared.expand.Fresh.{Fresh}
@@ -9,9 +10,11 @@ use Rattle.sect_types.specs.Rules.{sight, declared_in}
 use Rattle.sect_types.specs.Sums.{sums, block_sums}
 use Rattle.sect_types.specs.Statements.{TextView}
 use Rattle.sect_types.specs.First.{IsTyped}
-use Rattle.sect_types.specs.Expanded.{past_thread, expanded_threads, fresh_in, NextNumbers}
+use Rattle.sect_types.specs.Expanded.{past_thread, fresh_in, NextNumbers, expanded_thread, expanded_threads}
+use Rattle.sect_types.specs.Expanded.{texts_of}
+use Rattle.sect_types.specs.steps.Written.{written_threads}
 use Rattle.sect_types.specs.steps.Expanding.{SettingView, FrontView, Fits, block_there, thread_start, thread_end}
-use Rattle.sect_types.specs.steps.Expanding.{thread_text, AllFit, tree_of, AreWritten, AreFlat}
+use Rattle.sect_types.specs.steps.Expanding.{numbered_thread, thread_text, AllFit, tree_of, AreWritten, AreFlat}
 use Rattle.sect_types.specs.Items.{variables}
 use Rattle.sect_types.specs.declared.place.Place.TheVariants.{InProcedure}
 use Rattle.sect_types.proofs.SiteLaws.{typed_clean}
@@ -21,9 +24,11 @@ use Rattle.sect_types.proofs.Walked.{before_threads}
 use Rattle.sect_types.proofs.SectionLaws.{sections_in, block_flat}
 use Rattle.sect_types.proofs.Counting.{thread_sums, before_add, threads_add}
 use Rattle.sect_types.proofs.WithinLimits.{HaveFewLocals, typed_few, block_takes, calls_take}
-use Rattle.sect_types.proofs.Threading.{same_texts}
+use Rattle.sect_types.proofs.Threading.{SamePlace, same_texts, same_numbered}
+use Rattle.sect_types.proofs.Optional.{first_there, second_there, the}
+use Rattle.sect_types.proofs.ByNumbers.{texts_written}
 use Rattle.sect_types.specs.Limits.{most_calls, most_locals, most_sections, most_sites, most_statements}
-use Rattle.std.proofs.lemmas.List.{drop_all}
+use Rattle.std.proofs.lemmas.List.{drop_all, append-nil}
 
 -- the text of a thread
 pub thread_written : (w : SettingView) (sites sections most : ℕ) (h : Thread) (s : Sight) (f : FrontView)
@@ -33,16 +38,17 @@ pub thread_written : (w : SettingView) (sites sections most : ℕ) (h : Thread) 
 thread_written w sites sections most h s f text e g i j =
     j ∙ (λ k. block_there w (e k) (view_of (g k) 0) (i k) h.body)
 
-place : ℕ → ℕ → NextNumbers
+abbrev place : ℕ → ℕ → NextNumbers
 place sites sections = record { sites = sites; sections = sections; fresh = 0 }
 
 pub starts : (w : SettingView) (threads : List Thread) (sites : ℕ) → sites ≡ length w.globals
-    → AllFit w (length w.globals) 0 threads
+    → AllFit w (length w.globals) 0 threads → IsSome (texts_of (tree_of w threads))
     → AreWritten w threads threads sites 0 [] []
-starts w threads sites e fits = record {
-  written = ap (λ n. expanded_threads (tree_of w threads) (record { sites = n; sections = 0; fresh = 0 }) threads) e;
+starts w threads sites e fits known = record {
+  written = ap (λ n. written_threads (tree_of w threads) (record { sites = n; sections = 0; fresh = 0 }) threads) e;
   listed = refl;
   fits = subst (λ n. AllFit w n 0 threads) (sym e) fits;
+  known = subst (λ n. IsSome (expanded_threads (tree_of w threads) (place n 0) threads)) (sym e) known;
 }
 
 goes_on : (w : SettingView) (all : List Thread) (h : Thread) (rest : List Thread) (sites sections more later : ℕ)
@@ -55,15 +61,17 @@ goes_on w all h rest sites sections more later texts fresh text own a e g i j =
     let t = tree_of w all in
     let at : NextNumbers = record { sites = sites; sections = sections; fresh = 0 } in
     let next : NextNumbers = record { sites = more; sections = later; fresh = 0 } in
-    let same = sym (same_texts t (past_thread t at h) next rest
-    (record { same_sites = sym i; same_sections = sym j })) in
+    let behind : SamePlace (past_thread t at h) next = record { same_sites = sym i; same_sections = sym j } in
+    let same = sym (same_texts t (past_thread t at h) next rest behind) in
     record {
-      written = append_assoc texts (text ∷ []) (expanded_threads t next rest) ∙ (λ k. texts ++ (e k ∷ same k))
+      written = append_assoc texts (text ∷ []) (written_threads t next rest) ∙ (λ k. texts ++ (e k ∷ same k))
           ∙ a.written;
       listed = append_assoc fresh (own ∷ []) (map (fresh_in t) rest) ∙ (λ k. fresh ++ (g k ∷ map (fresh_in t) rest))
           ∙ a.listed;
       fits = subst (λ n. AllFit w n later rest) (sym i)
           (subst (λ n. AllFit w (thread_end w sites sections h).at.sites n rest) (sym j) a.fits.2);
+      known = subst IsSome (same_numbered t (past_thread t at h) next rest behind)
+          (second_there _ (expanded_thread t at h) (expanded_threads t (past_thread t at h) rest) a.known);
     }
 
 next_thread : (w : SettingView) (all : List Thread) (i : ℕ) (h : Thread) (sites sections : ℕ) (texts : List TextView)
@@ -86,6 +94,13 @@ pub thread_fits : (w : SettingView) (all : List Thread) (i : ℕ) (h : Thread) (
 thread_fits w all i h sites sections texts fresh lt is a =
     (next_thread w all i h sites sections texts fresh lt is a).fits.1
 
+pub thread_known : (w : SettingView) (all : List Thread) (i : ℕ) (h : Thread) (sites sections : ℕ)
+    (texts : List TextView) (fresh : List (List Fresh)) → i < length all → h ≡ get_or all i h
+    → AreWritten w all (drop i all) sites sections texts fresh → IsSome (numbered_thread w sites sections h)
+thread_known w all i h sites sections texts fresh lt is a =
+    first_there _ (expanded_thread (tree_of w all) (place sites sections) h) _
+    (next_thread w all i h sites sections texts fresh lt is a).known
+
 pub one_thread : (w : SettingView) (all : List Thread) (i : ℕ) (h : Thread) (sites sections more later : ℕ)
     (texts : List TextView) (fresh : List (List Fresh)) (text : TextView) (own : List Fresh) → i < length all
     → h ≡ get_or all i h → AreWritten w all (drop i all) sites sections texts fresh
@@ -101,6 +116,15 @@ ended : (w : SettingView) (all : List Thread) (i sites sections : ℕ) (texts : 
     → AreWritten w all [] sites sections texts fresh
 ended w all i sites sections texts fresh le a =
     subst (λ l. AreWritten w all l sites sections texts fresh) (drop_all i all le) a
+
+-- at the end these are the texts by numbers
+pub all_written : (w : SettingView) (all : List Thread) (i sites sections : ℕ) (texts : List TextView)
+    (fresh : List (List Fresh)) → length all ≤ i → AreWritten w all (drop i all) sites sections texts fresh
+    → IsSome (texts_of (tree_of w all)) → texts_of (tree_of w all) ≡ Some texts
+all_written w all i sites sections texts fresh le a known =
+    let x = the (texts_of (tree_of w all)) known in
+    x.1 ∙ ap Some (sym (texts_written (tree_of w all) x.0 x.1)
+    ∙ sym (ended w all i sites sections texts fresh le a).written ∙ append-nil texts)
 
 fit_all : (t : TreeView) (w : SettingView) (sites section : ℕ) (hs : List Thread) → w.procedures ≡ t.procedures
     → sites + (thread_sums (declared_in t) hs).sites ≤ most_sites → section + sections_in hs ≤ most_sections

@@ -1,14 +1,15 @@
 -- The expanded text of a thread, by numbers.
 use Rattle.std.specs.Prelude.{ℕ, zero, suc, ◌+◌, List, [], ◌∷◌, ◌++◌, length, map, Option, Some, None, slice_get}
+use Rattle.std.specs.Prelude.{option_map}
 use Rattle.sect_front.specs.declared.tree.Primitive as leaf
 use Rattle.sect_front.specs.declared.tree.Operand.{Operand}
+use Rattle.sect_front.specs.declared.tree.Test.{Test}
 use Rattle.sect_front.specs.declared.tree.Kind.{Kind}
 use Rattle.sect_front.specs.declared.tree.Kind.TheVariants as kind
 use Rattle.sect_front.specs.declared.tree.Declaration.{Declaration}
 use Rattle.sect_front.specs.declared.tree.Record.{Record}
 use Rattle.sect_front.specs.declared.tree.GlobalObject.{GlobalObject}
 use Rattle.sect_types.specs.declared.types.ValueType.{ValueType}
-use Rattle.sect_types.specs.declared.resolve.Given.{Given}
 use Rattle.sect_types.specs.declared.action.Base.{Base}
 use Rattle.sect_types.specs.declared.action.Base.TheVariants as base
 use Rattle.sect_types.specs.declared.action.Value.{Value}
@@ -16,9 +17,8 @@ use Rattle.sect_types.specs.declared.action.Value.TheVariants as value
 use Rattle.sect_types.specs.declared.action.Condition.{Condition}
 use Rattle.sect_types.specs.declared.action.Action.{Action}
 use Rattle.sect_types.specs.declared.action.Action.TheVariants as action
-use Rattle.sect_types.specs.Sight.{Sight, operand_of, names_of_records}
-use Rattle.sect_types.specs.Resolve.{primitive_of, test_of, value_by}
-use Rattle.sect_types.specs.Numbered.{action_in, condition_in}
+use Rattle.sect_types.specs.Sight.{Sight, names_of_records}
+use Rattle.sect_types.specs.Numbered.{of_both, of_all, value_of, action_of, condition_of}
 use Rattle.sect_types.specs.Environments.{type_of, types_of}
 use Rattle.sect_types.specs.Rules.{sight}
 use Rattle.sect_types.specs.Statements.{TextView, Stop, Do, Choose, Loop, Section, joined}
@@ -65,9 +65,9 @@ pub record NextNumbers : Type 0 where
 abbrev pub past : NextNumbers → Sums → NextNumbers
 past a s = record a { sites = a.sites + s.sites; fresh = a.fresh + s.fresh }
 
--- the expansion of a call of that procedure with these arguments, and what follows it
+-- what stands for a call of that procedure with these arguments, if anything does
 abbrev pub Expander : Type 0
-Expander = Option ℕ → Scene → NextNumbers → List Operand → TextView → TextView
+Expander = Option ℕ → Scene → NextNumbers → List Operand → Option TextView
 
 -- how many sections stand in statements
 abbrev mutual
@@ -90,29 +90,35 @@ past_statement ps table a s =
 abbrev pub past_block : List Procedure → List Sums → NextNumbers → BlockView → NextNumbers
 past_block ps table a b = past (record a { sections = a.sections + block_sections b }) (block_sums ps table b)
 
-abbrev pub action_at : Scene → NextNumbers → leaf.Primitive → Action
-action_at v a p = moved_action v.first (action_in (primitive_of v.sight a.sites p))
+abbrev pub action_at : Scene → NextNumbers → leaf.Primitive → Option Action
+action_at v a p = option_map (moved_action v.first) (action_of v.sight a.sites p)
+
+abbrev pub condition_at : Scene → Test → Option Condition
+condition_at v t = option_map (moved_condition v.first) (condition_of v.sight t)
 
 abbrev mutual
-  -- a statement by numbers, and what follows it
-  pub expanded_statement : List Procedure → List Sums → Expander → Scene → NextNumbers → StatementView → TextView
-      → TextView
-  expanded_statement ps table call v a (Primitive p) k = Do (action_at v a p) k
-  expanded_statement ps table call v a (If t b) k =
-      Choose (moved_condition v.first (condition_in (test_of v.sight t))) (expanded_block ps table call v a b) Stop k
-  expanded_statement ps table call v a (IfElse t b c) k =
-      Choose (moved_condition v.first (condition_in (test_of v.sight t))) (expanded_block ps table call v a b)
-      (expanded_block ps table call v (past_block ps table a b) c) k
-  expanded_statement ps table call v a (While t b) k =
-      Loop (moved_condition v.first (condition_in (test_of v.sight t))) (expanded_block ps table call v a b) k
-  expanded_statement ps table call v a (Atomic l b) k =
-      Section a.sections (expanded_block ps table call v (record a { sections = a.sections + 1 }) b) k
-  expanded_statement ps table call v a (Call f vs) k = call (number_of ps f) v a vs k
+  -- a statement by numbers, if all names in it are known
+  pub expanded_statement : List Procedure → List Sums → Expander → Scene → NextNumbers → StatementView
+      → Option TextView
+  expanded_statement ps table call v a (Primitive p) = option_map (λ x. Do x Stop) (action_at v a p)
+  expanded_statement ps table call v a (If t b) =
+      of_both (λ c x. Choose c x Stop Stop) (condition_at v t) (expanded_block ps table call v a b)
+  expanded_statement ps table call v a (IfElse t b d) =
+      of_all (λ c x y. Choose c x y Stop) (condition_at v t) (expanded_block ps table call v a b)
+      (expanded_block ps table call v (past_block ps table a b) d)
+  expanded_statement ps table call v a (While t b) =
+      of_both (λ c x. Loop c x Stop) (condition_at v t) (expanded_block ps table call v a b)
+  expanded_statement ps table call v a (Atomic l b) =
+      option_map (λ x. Section a.sections x Stop)
+      (expanded_block ps table call v (record a { sections = a.sections + 1 }) b)
+  expanded_statement ps table call v a (Call f vs) = call (number_of ps f) v a vs
 
-  pub expanded_block : List Procedure → List Sums → Expander → Scene → NextNumbers → BlockView → TextView
-  expanded_block ps table call v a End = Stop
+  -- the statements of a block, one after another
+  pub expanded_block : List Procedure → List Sums → Expander → Scene → NextNumbers → BlockView → Option TextView
+  expanded_block ps table call v a End = Some Stop
   expanded_block ps table call v a (Then s b) =
-      expanded_statement ps table call v a s (expanded_block ps table call v (past_statement ps table a s) b)
+      of_both joined (expanded_statement ps table call v a s)
+      (expanded_block ps table call v (past_statement ps table a s) b)
 
 -- 0 or null
 abbrev pub cleared : Kind → Value
@@ -120,21 +126,17 @@ cleared kind.Int = value.Number 0
 cleared (kind.Record r) = value.Null
 
 -- the locals from number x on are set to 0 or null
-abbrev pub clear_locals : ℕ → List Declaration → TextView → TextView
-clear_locals x [] k = k
-clear_locals x (d ∷ ds) k = Do (action.Assign x (cleared d.kind)) (clear_locals (x + 1) ds k)
+abbrev pub clear_locals : ℕ → List Declaration → TextView
+clear_locals x [] = Stop
+clear_locals x (d ∷ ds) = Do (action.Assign x (cleared d.kind)) (clear_locals (x + 1) ds)
 
--- the argument, by numbers; where it isn't typed this says nothing
-abbrev pub argument_in : ℕ → Option Given → Value
-argument_in n None = value.Null
-argument_in n (Some v) = moved_value n (value_by v)
-
--- the parameters from number x on are set to the arguments; where these are too few this says nothing
-abbrev pub set_parameters : Scene → ℕ → List Declaration → List Operand → TextView → TextView
-set_parameters v x [] vs k = k
-set_parameters v x (d ∷ ds) [] k = Do (action.Assign x value.Null) (set_parameters v (x + 1) ds [] k)
-set_parameters v x (d ∷ ds) (u ∷ us) k =
-    Do (action.Assign x (argument_in v.first (operand_of v.sight u))) (set_parameters v (x + 1) ds us k)
+-- the parameters from number x on are set to the arguments, of which there are as many
+abbrev pub set_parameters : Scene → ℕ → List Declaration → List Operand → Option TextView
+set_parameters v x [] [] = Some Stop
+set_parameters v x (d ∷ ds) (u ∷ us) =
+    of_both (λ w k. Do (action.Assign x (moved_value v.first w)) k) (value_of v.sight u)
+    (set_parameters v (x + 1) ds us)
+set_parameters v x _ _ = None
 
 abbrev pub after_call : NextNumbers → Procedure → NextNumbers
 after_call a p = record a { fresh = a.fresh + (length p.parameters + length p.locals) }
@@ -142,25 +144,26 @@ after_call a p = record a { fresh = a.fresh + (length p.parameters + length p.lo
 -- one assignment a parameter, one a local, then the body, whose variables are the next fresh locals
 abbrev pub call_of : List Record → List GlobalObject → List Procedure → List Sums → Expander
     → Option Procedure → Expander
-call_of rs gs ps table call None q v a vs k = k
-call_of rs gs ps table call (Some p) q v a vs k =
-    set_parameters v a.fresh p.parameters vs
-    (clear_locals (a.fresh + length p.parameters) p.locals
-    (joined (expanded_block ps table call (record { sight = sight rs gs (variables p); first = a.fresh })
-    (after_call a p) p.body) k))
+call_of rs gs ps table call None q v a vs = None
+call_of rs gs ps table call (Some p) q v a vs =
+    of_both (λ x y. joined x (joined (clear_locals (a.fresh + length p.parameters) p.locals) y))
+    (set_parameters v a.fresh p.parameters vs)
+    (expanded_block ps table call (record { sight = sight rs gs (variables p); first = a.fresh }) (after_call a p)
+    p.body)
 
 abbrev pub procedure_numbered : List Procedure → Option ℕ → Option Procedure
 procedure_numbered ps None = None
 procedure_numbered ps (Some q) = slice_get ps q
 
--- a call, where calls stand in one another at most n deep; deeper ones vanish, and in a typed text there are none
+-- a call, where calls stand in one another at most n deep; in a typed text none stands deeper than there are
+-- procedures
 abbrev pub expand_within : ℕ → List Record → List GlobalObject → List Procedure → Expander
-expand_within zero rs gs ps q v a vs k = k
-expand_within (suc n) rs gs ps q v a vs k =
-    call_of rs gs ps (sums_within n ps) (expand_within n rs gs ps) (procedure_numbered ps q) q v a vs k
+expand_within zero rs gs ps q v a vs = None
+expand_within (suc n) rs gs ps q v a vs =
+    call_of rs gs ps (sums_within n ps) (expand_within n rs gs ps) (procedure_numbered ps q) q v a vs
 
 -- the text of a thread
-abbrev pub expanded_thread : TreeView → NextNumbers → Thread → TextView
+abbrev pub expanded_thread : TreeView → NextNumbers → Thread → Option TextView
 expanded_thread t a h =
     expanded_block t.procedures (sums t.procedures)
     (expand_within (length t.procedures) t.records t.globals t.procedures)
@@ -169,12 +172,13 @@ expanded_thread t a h =
 abbrev pub past_thread : TreeView → NextNumbers → Thread → NextNumbers
 past_thread t a h = past_block t.procedures (sums t.procedures) a h.body
 
-abbrev pub expanded_threads : TreeView → NextNumbers → List Thread → List TextView
-expanded_threads t a [] = []
-expanded_threads t a (h ∷ hs) = expanded_thread t a h ∷ expanded_threads t (past_thread t a h) hs
+abbrev pub expanded_threads : TreeView → NextNumbers → List Thread → Option (List TextView)
+expanded_threads t a [] = Some []
+expanded_threads t a (h ∷ hs) =
+    of_both (λ x xs. x ∷ xs) (expanded_thread t a h) (expanded_threads t (past_thread t a h) hs)
 
--- the texts of the threads, by number
-abbrev pub texts_of : TreeView → List TextView
+-- the texts of the threads by number, if all names are known and all calls come to an end; so in each typed text
+abbrev pub texts_of : TreeView → Option (List TextView)
 texts_of t = expanded_threads t (record { sites = length t.globals; sections = 0; fresh = 0 }) t.threads
 
 abbrev pub of_call : ℕ → List Declaration → List Fresh

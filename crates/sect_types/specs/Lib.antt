@@ -1,6 +1,6 @@
 pub mod Limits
 pub mod Sight
-pub mod Resolve
+pub mod Kinds
 pub mod Items
 pub mod Sums
 pub mod Rules

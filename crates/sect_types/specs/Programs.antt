@@ -1,5 +1,5 @@
 -- Programs.
-use Rattle.std.specs.Prelude.{◌≡◌, ◌≤◌, ◌<◌, ℕ, ◌+◌, List, [], ◌∷◌, ◌++◌, length, All, slice_index_or}
+use Rattle.std.specs.Prelude.{◌≡◌, ◌≤◌, ◌<◌, ℕ, ◌+◌, List, [], ◌∷◌, ◌++◌, length, All, Some, slice_index_or}
 use Rattle.sect_front.specs.TreeView.{TreeView}
 use Rattle.sect_types.specs.Limits.{most_records, most_fields, most_globals, most_threads}
 use Rattle.sect_front.specs.Limits.{most_depth}
@@ -77,7 +77,7 @@ pub record IsOfTree (p : ProgramView) : Type 0 where
   pub records_are : p.records ≡ field_types (names_of_records p.source.records) p.source.records
   pub globals_are : p.globals ≡ global_records (names_of_records p.source.records) p.source.globals
   pub locals_are : p.locals ≡ all_local_types p.source
-  pub texts_are : p.texts ≡ texts_of p.source
+  pub texts_are : texts_of p.source ≡ Some p.texts
   pub lockings_are : p.lockings ≡ lockings_of p.source
 
 -- what the tree's typing means for the numbers

@@ -28,7 +28,8 @@ use Rattle.sect_types.specs.declared.resolve.Given.{Given}
 use Rattle.sect_types.specs.declared.resolve.Looked.{Looked}
 use Rattle.sect_types.specs.declared.resolve.Looked.TheVariants as looked
 use Rattle.sect_types.specs.Sight.{Sight, has_name, names_of_records, names_of_globals, base_of, operand_of}
-use Rattle.sect_types.specs.Resolve.{same_kind, accepts, comparable, looked_of}
+use Rattle.sect_types.specs.Kinds.{same_kind, accepts, comparable}
+use Rattle.sect_types.specs.Sight.{looked_of}
 use Rattle.sect_types.specs.declared.sums.Sums.{Sums}
 use Rattle.sect_types.specs.Sums.{sums, sums_at, number_of, Returns}
 use Rattle.sect_types.specs.Items.{Head, PrimitiveHead, TestHead, AtomicHead, CallHead, is_inside, Item, ARecord}
@@ -188,6 +189,9 @@ abbrev pub compares : Comparison → Option Given → Option Given → Bool
 compares c (Some v) (Some w) = comparable c v w
 compares c _ _ = false
 
+abbrev pub test_agrees : Sight → Test → Bool
+test_agrees s t = compares t.comparison (operand_of s t.left) (operand_of s t.right)
+
 -- the procedure that is called
 abbrev pub procedure_at : List Procedure → Option ℕ → Option Procedure
 procedure_at ps None = None
@@ -216,7 +220,7 @@ call_agrees s (Some p) vs = not (as_many (Some p) vs) || all_accept s p.paramete
 
 abbrev pub head_agrees : Declared → Sight → Head → Bool
 head_agrees d s (PrimitiveHead p) = primitive_agrees s p
-head_agrees d s (TestHead t) = compares t.comparison (operand_of s t.left) (operand_of s t.right)
+head_agrees d s (TestHead t) = test_agrees s t
 head_agrees d s AtomicHead = true
 head_agrees d s (CallHead f vs) = call_agrees s (procedure_of d.procedures f) vs
 

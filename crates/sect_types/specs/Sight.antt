@@ -14,6 +14,8 @@ use Rattle.sect_types.specs.declared.resolve.Denoted.{Denoted}
 use Rattle.sect_types.specs.declared.resolve.Denoted.TheVariants as denoted
 use Rattle.sect_types.specs.declared.resolve.Given.{Given}
 use Rattle.sect_types.specs.declared.resolve.Given.TheVariants as given
+use Rattle.sect_types.specs.declared.resolve.Looked.{Looked}
+use Rattle.sect_types.specs.declared.resolve.Looked.TheVariants as looked
 use Rattle.sect_types.specs.declared.resolve.FieldAt.{FieldAt}
 
 -- the declarations of the text, and the locals of the thread
@@ -103,6 +105,19 @@ field_of_number rs f (Some r) = field_in r f (slice_get rs r)
 -- a field of a record, both by name
 abbrev pub field_of : Sight → List ℕ → List ℕ → Option FieldAt
 field_of s r f = field_of_number s.records f (place r (names_of_records s.records))
+
+abbrev pub field_looked : Option FieldAt → Looked
+field_looked None = looked.Missing
+field_looked (Some f) = looked.At f
+
+abbrev pub looked_in : Sight → Kind → List ℕ → Looked
+looked_in s kind.Int f = looked.OfInt
+looked_in s (kind.Record r) f = field_looked (field_of s r f)
+
+-- the field of a base
+abbrev pub looked_of : Sight → Option Denoted → List ℕ → Looked
+looked_of s None f = looked.Missing
+looked_of s (Some d) f = looked_in s (kind_of d) f
 
 abbrev pub all_fields : List Record → List (List (List ℕ))
 all_fields rs = map (λ (r : Record). names_of_declared r.fields) rs

@@ -25,16 +25,16 @@ SumsUnfold t = (q : ℕ) → sums_at (sums t.procedures) (Some q)
 
 -- a call stands for the assignments and the body of its procedure, the calls in it likewise
 abbrev pub TextsUnfold : TreeView → Type 0
-TextsUnfold t = (q : ℕ) (v : Scene) (a : NextNumbers) (vs : List Operand) (k : TextView)
-    → expander t (Some q) v a vs k
+TextsUnfold t = (q : ℕ) (v : Scene) (a : NextNumbers) (vs : List Operand)
+    → expander t (Some q) v a vs
     ≡ call_of t.records t.globals t.procedures (sums t.procedures) (expander t) (slice_get t.procedures q) (Some q)
-    v a vs k
+    v a vs
 
--- the text of a thread has as many statements as the sums say, and is as deep
+-- the text of a thread, where there is one, has as many statements as the sums say, and is as deep
 abbrev pub SumsCount : TreeView → Type 0
-SumsCount t = (a : NextNumbers) (h : Thread) →
-    (statement_count (expanded_thread t a h) ≡ (block_sums t.procedures (sums t.procedures) h.body).statements)
-    × (text_depth (expanded_thread t a h) ≡ (block_sums t.procedures (sums t.procedures) h.body).deep)
+SumsCount t = (a : NextNumbers) (h : Thread) (text : TextView) → expanded_thread t a h ≡ Some text →
+    (statement_count text ≡ (block_sums t.procedures (sums t.procedures) h.body).statements)
+    × (text_depth text ≡ (block_sums t.procedures (sums t.procedures) h.body).deep)
 
 -- a call has the fresh locals of its procedure, and then those of the calls in it
 abbrev pub FreshUnfold : TreeView → Type 0

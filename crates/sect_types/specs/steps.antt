@@ -19,3 +19,5 @@ pub mod Listing
 pub mod Counted
 pub mod Expansion
 pub mod Inside
+pub mod Written
+pub mod Contexts

@@ -11,6 +11,7 @@ ghost use Rattle.sect_types.specs.steps.Walks.{Walks, rule_in, declared_rule};
 ghost use Rattle.sect_types.specs.steps.Declaring.{name_of, item_of, most_of, is_known as is_known_by};
 ghost use Rattle.sect_types.specs.steps.Declaring.{is_taken as is_taken_by, behind, HasSite, IsToldOf};
 ghost use Rattle.sect_types.specs.steps.Listing.{Knows, all_known, fields_fine, globals_known};
+ghost use Rattle.sect_types.specs.steps.Shown.{Shows};
 ghost use Rattle.sect_types.specs.Limits.{most_fields, most_globals, most_locals, most_procedures, most_records};
 ghost use Rattle.sect_types.specs.Limits.{most_sites, most_threads};
 
@@ -19,6 +20,7 @@ use crate::limits::{
 };
 use crate::names::{NameSet, Names};
 use crate::rule::{Fault, Rule};
+use crate::shown::Shown;
 use crate::spot::{Spot, Uncounted};
 use sect_front::{Declaration, GlobalObject, Kind, Name, Record, Tree};
 use std::alloc::{AllocError, Global};
@@ -262,13 +264,11 @@ pub fn globals(alloc: Global, tree: &Tree, known: &NameSet, spot: &mut Spot) -> 
 pub fn locals(
     alloc: Global,
     tree: &Tree,
-    known: &NameSet,
-    global_names: &Names,
+    shown: &Shown,
     spot: &mut Spot,
     list: &[Declaration],
 ) -> Result<Names, Fault>
-    requires known { Knows known.now tree.now.records }
-    requires globals { global_names.now ≡ names_of_globals tree.now.globals }
+    requires { Shows shown.now tree.now }
     ensures walks { Walks (declared_in tree.now) (local_items [] list.now)
         spot.old spot.new result }
     ensures names { IfOk result (λ names. names ≡ names_of_declared list.now) }
@@ -277,14 +277,9 @@ pub fn locals(
 {
     let mut names = Names::new(alloc);
     for local in list {
-        let taken = global_names.has(&local.name);
-        pass(
-            tree,
-            known,
-            &mut names,
-            spot,
-            Declared::Local(*local, taken),
-        )?;
+        let taken = shown.global_names.has(&local.name);
+        let declared = Declared::Local(*local, taken);
+        pass(tree, &shown.known, &mut names, spot, declared)?;
     }
     Ok(names)
 }

@@ -1,34 +1,38 @@
 //! The expanded texts of threads: a call is replaced by an assignment to each fresh variable and the body of the
 //! procedure.
 
-ghost use Rattle.std.specs.Prelude.{◌≡◌, ◌+◌, ◌≤◌, ◌<◌, ◌++◌, List, IfOk, OnOk, Some, length, map, slice_get};
+ghost use Rattle.std.specs.Prelude.{◌≡◌, ◌+◌, ◌≤◌, ◌<◌, ◌++◌, List, IfOk, OnOk, IsSome, Some, true, length, map};
+ghost use Rattle.std.specs.Prelude.{slice_get};
 ghost use Rattle.sect_front.specs.Trees.{statement_of};
 ghost use Rattle.sect_types.specs.Statements.{TextView, joined};
-ghost use Rattle.sect_types.specs.Sight.{names_of_records, names_of_globals, names_of_declared, all_fields};
-ghost use Rattle.sect_types.specs.Rules.{sight};
+ghost use Rattle.sect_types.specs.Sight.{names_of_declared};
+ghost use Rattle.sect_types.specs.Rules.{sight, knows_operands};
 ghost use Rattle.sect_types.specs.Sums.{primitive_sums, number_of as number_by};
 ghost use Rattle.sect_front.specs.declared.tree.Procedure.{Procedure as Spec};
-ghost use Rattle.sect_types.specs.Expanded.{set_parameters, clear_locals, of_call, texts_of, fresh_in};
+ghost use Rattle.sect_types.specs.Expanded.{of_call, texts_of, fresh_in};
 ghost use Rattle.sect_types.specs.Limits.{most_all_locals, most_sites, most_sections};
 ghost use Rattle.sect_types.specs.Limits.{most_calls, most_locals, most_globals};
 ghost use Rattle.sect_front.specs.Syntax.{Call};
 ghost use Rattle.sect_types.specs.steps.Threads.{variables_shown, local_names as names_of_locals};
 ghost use Rattle.sect_types.specs.steps.Expanding.{Fits};
-ghost use Rattle.sect_types.specs.steps.Inside.{past_in, past_block_in, text_in, block_text_in};
-ghost use Rattle.sect_types.specs.steps.Expansion.{argument_at as argument_at_by, view_of};
+ghost use Rattle.sect_types.specs.steps.Inside.{scene_in, past_in, past_block_in, text_in, block_text_in};
+ghost use Rattle.sect_types.specs.steps.Inside.{numbered_in, numbered_block_in};
+ghost use Rattle.sect_types.specs.steps.Written.{write_parameters, write_locals};
 ghost use Rattle.sect_types.specs.Expanded.{cleared as cleared_by};
-ghost use Rattle.sect_types.specs.steps.Expanding.{AreFlat, AllFit, thread_end, thread_text, tree_of};
+ghost use Rattle.sect_types.specs.steps.Expanding.{AreFlat, AllFit, thread_end, thread_text, numbered_thread};
+ghost use Rattle.sect_types.specs.steps.Expanding.{setting_of, tree_of};
+ghost use Rattle.sect_types.specs.steps.Shown.{Shows};
 
 use crate::action::{Action, Value};
 use crate::called::Called;
 use crate::inside::Inside;
 use crate::names::Names;
 use crate::scope::Scope;
+use crate::shown::Shown;
 use crate::text::{Step, Text};
 use crate::variables::Variables;
 use sect_front::{
-    Block, Declaration, GlobalObject, Kind, Literal, Name, Operand, Primitive, Procedure, Record,
-    Statement, Thread,
+    Block, Declaration, Kind, Literal, Name, Operand, Primitive, Procedure, Statement, Thread, Tree,
 };
 use std::alloc::{AllocError, Global};
 use std::marker::Model;
@@ -40,14 +44,12 @@ pub struct Fresh {
     pub call: u16,
 }
 
-/// What the expansion of each thread sees.
+/// What the expansion of each thread sees: the names of a tree, its procedures by name, and the variables of each.
 #[derive(Drop)]
 pub struct Setting<'a> {
-    records: &'a [Record],
-    record_names: &'a Names,
-    field_names: &'a [Names],
-    globals: &'a [GlobalObject],
-    global_names: &'a Names,
+    alloc: Global,
+    tree: &'a Tree,
+    shown: &'a Shown,
     called: &'a Called<'a>,
     variables: &'a [Variables],
 }
@@ -55,47 +57,36 @@ pub struct Setting<'a> {
 impl<'a> Model for Setting<'a> {
     ghost use Rattle.std.specs.Coded.{codes};
     ghost use Rattle.sect_front.specs.Coding.{block_code};
-    ghost use Rattle.sect_types.specs.steps.Expanding.{SettingView, IsSetting};
+    ghost use Rattle.sect_types.specs.steps.Expanding.{SettingView, IsSetting, setting_of};
 
     ghost Value = { SettingView };
 
     ghost coded = { Prim.hlevel (codes, block_code) };
 
-    ghost view = { λ w. record { records = w.records.now; globals = w.globals.now; procedures = w.called.now } };
+    ghost view = { λ w. setting_of w.tree.now };
 
-    ghost invariant = { λ w. IsSetting
-        (record { records = w.records.now; globals = w.globals.now; procedures = w.called.now })
-        w.record_names.now w.field_names.now w.global_names.now w.variables.now };
+    ghost invariant = { λ w. IsSetting w.tree.now w.shown.now w.called.now w.variables.now };
 }
 
 impl<'a> Setting<'a> {
-    /// These declarations, whose names are given beside them.
+    /// The setting of a tree, whose names, procedures and variables are given beside it.
     pub fn new(
-        records: &'a [Record],
-        record_names: &'a Names,
-        field_names: &'a [Names],
-        globals: &'a [GlobalObject],
-        global_names: &'a Names,
+        alloc: Global,
+        tree: &'a Tree,
+        shown: &'a Shown,
         called: &'a Called<'a>,
         variables: &'a [Variables],
     ) -> Setting<'a>
-        requires records { record_names.now ≡ names_of_records records.now }
-        requires fields { field_names.now ≡ all_fields records.now }
-        requires globals { global_names.now ≡ names_of_globals globals.now }
-        requires variables { variables.now ≡ map variables_shown called.now }
-        requires flat { AreFlat called.now }
-        ensures { result ≡ record {
-          records = records.now;
-          globals = globals.now;
-          procedures = called.now;
-        } }
+        requires shown { Shows shown.now tree.now }
+        requires procedures { called.now ≡ tree.now.procedures }
+        requires variables { variables.now ≡ map variables_shown tree.now.procedures }
+        requires flat { AreFlat tree.now.procedures }
+        ensures { result ≡ setting_of tree.now }
     {
         Setting {
-            records,
-            record_names,
-            field_names,
-            globals,
-            global_names,
+            alloc,
+            tree,
+            shown,
             called,
             variables,
         }
@@ -138,15 +129,7 @@ impl<'a> Setting<'a> {
         requires { names.now ≡ names_of_declared list.now }
         ensures { result ≡ sight self.now.records self.now.globals list.now }
     {
-        Scope::new(
-            self.records,
-            self.record_names,
-            self.field_names,
-            self.globals,
-            self.global_names,
-            list,
-            names,
-        )
+        Scope::new(self.tree, self.shown, list, names)
     }
 }
 
@@ -238,17 +221,6 @@ fn put_variables(
     Ok(())
 }
 
-/// The argument at an index.
-fn argument_at(scope: &Scope<'_>, first: u16, operands: &[Operand], place: usize) -> Value
-    requires { first + length scope.now.locals ≤ most_all_locals }
-    ensures { result ≡ argument_at_by (view_of scope.now first) operands.now place }
-{
-    match operands.get(place) {
-        None => Value::Null,
-        Some(operand) => scope.argument(first, operand),
-    }
-}
-
 /// What a local is set to before it is first used.
 fn cleared(kind: &Kind) -> Value
     ensures { result ≡ cleared_by kind.now }
@@ -261,21 +233,20 @@ fn cleared(kind: &Kind) -> Value
 
 /// Sets the parameters, which have the numbers from `fresh` on, to the arguments.
 fn put_parameters(
-    scope: &Scope<'_>,
-    first: u16,
+    inside: &Inside<'_>,
     fresh: u16,
     parameters: &[Declaration],
     operands: &[Operand],
     out: &mut Text,
 ) -> Result<(), AllocError>
-    requires own { first + length scope.now.locals ≤ most_all_locals }
     requires fresh { fresh + length parameters.now ≤ most_all_locals }
+    requires as_many { length parameters.now ≡ length operands.now }
+    requires known { knows_operands inside.now.scope.now operands.now ≡ true }
     ensures { OnOk result ((k : TextView) → joined out.new k
-        ≡ joined out.old (set_parameters (record { sight = scope.now; first = first }) fresh
-        parameters.now operands.now k)) }
+        ≡ joined out.old (write_parameters (scene_in inside.now) fresh parameters.now operands.now k)) }
 {
     for place in 0..parameters.len() {
-        let value = argument_at(scope, first, operands, place);
+        let value = inside.scope.argument(inside.first, &operands[place]);
         out.push(Step::Do(Action::Assign(fresh + place as u16, value)))?;
     }
     Ok(())
@@ -285,7 +256,7 @@ fn put_parameters(
 fn put_cleared(fresh: u16, list: &[Declaration], out: &mut Text) -> Result<(), AllocError>
     requires { fresh + length list.now ≤ most_all_locals }
     ensures { OnOk result ((k : TextView) → joined out.new k
-        ≡ joined out.old (clear_locals fresh list.now k)) }
+        ≡ joined out.old (write_locals fresh list.now k)) }
 {
     for place in 0..list.len() {
         let value = cleared(&list[place].kind);
@@ -297,7 +268,6 @@ fn put_cleared(fresh: u16, list: &[Declaration], out: &mut Text) -> Result<(), A
 /// Adds the expansion of a call.
 #[cycle(expand)]
 fn expand_call(
-    alloc: Global,
     inside: &Inside<'_>,
     front: &mut Front,
     name: &Name,
@@ -305,22 +275,18 @@ fn expand_call(
     out: &mut Text,
 ) -> Result<(), AllocError>
     requires fits { Fits (past_in inside.now front.old (Call name.now operands.now)) }
+    requires known { IsSome (numbered_in inside.now front.old (Call name.now operands.now)) }
     ensures text { OnOk result ((k : TextView) → joined out.new k
         ≡ joined out.old (text_in inside.now front.old (Call name.now operands.now) k)) }
     ensures front { OnOk result (front.new ≡ past_in inside.now front.old (Call name.now operands.now)) }
 {
     let setting = inside.setting;
-    let Some(number) = setting.number_of(name) else {
-        return Ok(());
-    };
-    if inside.most == 0 {
-        return Ok(());
-    }
+    let number = setting.number_of(name).unwrap();
     let procedure = setting.procedure(number);
     let variables = setting.variables(number);
     let fresh = front.next();
     let parameters = procedure.parameters.as_slice();
-    put_parameters(inside.scope, inside.first, fresh, parameters, operands, out)?;
+    put_parameters(inside, fresh, parameters, operands, out)?;
     let cleared = fresh + parameters.len() as u16;
     put_cleared(cleared, procedure.locals.as_slice(), out)?;
     front.pass_call(variables.as_slice())?;
@@ -331,24 +297,26 @@ fn expand_call(
         scope: &scope,
         first: fresh,
     };
-    expand_block(alloc, &inner, front, &procedure.body, out)?;
+    expand_block(&inner, front, &procedure.body, out)?;
     Ok(())
 }
 
 /// Adds a statement.
 #[cycle(expand)]
 fn expand_statement(
-    alloc: Global,
     inside: &Inside<'_>,
     front: &mut Front,
     statement: &Statement,
     out: &mut Text,
 ) -> Result<(), AllocError>
     requires fits { Fits (past_in inside.now front.old (statement_of statement.now)) }
+    requires known { IsSome (numbered_in inside.now front.old (statement_of statement.now)) }
     ensures text { OnOk result ((k : TextView) → joined out.new k
         ≡ joined out.old (text_in inside.now front.old (statement_of statement.now) k)) }
     ensures front { OnOk result (front.new ≡ past_in inside.now front.old (statement_of statement.now)) }
 {
+    let setting = inside.setting;
+    let alloc = setting.alloc;
     match statement {
         Statement::Primitive(primitive) => {
             let action = inside.scope.action(inside.first, front.sites, primitive);
@@ -359,36 +327,36 @@ fn expand_statement(
         Statement::If(test, then) => {
             let condition = inside.scope.condition(inside.first, test);
             let mut yes = Text::new(alloc);
-            expand_block(alloc, inside, front, then, &mut yes)?;
+            expand_block(inside, front, then, &mut yes)?;
             out.push(Step::If(condition, yes, Text::new(alloc)))?;
             Ok(())
         }
         Statement::IfElse(test, then, other) => {
             let condition = inside.scope.condition(inside.first, test);
             let mut yes = Text::new(alloc);
-            expand_block(alloc, inside, front, then, &mut yes)?;
+            expand_block(inside, front, then, &mut yes)?;
             let mut no = Text::new(alloc);
-            expand_block(alloc, inside, front, other, &mut no)?;
+            expand_block(inside, front, other, &mut no)?;
             out.push(Step::If(condition, yes, no))?;
             Ok(())
         }
         Statement::While(test, body) => {
             let condition = inside.scope.condition(inside.first, test);
             let mut inner = Text::new(alloc);
-            expand_block(alloc, inside, front, body, &mut inner)?;
+            expand_block(inside, front, body, &mut inner)?;
             out.push(Step::While(condition, inner))?;
             Ok(())
         }
         Statement::Atomic(_, body) => {
             let number = front.pass_section();
             let mut inner = Text::new(alloc);
-            expand_block(alloc, inside, front, body, &mut inner)?;
+            expand_block(inside, front, body, &mut inner)?;
             out.push(Step::Section(number, inner))?;
             Ok(())
         }
         Statement::Call(name, operands) => {
             let operands = operands.as_slice();
-            expand_call(alloc, inside, front, name, operands, out)
+            expand_call(inside, front, name, operands, out)
         }
     }
 }
@@ -396,19 +364,19 @@ fn expand_statement(
 /// Adds the statements of a block.
 #[cycle(expand)]
 fn expand_block(
-    alloc: Global,
     inside: &Inside<'_>,
     front: &mut Front,
     block: &Block,
     out: &mut Text,
 ) -> Result<(), AllocError>
     requires fits { Fits (past_block_in inside.now front.old block.now) }
+    requires known { IsSome (numbered_block_in inside.now front.old block.now) }
     ensures text { OnOk result ((k : TextView) → joined out.new k
         ≡ joined out.old (joined (block_text_in inside.now front.old block.now) k)) }
     ensures front { OnOk result (front.new ≡ past_block_in inside.now front.old block.now) }
 {
     for statement in block.as_slice() {
-        expand_statement(alloc, inside, front, statement, out)?;
+        expand_statement(inside, front, statement, out)?;
     }
     Ok(())
 }
@@ -439,7 +407,6 @@ impl FreshLocals {
 
 /// The expanded text of a thread, with its fresh locals.
 fn expand_thread(
-    alloc: Global,
     setting: &Setting<'_>,
     sites: &mut u16,
     sections: &mut u16,
@@ -449,12 +416,14 @@ fn expand_thread(
     requires few { length thread.now.locals ≤ most_locals }
     requires names { names.now ≡ names_of_declared thread.now.locals }
     requires fits { Fits (thread_end setting.now sites.old sections.old thread.now) }
+    requires known { IsSome (numbered_thread setting.now sites.old sections.old thread.now) }
     ensures sites { OnOk result (sites.new ≡ (thread_end setting.now sites.old sections.old thread.now).at.sites) }
     ensures sections { OnOk result (sections.new
         ≡ (thread_end setting.now sites.old sections.old thread.now).at.sections) }
     ensures text { IfOk result (λ r. r.0 ≡ thread_text setting.now sites.old sections.old thread.now) }
     ensures fresh { IfOk result (λ r. r.1 ≡ (thread_end setting.now sites.old sections.old thread.now).fresh) }
 {
+    let alloc = setting.alloc;
     let list = thread.locals.as_slice();
     let mut front = Front {
         sites: *sites,
@@ -471,7 +440,7 @@ fn expand_thread(
         first: 0,
     };
     let mut text = Text::new(alloc);
-    expand_block(alloc, &inside, &mut front, &thread.body, &mut text)?;
+    expand_block(&inside, &mut front, &thread.body, &mut text)?;
     *sites = front.sites;
     *sections = front.sections;
     Ok((text, FreshLocals { list: front.fresh }))
@@ -479,7 +448,6 @@ fn expand_thread(
 
 /// The expanded texts of all threads, with the fresh locals of each.
 pub fn expand(
-    alloc: Global,
     setting: &Setting<'_>,
     threads: &[Thread],
     local_names: &[Names],
@@ -487,25 +455,20 @@ pub fn expand(
     requires globals { length setting.now.globals ≤ most_globals }
     requires names { local_names.now ≡ names_of_locals threads.now }
     requires fits { AllFit setting.now (length setting.now.globals) 0 threads.now }
-    ensures texts { IfOk result (λ r. r.0.items ≡ texts_of (tree_of setting.now threads.now)) }
+    requires known { IsSome (texts_of (tree_of setting.now threads.now)) }
+    ensures texts { IfOk result (λ r. texts_of (tree_of setting.now threads.now) ≡ Some r.0.items) }
     ensures fresh { IfOk result (λ r. r.1.items
         ≡ map (fresh_in (tree_of setting.now threads.now)) threads.now) }
 {
-    let mut sites = setting.globals.len() as u16;
+    let alloc = setting.alloc;
+    let mut sites = setting.tree.globals().len() as u16;
     let mut sections = 0;
     let mut texts = Vec::new(alloc);
     let mut fresh = Vec::new(alloc);
     for number in 0..threads.len() {
         let thread = &threads[number];
         let names = &local_names[number];
-        let (text, locals) = expand_thread(
-            alloc,
-            setting,
-            &mut sites,
-            &mut sections,
-            thread,
-            names,
-        )?;
+        let (text, locals) = expand_thread(setting, &mut sites, &mut sections, thread, names)?;
         texts.push(text)?;
         fresh.push(locals)?;
     }

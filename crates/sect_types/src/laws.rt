@@ -13,9 +13,8 @@ pub fn calls_unfold()
     ensures fresh { (t : TreeView) → IsTyped t → FreshUnfold t }
 {}
 
-/// The sums, which are found without expanding, are those of the expanded text: its statements, and how deep its blocks
+/// The sums, which are found without expanding, are those of each expanded text: its statements, and how deep its blocks
 /// stand in one another.
-#[tactic(auto, using(crate::proofs::CountLaws::thread_counts, crate::proofs::DepthLaws::thread_deep))]
 pub fn sums_are_of_texts()
     ensures { (t : TreeView) → SumsCount t }
 {}

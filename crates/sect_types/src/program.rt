@@ -6,14 +6,15 @@ ghost use Rattle.sect_front.specs.Depth.{block_depth, procedures_depth, threads_
 ghost use Rattle.sect_front.specs.Limits.{most_depth};
 ghost use Rattle.sect_types.specs.Limits.{most_locals, most_procedures, most_records};
 ghost use Rattle.sect_types.specs.Limits.{most_globals};
-ghost use Rattle.sect_types.specs.Sight.{names_of_records, names_of_globals, names_of_declared, all_fields};
+ghost use Rattle.sect_types.specs.Sight.{names_of_records, names_of_declared};
 ghost use Rattle.sect_types.specs.Items.{AProcedure, AThread, variables as variables_by, record_items, global_items};
 ghost use Rattle.sect_types.specs.Items.{local_items, block_items, procedure_items, thread_items};
 ghost use Rattle.sect_types.specs.declared.place.Place.TheVariants.{InThread, InProcedure};
-ghost use Rattle.sect_types.specs.Rules.{declared_in, depth_at, sight};
+ghost use Rattle.sect_types.specs.Rules.{declared_in};
 ghost use Rattle.sect_types.specs.steps.Walks.{Walks};
 ghost use Rattle.sect_types.specs.steps.Listing.{all_known, fields_fine, globals_known, locals_fine};
 ghost use Rattle.sect_types.specs.steps.Shown.{Shows};
+ghost use Rattle.sect_types.specs.steps.Contexts.{IsContext};
 ghost use Rattle.sect_types.specs.Sound.{IsSound, AreSound};
 ghost use Rattle.sect_types.specs.declared.rule.TypeFault.TheVariants.{Memory};
 ghost use Rattle.sect_types.specs.Sections.{sections_of, AllNumbered, AllSited};
@@ -32,47 +33,29 @@ use crate::declare::{Declared, globals, known_records, locals, pass, records};
 use crate::expand::{FreshLocals, Setting, expand};
 use crate::local_name::LocalName;
 use crate::locking::lockings;
-use crate::names::{NameSet, Names};
+use crate::names::Names;
 use crate::place::Standing;
 use crate::rule::{Fault, TypeFault};
 use crate::scope::Scope;
 use crate::section::{Section, find};
+use crate::shown::Shown;
 use crate::spot::Spot;
 use crate::sums::table;
 use crate::text::Text;
 use crate::types::{Types, field_types, global_records, local_types};
 use crate::variables::{Variables, all_of};
 use crate::walk::walk_block;
-use sect_front::{Block, Declaration, Locking, Procedure, Thread, Tree, is_same};
+use sect_front::{Locking, Procedure, Thread, Tree, is_same};
 use std::alloc::{AllocError, Global};
 use std::marker::Model;
 
-/// The names that all procedures and threads see.
+/// A tree, the names that all its procedures and threads see, and its procedures by name.
 #[derive(Drop)]
-struct Shown {
-    known: NameSet,
-    record_names: Names,
-    field_names: Vec<Names>,
-    global_names: Names,
-}
-
-impl Shown {
-    /// What statements with these locals see.
-    fn scope<'a>(&'a self, tree: &'a Tree, locals: &'a [Declaration], names: &'a Names) -> Scope<'a>
-        requires shown { Shows self.now tree.now }
-        requires names { names.now ≡ names_of_declared locals.now }
-        ensures { result ≡ sight tree.now.records tree.now.globals locals.now }
-    {
-        Scope::new(
-            tree.records(),
-            &self.record_names,
-            self.field_names.as_slice(),
-            tree.globals(),
-            &self.global_names,
-            locals,
-            names,
-        )
-    }
+struct Context<'a> {
+    alloc: Global,
+    tree: &'a Tree,
+    shown: &'a Shown,
+    called: &'a Called<'a>,
 }
 
 /// Judges the declarations of records and globals, and gives the names that all procedures and threads see.
@@ -97,49 +80,25 @@ fn declarations(alloc: Global, tree: &Tree, spot: &mut Spot) -> Result<Shown, Fa
     })
 }
 
-/// Passes the body of a procedure or thread with these locals, whose names are given beside them.
-fn walk_body(
-    tree: &Tree,
-    shown: &Shown,
-    standing: &Standing<'_>,
-    list: &[Declaration],
-    names: &Names,
-    spot: &mut Spot,
-    body: &Block,
-) -> Result<(), Fault>
-    requires shown { Shows shown.now tree.now }
-    requires procedures { standing.now.procedures ≡ tree.now.procedures }
-    requires names { names.now ≡ names_of_declared list.now }
-    requires shallow { depth_at standing.now.at + block_depth body.now ≤ most_depth }
-    ensures { Walks (declared_in tree.now) (block_items list.now standing.now.at body.now)
-        spot.old spot.new result }
-{
-    let scope = shown.scope(tree, list, names);
-    walk_block(&scope, spot, standing, body)
-}
-
 /// Judges the variables of a procedure, and gives them with their names.
 fn pass_variables(
-    alloc: Global,
-    tree: &Tree,
-    shown: &Shown,
+    context: &Context<'_>,
     spot: &mut Spot,
     procedure: &Procedure,
 ) -> Result<Variables, Fault>
-    requires { Shows shown.now tree.now }
-    ensures walks { Walks (declared_in tree.now) (local_items [] (variables_by procedure.now))
+    requires context { IsContext context.now }
+    ensures walks { Walks (declared_in context.now.tree.now) (local_items [] (variables_by procedure.now))
         spot.old spot.new result }
     ensures shown { IfOk result (λ v. v ≡ variables_shown procedure.now) }
     ensures few { OnOk result (length (variables_by procedure.now) ≤ most_locals) }
-    ensures known { OnOk result (all_known (names_of_records tree.now.records)
+    ensures known { OnOk result (all_known (names_of_records context.now.tree.now.records)
         (variables_by procedure.now) ≡ true) }
 {
-    let list = all_of(alloc, procedure)?;
+    let list = all_of(context.alloc, procedure)?;
     let names = locals(
-        alloc,
-        tree,
-        &shown.known,
-        &shown.global_names,
+        context.alloc,
+        context.tree,
+        context.shown,
         spot,
         list.as_slice(),
     )?;
@@ -148,176 +107,125 @@ fn pass_variables(
 
 /// Passes the body of the procedure of this number, which has these variables.
 fn walk_procedure(
-    alloc: Global,
-    tree: &Tree,
-    shown: &Shown,
-    called: &Called<'_>,
+    context: &Context<'_>,
     number: usize,
     variables: &Variables,
     spot: &mut Spot,
     procedure: &Procedure,
 ) -> Result<(), Fault>
-    requires shown { Shows shown.now tree.now }
-    requires procedures { called.now ≡ tree.now.procedures }
-    requires there { number < length tree.now.procedures }
+    requires context { IsContext context.now }
+    requires there { number < length context.now.tree.now.procedures }
     requires variables { variables.now ≡ variables_shown procedure.now }
     requires shallow { block_depth procedure.now.body ≤ most_depth }
-    ensures { Walks (declared_in tree.now) (block_items (variables_by procedure.now)
+    ensures { Walks (declared_in context.now.tree.now) (block_items (variables_by procedure.now)
         (InProcedure number) procedure.now.body) spot.old spot.new result }
 {
-    let returning = called.returning(alloc, number)?;
-    let standing = Standing::in_procedure(called, number, returning.as_slice());
+    let returning = context.called.returning(context.alloc, number)?;
+    let standing = Standing::in_procedure(context.called, number, returning.as_slice());
     let list = variables.as_slice();
-    walk_body(
-        tree,
-        shown,
-        &standing,
-        list,
-        variables.names(),
-        spot,
-        &procedure.body,
-    )
+    let scope = Scope::new(context.tree, context.shown, list, variables.names());
+    walk_block(&scope, spot, &standing, &procedure.body)
 }
 
-/// Judges a procedure, and adds its variables with their names.
-fn pass_whole_procedure(
-    alloc: Global,
-    tree: &Tree,
-    shown: &Shown,
-    called: &Called<'_>,
+/// Judges a procedure, and gives its variables with their names.
+fn pass_procedure(
+    context: &Context<'_>,
     names: &mut Names,
-    all: &mut Vec<Variables>,
     spot: &mut Spot,
     procedure: &Procedure,
-) -> Result<(), Fault>
-    requires shown { Shows shown.now tree.now }
-    requires procedures { called.now ≡ tree.now.procedures }
-    requires there { length names.old < length tree.now.procedures }
+) -> Result<Variables, Fault>
+    requires context { IsContext context.now }
+    requires there { length names.old < length context.now.tree.now.procedures }
     requires shallow { block_depth procedure.now.body ≤ most_depth }
-    ensures walks { Walks (declared_in tree.now) (λ w. AProcedure procedure.now.name names.old
+    ensures walks { Walks (declared_in context.now.tree.now) (λ w. AProcedure procedure.now.name names.old
         ∷ local_items [] (variables_by procedure.now) (block_items (variables_by procedure.now)
         (InProcedure (length names.old)) procedure.now.body w)) spot.old spot.new result }
     ensures names { OnOk result (names.new ≡ names.old ++ procedure.now.name ∷ []) }
-    ensures shown { OnOk result (all.new.items ≡ all.old.items ++ variables_shown procedure.now ∷ []) }
+    ensures shown { IfOk result (λ v. v ≡ variables_shown procedure.now) }
     ensures few { OnOk result (length names.old < most_procedures) }
     ensures few_variables { OnOk result (length (variables_by procedure.now) ≤ most_locals) }
-    ensures known_variables { OnOk result (all_known (names_of_records tree.now.records)
+    ensures known_variables { OnOk result (all_known (names_of_records context.now.tree.now.records)
         (variables_by procedure.now) ≡ true) }
 {
     let number = names.len();
-    pass(
-        tree,
-        &shown.known,
-        names,
-        spot,
-        Declared::Procedure(procedure.name),
-    )?;
-    let variables = pass_variables(alloc, tree, shown, spot, procedure)?;
-    walk_procedure(
-        alloc, tree, shown, called, number, &variables, spot, procedure,
-    )?;
-    all.push(variables)?;
-    Ok(())
+    let declared = Declared::Procedure(procedure.name);
+    pass(context.tree, &context.shown.known, names, spot, declared)?;
+    let variables = pass_variables(context, spot, procedure)?;
+    walk_procedure(context, number, &variables, spot, procedure)?;
+    Ok(variables)
 }
 
 /// Judges all procedures, and gives the variables of each with their names.
-fn procedures(
-    alloc: Global,
-    tree: &Tree,
-    shown: &Shown,
-    called: &Called<'_>,
-    spot: &mut Spot,
-) -> Result<Vec<Variables>, Fault>
-    requires shown { Shows shown.now tree.now }
-    requires procedures { called.now ≡ tree.now.procedures }
-    requires shallow { procedures_depth tree.now.procedures ≤ most_depth }
-    ensures walks { Walks (declared_in tree.now) (procedure_items 0 [] tree.now.procedures)
+fn procedures(context: &Context<'_>, spot: &mut Spot) -> Result<Vec<Variables>, Fault>
+    requires context { IsContext context.now }
+    requires shallow { procedures_depth context.now.tree.now.procedures ≤ most_depth }
+    ensures walks { Walks (declared_in context.now.tree.now) (procedure_items 0 [] context.now.tree.now.procedures)
         spot.old spot.new result }
-    ensures shown { IfOk result (λ all. all.items ≡ map variables_shown tree.now.procedures) }
-    ensures few { OnOk result (length tree.now.procedures ≤ most_procedures) }
-    ensures fine { OnOk result (variables_fine (names_of_records tree.now.records)
-        tree.now.procedures ≡ true) }
+    ensures shown { IfOk result (λ all. all.items ≡ map variables_shown context.now.tree.now.procedures) }
+    ensures few { OnOk result (length context.now.tree.now.procedures ≤ most_procedures) }
+    ensures fine { OnOk result (variables_fine (names_of_records context.now.tree.now.records)
+        context.now.tree.now.procedures ≡ true) }
 {
-    let mut names = Names::new(alloc);
-    let mut all = Vec::new(alloc);
-    for procedure in tree.procedures() {
-        pass_whole_procedure(
-            alloc, tree, shown, called, &mut names, &mut all, spot, procedure,
-        )?;
+    let mut names = Names::new(context.alloc);
+    let mut all = Vec::new(context.alloc);
+    for procedure in context.tree.procedures() {
+        let variables = pass_procedure(context, &mut names, spot, procedure)?;
+        all.push(variables)?;
     }
     Ok(all)
 }
 
-/// Judges a thread, and adds the names of its locals.
-fn whole_thread(
-    alloc: Global,
-    tree: &Tree,
-    shown: &Shown,
+/// Judges a thread, and gives the names of its locals.
+fn pass_thread(
+    context: &Context<'_>,
     standing: &Standing<'_>,
     names: &mut Names,
-    all: &mut Vec<Names>,
     spot: &mut Spot,
     thread: &Thread,
-) -> Result<(), Fault>
-    requires shown { Shows shown.now tree.now }
-    requires standing { standing.now ≡ record { procedures = tree.now.procedures; at = InThread false 1 } }
+) -> Result<Names, Fault>
+    requires context { IsContext context.now }
+    requires standing { standing.now ≡ record { procedures = context.now.tree.now.procedures; at = InThread false 1 } }
     requires shallow { block_depth thread.now.body + 1 ≤ most_depth }
-    ensures walks { Walks (declared_in tree.now) (λ w. AThread thread.now.name names.old
+    ensures walks { Walks (declared_in context.now.tree.now) (λ w. AThread thread.now.name names.old
         ∷ local_items [] thread.now.locals (block_items thread.now.locals (InThread false 1)
         thread.now.body w)) spot.old spot.new result }
     ensures names { OnOk result (names.new ≡ names.old ++ thread.now.name ∷ []) }
-    ensures locals { OnOk result (all.new.items ≡ all.old.items ++ names_of_declared thread.now.locals ∷ []) }
+    ensures locals { IfOk result (λ own. own ≡ names_of_declared thread.now.locals) }
     ensures few { OnOk result (length names.old < most_threads) }
     ensures few_locals { OnOk result (length thread.now.locals ≤ most_locals) }
-    ensures known_locals { OnOk result (all_known (names_of_records tree.now.records)
+    ensures known_locals { OnOk result (all_known (names_of_records context.now.tree.now.records)
         thread.now.locals ≡ true) }
 {
-    pass(
-        tree,
-        &shown.known,
-        names,
-        spot,
-        Declared::Thread(thread.name),
-    )?;
+    let declared = Declared::Thread(thread.name);
+    pass(context.tree, &context.shown.known, names, spot, declared)?;
     let list = thread.locals.as_slice();
-    let local_names = locals(alloc, tree, &shown.known, &shown.global_names, spot, list)?;
-    walk_body(
-        tree,
-        shown,
-        standing,
-        list,
-        &local_names,
-        spot,
-        &thread.body,
-    )?;
-    all.push(local_names)?;
-    Ok(())
+    let own = locals(context.alloc, context.tree, context.shown, spot, list)?;
+    let scope = Scope::new(context.tree, context.shown, list, &own);
+    walk_block(&scope, spot, standing, &thread.body)?;
+    Ok(own)
 }
 
 /// Judges all threads, and gives the names of the locals of each.
 fn threads(
-    alloc: Global,
-    tree: &Tree,
-    shown: &Shown,
+    context: &Context<'_>,
     standing: &Standing<'_>,
     spot: &mut Spot,
 ) -> Result<Vec<Names>, Fault>
-    requires shown { Shows shown.now tree.now }
-    requires standing { standing.now ≡ record { procedures = tree.now.procedures; at = InThread false 1 } }
-    requires shallow { threads_depth tree.now.threads ≤ most_depth }
-    ensures walks { Walks (declared_in tree.now) (thread_items [] tree.now.threads)
+    requires context { IsContext context.now }
+    requires standing { standing.now ≡ record { procedures = context.now.tree.now.procedures; at = InThread false 1 } }
+    requires shallow { threads_depth context.now.tree.now.threads ≤ most_depth }
+    ensures walks { Walks (declared_in context.now.tree.now) (thread_items [] context.now.tree.now.threads)
         spot.old spot.new result }
-    ensures locals { IfOk result (λ all. all.items ≡ names_of_locals tree.now.threads) }
-    ensures few { OnOk result (length tree.now.threads ≤ most_threads) }
-    ensures fine { OnOk result (locals_fine (names_of_records tree.now.records) tree.now.threads
-        ≡ true) }
+    ensures locals { IfOk result (λ all. all.items ≡ names_of_locals context.now.tree.now.threads) }
+    ensures few { OnOk result (length context.now.tree.now.threads ≤ most_threads) }
+    ensures fine { OnOk result (locals_fine (names_of_records context.now.tree.now.records)
+        context.now.tree.now.threads ≡ true) }
 {
-    let mut names = Names::new(alloc);
-    let mut all = Vec::new(alloc);
-    for thread in tree.threads() {
-        whole_thread(
-            alloc, tree, shown, standing, &mut names, &mut all, spot, thread,
-        )?;
+    let mut names = Names::new(context.alloc);
+    let mut all = Vec::new(context.alloc);
+    for thread in context.tree.threads() {
+        let own = pass_thread(context, standing, &mut names, spot, thread)?;
+        all.push(own)?;
     }
     Ok(all)
 }
@@ -338,39 +246,29 @@ struct Parts {
 
 /// What a program keeps beside its tree, once all items have been judged.
 fn number_tree(
-    alloc: Global,
-    tree: &Tree,
-    shown: &Shown,
-    called: &Called<'_>,
+    context: &Context<'_>,
     variables: &[Variables],
     local_names: &[Names],
     spot: &Spot,
 ) -> Result<Parts, AllocError>
-    requires records { shown.now.record_names ≡ names_of_records tree.now.records }
-    requires fields { shown.now.field_names.items ≡ all_fields tree.now.records }
-    requires globals { shown.now.global_names ≡ names_of_globals tree.now.globals }
-    requires procedures { called.now ≡ tree.now.procedures }
-    requires variables { variables.now ≡ map variables_shown tree.now.procedures }
-    requires locals { local_names.now ≡ names_of_locals tree.now.threads }
-    requires counted { IsCounted tree.now spot.now }
-    ensures numbers { IfOk result (λ p. IsWellNumbered (numbered_by tree.now
+    requires context { IsContext context.now }
+    requires variables { variables.now ≡ map variables_shown context.now.tree.now.procedures }
+    requires locals { local_names.now ≡ names_of_locals context.now.tree.now.threads }
+    requires counted { IsCounted context.now.tree.now spot.now }
+    ensures numbers { IfOk result (λ p. IsWellNumbered (numbered_by context.now.tree.now
         p.records.items p.globals.items p.locals.items p.texts.items p.lockings.items)
         p.section_count p.site_count p.statement_count) }
-    ensures fresh { IfOk result (λ p. p.fresh.items ≡ map (fresh_in tree.now) tree.now.threads) }
+    ensures fresh { IfOk result (λ p. p.fresh.items
+        ≡ map (fresh_in context.now.tree.now) context.now.tree.now.threads) }
 {
-    let records = field_types(alloc, &shown.record_names, tree.records())?;
-    let globals = global_records(alloc, &shown.record_names, tree.globals())?;
-    let setting = Setting::new(
-        tree.records(),
-        &shown.record_names,
-        shown.field_names.as_slice(),
-        tree.globals(),
-        &shown.global_names,
-        called,
-        variables,
-    );
-    let (texts, fresh) = expand(alloc, &setting, tree.threads(), local_names)?;
-    let locals = local_types(alloc, &shown.record_names, tree.threads(), fresh.as_slice())?;
+    let tree = context.tree;
+    let alloc = context.alloc;
+    let record_names = &context.shown.record_names;
+    let records = field_types(alloc, record_names, tree.records())?;
+    let globals = global_records(alloc, record_names, tree.globals())?;
+    let setting = Setting::new(alloc, tree, context.shown, context.called, variables);
+    let (texts, fresh) = expand(&setting, tree.threads(), local_names)?;
+    let locals = local_types(alloc, record_names, tree.threads(), fresh.as_slice())?;
     let lockings = lockings(alloc, tree)?;
     Ok(Parts {
         records,
@@ -386,33 +284,26 @@ fn number_tree(
 }
 
 /// Judges all procedures and threads, and gives the variables of each procedure and the names of each thread's locals.
-fn bodies(
-    alloc: Global,
-    tree: &Tree,
-    shown: &Shown,
-    called: &Called<'_>,
-    spot: &mut Spot,
-) -> Result<(Vec<Variables>, Vec<Names>), Fault>
-    requires shown { Shows shown.now tree.now }
-    requires procedures { called.now ≡ tree.now.procedures }
-    requires shallow_procedures { procedures_depth tree.now.procedures ≤ most_depth }
-    requires shallow_threads { threads_depth tree.now.threads ≤ most_depth }
-    ensures walks { Walks (declared_in tree.now)
-        (λ w. procedure_items 0 [] tree.now.procedures (thread_items [] tree.now.threads w))
+fn bodies(context: &Context<'_>, spot: &mut Spot) -> Result<(Vec<Variables>, Vec<Names>), Fault>
+    requires context { IsContext context.now }
+    requires shallow_procedures { procedures_depth context.now.tree.now.procedures ≤ most_depth }
+    requires shallow_threads { threads_depth context.now.tree.now.threads ≤ most_depth }
+    ensures walks { Walks (declared_in context.now.tree.now)
+        (λ w. procedure_items 0 [] context.now.tree.now.procedures (thread_items [] context.now.tree.now.threads w))
         spot.old spot.new result }
-    ensures variables { IfOk result (λ r. r.0.items ≡ map variables_shown tree.now.procedures) }
-    ensures locals { IfOk result (λ r. r.1.items ≡ names_of_locals tree.now.threads) }
-    ensures few_procedures { OnOk result (length tree.now.procedures ≤ most_procedures) }
-    ensures fine_variables { OnOk result (variables_fine (names_of_records tree.now.records)
-        tree.now.procedures ≡ true) }
-    ensures few_threads { OnOk result (length tree.now.threads ≤ most_threads) }
-    ensures fine_locals { OnOk result (locals_fine (names_of_records tree.now.records) tree.now.threads
-        ≡ true) }
+    ensures variables { IfOk result (λ r. r.0.items ≡ map variables_shown context.now.tree.now.procedures) }
+    ensures locals { IfOk result (λ r. r.1.items ≡ names_of_locals context.now.tree.now.threads) }
+    ensures few_procedures { OnOk result (length context.now.tree.now.procedures ≤ most_procedures) }
+    ensures fine_variables { OnOk result (variables_fine (names_of_records context.now.tree.now.records)
+        context.now.tree.now.procedures ≡ true) }
+    ensures few_threads { OnOk result (length context.now.tree.now.threads ≤ most_threads) }
+    ensures fine_locals { OnOk result (locals_fine (names_of_records context.now.tree.now.records)
+        context.now.tree.now.threads ≡ true) }
 {
-    let variables = procedures(alloc, tree, shown, called, spot)?;
-    let table = table(alloc, called)?;
-    let standing = Standing::in_thread(called, table.as_slice());
-    let local_names = threads(alloc, tree, shown, &standing, spot)?;
+    let variables = procedures(context, spot)?;
+    let table = table(context.alloc, context.called)?;
+    let standing = Standing::in_thread(context.called, table.as_slice());
+    let local_names = threads(context, &standing, spot)?;
     Ok((variables, local_names))
 }
 
@@ -431,16 +322,14 @@ fn judge_tree(alloc: Global, tree: &Tree, spot: &mut Spot) -> Result<Parts, Faul
     let _ = tree.is_empty();
     let called = Called::new(alloc, tree.procedures())?;
     let shown = declarations(alloc, tree, spot)?;
-    let (variables, local_names) = bodies(alloc, tree, &shown, &called, spot)?;
-    let parts = number_tree(
+    let context = Context {
         alloc,
         tree,
-        &shown,
-        &called,
-        variables.as_slice(),
-        local_names.as_slice(),
-        spot,
-    )?;
+        shown: &shown,
+        called: &called,
+    };
+    let (variables, local_names) = bodies(&context, spot)?;
+    let parts = number_tree(&context, variables.as_slice(), local_names.as_slice(), spot)?;
     Ok(parts)
 }
 

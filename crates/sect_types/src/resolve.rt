@@ -1,15 +1,13 @@
-//! Statements by numbers: what their names denote is given, and their types are compared.
+//! What names and operands denote, by numbers and with their types.
 
 ghost use Rattle.std.specs.Prelude.{◌≡◌};
 ghost use Rattle.sect_types.specs.Sight.{kind_of as kind_by, same_name};
-ghost use Rattle.sect_types.specs.Resolve.{same_kind as same_kind_by, accepts as accepts_by};
-ghost use Rattle.sect_types.specs.Resolve.{of_one_kind as of_one_kind_by, comparable as comparable_by, base_by};
-ghost use Rattle.sect_types.specs.Resolve.{value_at as value_at_by, value_by, assign_of, compute_of, new_of, load_of};
-ghost use Rattle.sect_types.specs.Resolve.{load_to, store_of, print_of, condition_of};
+ghost use Rattle.sect_types.specs.Kinds.{same_kind as same_kind_by, accepts as accepts_by};
+ghost use Rattle.sect_types.specs.Kinds.{of_one_kind as of_one_kind_by, comparable as comparable_by};
+ghost use Rattle.sect_types.specs.Numbered.{base_by, value_at as value_at_by, value_by};
 
-use crate::action::{Action, Base, Condition, Field, Value};
-use crate::rule::Rule;
-use sect_front::{Comparison, Kind, Literal, Name, Operator};
+use crate::action::{Base, Field, Value};
+use sect_front::{Comparison, Kind, Literal, Name};
 
 /// What a name denotes: a local with its number and its type, or a global with its number and the name of its record.
 #[derive(Clone, Copy)]
@@ -103,201 +101,32 @@ pub fn comparable(comparison: Comparison, left: &Given, right: &Given) -> bool
     }
 }
 
-fn base(denoted: &Denoted) -> Base
-    ensures { result ≡ base_by denoted.now }
+/// What a name denotes, without its type.
+pub fn base(denoted: Denoted) -> Base
+    ensures { result ≡ base_by denoted }
 {
     match denoted {
-        Denoted::Local(number, _) => Base::Local(*number),
-        Denoted::Global(number, _) => Base::Global(*number),
+        Denoted::Local(number, _) => Base::Local(number),
+        Denoted::Global(number, _) => Base::Global(number),
     }
 }
 
-fn value_at(denoted: &Denoted) -> Value
-    ensures { result ≡ value_at_by denoted.now }
+fn value_at(denoted: Denoted) -> Value
+    ensures { result ≡ value_at_by denoted }
 {
     match denoted {
-        Denoted::Local(number, _) => Value::Local(*number),
-        Denoted::Global(number, _) => Value::Global(*number),
+        Denoted::Local(number, _) => Value::Local(number),
+        Denoted::Global(number, _) => Value::Global(number),
     }
 }
 
 /// The value of an operand.
-pub fn value(given: &Given) -> Value
-    ensures { result ≡ value_by given.now }
+pub fn value(given: Given) -> Value
+    ensures { result ≡ value_by given }
 {
     match given {
-        Given::Number(n) => Value::Number(*n),
+        Given::Number(n) => Value::Number(n),
         Given::Null => Value::Null,
         Given::Base(denoted) => value_at(denoted),
     }
-}
-
-/// `to = from`
-pub fn assign(to: Option<Denoted>, from: Option<Given>) -> Result<Action, Rule>
-    ensures { result ≡ assign_of to from }
-{
-    let Some(to) = to else {
-        return Err(Rule::Unknown);
-    };
-    let Some(from) = from else {
-        return Err(Rule::Unknown);
-    };
-    match to {
-        Denoted::Local(target, kind) => {
-            if accepts(kind, &from) {
-                Ok(Action::Assign(target, value(&from)))
-            } else {
-                Err(Rule::WrongType)
-            }
-        }
-        Denoted::Global(_, _) => Err(Rule::WrongType),
-    }
-}
-
-/// `to = left operator right`
-pub fn compute(
-    to: Option<Denoted>,
-    left: Option<Given>,
-    operator: Operator,
-    right: Option<Given>,
-) -> Result<Action, Rule>
-    ensures { result ≡ compute_of to left operator right }
-{
-    let Some(to) = to else {
-        return Err(Rule::Unknown);
-    };
-    let Some(left) = left else {
-        return Err(Rule::Unknown);
-    };
-    let Some(right) = right else {
-        return Err(Rule::Unknown);
-    };
-    match to {
-        Denoted::Local(target, kind) => {
-            if same_kind(kind, Kind::Int)
-                && accepts(Kind::Int, &left)
-                && accepts(Kind::Int, &right)
-            {
-                Ok(Action::Compute(target, value(&left), operator, value(&right)))
-            } else {
-                Err(Rule::WrongType)
-            }
-        }
-        Denoted::Global(_, _) => Err(Rule::WrongType),
-    }
-}
-
-/// `to = new of`, where the record has this number and the object this site.
-pub fn make(to: Option<Denoted>, of: Name, number: Option<u16>, site: u16) -> Result<Action, Rule>
-    ensures { result ≡ new_of to of number site }
-{
-    let Some(to) = to else {
-        return Err(Rule::Unknown);
-    };
-    let Some(number) = number else {
-        return Err(Rule::Unknown);
-    };
-    match to {
-        Denoted::Local(target, kind) => {
-            if same_kind(kind, Kind::Record(of)) {
-                Ok(Action::New(target, number, site))
-            } else {
-                Err(Rule::WrongType)
-            }
-        }
-        Denoted::Global(_, _) => Err(Rule::WrongType),
-    }
-}
-
-fn load_at(to: &Denoted, from: &Denoted, at: &FieldAt) -> Result<Action, Rule>
-    ensures { result ≡ load_to to.now from.now at.now }
-{
-    match to {
-        Denoted::Local(target, kind) => {
-            if same_kind(*kind, at.kind) {
-                Ok(Action::Load(*target, base(from), at.field))
-            } else {
-                Err(Rule::WrongType)
-            }
-        }
-        Denoted::Global(_, _) => Err(Rule::WrongType),
-    }
-}
-
-/// `to = from.field`
-pub fn load(to: Option<Denoted>, from: Option<Denoted>, field: &Looked) -> Result<Action, Rule>
-    ensures { result ≡ load_of to from field.now }
-{
-    let Some(to) = to else {
-        return Err(Rule::Unknown);
-    };
-    let Some(from) = from else {
-        return Err(Rule::Unknown);
-    };
-    match field {
-        Looked::Missing => Err(Rule::Unknown),
-        Looked::OfInt => Err(Rule::WrongType),
-        Looked::At(at) => load_at(&to, &from, at),
-    }
-}
-
-/// `to.field = from`
-pub fn store(to: Option<Denoted>, field: &Looked, from: Option<Given>) -> Result<Action, Rule>
-    ensures { result ≡ store_of to field.now from }
-{
-    let Some(to) = to else {
-        return Err(Rule::Unknown);
-    };
-    let Some(from) = from else {
-        return Err(Rule::Unknown);
-    };
-    match field {
-        Looked::Missing => Err(Rule::Unknown),
-        Looked::OfInt => Err(Rule::WrongType),
-        Looked::At(at) => {
-            if accepts(at.kind, &from) {
-                Ok(Action::Store(base(&to), at.field, value(&from)))
-            } else {
-                Err(Rule::WrongType)
-            }
-        }
-    }
-}
-
-/// `print given`
-pub fn print(given: Option<Given>) -> Result<Action, Rule>
-    ensures { result ≡ print_of given }
-{
-    let Some(given) = given else {
-        return Err(Rule::Unknown);
-    };
-    if accepts(Kind::Int, &given) {
-        Ok(Action::Print(value(&given)))
-    } else {
-        Err(Rule::WrongType)
-    }
-}
-
-/// `left comparison right`
-pub fn condition(
-    left: Option<Given>,
-    comparison: Comparison,
-    right: Option<Given>,
-) -> Result<Condition, Rule>
-    ensures { result ≡ condition_of left comparison right }
-{
-    let Some(left) = left else {
-        return Err(Rule::Unknown);
-    };
-    let Some(right) = right else {
-        return Err(Rule::Unknown);
-    };
-    if !comparable(comparison, &left, &right) {
-        return Err(Rule::WrongType);
-    }
-    Ok(Condition {
-        left: value(&left),
-        comparison,
-        right: value(&right),
-    })
 }

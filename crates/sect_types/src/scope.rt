@@ -1,27 +1,27 @@
 //! What the names of a statement denote.
 
-ghost use Rattle.std.specs.Prelude.{◌≡◌, ◌≤◌, ◌+◌, length};
-ghost use Rattle.sect_types.specs.Sight.{base_of, operand_of, field_of, names_of_records, names_of_globals};
-ghost use Rattle.sect_types.specs.Sight.{names_of_declared, all_fields};
-ghost use Rattle.sect_types.specs.Resolve.{looked_of, primitive_of, test_of};
-ghost use Rattle.sect_types.specs.Numbered.{action_in, condition_in};
-ghost use Rattle.sect_types.specs.Expanded.{argument_in, moved_action as moved_action_by};
-ghost use Rattle.sect_types.specs.Expanded.{moved_condition as moved_condition_by};
+ghost use Rattle.std.specs.Prelude.{◌≡◌, ◌≤◌, ◌+◌, IsSome, length};
+ghost use Rattle.sect_types.specs.Sight.{base_of, operand_of, field_of, looked_of, names_of_declared};
+ghost use Rattle.sect_types.specs.Numbered.{target_of, source_of, field_behind as field_behind_by, value_of, action_of};
+ghost use Rattle.sect_types.specs.Numbered.{condition_of};
+ghost use Rattle.sect_types.specs.Expanded.{moved_action as moved_action_by, moved_condition as moved_condition_by};
 ghost use Rattle.sect_types.specs.Limits.{most_all_locals};
-ghost use Rattle.sect_types.specs.steps.Walks.{rule_in};
-ghost use Rattle.sect_types.specs.Rules.{knows_operands, kind_accepts, all_accept};
+ghost use Rattle.sect_types.specs.Rules.{knows_primitive, primitive_agrees, knows_test, test_agrees};
+ghost use Rattle.sect_types.specs.Rules.{sight, knows_operands, kind_accepts, all_accept};
+ghost use Rattle.sect_types.specs.steps.Shown.{Shows};
+ghost use Rattle.sect_types.specs.steps.Walks.{rule_in, of_types};
+ghost use Rattle.sect_types.specs.steps.Written.{action_in, condition_in, argument_in};
 
-use crate::action::{Action, Condition, Field, Value};
+use crate::action::{Action, Base, Condition, Field, Value};
+use crate::judge::{
+    judge_assign, judge_comparison, judge_compute, judge_load, judge_new, judge_print, judge_store,
+};
 use crate::moved::{moved_action, moved_condition, moved_value};
 use crate::names::Names;
-use crate::resolve::{
-    Denoted, FieldAt, Given, Looked, accepts, assign, compute, condition, kind_of, load, make,
-    print, store, value,
-};
+use crate::resolve::{Denoted, FieldAt, Given, Looked, accepts, base, kind_of, value};
 use crate::rule::Rule;
-use sect_front::{
-    Comparison, Declaration, GlobalObject, Kind, Name, Operand, Primitive, Record, Test,
-};
+use crate::shown::Shown;
+use sect_front::{Declaration, GlobalObject, Kind, Name, Operand, Primitive, Record, Test, Tree};
 use std::marker::Model;
 
 /// The declarations that a statement sees, with their names by number.
@@ -48,33 +48,23 @@ impl<'a> Model for Scope<'a> {
 }
 
 impl<'a> Scope<'a> {
-    /// The scope of these declarations, whose names are given beside them.
+    /// What statements with these locals see, whose names are given beside them.
     pub fn new(
-        records: &'a [Record],
-        record_names: &'a Names,
-        field_names: &'a [Names],
-        globals: &'a [GlobalObject],
-        global_names: &'a Names,
+        tree: &'a Tree,
+        shown: &'a Shown,
         locals: &'a [Declaration],
         local_names: &'a Names,
     ) -> Scope<'a>
-        requires records { record_names.now ≡ names_of_records records.now }
-        requires fields { field_names.now ≡ all_fields records.now }
-        requires globals { global_names.now ≡ names_of_globals globals.now }
+        requires shown { Shows shown.now tree.now }
         requires locals { local_names.now ≡ names_of_declared locals.now }
-        ensures { result ≡ record {
-          records = records.now;
-          globals = globals.now;
-          locals =
-              locals.now;
-        } }
+        ensures { result ≡ sight tree.now.records tree.now.globals locals.now }
     {
         Scope {
-            records,
-            record_names,
-            field_names,
-            globals,
-            global_names,
+            records: tree.records(),
+            record_names: &shown.record_names,
+            field_names: shown.field_names.as_slice(),
+            globals: tree.globals(),
+            global_names: &shown.global_names,
             locals,
             local_names,
         }
@@ -173,98 +163,157 @@ impl<'a> Scope<'a> {
         true
     }
 
-    /// A statement without a block by numbers; if it is a `new`, its object has this site.
-    pub fn primitive(&self, site: u16, primitive: &Primitive) -> Result<Action, Rule>
-        ensures { result ≡ primitive_of self.now site primitive.now }
+    /// The rule of types that a statement without a block breaks, if any.
+    pub fn judge_primitive(&self, primitive: &Primitive) -> Result<(), Rule>
+        ensures { rule_in result ≡ of_types (knows_primitive self.now primitive.now)
+            (primitive_agrees self.now primitive.now) }
     {
         match primitive {
-            Primitive::Assign(x, v) => assign(self.base(x), self.operand(v)),
-            Primitive::Compute(x, v, operator, w) => compute(
-                self.base(x),
-                self.operand(v),
-                *operator,
-                self.operand(w),
-            ),
-            Primitive::New(x, of) => make(self.base(x), *of, self.record_names.number_of(of), site),
+            Primitive::Assign(x, v) => judge_assign(self.base(x), self.operand(v)),
+            Primitive::Compute(x, v, _, w) => {
+                judge_compute(self.base(x), self.operand(v), self.operand(w))
+            }
+            Primitive::New(x, of) => judge_new(self.base(x), *of, self.record_names.has(of)),
             Primitive::Load(x, y, f) => {
                 let from = self.base(y);
                 let field = self.looked(&from, f);
-                load(self.base(x), from, &field)
+                judge_load(self.base(x), from, &field)
             }
             Primitive::Store(y, f, v) => {
                 let to = self.base(y);
                 let field = self.looked(&to, f);
-                store(to, &field, self.operand(v))
+                judge_store(to, &field, self.operand(v))
             }
-            Primitive::Print(v) => print(self.operand(v)),
-        }
-    }
-
-    /// The rule of types that a statement without a block breaks, if any.
-    pub fn judge_primitive(&self, primitive: &Primitive) -> Result<(), Rule>
-        ensures { rule_in result ≡ rule_in (primitive_of self.now 0 primitive.now) }
-    {
-        match self.primitive(0, primitive) {
-            Ok(_) => Ok(()),
-            Err(rule) => Err(rule),
+            Primitive::Print(v) => judge_print(self.operand(v)),
         }
     }
 
     /// The rule of types that a test breaks, if any.
     pub fn judge_test(&self, test: &Test) -> Result<(), Rule>
-        ensures { rule_in result ≡ rule_in (test_of self.now test.now) }
+        ensures { rule_in result ≡ of_types (knows_test self.now test.now) (test_agrees self.now test.now) }
     {
-        match self.test(test) {
-            Ok(_) => Ok(()),
-            Err(rule) => Err(rule),
-        }
-    }
-
-    /// The argument of a call by numbers, where the variables have the numbers from `first` on.
-    pub fn argument(&self, first: u16, operand: &Operand) -> Value
-        requires { first + length self.now.locals ≤ most_all_locals }
-        ensures { result ≡ argument_in first (operand_of self.now operand.now) }
-    {
-        match self.operand(operand) {
-            None => Value::Null,
-            Some(given) => moved_value(first, &value(&given)),
-        }
-    }
-
-    /// A statement without a block by numbers, where the variables have the numbers from `first` on.
-    pub fn action(&self, first: u16, site: u16, primitive: &Primitive) -> Action
-        requires { first + length self.now.locals ≤ most_all_locals }
-        ensures { result ≡ moved_action_by first (action_in (primitive_of self.now site primitive.now)) }
-    {
-        match self.primitive(site, primitive) {
-            Err(_) => Action::Print(Value::Null),
-            Ok(action) => moved_action(first, &action),
-        }
-    }
-
-    /// A test by numbers, where the variables have the numbers from `first` on.
-    pub fn condition(&self, first: u16, test: &Test) -> Condition
-        requires { first + length self.now.locals ≤ most_all_locals }
-        ensures { result ≡ moved_condition_by first (condition_in (test_of self.now test.now)) }
-    {
-        match self.test(test) {
-            Err(_) => Condition {
-                left: Value::Null,
-                comparison: Comparison::Equal,
-                right: Value::Null,
-            },
-            Ok(condition) => moved_condition(first, &condition),
-        }
-    }
-
-    /// A test by numbers.
-    pub fn test(&self, test: &Test) -> Result<Condition, Rule>
-        ensures { result ≡ test_of self.now test.now }
-    {
-        condition(
+        judge_comparison(
             self.operand(&test.left),
             test.comparison,
             self.operand(&test.right),
         )
+    }
+
+    /// The number of the local of this name.
+    fn target(&self, name: &Name) -> Option<u16>
+        ensures { result ≡ target_of self.now name.now }
+    {
+        match self.base(name)? {
+            Denoted::Local(number, _) => Some(number),
+            Denoted::Global(_, _) => None,
+        }
+    }
+
+    /// The local or global of this name.
+    fn source(&self, name: &Name) -> Option<Base>
+        ensures { result ≡ source_of self.now name.now }
+    {
+        match self.base(name) {
+            Some(denoted) => Some(base(denoted)),
+            None => None,
+        }
+    }
+
+    /// The field behind the dot of a base.
+    fn field_behind(&self, base: &Name, field: &Name) -> Option<Field>
+        ensures { result ≡ field_behind_by self.now base.now field.now }
+    {
+        match self.looked(&self.base(base), field) {
+            Looked::At(at) => Some(at.field),
+            Looked::Missing | Looked::OfInt => None,
+        }
+    }
+
+    /// The value of an operand.
+    fn value(&self, operand: &Operand) -> Option<Value>
+        ensures { result ≡ value_of self.now operand.now }
+    {
+        match self.operand(operand) {
+            Some(given) => Some(value(given)),
+            None => None,
+        }
+    }
+
+    /// A statement without a block by numbers, if its names are known; if it is a `new`, its object has this site.
+    fn numbered(&self, site: u16, primitive: &Primitive) -> Option<Action>
+        ensures { result ≡ action_of self.now site primitive.now }
+    {
+        match primitive {
+            Primitive::Assign(x, v) => Some(Action::Assign(self.target(x)?, self.value(v)?)),
+            Primitive::Compute(x, v, operator, w) => Some(Action::Compute(
+                self.target(x)?,
+                self.value(v)?,
+                *operator,
+                self.value(w)?,
+            )),
+            Primitive::New(x, of) => Some(Action::New(
+                self.target(x)?,
+                self.record_names.number_of(of)?,
+                site,
+            )),
+            Primitive::Load(x, y, f) => Some(Action::Load(
+                self.target(x)?,
+                self.source(y)?,
+                self.field_behind(y, f)?,
+            )),
+            Primitive::Store(y, f, v) => Some(Action::Store(
+                self.source(y)?,
+                self.field_behind(y, f)?,
+                self.value(v)?,
+            )),
+            Primitive::Print(v) => Some(Action::Print(self.value(v)?)),
+        }
+    }
+
+    /// A test by numbers, if its names are known.
+    fn numbered_test(&self, test: &Test) -> Option<Condition>
+        ensures { result ≡ condition_of self.now test.now }
+    {
+        Some(Condition {
+            left: self.value(&test.left)?,
+            comparison: test.comparison,
+            right: self.value(&test.right)?,
+        })
+    }
+
+    /// The argument of a call by numbers, where the variables have the numbers from `first` on.
+    pub fn argument(&self, first: u16, operand: &Operand) -> Value
+        requires few { first + length self.now.locals ≤ most_all_locals }
+        requires known { IsSome (operand_of self.now operand.now) }
+        ensures { result ≡ argument_in first (operand_of self.now operand.now) }
+    {
+        let Some(given) = self.operand(operand) else {
+            unreachable!();
+        };
+        moved_value(first, value(given))
+    }
+
+    /// A statement without a block by numbers, where the variables have the numbers from `first` on.
+    pub fn action(&self, first: u16, site: u16, primitive: &Primitive) -> Action
+        requires few { first + length self.now.locals ≤ most_all_locals }
+        requires known { IsSome (action_of self.now site primitive.now) }
+        ensures { result ≡ moved_action_by first (action_in (action_of self.now site primitive.now)) }
+    {
+        let Some(action) = self.numbered(site, primitive) else {
+            unreachable!();
+        };
+        moved_action(first, action)
+    }
+
+    /// A test by numbers, where the variables have the numbers from `first` on.
+    pub fn condition(&self, first: u16, test: &Test) -> Condition
+        requires few { first + length self.now.locals ≤ most_all_locals }
+        requires known { IsSome (condition_of self.now test.now) }
+        ensures { result ≡ moved_condition_by first (condition_in (condition_of self.now test.now)) }
+    {
+        let Some(condition) = self.numbered_test(test) else {
+            unreachable!();
+        };
+        moved_condition(first, condition)
     }
 }

@@ -6,11 +6,11 @@ ghost use Rattle.sect_types.specs.Limits.{most_statements};
 ghost use Rattle.sect_types.specs.Items.{PrimitiveHead, TestHead, AtomicHead, CallHead, AStatement, is_inside};
 ghost use Rattle.sect_types.specs.Items.{statement_items, block_items};
 ghost use Rattle.sect_types.specs.Rules.{shares, by_place, depth_at};
+ghost use Rattle.sect_types.specs.Rules.{knows_primitive, primitive_agrees, knows_test, test_agrees};
 ghost use Rattle.sect_types.specs.steps.Judging.{rule_of};
 ghost use Rattle.sect_types.specs.steps.Spots.{full_for, full_for_section};
-ghost use Rattle.sect_types.specs.steps.Walks.{Walks, rule_in, then_rest};
+ghost use Rattle.sect_types.specs.steps.Walks.{Walks, rule_in, of_types, then_rest};
 ghost use Rattle.sect_types.specs.steps.Standing.{declared_by};
-ghost use Rattle.sect_types.specs.Resolve.{primitive_of, test_of};
 ghost use Rattle.sect_front.specs.Depth.{statement_depth, block_depth};
 ghost use Rattle.sect_front.specs.Trees.{statement_of};
 ghost use Rattle.sect_front.specs.Limits.{most_depth};
@@ -41,7 +41,8 @@ fn judge_primitive(
     standing: &Standing<'_>,
     primitive: &Primitive,
 ) -> Result<(), Rule>
-    ensures rule { rule_in result ≡ then_rest (rule_in (primitive_of scope.now 0 primitive.now))
+    ensures rule { rule_in result ≡ then_rest (of_types (knows_primitive scope.now primitive.now)
+        (primitive_agrees scope.now primitive.now))
         (shares (PrimitiveHead primitive.now) && not (is_inside standing.now.at))
         (by_place standing.now.at (full_for spot.now primitive.now) false) }
 {
@@ -62,7 +63,8 @@ fn judge_test(
     standing: &Standing<'_>,
     test: &Test,
 ) -> Result<(), Rule>
-    ensures rule { rule_in result ≡ then_rest (rule_in (test_of scope.now test.now)) false
+    ensures rule { rule_in result ≡ then_rest (of_types (knows_test scope.now test.now)
+        (test_agrees scope.now test.now)) false
         (by_place standing.now.at (nat_le most_statements spot.now.statements) false) }
 {
     scope.judge_test(test)?;

@@ -12,17 +12,20 @@ use Rattle.sect_front.specs.Syntax.{StatementView, BlockView}
 use Rattle.sect_front.specs.Trees.{block_size}
 use Rattle.sect_types.specs.Limits.{most_all_locals, most_sites, most_sections, most_calls}
 use Rattle.sect_types.specs.declared.expand.Fresh.{Fresh}
-use Rattle.std.specs.Prelude.{Option, Some, None}
+use Rattle.std.specs.Prelude.{Option, Some, None, IsSome}
 use Rattle.sect_types.specs.declared.action.Value.{Value}
 use Rattle.sect_types.specs.declared.action.Value.TheVariants as value
-use Rattle.sect_types.specs.Expanded.{block_sections, expanded_threads, texts_of, fresh_in}
-use Rattle.sect_types.specs.Expanded.{argument_in}
-use Rattle.sect_types.specs.Sight.{operand_of, names_of_records, names_of_globals, all_fields}
+use Rattle.sect_types.specs.Expanded.{block_sections, fresh_in}
+use Rattle.sect_types.specs.steps.Written.{written_threads, written_texts, argument_in, written_statement}
+use Rattle.sect_types.specs.steps.Written.{written_block, written_within}
+use Rattle.sect_types.specs.Sight.{operand_of}
+use Rattle.sect_types.specs.declared.shown.Shown.{Shown}
+use Rattle.sect_types.specs.steps.Shown.{Shows}
 use Rattle.sect_types.specs.Statements.{TextView, joined}
 use Rattle.sect_types.specs.Sums.{sums_within, statement_sums, block_sums}
-use Rattle.sect_types.specs.Expanded.{Scene, NextNumbers, past_statement, past_block, expanded_statement}
-use Rattle.sect_types.specs.Expanded.{expanded_block}
-use Rattle.sect_types.specs.Expanded.{expand_within, statement_fresh, block_fresh, fresh_within}
+use Rattle.sect_types.specs.Expanded.{Scene, NextNumbers, past_statement, past_block}
+use Rattle.sect_types.specs.Expanded.{statement_fresh, block_fresh, fresh_within, expanded_statement}
+use Rattle.sect_types.specs.Expanded.{expanded_block, expand_within, expanded_threads}
 use Rattle.sect_types.specs.steps.Threads.{VariablesView, variables_shown}
 
 -- what all threads see
@@ -35,14 +38,16 @@ pub record SettingView : Type 0 where
 abbrev pub AreFlat : List Procedure → Type 0
 AreFlat ps = (q : ℕ) (p : Procedure) → slice_get ps q ≡ Some p → block_sections p.body ≡ 0
 
--- the names are those of the declarations, and the variables those of the procedures
-pub record IsSetting (w : SettingView) (record_names : List (List ℕ)) (field_names : List (List (List ℕ)))
-    (global_names : List (List ℕ)) (variables : List VariablesView) : Type 0 where
-  pub of_records : record_names ≡ names_of_records w.records
-  pub of_fields : field_names ≡ all_fields w.records
-  pub of_globals : global_names ≡ names_of_globals w.globals
-  pub of_procedures : variables ≡ map variables_shown w.procedures
-  pub flat : AreFlat w.procedures
+abbrev pub setting_of : TreeView → SettingView
+setting_of t = record { records = t.records; globals = t.globals; procedures = t.procedures }
+
+-- the names are those of the tree, and the variables those of its procedures
+pub record IsSetting (t : TreeView) (shown : Shown) (procedures : List Procedure) (variables : List VariablesView) :
+    Type 0 where
+  pub shows : Shows shown t
+  pub of_procedures : procedures ≡ t.procedures
+  pub of_variables : variables ≡ map variables_shown t.procedures
+  pub flat : AreFlat t.procedures
 
 -- the next site, section and fresh local, the number of the next call of the thread, and its fresh locals
 pub record FrontView : Type 0 where
@@ -75,11 +80,21 @@ front_past_block w n f b = record {
 -- the statement that is expanded, and what follows it
 abbrev pub expanded_there : SettingView → ℕ → Scene → FrontView → StatementView → TextView → TextView
 expanded_there w n v f s k =
-    expanded_statement w.procedures (sums_within n w.procedures) (expand_within n w.records w.globals w.procedures) v
+    written_statement w.procedures (sums_within n w.procedures) (written_within n w.records w.globals w.procedures) v
     f.at s k
 
 abbrev pub block_there : SettingView → ℕ → Scene → FrontView → BlockView → TextView
 block_there w n v f b =
+    written_block w.procedures (sums_within n w.procedures) (written_within n w.records w.globals w.procedures) v f.at b
+
+-- the same by numbers, if all names are known
+abbrev pub numbered_there : SettingView → ℕ → Scene → FrontView → StatementView → Option TextView
+numbered_there w n v f s =
+    expanded_statement w.procedures (sums_within n w.procedures) (expand_within n w.records w.globals w.procedures) v
+    f.at s
+
+abbrev pub numbered_block : SettingView → ℕ → Scene → FrontView → BlockView → Option TextView
+numbered_block w n v f b =
     expanded_block w.procedures (sums_within n w.procedures) (expand_within n w.records w.globals w.procedures) v f.at b
 
 -- where a thread begins
@@ -96,6 +111,11 @@ thread_end w sites sections h = front_past_block w (length w.procedures) (thread
 abbrev pub thread_text : SettingView → ℕ → ℕ → Thread → TextView
 thread_text w sites sections h =
     block_there w (length w.procedures) (record { sight = sight w.records w.globals h.locals; first = 0 })
+    (thread_start sites sections h) h.body
+
+abbrev pub numbered_thread : SettingView → ℕ → ℕ → Thread → Option TextView
+numbered_thread w sites sections h =
+    numbered_block w (length w.procedures) (record { sight = sight w.records w.globals h.locals; first = 0 })
     (thread_start sites sections h) h.body
 
 -- the expansion of each thread is within the limits
@@ -125,12 +145,14 @@ pub record IsFront (w : SettingView) (n : ℕ) (v : Scene) (block all rest : Blo
   pub written : (k : TextView)
       → joined text (joined (block_there w n v now rest) k) ≡ joined before (joined (block_there w n v old block) k)
   pub past : front_past_block w n now rest ≡ front_past_block w n old block
+  pub known : IsSome (numbered_block w n v now rest)
 
 -- the threads `rest` are left, before which these texts were written and these fresh locals listed
 pub record AreWritten (w : SettingView) (all rest : List Thread) (sites sections : ℕ) (texts : List TextView)
     (fresh : List (List Fresh)) : Type 0 where
-  pub written : texts ++ expanded_threads (tree_of w all) (record { sites = sites; sections = sections; fresh = 0 })
+  pub written : texts ++ written_threads (tree_of w all) (record { sites = sites; sections = sections; fresh = 0 })
       rest
-      ≡ texts_of (tree_of w all)
+      ≡ written_texts (tree_of w all)
   pub listed : fresh ++ map (fresh_in (tree_of w all)) rest ≡ map (fresh_in (tree_of w all)) all
   pub fits : AllFit w sites sections rest
+  pub known : IsSome (expanded_threads (tree_of w all) (record { sites = sites; sections = sections; fresh = 0 }) rest)

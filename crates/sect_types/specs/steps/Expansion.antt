@@ -18,10 +18,10 @@ use Rattle.sect_types.specs.Rules.{knows_kind}
 use Rattle.sect_types.specs.Sums.{sums, sums_within, block_sums}
 use Rattle.sect_types.specs.Statements.{TextView, joined}
 use Rattle.sect_types.specs.declared.expand.Fresh.{Fresh}
-use Rattle.sect_types.specs.Expanded.{Scene, NextNumbers, Expander, argument_in, block_sections, expanded_statement}
-use Rattle.sect_types.specs.Expanded.{expanded_block, expand_within}
+use Rattle.sect_types.specs.Expanded.{Scene, NextNumbers, block_sections}
+use Rattle.sect_types.specs.steps.Written.{Writer, argument_in, written_statement, written_block, written_within}
+use Rattle.sect_types.specs.steps.Written.{written_threads, written_texts}
 use Rattle.sect_types.specs.Expanded.{fresh_in, past_thread}
-use Rattle.sect_types.specs.Expanded.{expanded_threads, texts_of}
 
 -- the new text is the old one, then what the function puts before what follows
 abbrev pub Appends : TextView → TextView → (TextView → TextView) → Type 0
@@ -43,17 +43,17 @@ pub record HasRoom (a : NextNumbers) (s : Sums) (sections : ℕ) : Type 0 where
 abbrev pub table_by : TreeView → ℕ → List Sums
 table_by t n = sums_within n t.procedures
 
-abbrev pub calls_by : TreeView → ℕ → Expander
-calls_by t n = expand_within n t.records t.globals t.procedures
+abbrev pub calls_by : TreeView → ℕ → Writer
+calls_by t n = written_within n t.records t.globals t.procedures
 
 abbrev pub view_of : Sight → ℕ → Scene
 view_of s n = record { sight = s; first = n }
 
 abbrev pub statement_by : TreeView → ℕ → Sight → ℕ → NextNumbers → StatementView → TextView → TextView
-statement_by t n s first a f k = expanded_statement t.procedures (table_by t n) (calls_by t n) (view_of s first) a f k
+statement_by t n s first a f k = written_statement t.procedures (table_by t n) (calls_by t n) (view_of s first) a f k
 
 abbrev pub block_by : TreeView → ℕ → Sight → ℕ → NextNumbers → BlockView → TextView
-block_by t n s first a b = expanded_block t.procedures (table_by t n) (calls_by t n) (view_of s first) a b
+block_by t n s first a b = written_block t.procedures (table_by t n) (calls_by t n) (view_of s first) a b
 
 -- how many statements with blocks all bodies have
 abbrev pub total_size : List Procedure → ℕ
@@ -93,7 +93,7 @@ RoomFor t a (h ∷ hs) =
 
 -- the threads `rest` are left, before which these texts were written
 pub record AreExpanded (t : TreeView) (now : NextNumbers) (rest : List Thread) (texts : List TextView) : Type 0 where
-  pub written : texts ++ expanded_threads t now rest ≡ texts_of t
+  pub written : texts ++ written_threads t now rest ≡ written_texts t
   pub room : RoomFor t now rest
 
 -- the types of these fresh locals are known

@@ -1,7 +1,7 @@
 -- What a walk says of the items that it has passed.
-use Rattle.std.specs.Prelude.{◌≡◌, Bool, if◌then◌else◌, List, Result, Ok, Err, ⊤, Option, Some, None}
+use Rattle.std.specs.Prelude.{◌≡◌, Bool, true, false, if◌then◌else◌, List, Result, Ok, Err, ⊤, Option, Some, None}
 use Rattle.sect_types.specs.declared.rule.Rule.{Rule}
-use Rattle.sect_types.specs.declared.rule.Rule.TheVariants.{Unknown, Twice, SharedOutside, TooMany}
+use Rattle.sect_types.specs.declared.rule.Rule.TheVariants.{Unknown, Twice, WrongType, SharedOutside, TooMany}
 use Rattle.sect_types.specs.declared.rule.Fault.{Fault}
 use Rattle.sect_types.specs.declared.rule.Fault.TheVariants as fault
 use Rattle.sect_types.specs.Items.{Item}
@@ -18,6 +18,12 @@ Walks d items old new (Err (fault.Broken i r)) = (w : List Item) → judge d old
 abbrev pub rule_in : {A : Type 0} → Result A Rule → Option Rule
 rule_in (Ok a) = None
 rule_in (Err r) = Some r
+
+-- 10, else 12, else none: whether all names are known, and whether the sides agree in type
+abbrev pub of_types : Bool → Bool → Option Rule
+of_types false agrees = Some Unknown
+of_types true true = None
+of_types true false = Some WrongType
 
 -- what is tried after the types
 abbrev pub then_rest : Option Rule → Bool → Bool → Option Rule

@@ -1,11 +1,11 @@
 use Rattle.std.proofs.Common.{ap, arith, ◌∙◌, sym}
 use Rattle.sect_types.specs.Statements.{joined}
-use Rattle.sect_types.specs.Expanded.{clear_locals}
+use Rattle.sect_types.specs.steps.Written.{write_locals}
 use Rattle.sect_types.proofs.Writing.{cleared_more, cleared_all}
 use Rattle.sect_types.proofs.expand.put_cleared.Goals as goal
 
 pub loop-place-init : goal.loop-place-init
-loop-place-init c k = ap (λ n. joined c.args.out.now (clear_locals n c.args.list.now k)) (omega arith)
+loop-place-init c k = ap (λ n. joined c.args.out.now (write_locals n c.args.list.now k)) (omega arith)
 
 pub loop-place-preserved : goal.loop-place-preserved
 loop-place-preserved c =

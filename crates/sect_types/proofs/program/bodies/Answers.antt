@@ -8,12 +8,12 @@ use Rattle.sect_types.proofs.program.bodies.Goals as goal
 
 pub table-requires : goal.table-requires
 table-requires c =
-    subst HaveFewVariables (sym c.requires.procedures)
-    (few_variables (names_of_records c.args.tree.now.records) c.args.tree.now.procedures c.in_ok-variables.ensures.fine)
+    subst HaveFewVariables (sym c.requires.context.procedures)
+    (few_variables (names_of_records c.args.context.now.tree.now.records) c.args.context.now.tree.now.procedures c.in_ok-variables.ensures.fine)
 
 pub returns-in_err-variables-clause-walks : goal.returns-in_err-variables-clause-walks
 returns-in_err-variables-clause-walks c =
-    let t = c.args.tree.now in
+    let t = c.args.context.now.tree.now in
     let d = declared_in t in
     let one = procedure_items 0 [] t.procedures in
     let two = thread_items [] t.threads in
@@ -24,13 +24,13 @@ returns-in_err-variables-clause-walks c =
 
 pub returns-in_err-table-clause-walks : goal.returns-in_err-table-clause-walks
 returns-in_err-table-clause-walks c =
-    let t = c.args.tree.now in
+    let t = c.args.context.now.tree.now in
     for_memory (declared_in t) (λ w. procedure_items 0 [] t.procedures (thread_items [] t.threads w)) c.args.spot.now
     c.procedures.new.spot c.from_residual-in_err-table.result c.from_residual-in_err-table.ensures.1
 
 pub returns-in_err-local_names-clause-walks : goal.returns-in_err-local_names-clause-walks
 returns-in_err-local_names-clause-walks c =
-    let t = c.args.tree.now in
+    let t = c.args.context.now.tree.now in
     let d = declared_in t in
     let one = procedure_items 0 [] t.procedures in
     let two = thread_items [] t.threads in
@@ -41,5 +41,5 @@ returns-in_err-local_names-clause-walks c =
 
 pub returns-clause-walks : goal.returns-clause-walks
 returns-clause-walks c =
-    let t = c.args.tree.now in
+    let t = c.args.context.now.tree.now in
     λ w. c.in_ok-variables.ensures.walks (thread_items [] t.threads w) ∙ c.in_ok-local_names.ensures.walks w

@@ -5,5 +5,6 @@ use Rattle.sect_types.proofs.program.threads.Given as goal
 
 abbrev pub invariant-loop-thread : goal.invariant-loop-thread
 invariant-loop-thread l =
-    AreThreads (declared_in l.tree) l.tree.threads (drop l.thread-index l.thread-items) l.names l.all.items l.fn.spot
+    AreThreads (declared_in l.context.tree.now) l.context.tree.now.threads (drop l.thread-index l.thread-items)
+    l.names l.all.items l.fn.spot
     l.spot

@@ -14,4 +14,4 @@ returns c p e =
     let there = slice_get_read all (length all) c.args.number c.unwrap.result.now refl
     (ltb-true c.args.number (length all) (sym look.0)) look.1 in
     variables_found c.args.self.now.procedures all c.args.number p c.unwrap.result.now
-    (c.self.invariant.of_procedures ∙ ap (λ (w : SettingView). map variables_shown w.procedures) c.self.view_is) e there
+    (c.self.invariant.of_variables ∙ ap (λ (w : SettingView). map variables_shown w.procedures) c.self.view_is) e there

@@ -3,11 +3,11 @@ use Rattle.sect_types.specs.Rules.{declared_in}
 use Rattle.sect_types.specs.Items.{AProcedure, variables, local_items, block_items}
 use Rattle.sect_types.specs.declared.place.Place.TheVariants.{InProcedure}
 use Rattle.sect_types.proofs.ThreadLemmas.{walks_body, walks_at, handed_on}
-use Rattle.sect_types.proofs.program.pass_whole_procedure.Goals as goal
+use Rattle.sect_types.proofs.program.pass_procedure.Goals as goal
 
 pub returns-in_err-walk_procedure-clause-walks : goal.returns-in_err-walk_procedure-clause-walks
 returns-in_err-walk_procedure-clause-walks c =
-    let d = declared_in c.args.tree.now in
+    let d = declared_in c.args.context.now.tree.now in
     let p = c.args.procedure.now in
     let at = InProcedure (length c.args.names.now) in
     let e = c.in_err-walk_procedure.field-0.0 in
@@ -23,7 +23,7 @@ returns-in_err-walk_procedure-clause-walks c =
 
 pub returns-clause-walks : goal.returns-clause-walks
 returns-clause-walks c =
-    let d = declared_in c.args.tree.now in
+    let d = declared_in c.args.context.now.tree.now in
     let p = c.args.procedure.now in
     let at = InProcedure (length c.args.names.now) in
     walks_body {A = ℕ} d (AProcedure p.name c.args.names.now) (variables p) at p.body c.args.spot.now

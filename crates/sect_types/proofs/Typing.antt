@@ -1,6 +1,6 @@
--- A statement by numbers, or the rule of types that it breaks.
+-- Statements by numbers and their types at once: an action, or the rule of types that is broken. What holds of each of
+-- its cases holds of `action_of` where the types agree.
 use Rattle.std.specs.Prelude.{ℕ, Bool, true, false, ◌&&◌, List, Option, Some, None, Result, Ok, Err}
-use Rattle.sect_front.specs.declared.tree.Kind.{Kind}
 use Rattle.sect_front.specs.declared.tree.Kind.TheVariants as kind
 use Rattle.sect_front.specs.declared.tree.Comparison.{Comparison}
 use Rattle.sect_front.specs.declared.tree.Comparison.TheVariants as comparison
@@ -13,76 +13,16 @@ use Rattle.sect_types.specs.declared.rule.Rule.TheVariants.{Unknown, WrongType}
 use Rattle.sect_types.specs.declared.resolve.Denoted.{Denoted}
 use Rattle.sect_types.specs.declared.resolve.Denoted.TheVariants as denoted
 use Rattle.sect_types.specs.declared.resolve.Given.{Given}
-use Rattle.sect_types.specs.declared.resolve.Given.TheVariants as given
 use Rattle.sect_types.specs.declared.resolve.Looked.{Looked}
 use Rattle.sect_types.specs.declared.resolve.Looked.TheVariants as looked
 use Rattle.sect_types.specs.declared.resolve.FieldAt.{FieldAt}
-use Rattle.sect_types.specs.declared.action.Base.{Base}
-use Rattle.sect_types.specs.declared.action.Base.TheVariants as base
-use Rattle.sect_types.specs.declared.action.Value.{Value}
-use Rattle.sect_types.specs.declared.action.Value.TheVariants as value
 use Rattle.sect_types.specs.declared.action.Condition.{Condition}
 use Rattle.sect_types.specs.declared.action.Action.{Action}
 use Rattle.sect_types.specs.declared.action.Action.TheVariants as action
-use Rattle.sect_types.specs.Sight.{Sight, same_name, place, names_of_records, base_of, operand_of, field_of, kind_of}
-
-abbrev pub same_kind : Kind → Kind → Bool
-same_kind kind.Int kind.Int = true
-same_kind kind.Int (kind.Record s) = false
-same_kind (kind.Record r) kind.Int = false
-same_kind (kind.Record r) (kind.Record s) = same_name r s
-
-abbrev pub is_reference : Kind → Bool
-is_reference kind.Int = false
-is_reference (kind.Record r) = true
-
--- a place of that kind can hold it
-abbrev pub accepts : Kind → Given → Bool
-accepts kind.Int (given.Number n) = true
-accepts kind.Int given.Null = false
-accepts (kind.Record r) (given.Number n) = false
-accepts (kind.Record r) given.Null = true
-accepts k (given.Base d) = same_kind k (kind_of d)
-
--- the two may be equal
-abbrev pub of_one_kind : Given → Given → Bool
-of_one_kind (given.Number n) v = accepts kind.Int v
-of_one_kind given.Null (given.Number n) = false
-of_one_kind given.Null given.Null = true
-of_one_kind given.Null (given.Base d) = is_reference (kind_of d)
-of_one_kind (given.Base d) v = accepts (kind_of d) v
-
-abbrev pub comparable : Comparison → Given → Given → Bool
-comparable comparison.Equal v w = of_one_kind v w
-comparable comparison.NotEqual v w = of_one_kind v w
-comparable comparison.Less v w = accepts kind.Int v && accepts kind.Int w
-comparable comparison.LessOrEqual v w = accepts kind.Int v && accepts kind.Int w
-
-abbrev pub base_by : Denoted → Base
-base_by (denoted.Local i k) = base.Local i
-base_by (denoted.Global i r) = base.Global i
-
-abbrev pub value_at : Denoted → Value
-value_at (denoted.Local i k) = value.Local i
-value_at (denoted.Global i r) = value.Global i
-
-abbrev pub value_by : Given → Value
-value_by (given.Number n) = value.Number n
-value_by given.Null = value.Null
-value_by (given.Base d) = value_at d
-
-abbrev pub field_looked : Option FieldAt → Looked
-field_looked None = looked.Missing
-field_looked (Some f) = looked.At f
-
-abbrev pub looked_in : Sight → Kind → List ℕ → Looked
-looked_in s kind.Int f = looked.OfInt
-looked_in s (kind.Record r) f = field_looked (field_of s r f)
-
--- the field of a base
-abbrev pub looked_of : Sight → Option Denoted → List ℕ → Looked
-looked_of s None f = looked.Missing
-looked_of s (Some d) f = looked_in s (kind_of d) f
+use Rattle.sect_types.specs.Sight.{Sight, place, names_of_records, base_of, operand_of}
+use Rattle.sect_types.specs.Sight.{looked_of}
+use Rattle.sect_types.specs.Kinds.{same_kind, accepts, comparable}
+use Rattle.sect_types.specs.Numbered.{base_by, value_by}
 
 abbrev pub well_typed : Bool → Action → Result Action Rule
 well_typed true a = Ok a
@@ -159,11 +99,11 @@ abbrev pub well_typed_test : Bool → Condition → Result Condition Rule
 well_typed_test true c = Ok c
 well_typed_test false c = Err WrongType
 
-abbrev pub condition_of : Option Given → Comparison → Option Given → Result Condition Rule
-condition_of (Some v) c (Some w) =
+abbrev pub compared_of : Option Given → Comparison → Option Given → Result Condition Rule
+compared_of (Some v) c (Some w) =
     well_typed_test (comparable c v w) (record { left = value_by v; comparison = c; right = value_by w })
-condition_of (Some v) c None = Err Unknown
-condition_of None c w = Err Unknown
+compared_of (Some v) c None = Err Unknown
+compared_of None c w = Err Unknown
 
 abbrev pub test_of : Sight → Test → Result Condition Rule
-test_of s t = condition_of (operand_of s t.left) t.comparison (operand_of s t.right)
+test_of s t = compared_of (operand_of s t.left) t.comparison (operand_of s t.right)

@@ -1,0 +1,41 @@
+-- Types as they are written: what can be set to what, and compared with what.
+use Rattle.std.specs.Prelude.{Bool, true, false, ◌&&◌}
+use Rattle.sect_front.specs.declared.tree.Kind.{Kind}
+use Rattle.sect_front.specs.declared.tree.Kind.TheVariants as kind
+use Rattle.sect_front.specs.declared.tree.Comparison.{Comparison}
+use Rattle.sect_front.specs.declared.tree.Comparison.TheVariants as comparison
+use Rattle.sect_types.specs.declared.resolve.Given.{Given}
+use Rattle.sect_types.specs.declared.resolve.Given.TheVariants as given
+use Rattle.sect_types.specs.Sight.{same_name, kind_of}
+
+abbrev pub same_kind : Kind → Kind → Bool
+same_kind kind.Int kind.Int = true
+same_kind kind.Int (kind.Record s) = false
+same_kind (kind.Record r) kind.Int = false
+same_kind (kind.Record r) (kind.Record s) = same_name r s
+
+abbrev pub is_reference : Kind → Bool
+is_reference kind.Int = false
+is_reference (kind.Record r) = true
+
+-- a place of that kind can hold it
+abbrev pub accepts : Kind → Given → Bool
+accepts kind.Int (given.Number n) = true
+accepts kind.Int given.Null = false
+accepts (kind.Record r) (given.Number n) = false
+accepts (kind.Record r) given.Null = true
+accepts k (given.Base d) = same_kind k (kind_of d)
+
+-- the two may be equal
+abbrev pub of_one_kind : Given → Given → Bool
+of_one_kind (given.Number n) v = accepts kind.Int v
+of_one_kind given.Null (given.Number n) = false
+of_one_kind given.Null given.Null = true
+of_one_kind given.Null (given.Base d) = is_reference (kind_of d)
+of_one_kind (given.Base d) v = accepts (kind_of d) v
+
+abbrev pub comparable : Comparison → Given → Given → Bool
+comparable comparison.Equal v w = of_one_kind v w
+comparable comparison.NotEqual v w = of_one_kind v w
+comparable comparison.Less v w = accepts kind.Int v && accepts kind.Int w
+comparable comparison.LessOrEqual v w = accepts kind.Int v && accepts kind.Int w

@@ -21,6 +21,7 @@ use Rattle.sect_infer.specs.Numberings.{lock_at}
 use Rattle.sect_infer.proofs.shared.Bounding.{named}
 use Rattle.sect_chains.specs.steps.Keeping.{KeptView, step_of, keep_one, keep_each}
 use Rattle.sect_graph.specs.Predecessors.{AreBefore}
+use Rattle.sect_chains.specs.steps.Ordering.{IsOrderOf}
 use Rattle.sect_chains.specs.steps.Working.{links_of, IsFoundAt, IsKept, Grows, IsGeneratedBy, IsGeneratedBelow}
 use Rattle.sect_chains.proofs.Growing.{grows_none, grows_as, grows_then, grows_at, grows_extended, grows_one}
 use Rattle.sect_chains.proofs.Growing.{grows_each, same_link}
@@ -56,17 +57,23 @@ module _ (s : SchemeView) (t : ℕ) (last : List Lock) (g : List Node) where
         let here = subst (λ k. slice_get g k ≡ Some z) h.0 h.1.1 in
         (tells x.lock).1 (subst (λ w. Generated s t w.label x.lock) (one_at g j z y here at) h.1.2)
 
+    -- nothing or one lock is generated
+    pub by_node_nothing : o ≡ None → (x : Link) → IsGeneratedBy s t g j x → ⊥
+    by_node_nothing none x h = (let q = at_node x h in absurd cc)
+
+    pub by_node_is : (l : Lock) → o ≡ Some l → (x : Link) → IsGeneratedBy s t g j x → x ≡ link j l
+    by_node_is l is x h = (let same : x.lock ≡ l = (let q = at_node x h in cc) in same_link x j l h.0 same)
+
     -- nothing
     pub by_node_none : (a : NumberingView) (w : KeptView) → IsKept s t last g a w → o ≡ None
         → Grows s t last g a w a w (IsGeneratedBy s t g j)
-    by_node_none a w k none = grows_none s t last g a w (IsGeneratedBy s t g j) k (λ x h. let q = at_node x h in
-        absurd cc)
+    by_node_none a w k none = grows_none s t last g a w (IsGeneratedBy s t g j) k (by_node_nothing none)
 
     -- a lock
     pub by_node_one : (a : NumberingView) (w : KeptView) (b : NumberingView) (v : KeptView) (l : Lock) → o ≡ Some l
         → Grows s t last g a w b v (λ x. x ≡ link j l) → Grows s t last g a w b v (IsGeneratedBy s t g j)
     by_node_one a w b v l is f = grows_as s t last g a w b v (λ x. x ≡ link j l) (IsGeneratedBy s t g j)
-        (λ x h. (let same : x.lock ≡ l = (let q = at_node x h in cc) in same_link x j l h.0 same)) f
+        (by_node_is l is) f
 
     pub generated_here : (l : Lock) → o ≡ Some l → IsGeneratedAt s t last g (link j l)
     generated_here l is = inl (y, at, (tells l).0 is)
@@ -118,27 +125,38 @@ module _ (s : SchemeView) (t : ℕ) (last : List Lock) (g : List Node) where
     | inr e ↦ f.each x e
   ]
 
+  -- each number that is found is that of a lock that is carried back
+  pub carried_lock : (a b : NumberingView) (y : Node) (x : Link) (ms : List ℕ)
+      → Finds s a [] b ms (CarriedBack s t y.label x.lock) → (n : ℕ) → Has ms n
+      → CarriedBack s t y.label x.lock (lock_at b.keys n)
+  carried_lock a b y x ms finds n h =
+      elim (finds.only (lock_at b.keys n) (n, h, named b.keys n (finds.finding.numbers n h))) [
+        | inl old ↦ absurd old.1
+        | inr c ↦ c
+      ]
+
   -- what is carried back over a node of the lock of a kept step
-  pub carried_to : (a : NumberingView) (w : KeptView) (b : NumberingView) (j i : ℕ) (y : Node) (x : Link) (ns : List ℕ)
-      → IsKept s t last g a w
+  pub carried_to : (a : NumberingView) (w : KeptView) (b : NumberingView) (j i : ℕ) (y : Node) (x : Link)
+      (ms ns : List ℕ) → IsKept s t last g a w
       → slice_get g j ≡ Some y → LeadsTo y x.node → slice_get (links_of a.keys w.steps) i ≡ Some x
-      → Finds s a [] b ns (CarriedBack s t y.label x.lock)
+      → Finds s a [] b ms (CarriedBack s t y.label x.lock) → IsOrderOf b.keys ms ns
       → Grows s t last g a w b (keep_each b.above w j (Some i) ns) (λ z. (z.node ≡ j)
       × CarriedBack s t y.label x.lock z.lock)
-  carried_to a w b j i y x ns k at leads kept finds =
+  carried_to a w b j i y x ms ns k at leads kept finds order =
       let longer = grows_extended s t last g a w b k finds.longer finds.finding.numbering in
       let stays = grows_at s t last g a w b w (λ z. ⊥) k longer i x kept in
       let v = keep_each b.above w j (Some i) ns in
       let within = slice_get_within g j y at in
-      let of : (n : ℕ) → Has ns n → CarriedBack s t y.label x.lock (lock_at b.keys n)
-      = λ n h. elim (finds.only (lock_at b.keys n) (n, h, named b.keys n (finds.finding.numbers n h))) [
-        | inl old ↦ absurd old.1
-        | inr c ↦ c
-      ] in
+      let of = carried_lock a b y x ms finds in
       let each = grows_each s t last g b w longer.kept j (Some i) (omega (arith, within, k.count)) ns
-      (λ n h. (lock_at b.keys n, named b.keys n (finds.finding.numbers n h), (x, stays, (y, at, leads, of n h)))) in
+      (λ n h. (
+        lock_at b.keys n,
+        named b.keys n (finds.finding.numbers n (order.same n h)),
+        (x, stays, (y, at, leads, of n (order.same n h))),
+      )) in
       grows_as s t last g a w b v (λ z. ⊥ ⊎ ((z.node ≡ j) × HasLock b.keys ns z.lock))
-      (λ z. (z.node ≡ j) × CarriedBack s t y.label x.lock z.lock) (λ z h. inr (h.0, finds.each z.lock h.1))
+      (λ z. (z.node ≡ j) × CarriedBack s t y.label x.lock z.lock)
+      (λ z h. (let m = finds.each z.lock h.1 in inr (h.0, (m.0, order.all m.0 m.1, m.2))))
       (grows_then s t last g a w b w b v (λ z. ⊥) (λ z. (z.node ≡ j) × HasLock b.keys ns z.lock) longer each)
 
   module _ (b : Link) (nodes : List ℕ) (before : AreBefore g b.node nodes) where
@@ -156,6 +174,16 @@ module _ (s : SchemeView) (t : ℕ) (last : List Lock) (g : List Node) where
         → Grows s t last g a w a w (LinksFromFirst 0)
     carry_none a w k = grows_none s t last g a w (LinksFromFirst 0) k (λ x h. h.0)
 
+    -- a step at one of the first nodes and one more is at one of the first, or at that one
+    pub links_next : (i j : ℕ) → i < length nodes → j ≡ get_or nodes i j → (y : Node) → slice_get g j ≡ Some y
+        → (x : Link) → LinksFromFirst (i + 1) x
+        → LinksFromFirst i x ⊎ ((x.node ≡ j) × CarriedBack s t y.label b.lock x.lock)
+    links_next i j within is y at x h = elim (last_of nodes i j x.node within is h.0) [
+      | inl old ↦ inl (old, h.1)
+      | inr e ↦ (let same = one_at g j h.1.0 y (subst (λ k. slice_get g k ≡ Some h.1.0) e h.1.1) at in
+          inr (e, subst (λ z. CarriedBack s t z.label b.lock x.lock) same h.1.3))
+    ]
+
     -- those at one node more
     pub carry_next : (a : NumberingView) (w : KeptView) (c : NumberingView) (v : KeptView) (d : NumberingView)
         (u : KeptView)
@@ -168,18 +196,18 @@ module _ (s : SchemeView) (t : ℕ) (last : List Lock) (g : List Node) where
         let found = (before j).0 (subst (Has nodes) (sym is) (Has-get_or nodes i j within)) in
         let y = found.0 in
         grows_as s t last g a w d u (λ x. LinksFromFirst i x ⊎ ((x.node ≡ j) × CarriedBack s t y.label b.lock x.lock))
-        (LinksFromFirst (i + 1))
-        (λ x h. elim (last_of nodes i j x.node within is h.0) [
-          | inl old ↦ inl (old, h.1)
-          | inr e ↦ (let same = one_at g j h.1.0 y (subst (λ k. slice_get g k ≡ Some h.1.0) e h.1.1) found.1 in
-              inr (e, subst (λ z. CarriedBack s t z.label b.lock x.lock) same h.1.3))
-        ])
+        (LinksFromFirst (i + 1)) (links_next i j within is y found.1)
         (grows_then s t last g a w c v d u (LinksFromFirst i) (λ x. (x.node ≡ j)
         × CarriedBack s t y.label b.lock x.lock)
         f (k y found.1))
+
+    -- each step that links to this one is at one of all of them
+    pub links_all : (i : ℕ) → length nodes ≤ i → (x : Link) → LinksTo s t g x b → LinksFromFirst i x
+    links_all i past x h =
+        (subst (λ l. Has l x.node) (sym (take_all i nodes past)) ((before x.node).1 (h.0, h.1, h.2)), h)
 
     -- those at all of them
     pub carry_done : (a : NumberingView) (w : KeptView) (c : NumberingView) (v : KeptView) (i : ℕ) → length nodes ≤ i
         → Grows s t last g a w c v (LinksFromFirst i) → Grows s t last g a w c v (λ x. LinksTo s t g x b)
     carry_done a w c v i past f = grows_as s t last g a w c v (LinksFromFirst i) (λ x. LinksTo s t g x b)
-        (λ x h. (subst (λ l. Has l x.node) (sym (take_all i nodes past)) ((before x.node).1 (h.0, h.1, h.2)), h)) f
+        (links_all i past) f

@@ -36,7 +36,7 @@ pub same_link : (x : Link) (j : ℕ) (l : Lock) → x.node ≡ j → x.lock ≡ 
 same_link x j l e f = ap (λ n. link n x.lock) e ∙ ap (link j) f
 
 -- steps stand for the same where the numbering is extended
-links_same : (a b : NumberingView) → Extends a b → (steps : List KeptLink)
+pub links_same : (a b : NumberingView) → Extends a b → (steps : List KeptLink)
     → ((x : KeptLink) → Has steps x → x.number < length a.keys) → links_of b.keys steps ≡ links_of a.keys steps
 links_same a b e [] within = refl
 links_same a b e (x ∷ xs) within =
@@ -186,7 +186,7 @@ module _ (s : SchemeView) (t : ℕ) (last : List Lock) (g : List Node) where
       (why.0 ∷ r.0, (why.2, r.1))
 
   -- a reason stays one where more is kept
-  reason_more : (a : NumberingView) (old new : List KeptLink) → ((more : List KeptLink) × (new ≡ old ++ more))
+  pub reason_more : (a : NumberingView) (old new : List KeptLink) → ((more : List KeptLink) × (new ≡ old ++ more))
       → (x : Link) (o : Option ℕ)
       → IsReason s t last g (links_of a.keys old) x o → IsReason s t last g (links_of a.keys new) x o
   reason_more a old new grown x None why = why

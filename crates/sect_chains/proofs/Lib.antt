@@ -5,5 +5,10 @@ mod Carrying
 mod Working
 mod Meaning
 mod Trails
+mod Firsts
+mod Adding
+mod Spreading
+mod Listing
 mod Starting
 mod Chaining
+pub mod shared

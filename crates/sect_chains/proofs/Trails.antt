@@ -56,7 +56,7 @@ module _ (s : SchemeView) (t : ℕ) (last : List Lock) (g : List Node) where
     }
 
     -- the steps behind one are linked
-    behind_linked : (i : ℕ) (a : Link) (links : List Link) → slice_get kept i ≡ Some a → AreBehind kept next i links
+    pub behind_linked : (i : ℕ) (a : Link) (links : List Link) → slice_get kept i ≡ Some a → AreBehind kept next i links
         → AreLinked s t last g a links
     behind_linked i a [] at to = leads.each i a None at to
     behind_linked i a (b ∷ links) at (j, to, there, h) =

@@ -3,3 +3,4 @@ pub mod Trails
 pub mod Keeping
 pub mod Working
 pub mod Starting
+pub mod Ordering

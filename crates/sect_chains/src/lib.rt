@@ -3,6 +3,7 @@
 
 mod chain;
 mod keep;
+mod order;
 mod section;
 mod starts;
 mod trail;

@@ -1,6 +1,6 @@
 //! The chains of a section.
 
-ghost use Rattle.std.specs.Prelude.{◌≡◌, ◌<◌, List, length, slice_get, Some, IfOk};
+ghost use Rattle.std.specs.Prelude.{◌≡◌, ◌<◌, ◌≤◌, List, length, slice_get, Some, IfOk};
 ghost use Rattle.sect_lemmas.specs.Lists.{Has};
 ghost use Rattle.sect_types.specs.Sections.{SectionView, sections_of};
 ghost use Rattle.sect_graph.specs.declared.flow.Node.{Node};
@@ -30,8 +30,9 @@ use sect_names::{
 };
 use std::alloc::{AllocError, Global};
 
-/// For each lock that a section takes at its entry, in order, the steps along which it is needed. `AllocError` is
-/// answered only where a growth was refused.
+/// For each lock that a section takes at its entry, in order, the steps along which it is needed: its first chain. That
+/// is the shortest, and of those that are as short the one that stands before the others, compared from their ends by
+/// nodes and by the canonical order of locks. `AllocError` is answered only where a growth was refused.
 pub fn chains(
     alloc: Global,
     scheme: &Scheme,
@@ -113,12 +114,13 @@ fn needed_locks_have_trails(scheme: &Scheme, locks: &Locks, section: u16)
     let _ = locks.entry();
 }
 
-/// A chain for each of these locks.
+/// The first chain of each of these locks.
 fn found(alloc: Global, section: Searched<'_>, locks: &[Lock]) -> Result<Vec<Chain>, AllocError>
     requires within { StaysWithin section.flow.now }
     requires lawful { AreLawful section.scheme.now section.thread section.last.now section.flow.now }
     requires respects { RespectCover section.scheme.now section.thread section.flow.now }
     requires tops { AreTops section.scheme.now section.thread section.last.now section.flow.now locks.now }
+    requires few { length section.last.now ≤ 1 }
     ensures { IfOk result (λ chains.
         AreChains section.entry.scheme.now section.entry.thread section.entry.last.now section.entry.flow.now
         locks.now chains.items) }

@@ -1,12 +1,13 @@
 //! What is needed at the nodes of a section's graph, with where each lock was carried back from.
 
-ghost use Rattle.std.specs.Prelude.{◌≡◌, ◌<◌, length, slice_get, Some, IfOk};
+ghost use Rattle.std.specs.Prelude.{◌≡◌, ◌<◌, ◌≤◌, length, slice_get, Some, IfOk};
 ghost use Rattle.sect_lemmas.specs.Lists.{Has};
 ghost use Rattle.sect_chains.specs.declared.keep.KeptLink.{KeptLink};
 ghost use Rattle.sect_names.specs.Laws.{AreLawful};
 ghost use Rattle.sect_chains.specs.steps.Trails.{RespectCover, GoBack, AreFrom};
 ghost use Rattle.sect_graph.specs.Predecessors.{StaysWithin};
-ghost use Rattle.sect_chains.specs.steps.Working.{links_of, nexts_of, IsSearched};
+ghost use Rattle.sect_chains.specs.steps.Working.{links_of, nexts_of};
+ghost use Rattle.sect_chains.specs.steps.Ordering.{IsSearched};
 
 use crate::work::{Searched, Trail, carry, generated};
 use sect_graph::predecessors_of;
@@ -15,11 +16,13 @@ use sect_names::Link;
 use std::alloc::{AllocError, Global};
 
 /// What is needed from each node of a section's graph on, and why: what the nodes and the section's end generate, and
-/// what is carried back from where control may go on, but for locks that another covers which was found before.
+/// what is carried back from where control may go on, but for locks that another covers which was found before. The
+/// search goes breadth first, so that each lock of the entry is found along its first chain.
 pub fn trail_of(alloc: Global, section: Searched<'_>) -> Result<Trail, AllocError>
     requires within { StaysWithin section.flow.now }
     requires lawful { AreLawful section.scheme.now section.thread section.last.now section.flow.now }
     requires respects { RespectCover section.scheme.now section.thread section.flow.now }
+    requires few { length section.last.now ≤ 1 }
     ensures { IfOk result (IsSearched section.entry.scheme.now section.entry.thread section.entry.last.now
         section.entry.flow.now) }
 {

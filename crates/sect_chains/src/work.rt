@@ -1,6 +1,7 @@
 //! The search for what is needed at the nodes of a section's graph (Kildall).
 
-ghost use Rattle.std.specs.Prelude.{◌≡◌, ◌<◌, ℕ, [], length, slice_get, Some, slice_index_or, IfOk, OnOk};
+ghost use Rattle.std.specs.Prelude.{◌≡◌, ◌<◌, ◌≤◌, ⊤, ℕ, [], length, slice_get, Some, None, slice_index_or};
+ghost use Rattle.std.specs.Prelude.{IfOk, OnOk};
 ghost use Rattle.sect_lemmas.specs.Lists.{Has};
 ghost use Rattle.sect_graph.specs.declared.flow.Node.{Node};
 ghost use Rattle.sect_graph.specs.Paths.{LeadsTo};
@@ -13,8 +14,11 @@ ghost use Rattle.sect_names.specs.Laws.{AreLawful};
 ghost use Rattle.sect_graph.specs.Predecessors.{AreBefore};
 ghost use Rattle.sect_chains.specs.steps.Working.{links_of, IsWork, GoesOn, IsGeneratedBy};
 ghost use Rattle.sect_chains.specs.steps.Working.{IsGeneratedBelow, HasAllGenerated};
+ghost use Rattle.sect_chains.specs.steps.Ordering.{IsInOrder, AllBefore, AddsTo, LinkBelow, BeginsInOrder};
+ghost use Rattle.sect_graph.specs.Predecessors.{IsAscending};
 
 use crate::keep::{KeptLink, keep, keep_all};
+use crate::order::in_order;
 use sect_graph::Flow;
 use sect_infer::{Numbering, Numbers, carry_one};
 use sect_names::{Link, Lock, Scheme};
@@ -62,9 +66,13 @@ fn put(
     requires generated { IsGeneratedAt section.scheme.now section.thread section.last.now section.flow.now
         (link node lock.now) }
     requires work { IsWork section.scheme.now section.thread section.last.now section.flow.now trail.old }
-    ensures { OnOk result (GoesOn section.entry.scheme.now section.entry.thread section.entry.last.now
+    requires sorted { IsInOrder trail.old }
+    requires before { AllBefore trail.old None (link node lock.now) }
+    ensures kept { OnOk result (GoesOn section.entry.scheme.now section.entry.thread section.entry.last.now
         section.entry.flow.now trail.old trail.new
         (λ a. a ≡ link node lock.now)) }
+    ensures order { OnOk result (AddsTo section.entry.scheme.now trail.old trail.new None
+        (λ a. a ≡ link node lock.now) (λ a. a ≡ link node lock.now)) }
 {
     let number = trail.numbering.number(alloc, section.scheme, lock)?;
     let step = KeptLink {
@@ -84,7 +92,11 @@ fn put_by_node(
 ) -> Result<(), AllocError>
     requires node { node < length section.flow.now }
     requires work { IsWork section.scheme.now section.thread section.last.now section.flow.now trail.old }
-    ensures { OnOk result (GoesOn section.entry.scheme.now section.entry.thread section.entry.last.now
+    requires sorted { IsInOrder trail.old }
+    requires before { (l : Lock) → AllBefore trail.old None (link node l) }
+    ensures order { OnOk result (AddsTo section.entry.scheme.now trail.old trail.new None (λ a. a.node ≡ node)
+        (IsGeneratedBy section.entry.scheme.now section.entry.thread section.entry.flow.now node)) }
+    ensures kept { OnOk result (GoesOn section.entry.scheme.now section.entry.thread section.entry.last.now
         section.entry.flow.now trail.old trail.new
         (IsGeneratedBy section.entry.scheme.now section.entry.thread section.entry.flow.now node)) }
 {
@@ -97,8 +109,13 @@ fn put_by_node(
 
 /// Keeps the steps of what the nodes generate.
 fn put_by_nodes(alloc: Global, section: Searched<'_>, trail: &mut Trail) -> Result<(), AllocError>
-    requires { IsWork section.scheme.now section.thread section.last.now section.flow.now trail.old }
-    ensures { OnOk result (GoesOn section.entry.scheme.now section.entry.thread section.entry.last.now
+    requires work { IsWork section.scheme.now section.thread section.last.now section.flow.now trail.old }
+    requires none { trail.old.steps.items ≡ [] }
+    ensures order { OnOk result (AddsTo section.entry.scheme.now trail.old trail.new None
+        (λ a. a.node < length section.entry.flow.now)
+        (IsGeneratedBelow section.entry.scheme.now section.entry.thread section.entry.flow.now
+        (length section.entry.flow.now))) }
+    ensures kept { OnOk result (GoesOn section.entry.scheme.now section.entry.thread section.entry.last.now
         section.entry.flow.now trail.old trail.new
         (IsGeneratedBelow section.entry.scheme.now section.entry.thread section.entry.flow.now
         (length section.entry.flow.now))) }
@@ -112,7 +129,13 @@ fn put_by_nodes(alloc: Global, section: Searched<'_>, trail: &mut Trail) -> Resu
 /// Keeps the steps of what the section's end generates.
 fn put_at_end(alloc: Global, section: Searched<'_>, trail: &mut Trail) -> Result<(), AllocError>
     requires work { IsWork section.scheme.now section.thread section.last.now section.flow.now trail.old }
-    ensures { OnOk result (GoesOn section.entry.scheme.now section.entry.thread section.entry.last.now
+    requires few { length section.last.now ≤ 1 }
+    requires sorted { IsInOrder trail.old }
+    requires before { (l : Lock) → AllBefore trail.old None (link (length section.flow.now) l) }
+    ensures order { OnOk result (AddsTo section.entry.scheme.now trail.old trail.new None
+        (λ a. a.node ≡ length section.entry.flow.now)
+        (λ a. (a.node ≡ length section.entry.flow.now) × Has section.entry.last.now a.lock)) }
+    ensures kept { OnOk result (GoesOn section.entry.scheme.now section.entry.thread section.entry.last.now
         section.entry.flow.now trail.old trail.new
         (λ a. (a.node ≡ length section.entry.flow.now) × Has section.entry.last.now a.lock)) }
 {
@@ -124,9 +147,12 @@ fn put_at_end(alloc: Global, section: Searched<'_>, trail: &mut Trail) -> Result
 
 /// The steps of what the nodes generate, and the section's end.
 pub fn generated(alloc: Global, section: Searched<'_>) -> Result<Trail, AllocError>
+    requires { length section.last.now ≤ 1 }
     ensures work { IfOk result (λ trail. IsWork section.entry.scheme.now section.entry.thread section.entry.last.now
         section.entry.flow.now trail) }
     ensures all { IfOk result (λ trail. HasAllGenerated section.entry.scheme.now section.entry.thread
+        section.entry.last.now section.entry.flow.now trail) }
+    ensures order { IfOk result (λ trail. BeginsInOrder section.entry.scheme.now section.entry.thread
         section.entry.last.now section.entry.flow.now trail) }
 {
     let mut trail = Trail {
@@ -139,7 +165,7 @@ pub fn generated(alloc: Global, section: Searched<'_>) -> Result<Trail, AllocErr
     Ok(trail)
 }
 
-/// Keeps the steps at a node that link to the one at an index.
+/// Keeps the steps at a node that link to the one at an index, in the canonical order of their locks.
 fn carry_to(
     alloc: Global,
     section: Searched<'_>,
@@ -154,7 +180,13 @@ fn carry_to(
         → slice_get trail.old.steps.items index ≡ Some x → LeadsTo y x.node }
     requires lawful { AreLawful section.scheme.now section.thread section.last.now section.flow.now }
     requires work { IsWork section.scheme.now section.thread section.last.now section.flow.now trail.old }
-    ensures { OnOk result ((y : Node) (b : Link) → slice_get section.entry.flow.now node ≡ Some y
+    requires sorted { IsInOrder trail.old }
+    requires before { (l : Lock) → AllBefore trail.old (Some index) (link node l) }
+    ensures order { OnOk result ((y : Node) (b : Link) → slice_get section.entry.flow.now node ≡ Some y
+        → slice_get (links_of trail.old.numbering.keys trail.old.steps.items) index ≡ Some b
+        → AddsTo section.entry.scheme.now trail.old trail.new (Some index) (λ a. a.node ≡ node)
+        (λ a. (a.node ≡ node) × CarriedBack section.entry.scheme.now section.entry.thread y.label b.lock a.lock)) }
+    ensures kept { OnOk result ((y : Node) (b : Link) → slice_get section.entry.flow.now node ≡ Some y
         → slice_get (links_of trail.old.numbering.keys trail.old.steps.items) index ≡ Some b
         → GoesOn section.entry.scheme.now section.entry.thread section.entry.last.now
         section.entry.flow.now trail.old trail.new
@@ -172,17 +204,18 @@ fn carry_to(
         fresh,
         number,
     )?;
+    let numbers = in_order(alloc, &trail.numbering, fresh.members())?;
     keep_all(
         &trail.numbering,
         &mut trail.found,
         &mut trail.steps,
         node,
         Some(index),
-        fresh.members(),
+        numbers.as_slice(),
     )
 }
 
-/// Keeps the steps that link to the one at an index, at the nodes from which control may go on to its own.
+/// Keeps the steps that link to the one at an index, at the nodes from which control may go on to its own, in order.
 pub fn carry(
     alloc: Global,
     section: Searched<'_>,
@@ -194,9 +227,16 @@ pub fn carry(
     requires index { index < length trail.old.steps.items }
     requires before { (x : KeptLink) → slice_get trail.old.steps.items index ≡ Some x
         → AreBefore section.flow.now x.node predecessors.now }
+    requires ascending { IsAscending predecessors.now }
     requires lawful { AreLawful section.scheme.now section.thread section.last.now section.flow.now }
     requires work { IsWork section.scheme.now section.thread section.last.now section.flow.now trail.old }
-    ensures { OnOk result ((b : Link)
+    requires sorted { IsInOrder trail.old }
+    requires below { LinkBelow trail.old index }
+    ensures order { OnOk result ((b : Link)
+        → slice_get (links_of trail.old.numbering.keys trail.old.steps.items) index ≡ Some b
+        → AddsTo section.entry.scheme.now trail.old trail.new (Some index) (λ a. ⊤)
+        (λ a. LinksTo section.entry.scheme.now section.entry.thread section.entry.flow.now a b)) }
+    ensures kept { OnOk result ((b : Link)
         → slice_get (links_of trail.old.numbering.keys trail.old.steps.items) index ≡ Some b
         → GoesOn section.entry.scheme.now section.entry.thread section.entry.last.now
         section.entry.flow.now trail.old trail.new

@@ -51,7 +51,7 @@ module _ (s : SchemeView) (t : ℕ) (last : List Lock) (g : List Node) (lawful :
   chains_lawful (l ∷ ls) [] h links has = absurd h
   chains_lawful (l ∷ ls) (c ∷ cs) h links has = elim has [
     | inl e ↦ subst (λ (k : List Link). (k ≢ []) × ((a : Link) → Has k a → IsLockOf s t a.lock)) e
-        (chain_lawful l c h.0)
+        (chain_lawful l c h.0.is)
     | inr k ↦ chains_lawful ls cs h.1 links k
   ]
 

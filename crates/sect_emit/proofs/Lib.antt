@@ -19,3 +19,4 @@ mod Numbered
 mod Graphed
 mod Explained
 pub mod shared
+mod OneCertificate

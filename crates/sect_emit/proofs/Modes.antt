@@ -6,34 +6,7 @@ use Rattle.sect_names.specs.declared.lock.Effect.{Effect}
 use Rattle.sect_names.specs.declared.lock.Effect.TheVariants as effect
 use Rattle.sect_emit.specs.Plan.{intended, object_mode}
 use Rattle.sect_emit.specs.ModeTests.{is_reading_object}
-use Rattle.sect_emit.proofs.shared.Modes.{all_modes, each_mode, if_then, holds, at_least_along}
-
--- a mode is at least itself
-pub at_least_itself : (m : Mode) → is_at_least m m ≡ true
-at_least_itself = each_mode (λ m. is_at_least m m) refl
-
--- a join is at least the first
-pub join_left : (a b : Mode) → is_at_least (join_of a b) a ≡ true
-join_left a = each_mode (λ b. is_at_least (join_of a b) a)
-    (each_mode (λ a. all_modes (λ b. is_at_least (join_of a b) a)) refl a)
-
--- and the second
-pub join_right : (a b : Mode) → is_at_least (join_of a b) b ≡ true
-join_right a = each_mode (λ b. is_at_least (join_of a b) b)
-    (each_mode (λ a. all_modes (λ b. is_at_least (join_of a b) b)) refl a)
-
--- and no more than it must be
-pub join_least : (a b c : Mode) → is_at_least c a ≡ true → is_at_least c b ≡ true → is_at_least c (join_of a b) ≡ true
-join_least a b c e f = holds _ _
-    (holds _ _ (each_mode (λ c. if_then (is_at_least c a) (if_then (is_at_least c b) (is_at_least c (join_of a b))))
-    (table a b) c) e) f where
-      table : (a b : Mode) → all_modes
-          (λ c. if_then (is_at_least c a) (if_then (is_at_least c b) (is_at_least c (join_of a b)))) ≡ true
-      table a = each_mode (λ b. all_modes
-          (λ c. if_then (is_at_least c a) (if_then (is_at_least c b) (is_at_least c (join_of a b)))))
-          (each_mode
-          (λ a. all_modes (λ b. all_modes
-          (λ c. if_then (is_at_least c a) (if_then (is_at_least c b) (is_at_least c (join_of a b)))))) refl a)
+use Rattle.sect_emit.proofs.shared.Modes.{all_modes, each_mode, if_then, holds, at_least_along, join_least}
 
 same_mode_of_intentions : (a b : Mode)
     → is_at_least (join_of (intention_of a) (intention_of b)) (intention_of (join_of a b)) ≡ true

@@ -2,72 +2,17 @@
 use Rattle.std.proofs.Common.{◌≡◌, ℕ, Bool, true, false, refl, sym, ap, ◌∙◌, subst, inl, inr, true≢false, List, []}
 use Rattle.std.proofs.Common.{◌∷◌}
 use Rattle.sect_lemmas.proofs.Membership.{Has-cases, Has-left, Has-right}
-use Rattle.std.specs.Prelude.{if◌then◌else◌}
 use Rattle.sect_lemmas.specs.Lists.{Has}
 use Rattle.sect_names.specs.declared.lock.Lock.{Lock}
 use Rattle.sect_names.specs.declared.lock.Lock.TheVariants as lock
 use Rattle.sect_names.specs.declared.lock.Effect.{Effect}
 use Rattle.sect_names.specs.declared.lock.Effect.TheVariants as effect
 use Rattle.sect_names.specs.Schemes.{SchemeView}
-use Rattle.sect_modes.specs.declared.mode.Mode.{Mode}
 use Rattle.sect_modes.specs.declared.key.Key.{Key}
 use Rattle.sect_modes.specs.declared.key.Key.TheVariants as key
-use Rattle.sect_modes.specs.Mode.{is_at_least, join_of, intention_of}
-use Rattle.sect_modes.specs.Key.{is_same_key, is_key_below}
+use Rattle.sect_modes.specs.Mode.{intention_of}
 use Rattle.sect_emit.specs.declared.plan.Grip.{Grip}
-use Rattle.sect_emit.specs.Plan.{grip, with_grip, gathered, class_mode, intended, AreWishesFor, AreFixedWishes}
-use Rattle.sect_emit.proofs.shared.Keys.{same_key}
-use Rattle.sect_emit.proofs.Modes.{at_least_itself, join_left, join_right}
-use Rattle.sect_emit.proofs.shared.Modes.{at_least_along}
-
--- a wish is met in what is gathered
-with_grip-meets : (g : Grip) (hs : List Grip) → (m : Mode) × Has (with_grip g hs) (grip g.key m)
-    × (is_at_least m g.mode ≡ true)
-with_grip-meets g [] = (g.mode, inl refl, at_least_itself g.mode)
-with_grip-meets g (h ∷ hs) = by (is_same_key g.key h.key) refl (is_key_below g.key h.key) (with_grip-meets g hs) where
-  by : (x : Bool) → is_same_key g.key h.key ≡ x → (y : Bool) → (m : Mode) × Has (with_grip g hs) (grip g.key m)
-      × (is_at_least m g.mode ≡ true)
-      → (m : Mode) × Has (if x then grip h.key (join_of g.mode h.mode) ∷ hs else if y then g ∷ h ∷ hs else h ∷ with_grip
-      g hs) (grip g.key m) × (is_at_least m g.mode ≡ true)
-  by true e y more = (
-    join_of g.mode h.mode,
-    inl (ap (λ k. grip k (join_of g.mode h.mode)) (sym (same_key g.key h.key e))),
-    join_left g.mode h.mode,
-  )
-  by false e true more = (g.mode, inl refl, at_least_itself g.mode)
-  by false e false more = (more.0, inr more.1, more.2)
-
-with_grip-keeps : (g : Grip) (hs : List Grip) (x : Grip) → Has hs x → (m : Mode) × Has (with_grip g hs) (grip x.key m)
-    × (is_at_least m x.mode ≡ true)
-with_grip-keeps g [] x h = absurd h
-with_grip-keeps g (h ∷ hs) x has =
-    by (is_same_key g.key h.key) (is_key_below g.key h.key) has (with_grip-keeps g hs x) where
-      by : (a b : Bool) → Has (h ∷ hs) x
-          → (Has hs x → (m : Mode) × Has (with_grip g hs) (grip x.key m) × (is_at_least m x.mode ≡ true))
-          → (m : Mode) × Has (if a then grip h.key (join_of g.mode h.mode) ∷ hs else if b then g ∷ h ∷ hs else h
-          ∷ with_grip
-          g hs) (grip x.key m) × (is_at_least m x.mode ≡ true)
-      by true b (inl e) more = (
-        join_of g.mode h.mode,
-        inl (ap (λ y. grip y.key (join_of g.mode h.mode)) e),
-        subst (λ y. is_at_least (join_of g.mode h.mode) y.mode ≡ true) e (join_right g.mode h.mode),
-      )
-      by true b (inr i) more = (x.mode, inr i, at_least_itself x.mode)
-      by false true i more = (x.mode, inr i, at_least_itself x.mode)
-      by false false (inl e) more = (x.mode, inl e, at_least_itself x.mode)
-      by false false (inr i) more = let m = more i in (m.0, inr m.1, m.2)
-
--- and meets each wish
-pub gathered_meets : (gs : List Grip) (g : Grip) → Has gs g → (m : Mode) × Has (gathered gs) (grip g.key m)
-    × (is_at_least m g.mode ≡ true)
-gathered_meets [] g h = absurd h
-gathered_meets (x ∷ gs) g (inl e) =
-    subst (λ y. (m : Mode) × Has (with_grip x (gathered gs)) (grip y.key m) × (is_at_least m y.mode ≡ true)) e
-    (with_grip-meets x (gathered gs))
-gathered_meets (x ∷ gs) g (inr h) =
-    let m = gathered_meets gs g h in
-    let n = with_grip-keeps x (gathered gs) (grip g.key m.0) m.1 in
-    (n.0, n.1, at_least_along n.0 m.0 g.mode n.2 m.2)
+use Rattle.sect_emit.specs.Plan.{grip, class_mode, intended, AreWishesFor, AreFixedWishes}
 
 abbrev is_all : Key → Bool
 is_all key.All = true

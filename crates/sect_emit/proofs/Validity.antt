@@ -70,7 +70,7 @@ module _ (s : SchemeView) (t : ℕ) (last : List Lock) where
   has_chain g n (k ∷ ls) [] h i l at = absurd h
   has_chain g n (k ∷ ls) (c ∷ cs) h zero l at =
       let same : k ≡ l = cc in
-      (record { lock = n; links = c }, inl refl, omega arith, subst (λ m. IsChain s t last g m c) same h.0)
+      (record { lock = n; links = c }, inl refl, omega arith, subst (λ m. IsChain s t last g m c) same h.0.is)
   has_chain g n (k ∷ ls) (c ∷ cs) h (suc i) l at =
       let r = has_chain g (n + 1) ls cs h.1 i l at in
       (r.0, inr r.1, (let e = r.2 in omega (arith, e)), r.3)

@@ -10,6 +10,7 @@ ghost use Rattle.sect_names.specs.Needed.{end_of};
 ghost use Rattle.sect_chains.specs.Chains.{AreChains};
 ghost use Rattle.sect_check.specs.Valid.{IsValid};
 ghost use Rattle.sect_emit.specs.Compiled.{IsCompiled, AreSetsLeast};
+ghost use Rattle.sect_cert.specs.declared.certificate.Cert.{Cert};
 ghost use Rattle.sect_emit.specs.Certificates.{IsCertificateOf};
 ghost use Rattle.sect_emit.specs.Words.{IsChainNamed};
 
@@ -115,8 +116,8 @@ impl Compiled {
         self.parts[section as usize].as_slice()
     }
 
-    /// For each lock that a section takes at its entry, in order, its chain: the steps from the entry to where the lock
-    /// is generated. The certificate has the same.
+    /// For each lock that a section takes at its entry, in order, its first chain: the steps from the entry to where
+    /// the lock is generated. The certificate has the same.
     pub fn chains(&self, alloc: Global, section: u16) -> Result<Vec<Chain>, AllocError>
         requires { section < length (sections_of self.now.scheme.program.texts) }
         ensures chains { (of : SectionView) (g : List Node) (set : List Lock)
@@ -131,9 +132,12 @@ impl Compiled {
     }
 
     /// The certificate of the program: by the names of the text which locks are needed at each node and taken at each
-    /// entry, and along which steps. It is made when it is asked for, since it may be far larger than all else.
+    /// entry, and along which steps. It is the same each time. It is made when it is asked for, since it may be far
+    /// larger than all else.
     pub fn certificate(&self, alloc: Global) -> Result<Cert, AllocError>
         ensures certificate { IfOk result (IsCertificateOf self.now) }
+        // There is no other.
+        ensures only { IfOk result (λ cert. (other : Cert) → IsCertificateOf self.now other → other ≡ cert) }
         // The checker accepts it.
         ensures valid { IfOk result (IsValid self.now.scheme) }
     {

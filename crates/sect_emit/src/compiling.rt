@@ -62,11 +62,15 @@ pub fn compile_with<R: Threads + Wait + Sync>(
     Ok(planned(alloc, scheme, shared)?)
 }
 
-/// Is told of sections and does nothing.
+/// Has all workers started, is told of sections and does nothing.
 #[derive(Clone, Copy)]
 struct Unseen;
 
 impl Seen for Unseen {
+    fn starts(&self, _worker: u16) -> bool {
+        true
+    }
+
     fn at(&self, _section: u16) {}
 }
 

@@ -1,21 +1,95 @@
 -- Lists of predecessors.
-use Rattle.std.proofs.Common.{◌≡◌, ◌↔◌, ◌⊎◌, ℕ, ◌+◌, ◌<◌, ◌≤◌, List, [], length, inl, inr, sym, ◌∙◌, subst, arith, Some}
-use Rattle.std.specs.Prelude.{slice_index_or, slice_get, option_map}
-use Rattle.std.proofs.lemmas.Bool.{cases_lt}
+use Rattle.std.proofs.Common.{◌≡◌, ◌↔◌, ◌⊎◌, ℕ, ◌+◌, ◌<◌, ◌≤◌, List, [], ◌∷◌, ◌++◌, length, inl, inr, sym, ◌∙◌}
+use Rattle.std.proofs.Common.{subst, arith, Some, get_or, set}
+use Rattle.std.specs.Prelude.{slice_index_or, slice_get, slice_set, option_map}
+use Rattle.std.proofs.lemmas.Bool.{cases_lt, cases_eq}
+use Rattle.std.proofs.lemmas.List.{get_or-set_same, get_or-set_other}
 use Rattle.std.proofs.lemmas.Option.{slice_get_within}
 use Rattle.sect_lemmas.specs.Lists.{Has}
 use Rattle.sect_graph.specs.declared.flow.Node.{Node}
 use Rattle.sect_graph.specs.declared.flow.Successors.{Successors}
 use Rattle.sect_graph.specs.Paths.{LeadsTo, IsSuccessor}
 use Rattle.sect_graph.specs.Predecessors.{IsAdded}
-use Rattle.sect_graph.specs.Predecessors.{StaysWithin, AreAllBefore}
-use Rattle.sect_lemmas.proofs.Places.{told_at}
+use Rattle.sect_graph.specs.Predecessors.{StaysWithin, IsAscending, AreAllBefore}
+use Rattle.sect_lemmas.proofs.Membership.{Has-cases, Has-slice_get}
+use Rattle.sect_lemmas.proofs.Places.{told_at, pushed_at}
+
+-- each number is below those that follow it, and all are below this one
+pub record IsRising (j : ℕ) (ns : List ℕ) : Type 0 where
+  pub ascending : IsAscending ns
+  pub below : (n : ℕ) → Has ns n → n < j
+
+-- none
+rising_none : (j : ℕ) → IsRising j []
+rising_none j = record { ascending = λ i k m n lt at. absurd cc; below = λ n h. absurd h }
+
+-- the bound goes up
+rising_on : (j : ℕ) (ns : List ℕ) → IsRising j ns → IsRising (j + 1) ns
+rising_on j ns r = record { ascending = r.ascending; below = λ n h. (let lt = r.below n h in omega (arith, lt)) }
+
+-- the bound itself stands behind them
+rising_push : (j : ℕ) (ns : List ℕ) → IsRising j ns → IsRising (j + 1) (ns ++ j ∷ [])
+rising_push j ns r = record {
+  ascending = λ i k m n lt at_i at_k. elim (pushed_at ns j m i at_i) [
+    | inl e ↦ elim (pushed_at ns j n k at_k) [
+      | inl f ↦ absurd (omega (arith, lt, e.0, f.0))
+      | inr h ↦ absurd (omega (arith, lt, e.0, slice_get_within ns k n h))
+    ]
+    | inr h ↦ elim (pushed_at ns j n k at_k) [
+      | inl f ↦ (let less = r.below m (Has-slice_get ns i m h) in omega (arith, less, f.1))
+      | inr q ↦ r.ascending i k m n lt h q
+    ]
+  ];
+  below = λ n h. elim (Has-cases ns (j ∷ []) n h) [
+    | inl old ↦ (let lt = r.below n old in omega (arith, lt))
+    | inr one ↦ elim one [ inl e ↦ omega (arith, e) | inr none ↦ absurd none ]
+  ];
+}
+
+-- a number is put behind one of the lists
+rising_put : (j : ℕ) (lists : List (List ℕ)) (to : ℕ) → to < length lists
+    → IsRising j (slice_index_or lists to [])
+    → ((m : ℕ) → IsRising j (slice_index_or lists m []) ⊎ IsRising (j + 1) (slice_index_or lists m []))
+    → (m : ℕ) → IsRising (j + 1) (slice_index_or (slice_set lists to (slice_index_or lists to [] ++ j ∷ [])) m [])
+rising_put j lists to there here each m = elim (cases_eq m to) [
+  | inl e ↦ subst (λ k. IsRising (j + 1) (get_or (set lists to (slice_index_or lists to [] ++ j ∷ [])) k [])) (sym e)
+      (subst (IsRising (j + 1)) (sym (get_or-set_same lists to (slice_index_or lists to [] ++ j ∷ []) [] there))
+      (rising_push j (slice_index_or lists to []) here))
+  | inr other ↦ subst (IsRising (j + 1))
+      (sym (get_or-set_other lists to m (slice_index_or lists to [] ++ j ∷ []) [] other))
+      (elim (each m) [ inl r ↦ rising_on j (slice_index_or lists m []) r | inr r ↦ r ])
+]
+
+-- what stands elsewhere stays below the bound
+rising_beside : (j : ℕ) (lists : List (List ℕ)) (to other : ℕ) (new : List ℕ) → (other ≡ to → ⊥)
+    → IsRising j (slice_index_or lists other []) → IsRising j (slice_index_or (slice_set lists to new) other [])
+rising_beside j lists to other new apart r =
+    subst (IsRising j) (sym (get_or-set_other lists to other new [] apart)) r
+
+-- all lists rise where the bound is put behind one of them, and where it is put behind another one then
+pub rising_one : (j : ℕ) (old new : List (List ℕ)) (to : ℕ) → to < length old
+    → new ≡ slice_set old to (slice_index_or old to [] ++ j ∷ []) → ((m : ℕ) → IsRising j (slice_index_or old m []))
+    → (m : ℕ) → IsRising (j + 1) (slice_index_or new m [])
+rising_one j old new to there is each m =
+    subst (λ ls. IsRising (j + 1) (slice_index_or ls m [])) (sym is)
+    (rising_put j old to there (each to) (λ n. inl (each n)) m)
+
+pub rising_two : (j : ℕ) (old mid new : List (List ℕ)) (to other : ℕ) → to < length old → other < length mid
+    → (other ≡ to → ⊥) → mid ≡ slice_set old to (slice_index_or old to [] ++ j ∷ [])
+    → new ≡ slice_set mid other (slice_index_or mid other [] ++ j ∷ [])
+    → ((m : ℕ) → IsRising j (slice_index_or old m [])) → (m : ℕ) → IsRising (j + 1) (slice_index_or new m [])
+rising_two j old mid new to other there there_too apart is then each m =
+    let beside = subst (λ ls. IsRising j (slice_index_or ls other [])) (sym is)
+    (rising_beside j old to other (slice_index_or old to [] ++ j ∷ []) apart (each other)) in
+    subst (λ ls. IsRising (j + 1) (slice_index_or ls m [])) (sym then)
+    (rising_put j mid other there_too beside (λ n. inr (rising_one j old mid to there is each n)) m)
 
 -- each list has the predecessors that are below a node
 pub record AreBeforeSo (g : List Node) (j : ℕ) (lists : List (List ℕ)) : Type 0 where
   pub count : length lists ≡ length g + 1
   pub each : (m : ℕ) → m ≤ length g → (i : ℕ) → Has (slice_index_or lists m []) i
       ↔ ((i < j) × ((y : Node) × (slice_get g i ≡ Some y) × LeadsTo y m))
+  pub rising : (m : ℕ) → IsRising j (slice_index_or lists m [])
 
 -- no node is below the first
 pub before_none : (g : List Node) (lists : List (List ℕ)) → length lists ≡ length g + 1
@@ -23,6 +97,7 @@ pub before_none : (g : List Node) (lists : List (List ℕ)) → length lists ≡
 before_none g lists long none = record {
   count = long;
   each = λ m within i. (λ h. absurd (subst (λ l. Has l i) (none m) h), λ h. absurd (let a = h.0 in omega arith));
+  rising = λ m. subst (IsRising 0) (sym (none m)) (rising_none 0);
 }
 
 -- all nodes are below the exit
@@ -34,6 +109,7 @@ before_done g j lists past b = record {
     λ h. ((b.each m within i).0 h).1,
     λ h. (b.each m within i).1 (let w = slice_get_within g i h.0 h.1 in omega (arith, w, past), h),
   );
+  ascending = λ m. (b.rising m).ascending;
 }
 
 -- the successors of node j were added
@@ -41,9 +117,11 @@ pub before_next : (g : List Node) (j : ℕ) (y : Node) (old new : List (List ℕ
     → length new ≡ length old
     → ((m : ℕ) → m < length old → (x : ℕ) → Has (slice_index_or new m []) x
     ↔ (Has (slice_index_or old m []) x ⊎ (IsSuccessor y.next m × (x ≡ j))))
+    → ((m : ℕ) → IsRising (j + 1) (slice_index_or new m []))
     → AreBeforeSo g j old → AreBeforeSo g (j + 1) new
-before_next g j y old new at long added b = record {
+before_next g j y old new at long added rising b = record {
   count = long ∙ b.count;
+  rising = rising;
   each = λ m within i.
       let put = added m (omega (arith, within, b.count)) i in
       let was = b.each m within i in (

@@ -1,13 +1,13 @@
 //! The nodes from which control may go on to each node, and to the exit.
 
-ghost use Rattle.std.specs.Prelude.{◌≡◌, ◌<◌, [], ℕ, length, slice_index_or, IfOk, OnOk};
+ghost use Rattle.std.specs.Prelude.{◌≡◌, ◌<◌, [], ◌∷◌, ◌++◌, ℕ, length, slice_index_or, slice_set, IfOk, OnOk};
 ghost use Rattle.sect_graph.specs.Predecessors.{IsAdded, StaysWithin, AreAllBefore};
 
 use crate::flow::{Flow, Successors};
 use std::alloc::{AllocError, Global};
 use std::marker::Model;
 
-/// For each node of a graph, and for the exit, the nodes from which control may go on to it.
+/// For each node of a graph, and for the exit, the nodes from which control may go on to it, each once, in order.
 #[derive(Drop)]
 pub struct Predecessors {
     lists: Vec<Vec<u16>>,
@@ -39,6 +39,7 @@ impl Predecessors {
         requires { to < length self.old }
         ensures count { OnOk result (length self.new ≡ length self.old) }
         ensures added { OnOk result (IsAdded self.old self.new to from) }
+        ensures behind { OnOk result (self.new ≡ slice_set self.old to (slice_index_or self.old to [] ++ from ∷ [])) }
     {
         self.lists[to as usize].push(from)?;
         Ok(())
@@ -64,7 +65,9 @@ pub fn predecessors_of(alloc: Global, flow: &Flow) -> Result<Predecessors, Alloc
             Successors::Next(next) => lists.add(node, next)?,
             Successors::Branch(holds, fails) => {
                 lists.add(node, holds)?;
-                lists.add(node, fails)?;
+                if fails != holds {
+                    lists.add(node, fails)?;
+                }
             }
         }
     }

@@ -86,8 +86,3 @@ IsGeneratedBelow s t g j a = (a.node < j) × IsGeneratedThere s t g a
 -- what the nodes generate, and the section's end, was found
 abbrev pub HasAllGenerated : SchemeView → ℕ → List Lock → List Node → Trail → Type 0
 HasAllGenerated s t last g r = (a : Link) → IsGeneratedAt s t last g a → IsFoundAt r.numbering.keys r.found.items a
-
--- steps that lead on are kept, and at each node from which steps lead on from a lock one that covers it
-pub record IsSearched (s : SchemeView) (t : ℕ) (last : List Lock) (g : List Node) (r : Trail) : Type 0 where
-  pub work : IsWork s t last g r
-  pub all : (a : Link) → HasTrail s t last g a → IsCoveredAt s (links_of r.numbering.keys r.steps.items) a

@@ -26,8 +26,8 @@ use Rattle.sect_emit.specs.ModeTests.{is_reading_object}
 use Rattle.sect_lemmas.proofs.Options.{some_injective}
 use Rattle.sect_emit.proofs.Modes.{intention_join, intended_is, join_reading_object, object_mode_reads}
 use Rattle.sect_emit.proofs.shared.Plans.{gathered-all, gathered_key, ascending_mode, fixed_wish_from, fixed_part_keys}
-use Rattle.sect_emit.proofs.shared.Plans.{object_part_keys, object_wish_from, plan_ascends}
-use Rattle.sect_emit.proofs.Plans.{gathered_meets, fixed_wish_there, fixed_wish_all}
+use Rattle.sect_emit.proofs.shared.Plans.{gathered_meets, object_part_keys, object_wish_from, plan_ascends}
+use Rattle.sect_emit.proofs.Plans.{fixed_wish_there, fixed_wish_all}
 use Rattle.sect_emit.proofs.shared.Keys.{nothing_below_all}
 use Rattle.sect_modes.specs.declared.mode.Mode.TheVariants.{Exclusive}
 use Rattle.std.proofs.lemmas.Bool.{and_parts, false≢true}

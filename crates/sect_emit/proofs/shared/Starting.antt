@@ -22,7 +22,8 @@ module _ (s : SchemeView) where
   pub none_made : (t : ℕ) → row begun t ≡ []
   none_made t = no_row (length s.program.texts) t
 
-  no_reference : (o : ObjectName) (x : ObjectView) (f : ℕ) (b : ObjectName) → object_at begun o ≡ Some x
+  -- and no field of the globals' objects refers to anything
+  pub no_reference : (o : ObjectName) (x : ObjectView) (f : ℕ) (b : ObjectName) → object_at begun o ≡ Some x
       → datum_or_null (slice_get x.fields f) ≡ Refers b → ⊥
   no_reference (object.Global g) x f b at e =
       let h = global_is s.program.records 0 s.program.globals g x at in

@@ -1,13 +1,20 @@
-use Rattle.std.proofs.Common.{◌≡◌, Some, sym, ◌∙◌, subst}
+use Rattle.std.proofs.Common.{◌≡◌, ◌≤◌, Some, length, sym, ap, ◌∙◌, subst, arith}
 use Rattle.std.specs.Prelude.{slice_get}
 use Rattle.sect_types.specs.Sections.{sections_of}
 use Rattle.sect_types.specs.Sections.{section_shown}
-use Rattle.sect_names.specs.Needed.{end_of}
+use Rattle.sect_front.specs.declared.tree.Locking.{Locking}
+use Rattle.sect_front.specs.declared.tree.Locking.TheVariants as locking
+use Rattle.sect_names.specs.Needed.{end_of, end_locks}
 use Rattle.sect_names.proofs.shared.Ending.{section_read, end_is}
 use Rattle.sect_names.specs.Laws.{AreLawful}
 use Rattle.sect_chains.specs.steps.Trails.{AreTops}
 use Rattle.sect_chains.proofs.section.chains.Goals.{After-entry}
 use Rattle.sect_chains.proofs.section.chains.Goals as goal
+
+-- the end generates one lock at most
+few_at_end : (l : Locking) → length (end_locks l) ≤ 1
+few_at_end locking.Inferred = omega arith
+few_at_end locking.All = omega arith
 
 -- the section and its graph are those of this number
 section_at : (c : After-entry) → (slice_get (sections_of c.args.scheme.now.program.texts) c.args.section
@@ -48,3 +55,8 @@ found-requires-clause-tops c =
     subst (AreTops s t c.as_slice.result.now g) (sym c.entry.ensures)
     (subst (λ ls. AreTops s t ls g c.args.locks.now.entry) (last_is entry)
     (c.needed_locks_have_trails.ensures _ _ at.0 at.1))
+
+pub found-requires-clause-few : goal.found-requires-clause-few
+found-requires-clause-few c =
+    let few = few_at_end c.locking.result in
+    omega (arith, few, ap length (c.as_slice.ensures.value ∙ c.in_ok-last.ensures))

@@ -2,10 +2,12 @@ use Rattle.std.proofs.Common.{◌<◌, length, subst, sym, arith}
 use Rattle.sect_lemmas.specs.Lists.{Has}
 use Rattle.sect_lemmas.proofs.Membership.{Has-get_or}
 use Rattle.sect_lemmas.proofs.Places.{zip_more}
-use Rattle.sect_names.specs.Chains.{link, IsChain}
+use Rattle.sect_names.specs.Chains.{link}
+use Rattle.sect_chains.specs.Chains.{IsFirstChain}
+use Rattle.sect_chains.proofs.Firsts.{first_chain}
 use Rattle.sect_chains.specs.steps.Working.{links_of, nexts_of, kept_of}
 use Rattle.sect_chains.proofs.Growing.{kept_numbers, kept_trail}
-use Rattle.sect_chains.proofs.Trails.{go_back, entry_chain}
+use Rattle.sect_chains.proofs.Trails.{go_back}
 use Rattle.sect_chains.proofs.section.found.Goals as goal
 
 pub starts_of-requires : goal.starts_of-requires
@@ -54,9 +56,12 @@ loop-lock-preserved c =
     let l = c.lock-item.result in
     let trail = c.in_ok-trail.trail in
     let within : c.loop-lock.lock-index < length locks = omega arith in
-    let chain = entry_chain s a.thread a.last.now g (links_of trail.numbering.keys trail.steps.items)
-    (nexts_of trail.steps.items)
-    c.in_ok-trail.ensures.work.leads l c.in_ok-chain_of.field-0 c.in_ok-chain_of.ensures in
-    rw c.in_ok-push.ensures.items (zip_more (IsChain s a.thread a.last.now g) locks c.loop-lock.lock-index l
+    let searched = c.in_ok-trail.ensures in
+    let has = subst (Has locks) (sym c.lock-item.is) (Has-get_or locks c.loop-lock.lock-index l within) in
+    let chain = first_chain s a.thread a.last.now g (links_of trail.numbering.keys trail.steps.items)
+    (nexts_of trail.steps.items) searched.work.leads searched.sorted c.requires.respects searched.generated
+    searched.carried searched.work.apart l (λ big. c.requires.tops.alone l big has) c.in_ok-chain_of.field-0
+    c.in_ok-chain_of.ensures in
+    rw c.in_ok-push.ensures.items (zip_more (IsFirstChain s a.thread a.last.now g) locks c.loop-lock.lock-index l
     c.loop-lock.chains.items
     c.in_ok-chain_of.field-0 within c.lock-item.is c.loop-lock.invariant chain)

@@ -1,10 +1,13 @@
 use Rattle.std.proofs.Common.{◌≡◌, ◌<◌, ◌≤◌, [], Some, length, sym, ap, ◌∙◌, subst, arith}
 use Rattle.std.specs.Prelude.{slice_get, slice_index_or}
-use Rattle.std.proofs.lemmas.Option.{slice_get-get_or, get_or_from_slice_get}
+use Rattle.std.proofs.lemmas.List.{length-map}
+use Rattle.std.proofs.lemmas.Option.{slice_get-get_or, slice_get_within, get_or_from_slice_get}
 use Rattle.sect_lemmas.proofs.Membership.{Has-slice_get}
 use Rattle.sect_chains.specs.declared.keep.KeptLink.{KeptLink}
-use Rattle.sect_graph.specs.Predecessors.{AreBefore}
-use Rattle.sect_chains.specs.steps.Working.{links_of, kept_of}
+use Rattle.sect_graph.specs.Predecessors.{AreBefore, IsAscending}
+use Rattle.sect_chains.specs.steps.Working.{link_of, links_of, kept_of}
+use Rattle.sect_chains.specs.steps.Ordering.{links_in}
+use Rattle.sect_chains.proofs.Spreading.{orderly_begin, orderly_next}
 use Rattle.sect_chains.proofs.Growing.{kept_trail, link_at}
 use Rattle.sect_chains.proofs.Working.{work_next, work_ends, trail_lock, few}
 use Rattle.sect_chains.proofs.trail.trail_of.Goals as goal
@@ -20,7 +23,7 @@ of-nodes-requires c =
     ∙ ap (λ z. Some z) (sym c.index.ensures) in
     let b = link_at old.numbering.keys old.steps.items i x at in
     let d = kept_trail a.scheme.now a.thread a.last.now a.flow.now old.numbering (kept_of old)
-    c.loop-done.invariant.kept
+    c.loop-done.invariant.work.kept
     b.0 (Has-slice_get (links_of old.numbering.keys old.steps.items) i b.0 b.1) in
     let there = (trail_lock a.scheme.now a.thread a.last.now a.flow.now c.requires.lawful b.0 d.0 d.1).0 in
     omega (arith, there, b.2, c.in_ok-predecessors.ensures.count)
@@ -32,7 +35,7 @@ carry-requires-clause-before c = λ x at_x.
     let old = c.loop-done.trail in
     let i = c.loop-done.done in
     let b = link_at old.numbering.keys old.steps.items i x at_x in
-    let d = kept_trail a.scheme.now a.thread a.last.now g old.numbering (kept_of old) c.loop-done.invariant.kept b.0
+    let d = kept_trail a.scheme.now a.thread a.last.now g old.numbering (kept_of old) c.loop-done.invariant.work.kept b.0
     (Has-slice_get (links_of old.numbering.keys old.steps.items) i b.0 b.1) in
     let there = (trail_lock a.scheme.now a.thread a.last.now g c.requires.lawful b.0 d.0 d.1).0 in
     let z = c.index.result.now in
@@ -45,17 +48,38 @@ pub loop-done-smaller : goal.loop-done-smaller
 loop-done-smaller c =
     let a = c.args.section in
     let bound = few a.scheme.now a.thread a.last.now a.flow.now c.requires.lawful c.loop-done.trail.numbering
-    (kept_of c.loop-done.trail) c.loop-done.invariant.kept in
+    (kept_of c.loop-done.trail) c.loop-done.invariant.work.kept in
     omega (arith, bound, c.len.ensures, c.loop-done-test.true)
+
+pub carry-requires-clause-ascending : goal.carry-requires-clause-ascending
+carry-requires-clause-ascending c =
+    subst IsAscending (sym c.of-nodes.ensures) (c.in_ok-predecessors.ensures.ascending c.index.result.now.node)
+
+pub loop-done-init : goal.loop-done-init
+loop-done-init c =
+    let a = c.args.section in
+    record {
+      work = record {
+        kept = c.in_ok-trail.ensures.work;
+        generated = c.in_ok-trail.ensures.all;
+        closed = λ i b x lt at l. absurd (omega (arith, lt));
+        within = omega arith;
+      };
+      order = orderly_begin a.scheme.now a.thread a.last.now a.flow.now c.in_ok-trail.trail c.in_ok-trail.ensures.order;
+    }
 
 pub loop-done-preserved : goal.loop-done-preserved
 loop-done-preserved c =
     let a = c.args.section in
     let old = c.loop-done.trail in
     let new = c.carry.new.trail in
-    work_next a.scheme.now a.thread a.last.now a.flow.now old.numbering (kept_of old) new.numbering
-    (kept_of new) c.loop-done.done (omega (arith, c.len.ensures, c.loop-done-test.true))
-    c.loop-done.invariant c.in_ok-carry.ensures
+    let within : c.loop-done.done < length old.steps.items = omega (arith, c.len.ensures, c.loop-done-test.true) in
+    record {
+      work = work_next a.scheme.now a.thread a.last.now a.flow.now old.numbering (kept_of old) new.numbering
+          (kept_of new) c.loop-done.done within c.loop-done.invariant.work c.in_ok-carry.ensures.kept;
+      order = orderly_next a.scheme.now a.thread a.last.now a.flow.now old new c.loop-done.done within
+          c.loop-done.invariant.order c.in_ok-carry.ensures.order;
+    }
 
 pub returns : goal.returns
 returns c =
@@ -63,7 +87,16 @@ returns c =
     let old = c.loop-done.trail in
     let past : length old.steps.items ≤ c.loop-done.done = omega (arith, c.len.ensures, c.loop-done-test.false) in
     record {
-      work = c.loop-done.invariant.kept;
+      work = c.loop-done.invariant.work.kept;
       all = λ x h. work_ends a.scheme.now a.thread a.last.now a.flow.now c.requires.respects old.numbering
-          (kept_of old) c.loop-done.done past c.loop-done.invariant x h.0 h.1;
+          (kept_of old) c.loop-done.done past c.loop-done.invariant.work x h.0 h.1;
+      sorted = c.loop-done.invariant.order.sorted;
+      generated = c.loop-done.invariant.order.generated;
+      carried = λ j b x at l. c.loop-done.invariant.order.carried j b x
+          (omega (
+            arith,
+            past,
+            slice_get_within (links_in old) j b at,
+            length-map old.steps.items (link_of old.numbering.keys),
+          )) at l;
     }

@@ -3,7 +3,7 @@ use Rattle.sect_types.specs.Sections.{sections_of}
 use Rattle.sect_types.specs.Programs.{ProgramView, IsWithinLimits}
 use Rattle.sect_lemmas.proofs.Places.{at_of}
 use Rattle.sect_names.specs.Needed.{end_of}
-use Rattle.sect_names.specs.Chains.{IsChain}
+use Rattle.sect_chains.specs.Chains.{IsFirstChain}
 use Rattle.sect_types.specs.Sound.{AreSound}
 use Rattle.sect_emit.proofs.Chained.{chains_named, section_lawful}
 use Rattle.sect_emit.proofs.Counting.{few_locks}
@@ -26,7 +26,7 @@ returns-clause-few c =
     let entry = c.args.locks.now.entry in
     let few = few_locks s c.rules.ensures limits of.0.thread entry told.0.in_order (told.1 0 entry told.0.first) in
     if_ok c.chains.result (λ chains are.
-    (let e = zip_length (IsChain s of.0.thread (end_of s i) g.0) entry chains.items are in omega (arith, few, e)))
+    (let e = zip_length (IsFirstChain s of.0.thread (end_of s i) g.0) entry chains.items are in omega (arith, few, e)))
     (c.chains.ensures of.0 g.0 of.1 g.1)
 
 pub returns-clause-named : goal.returns-clause-named

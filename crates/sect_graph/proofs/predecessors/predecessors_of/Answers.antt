@@ -1,11 +1,13 @@
-use Rattle.std.proofs.Common.{◌≡◌, ◌≤◌, ◌+◌, length, arith, Some, ap, ◌∙◌, inl, inr, refl}
+use Rattle.std.proofs.Common.{◌≡◌, ◌≤◌, ◌<◌, ◌+◌, length, arith, Some, ap, ◌∙◌, inl, inr, refl}
 use Rattle.sect_graph.specs.declared.flow.Successors.TheVariants.{Next, Branch}
 use Rattle.sect_graph.specs.declared.flow.Node.{Node}
 use Rattle.sect_lemmas.proofs.Places.{told_at}
 use Rattle.sect_graph.proofs.Preceding.{before_none, before_next, before_done, added_one, added_two, goes_within}
+use Rattle.sect_graph.proofs.Preceding.{rising_one, rising_two}
 use Rattle.sect_graph.proofs.predecessors.predecessors_of.Goals as goal
 use Rattle.sect_graph.proofs.predecessors.predecessors_of.Goals.{in-Next+in_ok-add-in-Next}
-use Rattle.sect_graph.proofs.predecessors.predecessors_of.Goals.{in-Branch+in_ok-add-in-Branch+in_ok-add-in-Branch-2}
+use Rattle.sect_graph.proofs.predecessors.predecessors_of.Goals.{in-Branch+in_ok-add-in-Branch+then-fails-holds+in_ok-add-in-Branch-2}
+use Rattle.sect_graph.proofs.predecessors.predecessors_of.Goals.{in-Branch+in_ok-add-in-Branch+else-fails-holds}
 
 pub add-requires : goal.add-requires
 add-requires c =
@@ -21,8 +23,8 @@ add-requires-in-Branch c =
     (c.succ.ensures ∙ ap (λ n. Some n) c.in-Branch.is) (inl refl) in
     omega (arith, within, c.loop-node.invariant.count)
 
-pub add-requires-in-Branch-2 : goal.add-requires-in-Branch-2
-add-requires-in-Branch-2 c =
+pub add-requires-then-fails-holds : goal.add-requires-then-fails-holds
+add-requires-then-fails-holds c =
     let fails = c.in-Branch.fails in
     let within = goes_within c.args.flow.now c.requires c.loop-node.node (Branch c.in-Branch.holds fails) fails
     (c.succ.ensures ∙ ap (λ n. Some n) c.in-Branch.is) (inr refl) in
@@ -43,16 +45,48 @@ loop-node-preserved c =
       | in-Next+in_ok-add-in-Next w ↦
           let is : y.next ≡ Next w.in-Next.next = node.2 ∙ w.in-Next.is in
           let a = w.in_ok-add-in-Next.ensures in
+          let to = w.in-Next.next in
+          let there : to < length old = (let within = goes_within g c.requires j (Next to) to
+          (c.succ.ensures ∙ ap (λ n. Some n) w.in-Next.is) refl in omega (arith, within, c.loop-node.invariant.count)) in
           rw w.lists-is (before_next g j y old w.add.new.self node.1 a.count
-          (added_one y.next w.in-Next.next old w.add.new.self j (λ m. rw is (λ h. h, λ h. h)) a.added)
+          (added_one y.next to old w.add.new.self j (λ m. rw is (λ h. h, λ h. h)) a.added)
+          (rising_one j old w.add.new.self to there a.behind c.loop-node.invariant.rising)
           c.loop-node.invariant)
-      | in-Branch+in_ok-add-in-Branch+in_ok-add-in-Branch-2 w ↦
-          let is : y.next ≡ Branch w.in-Branch.holds w.in-Branch.fails = node.2 ∙ w.in-Branch.is in
+      | in-Branch+in_ok-add-in-Branch+then-fails-holds+in_ok-add-in-Branch-2 w ↦
+          let holds = w.in-Branch.holds in
+          let fails = w.in-Branch.fails in
+          let is : y.next ≡ Branch holds fails = node.2 ∙ w.in-Branch.is in
+          let told = c.succ.ensures ∙ ap (λ n. Some n) w.in-Branch.is in
           let a = w.in_ok-add-in-Branch.ensures in
           let b = w.in_ok-add-in-Branch-2.ensures in
-          rw w.lists-is (before_next g j y old w.add-in-Branch-2.new.self node.1 (b.count ∙ a.count)
-          (added_two y.next w.in-Branch.holds w.in-Branch.fails old w.add-in-Branch.new.self
-          w.add-in-Branch-2.new.self j (λ m. rw is (λ h. h, λ h. h)) a.count a.added b.added) c.loop-node.invariant)
+          let mid = w.add-in-Branch.new.self in
+          let new = w.add-then-fails-holds.new.self in
+          let count = c.loop-node.invariant.count in
+          let first : holds < length old
+          = (let within = goes_within g c.requires j (Branch holds fails) holds told (inl refl) in
+          omega (arith, within, count)) in
+          let second : fails < length mid
+          = (let within = goes_within g c.requires j (Branch holds fails) fails told (inr refl) in
+          omega (arith, within, count, a.count)) in
+          rw w.lists-is (before_next g j y old new node.1 (b.count ∙ a.count)
+          (added_two y.next holds fails old mid new j (λ m. rw is (λ h. h, λ h. h)) a.count a.added b.added)
+          (rising_two j old mid new holds fails first second w.if-fails-holds.true a.behind b.behind
+          c.loop-node.invariant.rising) c.loop-node.invariant)
+      | in-Branch+in_ok-add-in-Branch+else-fails-holds w ↦
+          let holds = w.in-Branch.holds in
+          let fails = w.in-Branch.fails in
+          let is : y.next ≡ Branch holds fails = node.2 ∙ w.in-Branch.is in
+          let same : fails ≡ holds = w.if-fails-holds.false in
+          let told = c.succ.ensures ∙ ap (λ n. Some n) w.in-Branch.is in
+          let a = w.in_ok-add-in-Branch.ensures in
+          let new = w.add-in-Branch.new.self in
+          let there : holds < length old
+          = (let within = goes_within g c.requires j (Branch holds fails) holds told (inl refl) in
+          omega (arith, within, c.loop-node.invariant.count)) in
+          rw w.lists-is (before_next g j y old new node.1 a.count
+          (added_one y.next holds old new j (λ m. rw is (λ h. elim h [ inl e ↦ e | inr e ↦ e ∙ same ], λ h. inl h))
+          a.added)
+          (rising_one j old new holds there a.behind c.loop-node.invariant.rising) c.loop-node.invariant)
     ]
 
 pub returns : goal.returns

@@ -1,4 +1,4 @@
-use Rattle.std.proofs.Common.{subst}
+use Rattle.std.proofs.Common.{◌≡◌, subst}
 use Rattle.sect_types.specs.First.{IsTyped}
 use Rattle.sect_types.specs.Programs.{ProgramView, IsOfTree}
 use Rattle.sect_types.specs.Sound.{AreSound}
@@ -8,6 +8,8 @@ use Rattle.sect_emit.specs.Compiled.{CompiledView}
 use Rattle.sect_emit.specs.steps.Spelled.{IsSpelled}
 use Rattle.sect_lemmas.proofs.Results.{if_ok}
 use Rattle.sect_emit.proofs.Spelling.{if_ok_both}
+use Rattle.sect_cert.specs.declared.certificate.Cert.{Cert}
+use Rattle.sect_emit.proofs.OneCertificate.{certificate_one}
 use Rattle.sect_emit.proofs.Wholes.{is_certificate}
 use Rattle.sect_emit.proofs.compiled.Compiled.certificate.Goals as goal
 
@@ -34,3 +36,14 @@ returns-clause-valid c =
     (c.spelled_locks_are_valid.ensures s c.rules.ensures typed tree sound all c.self.invariant.inferred a
     (subst (λ xs. IsSpelled s xs a) c.as_slice.ensures.value spelled)))
     c.certificate_of.ensures.words
+
+pub returns-clause-only : goal.returns-clause-only
+returns-clause-only c =
+    let s = c.self.inside.scheme in
+    let all = c.self.inside.locks.items in
+    if_ok_both c.certificate_of.result
+    (λ a spelled text. subst (λ (v : CompiledView). (other : Cert) → IsCertificateOf v other → other ≡ a) c.self.view_is
+    (λ other is. certificate_one _ c.rules.ensures other a is
+    (is_certificate s all _ c.self.invariant.inferred a
+    (subst (λ xs. IsSpelled s xs a) c.as_slice.ensures.value spelled) text)))
+    c.certificate_of.ensures.words c.certificate_of.ensures.text

@@ -1,0 +1,75 @@
+-- A compiled program has one certificate.
+use Rattle.std.proofs.Common.{◌≡◌, ℕ, zero, suc, List, [], ◌∷◌, Some, length, map, refl, sym, ap, ◌∙◌, subst, arith}
+use Rattle.std.specs.Prelude.{slice_get}
+use Rattle.std.proofs.lemmas.Option.{slice_get_within}
+use Rattle.sect_lemmas.proofs.Places.{at_of, one_at}
+use Rattle.sect_types.specs.Statements.{TextView}
+use Rattle.sect_types.specs.Sections.{SectionView, sections_of}
+use Rattle.sect_graph.specs.declared.flow.Node.{Node}
+use Rattle.sect_names.specs.declared.link.Link.{Link}
+use Rattle.sect_names.specs.declared.lock.Lock.{Lock}
+use Rattle.sect_names.specs.Needed.{end_of}
+use Rattle.sect_names.specs.Schemes.{SchemeView, IsScheme}
+use Rattle.sect_names.proofs.shared.Uniqueness.{same_lists}
+use Rattle.sect_infer.specs.Sets.{AreNeeded}
+use Rattle.sect_chains.specs.Chains.{AreChains}
+use Rattle.sect_chains.proofs.shared.Uniqueness.{chains_one}
+use Rattle.sect_cert.specs.declared.lock.CertLock.{CertLock}
+use Rattle.sect_cert.specs.declared.certificate.Chain.{Chain}
+use Rattle.sect_cert.specs.declared.certificate.CertSection.{CertSection}
+use Rattle.sect_cert.specs.declared.certificate.Cert.{Cert}
+use Rattle.sect_emit.specs.Certificates.{SaysOf, IsCertificateOf}
+use Rattle.sect_emit.specs.Compiled.{CompiledView}
+use Rattle.sect_emit.specs.Words.{list_words, chains_words}
+
+-- lists are one that are as long and have one element at each place
+same_by_place : {X : Type 0} (xs ys : List X) → length xs ≡ length ys
+    → ((i : ℕ) (x y : X) → slice_get xs i ≡ Some x → slice_get ys i ≡ Some y → x ≡ y) → xs ≡ ys
+same_by_place [] [] e f = refl
+same_by_place [] (y ∷ ys) e f = absurd (omega (arith, e))
+same_by_place (x ∷ xs) [] e f = absurd (omega (arith, e))
+same_by_place (x ∷ xs) (y ∷ ys) e f =
+    ap (λ z. z ∷ xs) (f 0 x y refl refl)
+    ∙ ap (λ z. y ∷ z) (same_by_place xs ys (omega (arith, e)) (λ i a b p q. f (suc i) a b p q))
+
+-- what is needed at the nodes is one list for each
+needed_one : (s : SchemeView) (t : ℕ) (last : List Lock) (body : TextView) (g : List Node) (xs ys : List (List Lock))
+    → AreNeeded s t last body g xs → AreNeeded s t last body g ys → xs ≡ ys
+needed_one s t last body g xs ys a b = same_by_place xs ys (a.count ∙ sym b.count) (λ i ls ms p q.
+    let m = a.each i ls p in
+    let n = b.each i ms q in
+    same_lists ls ms m.in_order n.in_order (λ l h. (n.kept_are l).1 ((m.kept_are l).0 h))
+    (λ l h. (m.kept_are l).1 ((n.kept_are l).0 h)))
+
+abbrev section_of : List (List CertLock) → List CertLock → List Chain → CertSection
+section_of nodes entry chains = record { nodes = nodes; entry = entry; chains = chains }
+
+-- a certificate says one thing of a section
+section_one : (c : CompiledView) (i : ℕ) (of : SectionView) (g : List Node) (x y : CertSection) → SaysOf c i of g x
+    → SaysOf c i of g y → x ≡ y
+section_one c i of g x y a b =
+    let t = c.scheme.program.source in
+    let at = needed_one c.scheme of.thread (end_of c.scheme i) of.body g a.at b.at a.needed b.needed in
+    let set = one_at c.sets i a.set b.set a.taken b.taken in
+    let chains = chains_one c.scheme of.thread (end_of c.scheme i) g b.set a.chains b.chains
+    (subst (λ ls. AreChains c.scheme of.thread (end_of c.scheme i) g ls a.chains) set a.chained) b.chained in
+    let nodes : x.nodes ≡ y.nodes = a.node_words ∙ ap (map (list_words t)) at ∙ sym b.node_words in
+    let entry : x.entry ≡ y.entry = a.entry_words ∙ ap (list_words t) set ∙ sym b.entry_words in
+    let chained : x.chains ≡ y.chains = a.chain_words ∙ ap (chains_words t 0) chains ∙ sym b.chain_words in
+    ap (λ z. section_of z x.entry x.chains) nodes ∙ ap (λ z. section_of y.nodes z x.chains) entry
+    ∙ ap (section_of y.nodes y.entry) chained
+
+abbrev cert_of : ℕ → List CertSection → Cert
+cert_of k sections = record { k = k; sections = sections }
+
+-- a compiled program has one certificate
+pub certificate_one : (c : CompiledView) → IsScheme c.scheme → (a b : Cert) → IsCertificateOf c a → IsCertificateOf c b
+    → a ≡ b
+certificate_one c scheme a b first second =
+    let sections = same_by_place a.sections b.sections (first.count ∙ sym second.count) (λ i x y p q.
+    let within = slice_get_within a.sections i x p in
+    let of = at_of (sections_of c.scheme.program.texts) i (omega (arith, within, first.count)) in
+    let g = at_of c.scheme.graphs.sections i
+    (omega (arith, within, first.count, scheme.graphed.section_count)) in
+    section_one c i of.0 g.0 x y (first.each i of.0 g.0 x of.1 g.1 p) (second.each i of.0 g.0 y of.1 g.1 q)) in
+    ap (λ z. cert_of z a.sections) (first.k ∙ sym second.k) ∙ ap (cert_of b.k) sections

@@ -86,11 +86,15 @@ fn each_beginning_is_refused(rt: HostRuntime) -> Result<(), Fail> {
     Ok(())
 }
 
+/// Room for so many sections or nodes is more than the machine has: were it asked for, the answer would be that memory
+/// is out.
 #[test]
-fn a_claimed_number_takes_no_memory(rt: HostRuntime) -> Result<(), Fail> {
-    let text = b"sect-cert 2\nk 2\nsections 4294967295\n";
-    refuses(&rt, ADDING, text, "41 Text 31 CertEnd line 4")?;
-    refuses(&rt, b"", text, "41 Text 31 CertEnd line 4")
+fn a_claimed_number_is_not_believed(rt: HostRuntime) -> Result<(), Fail> {
+    let sections = b"sect-cert 2\nk 2\nsections 4294967295\n";
+    refuses(&rt, ADDING, sections, "41 Text 31 CertEnd line 4")?;
+    refuses(&rt, b"", sections, "41 Text 31 CertEnd line 4")?;
+    let nodes = b"sect-cert 2\nk 2\nsections 1\nsection 0 nodes 4294967295\n";
+    refuses(&rt, ADDING, nodes, "41 Text 31 CertEnd line 5")
 }
 
 /// A certificate says more than is inferred, and is valid all the same: a list of a node repeats a lock, and one that

@@ -6,7 +6,8 @@ use crate::programs::{
 use sect_hints::{Guards, guards};
 use sect_names::{MOST_PATH_FIELDS, Scheme, SchemeFault, check_k, scheme_of};
 use sect_types::Program;
-use std::alloc::Global;
+use std::alloc::{AllocError, Global};
+use std::fmt::Write;
 use std::process::Abort;
 use std::test::Fail;
 
@@ -120,6 +121,24 @@ fn wrong_hints(rt: HostRuntime) -> Result<(), Fail> {
         hints_answer(&rt, text, wanted)?;
     }
     Ok(())
+}
+
+/// A text of 64 records, of which the last has this hint, and a global of the first.
+fn many_records(alloc: Global, hint: &str) -> Result<String, AllocError> {
+    let mut text = String::new(alloc);
+    for number in 0..63u8 {
+        write!(text, "record r{number} {{ }} ")?;
+    }
+    write!(text, "record r63 protected_by {hint} {{ }} global r0 g;")?;
+    Ok(text)
+}
+
+#[test]
+fn the_last_of_many_records(rt: HostRuntime) -> Result<(), Fail> {
+    let right = many_records(rt.alloc(), "g")?;
+    hints_answer(&rt, right.as_bytes(), "")?;
+    let wrong = many_records(rt.alloc(), "h")?;
+    hints_answer(&rt, wrong.as_bytes(), "20 NoSuchGlobal record 63")
 }
 
 /// What is answered for a text and the most fields of a path: the refusal, or nothing.

@@ -1,13 +1,12 @@
 //! Small programs with the locks of their sections.
 
 use crate::programs::{CHAIN, EVERYTHING, LIST, SHARED, scheme};
-use crate::wanted::{Wanted, locks, set};
+use crate::wanted::{Wanted, locks};
 use Effect::{Read, Write};
 use Variable::{Global, Local};
 use Wanted::{All, At};
-use indexmap::IndexSet;
 use sect_infer::{Locks, infer};
-use sect_names::{Effect, Lock, Right, Scheme};
+use sect_names::{Effect, Right, Scheme};
 use sect_points::Variable;
 use std::process::Abort;
 use std::test::Fail;
@@ -33,40 +32,28 @@ fn takes(rt: &(impl Abort + AllocGlobal), sets: &Locks, wanted: &[Wanted]) -> Re
     Ok(())
 }
 
-/// These are the locks that are left of a set, in canonical order.
-fn are_left(
-    rt: &(impl Abort + AllocGlobal),
-    scheme: &Scheme,
-    found: &[Lock],
-    wanted: &IndexSet<Lock>,
-) -> Result<(), Fail> {
-    let left = scheme.maximal(rt.alloc(), wanted)?;
-    assert!(rt; found == left.as_slice());
-    Ok(())
-}
-
-/// The locks of a node are those of these that no other of them covers, in canonical order.
+/// These are the locks of a node, in this order.
 fn needs(
     rt: &(impl Abort + AllocGlobal),
-    scheme: &Scheme,
     sets: &Locks,
     node: u16,
     wanted: &[Wanted],
 ) -> Result<(), Fail> {
     assert!(rt; (node as usize) < sets.node_count());
     let found = sets.at(rt.alloc(), node)?;
-    are_left(rt, scheme, found.as_slice(), &set(rt, wanted)?)
+    let wanted = locks(rt, wanted)?;
+    assert!(rt; found.as_slice() == wanted.as_slice(), "node {node}");
+    Ok(())
 }
 
 /// What is needed from some nodes on.
 fn needs_all(
     rt: &(impl Abort + AllocGlobal),
-    scheme: &Scheme,
     sets: &Locks,
     nodes: &[(u16, &[Wanted])],
 ) -> Result<(), Fail> {
     for (node, wanted) in nodes {
-        needs(rt, scheme, sets, *node, wanted)?;
+        needs(rt, sets, *node, wanted)?;
     }
     Ok(())
 }
@@ -74,7 +61,6 @@ fn needs_all(
 /// These are the locks: of so many nodes beside the exit, at the entry, and at some of the nodes.
 fn are_found(
     rt: &(impl Abort + AllocGlobal),
-    scheme: &Scheme,
     found: &Locks,
     count: u16,
     entry: &[Wanted],
@@ -82,7 +68,7 @@ fn are_found(
 ) -> Result<(), Fail> {
     assert_eq!(rt; found.node_count(), usize::from(count) + 1);
     takes(rt, found, entry)?;
-    needs_all(rt, scheme, found, nodes)
+    needs_all(rt, found, nodes)
 }
 
 /// A section of a scheme has so many nodes beside its exit, takes these locks at its entry, and needs those from some
@@ -96,7 +82,7 @@ fn has_sets(
     nodes: &[(u16, &[Wanted])],
 ) -> Result<(), Fail> {
     let found = sets(rt, scheme, section)?;
-    are_found(rt, scheme, &found, count, entry, nodes)
+    are_found(rt, &found, count, entry, nodes)
 }
 
 /// A section of a text has so many nodes, takes these locks and needs those.
@@ -128,13 +114,8 @@ const Z: Variable = Local(0, 2);
 
 const W: Variable = Local(0, 3);
 
-/// What is needed while the list is read from a local on.
-const WALK: &[Wanted] = &[
-    All(1, Right::Read),
-    At(X, 0, Read),
-    At(X, 1, Read),
-    At(X, 2, Read),
-];
+/// What is needed while the list is read from a local on: its class covers each path from there.
+const WALK: &[Wanted] = &[All(1, Right::Read)];
 
 /// The locks of a program whose paths may be one.
 const MAY_BE_ONE: &[Wanted] = &[
@@ -168,15 +149,7 @@ const SECTIONS: &[Row<'static>] = &[
         6,
         &[All(1, Right::Read), At(HEAD, 0, Read)],
         &[
-            (
-                0,
-                &[
-                    All(1, Right::Read),
-                    At(HEAD, 0, Read),
-                    At(HEAD, 1, Read),
-                    At(HEAD, 2, Read),
-                ],
-            ),
+            (0, &[All(1, Right::Read), At(HEAD, 0, Read)]),
             (1, WALK),
             (3, WALK),
             (4, WALK),
@@ -189,19 +162,9 @@ const SECTIONS: &[Row<'static>] = &[
         5,
         &[All(1, Right::Make), At(HEAD, 0, Write)],
         &[
-            (
-                0,
-                &[All(1, Right::Make), At(HEAD, 0, Read), At(HEAD, 0, Write)],
-            ),
-            (
-                2,
-                &[
-                    At(Local(1, 0), 0, Write),
-                    At(HEAD, 0, Read),
-                    At(HEAD, 0, Write),
-                ],
-            ),
-            (3, &[At(Local(1, 0), 0, Write), At(HEAD, 0, Write)]),
+            (0, &[All(1, Right::Make), At(HEAD, 0, Write)]),
+            (2, &[At(HEAD, 0, Write), At(Local(1, 0), 0, Write)]),
+            (3, &[At(HEAD, 0, Write), At(Local(1, 0), 0, Write)]),
             (4, &[At(HEAD, 0, Write)]),
         ],
     ),
@@ -235,10 +198,7 @@ const SECTIONS: &[Row<'static>] = &[
         (CHAIN, 0, 1),
         4,
         &[All(0, Right::Read), At(HEAD, 0, Write)],
-        &[(
-            2,
-            &[All(0, Right::Read), At(X, 0, Read), At(HEAD, 0, Write)],
-        )],
+        &[(2, &[All(0, Right::Read), At(HEAD, 0, Write)])],
     ),
     // Around a loop, and along either branch.
     ((TURNS, 2, 0), 4, BOTH, &[(0, BOTH), (2, BOTH), (3, BOTH)]),

@@ -258,13 +258,13 @@ fn the_least_rule_at_a_limit(rt: HostRuntime) -> Result<(), Fail> {
 
 /// What is repeated in procedures, for which no limit holds where they are declared.
 const IN_PROCEDURES: &[(&str, &str, usize, &str, &str)] = &[
-    ("proc f() { int x; ", "x = 1; ", 70_000, "}", ""),
+    ("proc f() { int x; ", "x = 1; ", 100_000, "}", ""),
     (
         "proc f() { int x; ",
         "x = 1; ",
-        70_000,
+        100_000,
         "y = 1; }",
-        "10 Unknown item 70002",
+        "10 Unknown item 100002",
     ),
     (
         "record r { } proc f() { r x; ",

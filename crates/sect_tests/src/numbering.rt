@@ -128,19 +128,17 @@ fn sites_by_number(rt: HostRuntime) -> Result<(), Fail> {
 fn fields_by_number(rt: HostRuntime) -> Result<(), Fail> {
     let program = program_of(rt.alloc(), LIST)?;
     assert!(rt; program.section_count() == 4);
-    for step in program.section(0).body.as_slice() {
-        match step {
-            Step::Do(Action::Store(Base::Local(base), field, value)) => {
-                assert_eq!(rt; (*base, field.of, field.number), (0, 1, 0));
-                assert!(rt; matches!(value, Value::Local(1)));
-            }
-            Step::Do(Action::Store(Base::Global(base), field, value)) => {
-                assert_eq!(rt; (*base, field.of, field.number), (0, 1, 1));
-                assert!(rt; matches!(value, Value::Local(0)));
-            }
-            _ => {}
-        }
-    }
+    let [_made, own, front] = program.section(0).body.as_slice() else {
+        return Err(Fail::from("the first section has other statements"));
+    };
+    let Step::Do(Action::Store(Base::Local(0), val, Value::Local(1))) = own else {
+        return Err(Fail::from("the second statement isn't n.val = v"));
+    };
+    assert_eq!(rt; (val.of, val.number), (1, 0));
+    let Step::Do(Action::Store(Base::Global(0), next, Value::Local(0))) = front else {
+        return Err(Fail::from("the third statement isn't head.next = n"));
+    };
+    assert_eq!(rt; (next.of, next.number), (1, 1));
     Ok(())
 }
 

@@ -1,7 +1,7 @@
 //! Source texts that are read, printed or refused.
 
 use crate::programs::{ACCOUNTS, APART, CHAIN, GUARDED, LIST, NULL, SHARED};
-use sect_front::{FrontFault, MOST_BYTES, is_name, parse, print, tokens_of};
+use sect_front::{FrontFault, MOST_BYTES, Tree, is_name, is_same, parse, print, tokens_of};
 use std::alloc::{AllocError, Global};
 use std::test::Fail;
 
@@ -211,6 +211,19 @@ fn printed(alloc: Global, text: &[u8]) -> Result<Vec<u8>, Fail> {
     Ok(print(alloc, &tree)?)
 }
 
+/// The tree that is read from what is printed of a tree.
+fn read_back(alloc: Global, tree: &Tree) -> Result<Tree, Fail> {
+    let text = print(alloc, tree)?;
+    Ok(parse(alloc, text.as_slice())?)
+}
+
+/// Whether what is printed of a text's tree reads back as that tree.
+fn reads_back(alloc: Global, text: &[u8]) -> Result<bool, Fail> {
+    let tree = parse(alloc, text)?;
+    let back = read_back(alloc, &tree)?;
+    Ok(is_same(&tree, &back))
+}
+
 /// How many tokens a text's tree has.
 fn token_count(alloc: Global, text: &[u8]) -> Result<usize, Fail> {
     let tree = parse(alloc, text)?;
@@ -220,9 +233,22 @@ fn token_count(alloc: Global, text: &[u8]) -> Result<usize, Fail> {
 #[test]
 fn prints_what_reads_back(rt: HostRuntime) -> Result<(), Fail> {
     for (name, text) in PROGRAMS {
-        let once = printed(rt.alloc(), text)?;
-        let twice = printed(rt.alloc(), once.as_slice())?;
-        assert!(rt; twice.as_slice() == once.as_slice(), "{name}");
+        assert!(rt; reads_back(rt.alloc(), text)?, "{name}");
+    }
+    Ok(())
+}
+
+#[test]
+fn trees_of_different_texts_differ(rt: HostRuntime) -> Result<(), Fail> {
+    let tree = parse(rt.alloc(), b"thread f { int x; x = 1; }")?;
+    for text in [
+        b"thread f { int x; x = 2; }".as_slice(),
+        b"thread g { int x; x = 1; }".as_slice(),
+        b"thread f { int x; x = 1; x = 1; }".as_slice(),
+        b"".as_slice(),
+    ] {
+        let other = parse(rt.alloc(), text)?;
+        assert!(rt; !is_same(&tree, &other));
     }
     Ok(())
 }
@@ -237,6 +263,13 @@ const PRINTED: &[(&[u8], &[u8])] = &[
     (
         b"proc f(int n, R x) { call f(1, null); }",
         b"proc f ( int n , R x ) {\ncall f ( 1 , null ) ;\n}\n",
+    ),
+    (
+        b"record R protected_by a { int f; } global R a; thread t { R x; if (x != null) { x = a; } else { } \
+        atomic { x = new R; x.f = 2; } atomic all { while (1 <= 2) { print x; } x = a.f; x = 1 - 2; } }",
+        b"record R protected_by a {\nint f ;\n}\nglobal R a ;\nthread t {\nR x ;\nif ( x != null ) {\nx = a ;\n}\n\
+        else {\n}\natomic {\nx = new R ;\nx . f = 2 ;\n}\natomic all {\nwhile ( 1 <= 2 ) {\nprint x ;\n}\nx = a . f ;\n\
+        x = 1 - 2 ;\n}\n}\n",
     ),
 ];
 

@@ -3,31 +3,48 @@
 use crate::programs::{LIST, TWO_ADDING, scheme};
 use sect_infer::{InferFault, Locks, Seen, infer, infer_all};
 use sect_names::Scheme;
+use std::alloc::{AllocError, Global};
 use std::process::Abort;
 use std::sync::Wait;
-use std::sync::atomic::{AtomicBool, Ordering};
+use std::sync::atomic::{AtomicU32, Ordering};
 use std::test::Fail;
 use std::thread;
 use std::thread::Threads;
 use std::time::{Clock, Duration};
 
-/// How often a worker waits for the other one, a millisecond each time.
+/// A thread with four sections, each of which reads another object.
+const FOUR: &[u8] =
+    b"record Acct { int bal; } global Acct a; global Acct b; global Acct c; global Acct d; \
+thread t { int v; atomic { v = a.bal; } atomic { v = b.bal; } atomic { v = c.bal; } atomic { v = d.bal; } }";
+
+/// How often a worker waits for the other ones, a millisecond each time.
 const MOST_WAITS: u32 = 10_000;
 
-/// Keeps the worker of each of two sections until the other section was seen, or it has waited too often.
+/// Keeps the worker of each section until so many sections were seen, or it has waited too often.
 #[derive(Drop)]
-struct Keeper<'a> {
+struct Meeting<'a> {
     clock: &'a HostRuntime,
-    first: AtomicBool,
-    second: AtomicBool,
-    gave_up: AtomicBool,
+    wanted: u32,
+    seen: AtomicU32,
+    late: AtomicU32,
 }
 
-/// Says that one section is there, waits for another, and says whether that was seen.
-fn have_met(clock: &impl Clock, own: &AtomicBool, other: &AtomicBool) -> bool {
-    own.store(true, Ordering::SeqCst);
+impl<'a> Meeting<'a> {
+    /// Of so many sections none was seen yet.
+    fn new(clock: &'a HostRuntime, wanted: u32) -> Meeting<'a> {
+        Meeting {
+            clock,
+            wanted,
+            seen: AtomicU32::new(0),
+            late: AtomicU32::new(0),
+        }
+    }
+}
+
+/// Waits until so many sections were seen, and says whether they were.
+fn have_met(clock: &impl Clock, seen: &AtomicU32, wanted: u32) -> bool {
     for _ in 0..MOST_WAITS {
-        if other.load(Ordering::SeqCst) {
+        if seen.load(Ordering::SeqCst) >= wanted {
             return true;
         }
         thread::sleep(clock, Duration::from_millis(1));
@@ -35,76 +52,127 @@ fn have_met(clock: &impl Clock, own: &AtomicBool, other: &AtomicBool) -> bool {
     false
 }
 
-impl<'a> Seen for Keeper<'a> {
-    fn at(&self, section: u16) {
-        let met = if section == 0 {
-            have_met(self.clock, &self.first, &self.second)
-        } else {
-            have_met(self.clock, &self.second, &self.first)
-        };
-        if !met {
-            self.gave_up.store(true, Ordering::SeqCst);
+impl<'a> Seen for Meeting<'a> {
+    fn starts(&self, _worker: u16) -> bool {
+        true
+    }
+
+    fn at(&self, _section: u16) {
+        self.seen.fetch_add(1, Ordering::SeqCst);
+        if !have_met(self.clock, &self.seen, self.wanted) {
+            self.late.fetch_add(1, Ordering::SeqCst);
         }
     }
 }
 
-/// Two workers that this keeper is told of infer the two sections of a scheme.
-fn infer_both(
+/// As many workers as a scheme has sections are all at work at once: each has found its section's locks before any of
+/// them ends.
+fn all_meet(
     rt: &(impl Threads + Wait + Sync + AllocGlobal + Abort),
     scheme: &Scheme,
-    keeper: &Keeper<'_>,
+    meeting: &Meeting<'_>,
 ) -> Result<(), Fail> {
-    let found = infer_all(rt, rt.alloc(), scheme, 2, keeper)?;
-    assert!(rt; found.len() == 2);
+    let sections = scheme.program().section_count();
+    let found = infer_all(rt, rt.alloc(), scheme, sections, meeting)?;
+    assert_eq!(rt; found.len(), usize::from(sections));
+    assert_eq!(rt; meeting.late.load(Ordering::SeqCst), 0);
+    assert_eq!(rt; meeting.seen.load(Ordering::SeqCst), u32::from(sections));
     Ok(())
-}
-
-/// Two workers that this keeper is told of infer the two sections of a program.
-fn are_inferred(
-    rt: &(impl Threads + Wait + Sync + AllocGlobal + Abort),
-    keeper: &Keeper<'_>,
-) -> Result<(), Fail> {
-    infer_both(rt, &scheme(rt.alloc(), TWO_ADDING, 2)?, keeper)
-}
-
-/// Each of the two workers was seen, and neither gave up.
-fn have_both_met(rt: &impl Abort, keeper: &Keeper<'_>) {
-    assert!(rt; keeper.first.load(Ordering::SeqCst));
-    assert!(rt; keeper.second.load(Ordering::SeqCst));
-    assert!(rt; !keeper.gave_up.load(Ordering::SeqCst));
-}
-
-/// Two workers infer, and each is seen while the other is at work.
-fn are_seen(
-    rt: &(impl Threads + Wait + Sync + AllocGlobal + Abort),
-    keeper: &Keeper<'_>,
-) -> Result<(), Fail> {
-    are_inferred(rt, keeper)?;
-    have_both_met(rt, keeper);
-    Ok(())
-}
-
-/// A keeper that has seen nothing.
-fn fresh_keeper(clock: &HostRuntime) -> Keeper<'_> {
-    Keeper {
-        clock,
-        first: AtomicBool::new(false),
-        second: AtomicBool::new(false),
-        gave_up: AtomicBool::new(false),
-    }
 }
 
 #[test]
-fn two_workers_were_seen(rt: HostRuntime) -> Result<(), Fail> {
-    are_seen(&rt, &fresh_keeper(&rt))
+fn workers_are_at_work_at_once(rt: HostRuntime) -> Result<(), Fail> {
+    let two = scheme(rt.alloc(), TWO_ADDING, 2)?;
+    all_meet(&rt, &two, &Meeting::new(&rt, 2))?;
+    let four = scheme(rt.alloc(), FOUR, 2)?;
+    all_meet(&rt, &four, &Meeting::new(&rt, 4))
 }
 
-/// Is told of sections and does nothing.
+/// Has the workers from this one on started, and counts how often each section is seen.
+#[derive(Drop)]
+struct Counts {
+    first: u16,
+    seen: Vec<AtomicU32>,
+}
+
+impl Counts {
+    /// None so far, of so many sections.
+    fn new(alloc: Global, first: u16, sections: usize) -> Result<Counts, AllocError> {
+        let mut seen = Vec::new(alloc);
+        for _ in 0..sections {
+            seen.push(AtomicU32::new(0))?;
+        }
+        Ok(Counts { first, seen })
+    }
+}
+
+impl Seen for Counts {
+    fn starts(&self, worker: u16) -> bool {
+        worker >= self.first
+    }
+
+    fn at(&self, section: u16) {
+        if let Some(count) = self.seen.get(usize::from(section)) {
+            count.fetch_add(1, Ordering::SeqCst);
+        }
+    }
+}
+
+/// Three workers, of whom those from this one on are started, find what one call after another finds, and each section
+/// is seen once.
+fn each_is_seen_once(
+    rt: &(impl Threads + Wait + Sync + AllocGlobal + Abort),
+    scheme: &Scheme,
+    first: u16,
+) -> Result<(), Fail> {
+    let counts = Counts::new(
+        rt.alloc(),
+        first,
+        usize::from(scheme.program().section_count()),
+    )?;
+    let all = infer_all(rt, rt.alloc(), scheme, 3, &counts)?;
+    are_found_alone(rt, scheme, all.as_slice())?;
+    for count in counts.seen.as_slice() {
+        assert_eq!(rt; count.load(Ordering::SeqCst), 1, "from {first} on");
+    }
+    Ok(())
+}
+
+#[test]
+fn the_caller_infers_for_workers_that_are_not_started(rt: HostRuntime) -> Result<(), Fail> {
+    let scheme = scheme(rt.alloc(), FOUR, 2)?;
+    for first in 0..4u16 {
+        each_is_seen_once(&rt, &scheme, first)?;
+    }
+    Ok(())
+}
+
+/// Has all workers started, is told of sections and does nothing.
 #[derive(Clone, Copy)]
 struct Unseen;
 
 impl Seen for Unseen {
+    fn starts(&self, _worker: u16) -> bool {
+        true
+    }
+
     fn at(&self, _section: u16) {}
+}
+
+/// The locks of a node are those that one call finds.
+fn has_node_of(
+    rt: &(impl AllocGlobal + Abort),
+    found: &Locks,
+    alone: &Locks,
+    node: usize,
+) -> Result<(), Fail> {
+    assert!(rt; node < found.node_count() && node < alone.node_count() && node < 65_536);
+    let (one, other) = (
+        found.at(rt.alloc(), node as u16)?,
+        alone.at(rt.alloc(), node as u16)?,
+    );
+    assert!(rt; one.as_slice() == other.as_slice(), "node {node}");
+    Ok(())
 }
 
 /// The locks of a section are those that one call finds.
@@ -118,6 +186,22 @@ fn is_found_alone(
     let alone = infer(rt.alloc(), scheme, section as u16)?;
     assert!(rt; found.entry() == alone.entry(), "section {section}");
     assert_eq!(rt; found.node_count(), alone.node_count());
+    for node in 0..alone.node_count() {
+        has_node_of(rt, found, &alone, node)?;
+    }
+    Ok(())
+}
+
+/// The locks of each section are those that one call finds.
+fn are_found_alone(
+    rt: &(impl AllocGlobal + Abort),
+    scheme: &Scheme,
+    all: &[Locks],
+) -> Result<(), Fail> {
+    assert_eq!(rt; all.len(), usize::from(scheme.program().section_count()));
+    for (section, found) in all.iter().enumerate() {
+        is_found_alone(rt, scheme, section, found)?;
+    }
     Ok(())
 }
 
@@ -128,11 +212,7 @@ fn agree(
     workers: u16,
 ) -> Result<(), Fail> {
     let all = infer_all(rt, rt.alloc(), scheme, workers, &Unseen)?;
-    assert_eq!(rt; all.len(), usize::from(scheme.program().section_count()));
-    for (section, found) in all.iter().enumerate() {
-        is_found_alone(rt, scheme, section, found)?;
-    }
-    Ok(())
+    are_found_alone(rt, scheme, all.as_slice())
 }
 
 /// Any number of workers finds what one call after another finds.
@@ -148,7 +228,8 @@ fn agree_all(
 
 #[test]
 fn any_number_of_workers_finds_the_same(rt: HostRuntime) -> Result<(), Fail> {
-    agree_all(&rt, &scheme(rt.alloc(), LIST, 2)?)
+    agree_all(&rt, &scheme(rt.alloc(), LIST, 2)?)?;
+    agree_all(&rt, &scheme(rt.alloc(), FOUR, 2)?)
 }
 
 /// So many workers are refused.

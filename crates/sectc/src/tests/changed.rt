@@ -1,8 +1,8 @@
 //! Texts whose bytes are swapped, dropped or doubled: each is answered or refused by name.
 
-use super::answer_of;
-use super::hostile::{expect_any, expect_verdict};
+use super::hostile::{expect_any, is_valid};
 use super::programs::PROGRAMS;
+use super::{answer_of, text_of};
 use std::alloc::{AllocError, Global};
 use std::process::Abort;
 use std::sync::Wait;
@@ -77,16 +77,46 @@ fn changed_programs(rt: HostRuntime) -> Result<(), Fail> {
     Ok(())
 }
 
+/// The lines of a certificate that name what its sections take at their entries.
+fn entries_of(alloc: Global, certificate: &str) -> Result<String, AllocError> {
+    let mut entries = String::new(alloc);
+    for line in certificate.lines() {
+        if line.starts_with("entry: ") {
+            entries.push_str(line)?;
+            entries.push_str("\n")?;
+        }
+    }
+    Ok(entries)
+}
+
+/// A changed certificate that is found valid names the same locks at the entries: a section has one least set, and each
+/// valid certificate shows it.
+fn expect_same_entries(
+    rt: &(impl AllocGlobal + Abort),
+    certificate: &str,
+    changed: &[u8],
+) -> Result<(), Fail> {
+    let changed = text_of(rt.alloc(), changed)?;
+    let wanted = entries_of(rt.alloc(), certificate)?;
+    let found = entries_of(rt.alloc(), &changed)?;
+    assert_eq!(rt; found.as_str(), wanted.as_str(), "{changed}");
+    Ok(())
+}
+
 /// A certificate with some changes, and the source text behind it, is judged.
 fn expect_judged(
     rt: &(impl Threads + Wait + Sync + AllocGlobal + Abort),
-    certificate: &[u8],
+    certificate: &str,
     source: &[u8],
     chance: &mut Chance,
 ) -> Result<(), Fail> {
-    let mut input = changed(rt.alloc(), certificate, chance)?;
+    let changed = changed(rt.alloc(), certificate.as_bytes(), chance)?;
+    let mut input = Vec::from_slice(rt.alloc(), changed.as_slice())?;
     input.extend_from_slice(source)?;
-    expect_verdict(rt, input.as_slice())
+    if is_valid(rt, input.as_slice())? {
+        expect_same_entries(rt, certificate, changed.as_slice())?;
+    }
+    Ok(())
 }
 
 /// The certificate of a program, with some changes each time, is judged.
@@ -98,7 +128,7 @@ fn expect_all_judged(
     let (status, certificate) = answer_of(rt, "compile --cert", source)?;
     assert_eq!(rt; status, 0, "{certificate}");
     for _ in 0..TEXTS {
-        expect_judged(rt, certificate.as_bytes(), source, chance)?;
+        expect_judged(rt, &certificate, source, chance)?;
     }
     Ok(())
 }

@@ -140,16 +140,16 @@ pub(super) fn expect_any(
     expect_answers(rt, source, &REFUSED)
 }
 
-/// `check` finds that the input is valid, or refuses it by name.
-pub(super) fn expect_verdict(
+/// Whether `check` finds that the input is valid; it refuses it by name where it isn't.
+pub(super) fn is_valid(
     rt: &(impl Threads + Wait + Sync + AllocGlobal + Abort),
     input: &[u8],
-) -> Result<(), Fail> {
+) -> Result<bool, Fail> {
     let (status, text) = answer_of(rt, "check", input)?;
     let is_valid = status == 0 && text.as_str() == "valid\n";
     let is_refused = status == 1 && is_one_of(&text, &CHECKED);
     assert!(rt; is_valid || is_refused, "{status}: {text}");
-    Ok(())
+    Ok(is_valid)
 }
 
 /// Each beginning of a text is answered, or refused as one of these.

@@ -19,6 +19,7 @@ const CERTIFIED: &str =
 const COMMANDS: &[(&str, &str)] = &[
     ("locks", TWO_THREADS),
     ("explain", TWO_THREADS),
+    ("conflicts", TWO_THREADS),
     ("compile", TWO_THREADS),
     ("compile --cert", TWO_THREADS),
     ("compile --workers 2 --cert", TWO_THREADS),

@@ -1,5 +1,6 @@
 pub mod Booleans
 pub mod Changed
+pub mod Distinct
 pub mod Elements
 pub mod Finding
 pub mod Inserting

@@ -41,7 +41,7 @@ ended_at (x ∷ xs) (y ∷ es) (suc i) f e g = let r : map (λ (f : FrameView). 
     ended_at xs es i f r g
 
 -- a thread with a section left hasn't ended
-left_over : (p : ProgramView) (t : ℕ) (s : RunView) (e : SerialEndView) → HasSectionLeft p t (slice_get s.frames t)
+pub left_over : (p : ProgramView) (t : ℕ) (s : RunView) (e : SerialEndView) → HasSectionLeft p t (slice_get s.frames t)
     → EndsAs p s e → ⊥
 left_over p t s e h ends = by (slice_get s.frames t) refl h where
   by : (o : Option FrameView) → slice_get s.frames t ≡ o → HasSectionLeft p t o → ⊥

@@ -10,7 +10,7 @@ use Rattle.sect_serial.specs.steps.Rests.{rest_of, is_stop, AreFull, after_first
 use Rattle.sect_types.proofs.shared.Joining.{joined_stop, joined_again}
 
 -- a step comes first in what it begins
-joined_step : (s : Step) (k r : TextView) → joined (step_then s k) r ≡ step_then s (joined k r)
+pub joined_step : (s : Step) (k r : TextView) → joined (step_then s k) r ≡ step_then s (joined k r)
 joined_step (step.Do a) k r = refl
 joined_step (step.If t p q) k r = refl
 joined_step (step.While t p) k r = refl

@@ -1,2 +1,5 @@
+pub mod Comparing
+pub mod Exploring
 pub mod Judging
+pub mod Trimming
 pub mod steps

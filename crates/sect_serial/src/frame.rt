@@ -5,13 +5,17 @@ ghost use Rattle.sect_types.specs.Programs.{environment_at};
 ghost use Rattle.sect_types.specs.Sound.{IsSound};
 ghost use Rattle.sect_types.specs.Whole.{settled, first_work, is_standing, ahead, body_of};
 ghost use Rattle.sect_store.specs.Working.{left_with};
+ghost use Rattle.std.specs.Cmp.{partial_equiv_from_equiv};
+ghost use Rattle.sect_serial.specs.Comparing.{frame_eq, frame_fed, frame_equivalence, frame_alike};
+ghost use Rattle.sect_serial.specs.Trimming.{in_use};
 ghost use Rattle.sect_serial.specs.steps.Frames.{Ran, IsReady};
 
 use crate::rest::Rest;
 use crate::step::step;
 use sect_store::{Store, Work};
-use sect_types::{End, Fault, Program, Step, Text, ValueType};
+use sect_types::{Datum, End, Fault, Program, Step, Text, ValueType};
 use std::alloc::{AllocError, Global};
+use std::hash::{Hash, Hasher};
 use std::marker::Model;
 
 /// Runs the body of a section; the fault that breaks it off, if one does.
@@ -74,6 +78,27 @@ impl<'a> Frame<'a> {
         };
         frame.settle();
         Ok(frame)
+    }
+
+    /// A thread equal to this one.
+    pub fn try_clone(&self) -> Result<Frame<'a>, AllocError>
+        ensures { IfOk result (λ frame. frame ≡ self.now) }
+    {
+        Ok(Frame {
+            rest: self.rest.try_clone()?,
+            work: self.work.try_clone()?,
+            ended: self.ended,
+        })
+    }
+
+    /// What its locals hold, by number; nothing where it has ended, since nothing looks at them any more.
+    fn locals(&self) -> &[Datum]
+        ensures { result.now ≡ in_use self.now.ended self.now.work.locals }
+    {
+        match self.ended {
+            None => self.work.locals(),
+            Some(_) => &[],
+        }
     }
 
     /// At the end of its text it has ended.
@@ -157,5 +182,33 @@ impl<'a> Frame<'a> {
             Some(fault) => self.ended = Some(End::Failed(fault)),
         }
         Ok(true)
+    }
+}
+
+impl PartialEq for Frame<'_> {
+    ghost eq = { frame_eq };
+
+    ghost laws = { partial_equiv_from_equiv frame_equivalence };
+
+    fn eq(&self, other: &Self) -> bool {
+        self.locals() == other.locals()
+            && self.work.is_as_far(&other.work)
+            && self.ended == other.ended
+            && self.rest == other.rest
+    }
+}
+
+impl Eq for Frame<'_> {
+    ghost laws = { frame_equivalence };
+}
+
+impl Hash for Frame<'_> {
+    ghost hash_input = { frame_fed };
+
+    ghost respects_eq = { frame_alike.fed };
+
+    fn hash<H: Hasher>(&self, state: &mut H) {
+        self.locals().hash(state);
+        state.write_u32(self.work.fuel());
     }
 }

@@ -1,16 +1,20 @@
 //! What is still to run.
 
 ghost use Rattle.std.specs.Prelude.{◌≡◌, option_copied, OnOk, IfOk};
+ghost use Rattle.std.specs.Cmp.{partial_equiv_from_equiv};
+ghost use Rattle.sect_serial.specs.Comparing.{text_eq, text_equivalence};
 ghost use Rattle.sect_types.specs.Statements.{joined};
-ghost use Rattle.sect_serial.specs.steps.Rests.{Begins, after_first, is_stop};
+ghost use Rattle.sect_types.specs.Texts.{statements_of};
+ghost use Rattle.sect_serial.specs.steps.Rests.{Begins, after_first, is_stop, rest_of, AreFull};
 
+use crate::same::{Statements, same_statements};
 use sect_types::{Step, Text};
 use std::alloc::{AllocError, Global};
 use std::marker::Model;
 
 /// The statements of a block from some statement on.
 #[derive(Drop)]
-struct Part<'a> {
+pub struct Part<'a> {
     steps: &'a [Step],
 }
 
@@ -35,6 +39,13 @@ impl<'a> Part<'a> {
         Part {
             steps: text.as_slice(),
         }
+    }
+
+    /// Its statements.
+    pub fn steps(&self) -> &'a [Step]
+        ensures { statements_of result.now ≡ self.now }
+    {
+        self.steps
     }
 
     /// Whether it has no statement.
@@ -96,6 +107,25 @@ impl<'a> Rest<'a> {
         Ok(rest)
     }
 
+    /// The rests of the blocks that it is in, the innermost last, none of them empty.
+    pub fn parts(&self) -> &[Part<'a>]
+        ensures all { rest_of result.now ≡ self.now }
+        ensures full { AreFull result.now }
+    {
+        self.parts.as_slice()
+    }
+
+    /// A rest equal to this one.
+    pub fn try_clone(&self) -> Result<Rest<'a>, AllocError>
+        ensures { IfOk result (λ rest. rest ≡ self.now) }
+    {
+        let mut parts = Vec::new(*self.parts.allocator());
+        for part in self.parts.as_slice() {
+            parts.push(Part { steps: part.steps })?;
+        }
+        Ok(Rest { parts })
+    }
+
     /// The statement that comes next.
     pub fn first(&self) -> Option<&'a Step>
         ensures { Begins (option_copied result) self.now }
@@ -128,4 +158,18 @@ impl<'a> Rest<'a> {
         }
         Ok(())
     }
+}
+
+impl PartialEq for Rest<'_> {
+    ghost eq = { text_eq };
+
+    ghost laws = { partial_equiv_from_equiv text_equivalence };
+
+    fn eq(&self, other: &Self) -> bool {
+        same_statements(Statements::left_in(self), Statements::left_in(other))
+    }
+}
+
+impl Eq for Rest<'_> {
+    ghost laws = { text_equivalence };
 }

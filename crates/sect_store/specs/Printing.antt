@@ -1,4 +1,4 @@
--- An outcome as it is printed. `put_outcome` and `put_object_name` cite it.
+-- An outcome as it is printed. `put_outcome`, `Printer` and `put_object_name` cite it.
 use Rattle.std.specs.Prelude.{ℕ, ℤ, ◌+◌, List, [], ◌∷◌, ◌++◌, Option, Some, None, slice_index_or, codes}
 use Rattle.std.specs.List.{flat_map}
 use Rattle.std.specs.Fmt.{decimal, signed_decimal}
@@ -74,3 +74,9 @@ store_lines p s = by_place (global_line p) 0 s.globals ++ by_place (made_lines p
 abbrev pub outcome_text : ProgramView → OutcomeView → List ℕ
 outcome_text p o =
     by_place thread_line 0 o.ends ++ order_line o.order ++ flat_map out_line o.output ++ store_lines p o.store
+
+-- an outcome as one of several: its number and order, and then as above
+abbrev pub numbered_text : ProgramView → ℕ → OutcomeView → List ℕ
+numbered_text p n o =
+    codes "outcome " ++ decimal n ++ codes ": " ++ order_line o.order ++ by_place thread_line 0 o.ends
+    ++ flat_map out_line o.output ++ store_lines p o.store

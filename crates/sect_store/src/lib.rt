@@ -3,6 +3,7 @@
 
 mod object;
 mod outcome;
+mod printer;
 mod printing;
 mod site;
 mod statement;
@@ -12,6 +13,7 @@ mod work;
 
 pub use crate::object::Object;
 pub use crate::outcome::Outcome;
+pub use crate::printer::Printer;
 pub use crate::printing::{put_object_name, put_outcome};
 pub use crate::statement::{act, finish_new};
 pub use crate::store::Store;

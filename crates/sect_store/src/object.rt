@@ -5,11 +5,15 @@ ghost use Rattle.std.specs.Prelude.{IfOk, OnOk, OnErr};
 ghost use Rattle.sect_lemmas.specs.Lists.{changed_at};
 ghost use Rattle.sect_types.specs.Store.{with_field};
 ghost use Rattle.sect_types.specs.Meaning.{datum_or_null, first_datum, fresh};
+ghost use Rattle.std.specs.Cmp.{partial_equiv_from_equiv};
 ghost use Rattle.sect_store.specs.Undoing.{without_end};
+ghost use Rattle.sect_store.specs.Comparing.{object_eq, object_fed, object_equivalence, object_alike, objects_eq};
+ghost use Rattle.sect_store.specs.Comparing.{objects_fed, objects_equivalence, objects_alike};
 
 use crate::value::first;
 use sect_types::{Datum, Program, ValueType};
 use std::alloc::{AllocError, Global};
+use std::hash::{Hash, Hasher};
 use std::marker::Model;
 
 /// What data of these types hold at the start.
@@ -77,6 +81,16 @@ impl Object {
         self.fields.as_slice()
     }
 
+    /// An object equal to this one.
+    fn try_clone(&self) -> Result<Object, AllocError>
+        ensures { IfOk result (λ object. object ≡ self.now) }
+    {
+        Ok(Object {
+            site: self.site,
+            fields: Vec::from_slice(*self.fields.allocator(), self.fields.as_slice())?,
+        })
+    }
+
     /// What a field holds; null where there is no such field.
     pub fn field(&self, number: u16) -> Datum
         ensures { result ≡ datum_or_null (slice_get self.now.fields number) }
@@ -94,6 +108,30 @@ impl Object {
         if let Some(field) = self.fields.get_mut(number as usize) {
             *field = datum;
         }
+    }
+}
+
+impl PartialEq for Object {
+    ghost eq = { object_eq };
+
+    ghost laws = { partial_equiv_from_equiv object_equivalence };
+
+    fn eq(&self, other: &Object) -> bool {
+        self.site() == other.site() && self.fields() == other.fields()
+    }
+}
+
+impl Eq for Object {
+    ghost laws = { object_equivalence };
+}
+
+impl Hash for Object {
+    ghost hash_input = { object_fed };
+
+    ghost respects_eq = { object_alike.fed };
+
+    fn hash<H: Hasher>(&self, state: &mut H) {
+        self.fields().hash(state);
     }
 }
 
@@ -129,6 +167,17 @@ impl Objects {
         self.list.as_slice()
     }
 
+    /// Objects equal to these.
+    pub fn try_clone(&self) -> Result<Objects, AllocError>
+        ensures { IfOk result (λ objects. objects ≡ self.now) }
+    {
+        let mut list = Vec::new(*self.list.allocator());
+        for object in self.list.as_slice() {
+            list.push(object.try_clone()?)?;
+        }
+        Ok(Objects { list })
+    }
+
     /// The object of this number.
     pub fn get(&self, number: usize) -> Option<&Object>
         ensures { option_copied result ≡ slice_get self.now number }
@@ -159,5 +208,29 @@ impl Objects {
         if let Some(object) = self.list.get_mut(number) {
             object.put(field, datum);
         }
+    }
+}
+
+impl PartialEq for Objects {
+    ghost eq = { objects_eq };
+
+    ghost laws = { partial_equiv_from_equiv objects_equivalence };
+
+    fn eq(&self, other: &Objects) -> bool {
+        self.as_slice() == other.as_slice()
+    }
+}
+
+impl Eq for Objects {
+    ghost laws = { objects_equivalence };
+}
+
+impl Hash for Objects {
+    ghost hash_input = { objects_fed };
+
+    ghost respects_eq = { objects_alike.fed };
+
+    fn hash<H: Hasher>(&self, state: &mut H) {
+        self.as_slice().hash(state);
     }
 }

@@ -36,7 +36,7 @@ pub fn put_outcome(
 }
 
 /// Adds how each thread has ended.
-fn put_ends(text: &mut String, ends: &[Option<End>]) -> Result<(), AllocError>
+pub fn put_ends(text: &mut String, ends: &[Option<End>]) -> Result<(), AllocError>
     ensures { OnOk result (string_bytes text.new ≡ string_bytes text.old ++ by_place thread_line 0 ends.now) }
 {
     for (thread, end) in ends.iter().enumerate() {
@@ -49,7 +49,7 @@ fn put_ends(text: &mut String, ends: &[Option<End>]) -> Result<(), AllocError>
 }
 
 /// Adds the threads in the order of their sections.
-fn put_order(text: &mut String, order: &[u16]) -> Result<(), AllocError>
+pub fn put_order(text: &mut String, order: &[u16]) -> Result<(), AllocError>
     ensures { OnOk result (string_bytes text.new ≡ string_bytes text.old ++ order_line order.now) }
 {
     if order.is_empty() {
@@ -63,7 +63,7 @@ fn put_order(text: &mut String, order: &[u16]) -> Result<(), AllocError>
 }
 
 /// Adds the numbers that were printed.
-fn put_output(text: &mut String, output: &[i64]) -> Result<(), AllocError>
+pub fn put_output(text: &mut String, output: &[i64]) -> Result<(), AllocError>
     ensures { OnOk result (string_bytes text.new ≡ string_bytes text.old ++ flat_map out_line output.now) }
 {
     for number in output {
@@ -73,7 +73,7 @@ fn put_output(text: &mut String, output: &[i64]) -> Result<(), AllocError>
 }
 
 /// Adds the objects. `sites` has the record of each site.
-fn put_store(
+pub fn put_store(
     text: &mut String,
     program: &Program,
     sites: &[u16],

@@ -4,6 +4,7 @@ ghost use Rattle.std.specs.Prelude.{◌≡◌, ◌<◌, ◌+◌, ◌^◌, ◌++�
 ghost use Rattle.sect_types.specs.Meaning.{value_datum, base_datum, is_true, assigned, local_datum};
 ghost use Rattle.sect_types.specs.Whole.{first_work};
 ghost use Rattle.sect_store.specs.Working.{Tests, delivered};
+ghost use Rattle.sect_store.specs.Comparing.{far_eq};
 ghost use Rattle.sect_store.specs.steps.Paying.{Pays, given_back, counted, with_print};
 
 use crate::object::first_data;
@@ -60,6 +61,35 @@ impl Work {
             made: 0,
             printed: Vec::new(alloc),
         })
+    }
+
+    /// Work equal to this.
+    pub fn try_clone(&self) -> Result<Work, AllocError>
+        ensures { IfOk result (λ work. work ≡ self.now) }
+    {
+        let alloc = *self.locals.allocator();
+        Ok(Work {
+            locals: Vec::from_slice(alloc, self.locals.as_slice())?,
+            fuel: self.fuel,
+            made: self.made,
+            printed: Vec::from_slice(alloc, self.printed.as_slice())?,
+        })
+    }
+
+    /// What its locals hold, by number.
+    pub fn locals(&self) -> &[Datum]
+        ensures { result.now ≡ self.now.locals }
+    {
+        self.locals.as_slice()
+    }
+
+    /// Whether both are as far but for what their locals hold: in fuel, in objects made, and in what is printed.
+    pub fn is_as_far(&self, other: &Work) -> bool
+        ensures { result ≡ far_eq self.now other.now }
+    {
+        self.fuel == other.fuel
+            && self.made == other.made
+            && self.printed.as_slice() == other.printed.as_slice()
     }
 
     /// The units of fuel left.

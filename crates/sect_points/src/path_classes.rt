@@ -145,8 +145,8 @@ fn field_sites(points: &PointsTo, bases: &SiteSet, field: u16) -> SiteSet
     }
 }
 
-/// The sites of a path.
-fn path_sites(points: &PointsTo, base: Variable, fields: &[Field]) -> SiteSet
+/// The sites whose objects a path may denote: the path goes on from a variable by these fields.
+pub fn path_sites(points: &PointsTo, base: Variable, fields: &[Field]) -> SiteSet
     ensures { (site : ℕ) → HasSite result.words site
         ↔ (PathHas (InSets points.now) (path_of base fields.now) site × (site < points.now.sites)) }
 {

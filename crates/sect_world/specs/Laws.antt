@@ -20,6 +20,12 @@ EveryRunIsSerial c =
     (fuel : ℕ) (trace : List Event) (s : State) (e : SerialEndView) → IsRun c fuel trace s → IsComplete s e
     → RunsWhole (program_of c) fuel (order_of trace) e
 
+-- each order in which whole sections come to an end is that of a complete run, which comes to that end
+abbrev pub EveryOrderIsRun : CompiledView → Type 0
+EveryOrderIsRun c =
+    (fuel : ℕ) (order : List ℕ) (e : SerialEndView) → RunsWhole (program_of c) fuel order e
+    → (trace : List Event) × (s : State) × IsRun c fuel trace s × IsComplete s e × (order_of trace ≡ order)
+
 -- each state of a run is well kept
 abbrev pub StatesAreWellKept : CompiledView → Type 0
 StatesAreWellKept c = (fuel : ℕ) (trace : List Event) (s : State) → IsRun c fuel trace s → IsWellKept c s

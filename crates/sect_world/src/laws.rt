@@ -10,11 +10,14 @@ ghost use Rattle.sect_world.specs.Held.{HoldsEnough};
 ghost use Rattle.sect_world.specs.Accesses.{ChangesAreAccesses, StepsLookWhereTheyLoad};
 ghost use Rattle.sect_world.specs.Kept.{IsWellKept};
 ghost use Rattle.sect_world.specs.Laws.{StatesAreWellKept, NoStateIsStuck, SomethingHappens, AccessesAreHeld};
-ghost use Rattle.sect_world.specs.Laws.{EveryRunIsSerial};
+ghost use Rattle.sect_world.specs.Laws.{EveryRunIsSerial, EveryOrderIsRun};
 ghost use Rattle.sect_world.specs.Excluding.{ReadersAndWritersExclude};
 ghost use Rattle.sect_world.specs.HeldPaths.{HoldersHoldTheClass, BeginningsAreHeld, NeededPathsStay};
 ghost use Rattle.sect_world.specs.Secured.{Good};
+ghost use Rattle.sect_world.specs.Together.{ClashingSectionsExclude, TogetherNeverWait};
 ghost use Rattle.sect_world.specs.SerialFacts.{OnlySectionsDiffer, SectionsAreReplayed};
+
+use sect_conflicts::sections_that_go_together_never_clash;
 
 /// Each state of a run of a compiled program is well kept, and good: each thread holds the classes of the objects that
 /// it holds, and has secured what it still needs.
@@ -55,6 +58,19 @@ pub fn readers_and_writers_exclude()
     ensures { (c : CompiledView) → IsCompiled c → ReadersAndWritersExclude c }
 {}
 
+/// Sections that are said to exclude each other in every state are in progress together in no state of a run.
+pub fn clashing_sections_exclude_each_other()
+    ensures { (c : CompiledView) → IsCompiled c → ClashingSectionsExclude c }
+{}
+
+/// While one of two sections that go together is in progress, no `take` of the other waits for a key that the first has
+/// taken.
+pub fn sections_that_go_together_never_wait()
+    ensures { (c : CompiledView) → IsCompiled c → TogetherNeverWait c }
+{
+    sections_that_go_together_never_clash();
+}
+
 /// In each state of a run each thread holds, with the key of an object, that of its class; in a section it may read
 /// what the beginnings of the paths denote that it still needs; and what these paths denote, other threads leave.
 pub fn needed_paths_are_held()
@@ -74,4 +90,10 @@ pub fn the_store_follows_the_sections()
 /// `leave` events.
 pub fn every_run_is_serial()
     ensures { (c : CompiledView) → IsCompiled c → EveryRunIsSerial c }
+{}
+
+/// Each order in which whole sections come to an end is the order of the `leave` events of a complete run, which comes to
+/// that end. So whole sections in all orders come to exactly what complete runs come to.
+pub fn every_order_is_run()
+    ensures { (c : CompiledView) → IsCompiled c → EveryOrderIsRun c }
 {}

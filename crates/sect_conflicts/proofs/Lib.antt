@@ -1,0 +1,9 @@
+mod Selecting
+mod PathPairs
+mod ModeTables
+mod Steadying
+mod Firsts
+mod Clashing
+mod Progressing
+mod Profiling
+pub mod shared

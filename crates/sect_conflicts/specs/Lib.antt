@@ -1,0 +1,4 @@
+pub mod Conflicts
+pub mod Comparing
+pub mod Laws
+pub mod steps

@@ -1,0 +1,5 @@
+-- What the contracts of private functions speak of.
+pub mod Steady
+pub mod Profiles
+pub mod Selecting
+pub mod Progress

@@ -1,4 +1,5 @@
 """Programs that `run` measures, each made for a size."""
+import math
 import random
 
 
@@ -143,6 +144,21 @@ def sections(count):
     return "%sglobal N a; global N b; %s" % (record("N", ["n0", "n1"], "int val; "), threads)
 
 
+def pairs(count):
+    """So many sections of 64 threads, each of which goes by two of eight lists, reads there and writes."""
+    chance = random.Random(2)
+    names = named("g", 8)
+    filled = " ".join("p = new N; q = new N; p.n0 = q; %s.n0 = p; %s.n1 = q;" % (name, name) for name in names)
+    parts = []
+    for thread in range(64):
+        bodies = ["p = %s.n0; q = p.n0; v = q.val; q = %s.n1; q.val = v; v = %s.val; v = p.val; p.val = v;"
+                  % tuple(chance.choice(names) for _ in range(3)) for _ in range(count // 64)]
+        bodies[0] = filled if thread == 0 else bodies[0]
+        sections_ = " ".join("atomic { %s }" % body for body in bodies)
+        parts.append("thread t%d { N p; N q; int v; %s }" % (thread, sections_))
+    return "%s%s %s" % (record("N", ["n0", "n1"], "int val; "), declared("global N", names), "\n".join(parts))
+
+
 def long_sections(count):
     """Sections that take as long as each other: in a loop each goes on by any of five fields, three times, from any of
     fourteen locals. The records of the three fields differ, so that no path becomes the lock on a class."""
@@ -201,6 +217,15 @@ def contention(count):
     """So many threads that add to the object of one global, each in four sections."""
     section = "atomic { t = a.bal; t = t + 1; a.bal = t; } " * 4
     threads = " ".join("thread t%d { int t; %s}" % (i, section) for i in range(count))
+    return "record Acct { int bal; } global Acct a; %s" % threads
+
+
+def counting(states):
+    """Two threads that add to one counter, each so often that there are about so many states between their sections."""
+    rounds = math.isqrt(states) - 1
+    section = "atomic { t = a.bal; t = t + 1; a.bal = t; t = 0; }"
+    threads = " ".join("thread t%d { int i; int t; while (i < %d) { %s i = i + 1; } }" % (i, rounds, section)
+                       for i in range(2))
     return "record Acct { int bal; } global Acct a; %s" % threads
 
 

@@ -1,5 +1,7 @@
 mod Blocks
+mod Conflicting
 mod Cutting
 mod Lines
+mod Outcoming
 mod Refusing
 mod Scheduled

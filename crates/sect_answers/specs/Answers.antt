@@ -29,3 +29,4 @@ IsDue bytes k (refusal.Workers why) = ⊥
 IsDue bytes k (refusal.Serial why) = ⊥
 IsDue bytes k (refusal.Check why) = ⊥
 IsDue bytes k (refusal.Schedule why) = ⊥
+IsDue bytes k (refusal.Outcomes why) = ⊥

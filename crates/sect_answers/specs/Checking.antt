@@ -33,3 +33,4 @@ IsCheckDue input k (refusal.Source why) = ⊥
 IsCheckDue input k (refusal.Workers why) = ⊥
 IsCheckDue input k (refusal.Serial why) = ⊥
 IsCheckDue input k (refusal.Schedule why) = ⊥
+IsCheckDue input k (refusal.Outcomes why) = ⊥

@@ -1,4 +1,5 @@
 pub mod Listing
+pub mod Outcomes
 pub mod Running
 pub mod Answers
 pub mod Refusals
@@ -6,6 +7,7 @@ pub mod Serial
 pub mod Splitting
 pub mod Checking
 pub mod Compiling
+pub mod Conflicting
 pub mod Explaining
 pub mod Scheduling
 pub mod Turns

@@ -13,6 +13,8 @@ use Rattle.sect_infer.specs.declared.workers.InferFault.{InferFault}
 use Rattle.sect_infer.specs.declared.workers.InferFault.TheVariants as infer
 use Rattle.sect_serial.specs.declared.whole.SerialFault.{SerialFault}
 use Rattle.sect_serial.specs.declared.whole.SerialFault.TheVariants as serial
+use Rattle.sect_serial.specs.declared.exploring.OutcomesFault.{OutcomesFault}
+use Rattle.sect_serial.specs.declared.exploring.OutcomesFault.TheVariants as outcomes
 use Rattle.sect_cert.specs.declared.fault.CertFault.{CertFault}
 use Rattle.sect_cert.specs.declared.fault.CertFault.TheVariants as cert
 use Rattle.sect_check.specs.declared.fault.CheckFault.{CheckFault}
@@ -71,6 +73,10 @@ serial_text serial.Memory = no_memory
 serial_text (serial.NoSection t) = codes "80 NoSection thread " ++ decimal t
 serial_text (serial.SectionsLeft t) = codes "81 SectionsLeft thread " ++ decimal t
 
+abbrev pub states_text : OutcomesFault → List ℕ
+states_text outcomes.Memory = no_memory
+states_text outcomes.TooManyStates = codes "90 TooManyStates"
+
 -- a line of the certificate is counted from 1
 abbrev pub cert_text : CertFault → List ℕ
 cert_text cert.Memory = no_memory
@@ -104,5 +110,6 @@ refusal_text refusal.Memory = no_memory
 refusal_text (refusal.Source why) = codes "refused " ++ source_text why
 refusal_text (refusal.Workers why) = codes "refused " ++ workers_text why
 refusal_text (refusal.Serial why) = codes "refused " ++ serial_text why
+refusal_text (refusal.Outcomes why) = codes "refused " ++ states_text why
 refusal_text (refusal.Check why) = codes "refused " ++ check_text why
 refusal_text (refusal.Schedule why) = codes "refused " ++ world_text why

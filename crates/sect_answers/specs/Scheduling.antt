@@ -56,3 +56,4 @@ IsScheduleDue bytes k schedule (refusal.Schedule why) = IsNoThread bytes k sched
 IsScheduleDue bytes k schedule (refusal.Workers why) = ⊥
 IsScheduleDue bytes k schedule (refusal.Serial why) = ⊥
 IsScheduleDue bytes k schedule (refusal.Check why) = ⊥
+IsScheduleDue bytes k schedule (refusal.Outcomes why) = ⊥

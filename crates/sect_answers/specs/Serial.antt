@@ -33,3 +33,4 @@ IsSerialDue bytes fuel order (refusal.Serial why) =
 IsSerialDue bytes fuel order (refusal.Workers why) = ⊥
 IsSerialDue bytes fuel order (refusal.Check why) = ⊥
 IsSerialDue bytes fuel order (refusal.Schedule why) = ⊥
+IsSerialDue bytes fuel order (refusal.Outcomes why) = ⊥

@@ -3,9 +3,11 @@
 
 mod check;
 mod compile;
+mod conflicts;
 mod explain;
 mod lock_sets;
 mod outcome;
+mod outcomes;
 mod printing;
 mod refusal;
 mod run;
@@ -16,8 +18,10 @@ mod turns;
 
 pub use check::verdict;
 pub use compile::{program_certificate, program_listing};
+pub use conflicts::program_conflicts;
 pub use explain::program_explanation;
 pub use lock_sets::locks;
+pub use outcomes::all_outcomes;
 pub use printing::put_refusal;
 pub use refusal::Refusal;
 pub use run::run_outcome;

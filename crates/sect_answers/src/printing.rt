@@ -3,7 +3,8 @@
 ghost use Rattle.std.specs.Prelude.{◌≡◌, ◌++◌, OnOk};
 ghost use Rattle.std.specs.String.{string_bytes};
 ghost use Rattle.sect_answers.specs.Refusals.{front_text, type_text, scheme_text, source_text, workers_text};
-ghost use Rattle.sect_answers.specs.Refusals.{serial_text, cert_text, check_text, world_text, refusal_text};
+ghost use Rattle.sect_answers.specs.Refusals.{serial_text, states_text, cert_text, check_text, world_text};
+ghost use Rattle.sect_answers.specs.Refusals.{refusal_text};
 
 use crate::refusal::Refusal;
 use sect_cert::CertFault;
@@ -11,7 +12,7 @@ use sect_check::CheckFault;
 use sect_front::FrontFault;
 use sect_infer::InferFault;
 use sect_names::{Refusal as SourceRefusal, SchemeFault};
-use sect_serial::SerialFault;
+use sect_serial::{OutcomesFault, SerialFault};
 use sect_types::TypeFault;
 use sect_world::WorldFault;
 use std::alloc::AllocError;
@@ -37,6 +38,10 @@ pub fn put_refusal(text: &mut String, why: &Refusal) -> Result<(), AllocError>
         Refusal::Serial(why) => {
             text.push_str("refused ")?;
             put_serial(text, why)
+        }
+        Refusal::Outcomes(why) => {
+            text.push_str("refused ")?;
+            put_states(text, why)
         }
         Refusal::Check(why) => {
             text.push_str("refused ")?;
@@ -125,6 +130,16 @@ fn put_serial(text: &mut String, why: &SerialFault) -> Result<(), AllocError>
         SerialFault::Memory => text.push_str(NO_MEMORY),
         SerialFault::NoSection { thread } => write!(text, "80 NoSection thread {thread}"),
         SerialFault::SectionsLeft { thread } => write!(text, "81 SectionsLeft thread {thread}"),
+    }
+}
+
+/// Why outcomes aren't listed.
+fn put_states(text: &mut String, why: &OutcomesFault) -> Result<(), AllocError>
+    ensures { OnOk result (string_bytes text.new ≡ string_bytes text.old ++ states_text why.now) }
+{
+    match why {
+        OutcomesFault::Memory => text.push_str(NO_MEMORY),
+        OutcomesFault::TooManyStates => text.push_str("90 TooManyStates"),
     }
 }
 

@@ -7,13 +7,14 @@ ghost use Rattle.sect_answers.specs.Serial.{of_serial};
 ghost use Rattle.sect_answers.specs.Compiling.{of_compile};
 ghost use Rattle.sect_answers.specs.Checking.{of_check};
 ghost use Rattle.sect_answers.specs.Scheduling.{of_world};
+ghost use Rattle.sect_answers.specs.Outcomes.{of_outcomes};
 
 use sect_check::CheckFault;
 use sect_emit::CompileFault;
 use sect_infer::InferFault;
 use sect_names::Refusal as SourceRefusal;
 use sect_run::RunFault;
-use sect_serial::SerialFault;
+use sect_serial::{OutcomesFault, SerialFault};
 use sect_world::WorldFault;
 use std::alloc::AllocError;
 
@@ -28,6 +29,8 @@ pub enum Refusal {
     Workers(InferFault),
     /// The order of the threads is refused.
     Serial(SerialFault),
+    /// There are too many states.
+    Outcomes(OutcomesFault),
     /// The certificate is refused, or the source behind it.
     Check(CheckFault),
     /// The schedule is refused.
@@ -82,6 +85,17 @@ impl From<SerialFault> for Refusal {
         match fault {
             SerialFault::Memory => Refusal::Memory,
             other => Refusal::Serial(other),
+        }
+    }
+}
+
+impl From<OutcomesFault> for Refusal {
+    ghost from_gives = { λ fault r. r ≡ of_outcomes fault };
+
+    fn from(fault: OutcomesFault) -> Refusal {
+        match fault {
+            OutcomesFault::Memory => Refusal::Memory,
+            other => Refusal::Outcomes(other),
         }
     }
 }

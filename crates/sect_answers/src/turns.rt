@@ -85,7 +85,7 @@ fn put_deed(text: &mut String, program: &Program, deed: Deed) -> Result<(), Allo
 }
 
 /// Adds a key: `all`, a class by its number, an object by its name.
-fn put_key(text: &mut String, program: &Program, key: Key) -> Result<(), AllocError>
+pub fn put_key(text: &mut String, program: &Program, key: Key) -> Result<(), AllocError>
     ensures { OnOk result (string_bytes text.new ≡ string_bytes text.old ++ key_text program.now key) }
 {
     match key {

@@ -5,7 +5,6 @@ use sect_front::FrontFault;
 use sect_names::Refusal;
 use sect_table::TableFault;
 use sect_types::TypeFault;
-use sect_world::WorldFault;
 use std::alloc::AllocError;
 use std::io;
 use std::num::TryFromIntError;
@@ -21,17 +20,30 @@ pub enum Failure {
     /// The source text was refused.
     #[error("the text on standard input is no program")]
     Source,
-    /// A growth was refused, or what was made isn't accepted again.
+    /// What was made isn't accepted again, or a turn that was made again is refused again.
     #[error("the work could not be done")]
     Work,
+    /// A growth was refused.
+    #[error("out of memory")]
+    Memory,
     /// The input or the output failed.
     #[error("input or output failed")]
     Streams,
 }
 
+impl Failure {
+    /// The status of the program: 3 where a growth was refused, as that of `sectc`, and else 1.
+    pub fn status(&self) -> u8 {
+        match self {
+            Failure::Memory => 3,
+            _ => 1,
+        }
+    }
+}
+
 impl From<AllocError> for Failure {
     fn from(_refused: AllocError) -> Failure {
-        Failure::Work
+        Failure::Memory
     }
 }
 
@@ -48,43 +60,55 @@ impl From<TryFromIntError> for Failure {
 }
 
 impl From<FrontFault> for Failure {
-    fn from(_fault: FrontFault) -> Failure {
-        Failure::Source
+    fn from(fault: FrontFault) -> Failure {
+        match fault {
+            FrontFault::Memory => Failure::Memory,
+            _ => Failure::Source,
+        }
     }
 }
 
 impl From<TypeFault> for Failure {
-    fn from(_fault: TypeFault) -> Failure {
-        Failure::Source
+    fn from(fault: TypeFault) -> Failure {
+        match fault {
+            TypeFault::Memory => Failure::Memory,
+            _ => Failure::Source,
+        }
     }
 }
 
 impl From<Refusal> for Failure {
-    fn from(_refusal: Refusal) -> Failure {
-        Failure::Source
+    fn from(refusal: Refusal) -> Failure {
+        match refusal {
+            Refusal::Memory => Failure::Memory,
+            _ => Failure::Source,
+        }
     }
 }
 
 impl From<CertFault> for Failure {
-    fn from(_fault: CertFault) -> Failure {
-        Failure::Work
+    fn from(fault: CertFault) -> Failure {
+        match fault {
+            CertFault::Memory => Failure::Memory,
+            _ => Failure::Work,
+        }
     }
 }
 
 impl From<TableFault> for Failure {
-    fn from(_fault: TableFault) -> Failure {
-        Failure::Work
-    }
-}
-
-impl From<WorldFault> for Failure {
-    fn from(_fault: WorldFault) -> Failure {
-        Failure::Work
+    fn from(fault: TableFault) -> Failure {
+        match fault {
+            TableFault::Memory => Failure::Memory,
+            _ => Failure::Work,
+        }
     }
 }
 
 impl From<io::Error> for Failure {
-    fn from(_error: io::Error) -> Failure {
-        Failure::Streams
+    fn from(error: io::Error) -> Failure {
+        match error.kind() {
+            io::ErrorKind::OutOfMemory => Failure::Memory,
+            _ => Failure::Streams,
+        }
     }
 }

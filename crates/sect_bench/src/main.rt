@@ -24,7 +24,7 @@ fn main(rt: HostRuntime) -> ExitCode {
         Err(failure) => {
             // Where even this can't be written, the status tells it.
             let _ = writeln!(rt.stderr(), "{failure}");
-            ExitCode::FAILURE
+            ExitCode::from(failure.status())
         }
     }
 }

@@ -4,18 +4,22 @@ use crate::failure::Failure;
 use sect_emit::{Compiled, compile};
 use sect_store::{Outcome, put_outcome};
 use sect_types::Program;
-use sect_world::{Turned, World, WorldFault};
+use sect_world::{Turned, World};
 use std::alloc::Global;
 use std::str;
 
 /// How many statements and tests each thread may do.
 const FUEL: u32 = 1_000_000;
 
-/// A turn of a thread. One that is refused for memory is made again: it has changed nothing.
-fn turn(world: &mut World<'_>, thread: u16) -> Result<Turned, WorldFault> {
+/// A turn of a thread. One that is refused for memory is made again: it has changed nothing. `Work` is answered where
+/// there is no such thread, and where it is refused again.
+fn turn(world: &mut World<'_>, thread: u16) -> Result<Turned, Failure> {
+    if let Ok(turned) = world.turn(thread) {
+        return Ok(turned);
+    }
     match world.turn(thread) {
-        Err(WorldFault::Memory) => world.turn(thread),
-        turned => turned,
+        Ok(turned) => Ok(turned),
+        Err(_) => Err(Failure::Work),
     }
 }
 
@@ -50,7 +54,7 @@ fn outcome_of(alloc: Global, compiled: &Compiled, threads: &str) -> Result<Strin
 }
 
 /// Makes the turns of the threads that the first line of the input names, in the program of the text behind it, and
-/// gives the outcome. A turn that is refused for memory is made again.
+/// gives the outcome. A turn that is refused for memory is made again, once.
 pub fn run_turns(alloc: Global, input: &[u8], k: u16) -> Result<String, Failure> {
     let Some((threads, source)) = str::from_utf8(input)?.split_once('\n') else {
         return Err(Failure::Usage);

@@ -5,7 +5,9 @@ use Rattle.sect_infer.specs.Workers.{AreOffered}
 use Rattle.sect_answers.specs.Answers.{IsAnswer, IsDue}
 use Rattle.sect_answers.specs.Checking.{IsValidInput, IsCheckDue}
 use Rattle.sect_answers.specs.Compiling.{IsCertified, IsProgramListing, IsCompileDue}
+use Rattle.sect_answers.specs.Conflicting.{AreProgramConflicts}
 use Rattle.sect_answers.specs.Explaining.{IsProgramExplanation}
+use Rattle.sect_answers.specs.Outcomes.{AreAllOutcomes, IsOutcomesDue}
 use Rattle.sect_answers.specs.Refusals.{refusal_text}
 use Rattle.sect_answers.specs.Running.{IsOutcomeOfRun}
 use Rattle.sect_answers.specs.Scheduling.{IsScheduled, IsScheduleDue}
@@ -16,8 +18,8 @@ use Rattle.sect_command.specs.declared.dispatch.TheConstants.{DONE, REFUSED, WRO
 use Rattle.sect_command.specs.declared.dispatch.Answer.{Answer}
 use Rattle.sect_command.specs.declared.options.Form.TheVariants.{Listing, Certificate}
 use Rattle.sect_command.specs.declared.options.Request.{Request}
-use Rattle.sect_command.specs.declared.options.Request.TheVariants.{Locks, Compile, Explain, Check}
-use Rattle.sect_command.specs.declared.options.Request.TheVariants.{Serial, Schedule, Run}
+use Rattle.sect_command.specs.declared.options.Request.TheVariants.{Locks, Compile, Explain, Conflicts, Check}
+use Rattle.sect_command.specs.declared.options.Request.TheVariants.{Serial, Outcomes, Schedule, Run}
 
 -- the bytes are what is requested of the source
 abbrev pub Answers : Request → List ℕ → List ℕ → Type 0
@@ -25,7 +27,9 @@ Answers (Locks k) source bytes = IsAnswer source k bytes
 Answers (Compile k workers Listing) source bytes = AreOffered workers × IsProgramListing source k bytes
 Answers (Compile k workers Certificate) source bytes = AreOffered workers × IsCertified source k bytes
 Answers (Explain k) source bytes = IsProgramExplanation source k bytes
+Answers (Conflicts k) source bytes = AreProgramConflicts source k bytes
 Answers (Serial fuel order) source bytes = IsOutcome source fuel order.items bytes
+Answers (Outcomes fuel most) source bytes = AreAllOutcomes source fuel most bytes
 Answers (Schedule k fuel schedule) source bytes = IsScheduled source k fuel schedule.items bytes
 Answers (Run k fuel) source bytes = IsOutcomeOfRun source k fuel bytes
 Answers (Check k) source bytes = IsValidInput source k × (bytes ≡ codes "valid\n")
@@ -35,7 +39,9 @@ abbrev pub IsRefusalDue : Request → List ℕ → Refusal → Type 0
 IsRefusalDue (Locks k) source = IsDue source k
 IsRefusalDue (Compile k workers form) source = IsCompileDue source k workers
 IsRefusalDue (Explain k) source = IsDue source k
+IsRefusalDue (Conflicts k) source = IsDue source k
 IsRefusalDue (Serial fuel order) source = IsSerialDue source fuel order.items
+IsRefusalDue (Outcomes fuel most) source = IsOutcomesDue source fuel most
 IsRefusalDue (Schedule k fuel schedule) source = IsScheduleDue source k schedule.items
 IsRefusalDue (Run k fuel) source = IsDue source k
 IsRefusalDue (Check k) source = IsCheckDue source k

@@ -9,8 +9,8 @@ ghost use Rattle.std.specs.String.{string_bytes};
 
 use crate::options::{Form, Request, UsageFault, request_of};
 use sect_answers::{
-    Refusal, locks, program_certificate, program_explanation, program_listing, put_refusal,
-    run_outcome, schedule_outcome, serial_outcome, verdict,
+    Refusal, all_outcomes, locks, program_certificate, program_conflicts, program_explanation,
+    program_listing, put_refusal, run_outcome, schedule_outcome, serial_outcome, verdict,
 };
 use sect_run::OpenGate;
 use std::alloc::{AllocError, Global};
@@ -196,8 +196,12 @@ fn printed<R: Threads + Wait + Sync>(
             form: Form::Certificate,
         } => program_certificate(rt, alloc, source, k, workers),
         Request::Explain { k } => program_explanation(alloc, source, k),
+        Request::Conflicts { k } => Ok(program_conflicts(alloc, source, k)?.into_bytes()),
         Request::Serial { fuel, order } => {
             Ok(serial_outcome(alloc, source, fuel, order)?.into_bytes())
+        }
+        Request::Outcomes { fuel, most } => {
+            Ok(all_outcomes(alloc, source, fuel, most)?.into_bytes())
         }
         Request::Schedule { k, fuel, schedule } => {
             Ok(schedule_outcome(alloc, source, k, fuel, schedule)?.into_bytes())

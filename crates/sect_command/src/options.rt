@@ -3,7 +3,9 @@
 ghost use Rattle.std.specs.Prelude.{◌≡◌, ◌≤◌, true, false, IfOk, IfSome};
 ghost use Rattle.clap.specs.declared.builder.command.Command.TheViews.{out-Command as fields_of};
 
-use crate::running::{fuel_of, run_command, schedule_command, serial_command, threads_of};
+use crate::running::{
+    FUEL, STATES, outcomes_command, run_command, schedule_command, serial_command, threads_of,
+};
 use clap::error::ErrorKind;
 use clap::{Arg, ArgAction, ArgMatches, Command};
 use std::alloc::{AllocError, AllocFailed, Global};
@@ -35,10 +37,19 @@ pub enum Request {
     Explain {
         k: u16,
     },
+    /// Which sections exclude each other, where paths have at most k fields.
+    Conflicts {
+        k: u16,
+    },
     /// The outcome of a run by whole sections of these threads, each thread with this much fuel.
     Serial {
         fuel: u32,
         order: Vec<u16>,
+    },
+    /// All outcomes of whole sections, each thread with this much fuel, where they lead to at most so many states.
+    Outcomes {
+        fuel: u32,
+        most: u32,
     },
     /// A run by the turns of these threads, each thread with this much fuel, of the program that is compiled with paths
     /// of at most k fields.
@@ -196,7 +207,9 @@ fn with_inference<'a>(alloc: Global, grammar: Command<'a>) -> Result<Command<'a>
     let grammar = with(grammar, k_command(alloc, "locks", locks))?;
     let grammar = with(grammar, compile_command(alloc))?;
     let explain = "prints why each section of the source text takes each of its locks";
-    with(grammar, k_command(alloc, "explain", explain))
+    let grammar = with(grammar, k_command(alloc, "explain", explain))?;
+    let conflicts = "prints which sections of the source text exclude each other, and where";
+    with(grammar, k_command(alloc, "conflicts", conflicts))
 }
 
 /// A grammar with the commands that run a program.
@@ -205,6 +218,7 @@ fn with_running<'a>(alloc: Global, grammar: Command<'a>) -> Result<Command<'a>, 
     ensures { IfOk result (λ c. (fields_of c).has_globals ≡ false) }
 {
     let grammar = with(grammar, serial_command(alloc))?;
+    let grammar = with(grammar, outcomes_command(alloc))?;
     let grammar = with(grammar, schedule_command(alloc))?;
     with(grammar, run_command(alloc))
 }
@@ -275,10 +289,14 @@ pub fn request_of(alloc: Global, words: &[String]) -> Result<Request, UsageFault
 fn requested(alloc: Global, name: &str, options: &ArgMatches<'_>) -> Result<Request, UsageFault> {
     match name {
         "serial" => serial_request(alloc, options),
+        "outcomes" => outcomes_request(alloc, options),
         "schedule" => schedule_request(alloc, options),
         "run" => run_request(alloc, options),
         "compile" => compile_request(alloc, options),
         "explain" => Ok(Request::Explain {
+            k: k_of(alloc, options)?,
+        }),
+        "conflicts" => Ok(Request::Conflicts {
             k: k_of(alloc, options)?,
         }),
         "check" => Ok(Request::Check {
@@ -297,15 +315,22 @@ fn k_of(alloc: Global, options: &ArgMatches<'_>) -> Result<u16, UsageFault> {
 
 /// What `serial` asks for by its options.
 fn serial_request(alloc: Global, options: &ArgMatches<'_>) -> Result<Request, UsageFault> {
-    let fuel = fuel_of(alloc, options)?;
+    let fuel = FUEL.of(alloc, options)?;
     let order = threads_of(alloc, options)?;
     Ok(Request::Serial { fuel, order })
+}
+
+/// What `outcomes` asks for by its options.
+fn outcomes_request(alloc: Global, options: &ArgMatches<'_>) -> Result<Request, UsageFault> {
+    let fuel = FUEL.of(alloc, options)?;
+    let most = STATES.of(alloc, options)?;
+    Ok(Request::Outcomes { fuel, most })
 }
 
 /// What `schedule` asks for by its options.
 fn schedule_request(alloc: Global, options: &ArgMatches<'_>) -> Result<Request, UsageFault> {
     let k = k_of(alloc, options)?;
-    let fuel = fuel_of(alloc, options)?;
+    let fuel = FUEL.of(alloc, options)?;
     let schedule = threads_of(alloc, options)?;
     Ok(Request::Schedule { k, fuel, schedule })
 }
@@ -313,7 +338,7 @@ fn schedule_request(alloc: Global, options: &ArgMatches<'_>) -> Result<Request, 
 /// What `run` asks for by its options.
 fn run_request(alloc: Global, options: &ArgMatches<'_>) -> Result<Request, UsageFault> {
     let k = k_of(alloc, options)?;
-    let fuel = fuel_of(alloc, options)?;
+    let fuel = FUEL.of(alloc, options)?;
     Ok(Request::Run { k, fuel })
 }
 

@@ -7,11 +7,45 @@ use crate::options::{MOST, UsageFault, k_command, number, numeral};
 use clap::{Arg, ArgAction, ArgMatches, Command};
 use std::alloc::{AllocError, Global};
 
-/// The most units of fuel that a thread can be given.
-pub const MOST_FUEL: u32 = 1_000_000;
+/// An option whose value is a number: its name, the numbers that it takes, from 1 on, and the number where the command
+/// line doesn't say.
+pub struct Bounded {
+    name: &'static str,
+    most: u32,
+    default: u32,
+}
 
-/// The units of fuel of a thread where the command line doesn't say.
-pub const DEFAULT_FUEL: u32 = 10_000;
+/// The units of fuel of each thread.
+pub const FUEL: Bounded = Bounded {
+    name: "fuel",
+    most: 1_000_000,
+    default: 10_000,
+};
+
+/// The most states that outcomes are sought among.
+pub const STATES: Bounded = Bounded {
+    name: "most",
+    most: 10_000_000,
+    default: 100_000,
+};
+
+impl Bounded {
+    /// The number that the option gives, or the default.
+    pub fn of(&self, alloc: Global, matches: &ArgMatches<'_>) -> Result<u32, UsageFault> {
+        let Some(text) = matches.get_str(self.name) else {
+            return Ok(self.default);
+        };
+        match number(text, self.most) {
+            Some(given) if given > 0 => Ok(given),
+            _ => Err(UsageFault::Number {
+                value: String::from_str(alloc, text)?,
+                option: self.name,
+                least: 1,
+                most: self.most,
+            }),
+        }
+    }
+}
 
 /// The option `--fuel N`.
 pub fn fuel_option<'a>(alloc: Global) -> Arg<'a>
@@ -48,6 +82,19 @@ pub fn serial_command<'a>(alloc: Global) -> Result<Command<'a>, AllocError>
     command.arg(thread_words(alloc, threads))
 }
 
+/// The command `outcomes` and what it takes.
+pub fn outcomes_command<'a>(alloc: Global) -> Result<Command<'a>, AllocError>
+    ensures { IfOk result (λ c. (fields_of c).has_globals ≡ false) }
+{
+    let about = "prints every outcome that a run of the program of the source text can have";
+    let most =
+        "the most states between sections that are looked at, 1 to 10000000 (default 100000)";
+    let command = Command::new(alloc, "outcomes")
+        .about(about)
+        .arg(fuel_option(alloc))?;
+    command.arg(numeral(alloc, "most", most))
+}
+
 /// A command that runs a compiled program, with the options that each takes.
 fn compiled_command<'a>(
     alloc: Global,
@@ -77,24 +124,6 @@ pub fn run_command<'a>(alloc: Global) -> Result<Command<'a>, AllocError>
 {
     let about = "runs the compiled program of the source text by threads, and prints the outcome";
     compiled_command(alloc, "run", about)
-}
-
-/// The units of fuel that the option gives, or the default.
-pub fn fuel_of(alloc: Global, matches: &ArgMatches<'_>) -> Result<u32, UsageFault>
-    ensures { IfOk result (λ fuel. fuel ≤ MOST_FUEL) }
-{
-    let Some(text) = matches.get_str("fuel") else {
-        return Ok(DEFAULT_FUEL);
-    };
-    match number(text, MOST_FUEL) {
-        Some(fuel) if fuel > 0 => Ok(fuel),
-        _ => Err(UsageFault::Number {
-            value: String::from_str(alloc, text)?,
-            option: "fuel",
-            least: 1,
-            most: MOST_FUEL,
-        }),
-    }
 }
 
 /// The threads that the words name.

@@ -78,8 +78,8 @@ fn run_named<J: Naming + Send + Sync, R: Threads + Wait + Sync, G: Gate>(
 /// the turns of its thread under one lock, one turn after another, and tells the gate of each event of its own turns
 /// without the lock. A worker whose thread has to wait for a key waits without the lock, and is woken by whoever lets
 /// its thread in. A worker that isn't or can't be started leaves its thread to the caller, who makes what turns are
-/// left once all workers have stopped. `Memory` is answered only where a growth was refused; all workers have stopped then
-/// too.
+/// left once all workers have stopped. `Memory` is answered only where a growth was refused; all workers have stopped
+/// then too.
 pub fn run_threads<R: Threads + Wait + Sync, G: Gate>(
     rt: &R,
     alloc: Global,

@@ -2,7 +2,8 @@
 
 ghost use Rattle.std.specs.Prelude.{◌≡◌, ◌&&◌, is_some, true};
 ghost use Rattle.sect_front.specs.declared.tree.Kind.TheVariants.{Int, Record};
-ghost use Rattle.sect_types.specs.Rules.{has_field, local_accepts, local_is, local_gets, field_accepts, is_int, compares};
+ghost use Rattle.sect_types.specs.Rules.{has_field, local_accepts, local_is, local_gets, field_accepts, is_int};
+ghost use Rattle.sect_types.specs.Rules.{compares};
 ghost use Rattle.sect_types.specs.steps.Walks.{rule_in, of_types};
 
 use crate::resolve::{Denoted, Given, Looked, accepts, comparable, same_kind};

@@ -13,8 +13,8 @@ pub fn calls_unfold()
     ensures fresh { (t : TreeView) → IsTyped t → FreshUnfold t }
 {}
 
-/// The sums, which are found without expanding, are those of each expanded text: its statements, and how deep its blocks
-/// stand in one another.
+/// The sums, which are found without expanding, are those of each expanded text: its statements, and how deep its
+/// blocks stand in one another.
 pub fn sums_are_of_texts()
     ensures { (t : TreeView) → SumsCount t }
 {}

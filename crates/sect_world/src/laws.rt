@@ -92,8 +92,8 @@ pub fn every_run_is_serial()
     ensures { (c : CompiledView) → IsCompiled c → EveryRunIsSerial c }
 {}
 
-/// Each order in which whole sections come to an end is the order of the `leave` events of a complete run, which comes to
-/// that end. So whole sections in all orders come to exactly what complete runs come to.
+/// Each order in which whole sections come to an end is the order of the `leave` events of a complete run, which comes
+/// to that end. So whole sections in all orders come to exactly what complete runs come to.
 pub fn every_order_is_run()
     ensures { (c : CompiledView) → IsCompiled c → EveryOrderIsRun c }
 {}

@@ -4,9 +4,9 @@ use Rattle.sect_front.specs.Syntax.{StatementView, BlockView, Primitive, If, IfE
 use Rattle.sect_front.specs.TreeView.{TreeView}
 use Rattle.sect_front.specs.Trees.{append}
 use Rattle.sect_front.specs.Grammar.{kind_token}
-use Rattle.sect_front.specs.steps.Tokens.{locking_tokens, test_tokens, statement_tokens, block_tokens}
-use Rattle.sect_front.specs.steps.Tokens.{declarations_tokens, record_tokens, global_tokens, procedure_tokens}
-use Rattle.sect_front.specs.steps.Tokens.{thread_tokens, source_tokens}
+use Rattle.sect_front.specs.Tokens.{locking_tokens, test_tokens, statement_tokens, block_tokens}
+use Rattle.sect_front.specs.Tokens.{declarations_tokens, record_tokens, global_tokens, procedure_tokens}
+use Rattle.sect_front.specs.Tokens.{thread_tokens, source_tokens}
 use Rattle.sect_front.specs.steps.ReaderView.{ReaderView, reading, empty}
 use Rattle.sect_front.specs.steps.Read.{after, with_record, with_global, with_procedure, with_thread}
 use Rattle.sect_front.specs.declared.token.Token.{Token}

@@ -5,11 +5,11 @@ use Rattle.sect_front.specs.Syntax.{StatementView, BlockView, Primitive, If, IfE
 use Rattle.sect_front.specs.TreeView.{TreeView}
 use Rattle.sect_front.specs.Trees.{append}
 use Rattle.sect_front.specs.Grammar.{operand_token, operator_token, comparison_token, kind_token}
-use Rattle.sect_front.specs.steps.Tokens.{locking_tokens, primitive_tokens, test_tokens, more_operands, operands_tokens}
-use Rattle.sect_front.specs.steps.Tokens.{statement_tokens, block_tokens, declarations_tokens, hints_tokens}
-use Rattle.sect_front.specs.steps.Tokens.{record_tokens, global_tokens, more_parameters, parameters_tokens}
-use Rattle.sect_front.specs.steps.Tokens.{procedure_tokens, thread_tokens, records_tokens, globals_tokens}
-use Rattle.sect_front.specs.steps.Tokens.{procedures_tokens, threads_tokens, source_tokens}
+use Rattle.sect_front.specs.Tokens.{locking_tokens, primitive_tokens, test_tokens, more_operands, operands_tokens}
+use Rattle.sect_front.specs.Tokens.{statement_tokens, block_tokens, declarations_tokens, hints_tokens}
+use Rattle.sect_front.specs.Tokens.{record_tokens, global_tokens, more_parameters, parameters_tokens}
+use Rattle.sect_front.specs.Tokens.{procedure_tokens, thread_tokens, records_tokens, globals_tokens}
+use Rattle.sect_front.specs.Tokens.{procedures_tokens, threads_tokens, source_tokens}
 use Rattle.sect_front.specs.steps.Advance.{advance_of, assign_step, store_step, branch_step, operand_of, operator_of}
 use Rattle.sect_front.specs.steps.Advance.{comparison_of, goes_to, first_step, ends_with, opens}
 use Rattle.sect_front.specs.steps.Step.{Next, Stays, Ends, Stuck, step_of, step_at, start_step, close_step}

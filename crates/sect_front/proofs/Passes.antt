@@ -4,11 +4,11 @@ use Rattle.sect_front.specs.Syntax.{StatementView, BlockView, Primitive, If, IfE
 use Rattle.sect_front.specs.TreeView.{TreeView}
 use Rattle.sect_front.specs.Trees.{append}
 use Rattle.sect_front.specs.Grammar.{operand_token, comparison_token, kind_token}
-use Rattle.sect_front.specs.steps.Tokens.{primitive_tokens, test_tokens, more_operands, call_tokens, statement_tokens}
-use Rattle.sect_front.specs.steps.Tokens.{block_tokens, declarations_tokens, hints_tokens, record_tokens}
-use Rattle.sect_front.specs.steps.Tokens.{more_parameters, parameters_tokens, procedure_tokens, thread_tokens}
-use Rattle.sect_front.specs.steps.Tokens.{records_tokens, globals_tokens, procedures_tokens, threads_tokens}
-use Rattle.sect_front.specs.steps.Tokens.{source_tokens}
+use Rattle.sect_front.specs.Tokens.{primitive_tokens, test_tokens, more_operands, call_tokens, statement_tokens}
+use Rattle.sect_front.specs.Tokens.{block_tokens, declarations_tokens, hints_tokens, record_tokens}
+use Rattle.sect_front.specs.Tokens.{more_parameters, parameters_tokens, procedure_tokens, thread_tokens}
+use Rattle.sect_front.specs.Tokens.{records_tokens, globals_tokens, procedures_tokens, threads_tokens}
+use Rattle.sect_front.specs.Tokens.{source_tokens}
 use Rattle.sect_front.specs.steps.Advance.{operand_of, comparison_of}
 use Rattle.sect_front.specs.steps.ReaderView.{ReaderView, reading, among}
 use Rattle.sect_front.specs.steps.Read.{after}

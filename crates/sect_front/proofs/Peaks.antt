@@ -5,10 +5,10 @@ use Rattle.sect_front.specs.Limits.{most_depth}
 use Rattle.sect_front.specs.Syntax.{StatementView, BlockView, Primitive, If, IfElse, While, Atomic, Call, End, Then}
 use Rattle.sect_front.specs.TreeView.{TreeView}
 use Rattle.sect_front.specs.Grammar.{operand_token, operator_token, comparison_token, kind_token, tokens_of}
-use Rattle.sect_front.specs.steps.Tokens.{primitive_tokens, test_tokens, more_operands, operands_tokens}
-use Rattle.sect_front.specs.steps.Tokens.{statement_tokens, block_tokens, declarations_tokens, hints_tokens}
-use Rattle.sect_front.specs.steps.Tokens.{record_tokens, more_parameters, parameters_tokens, records_tokens}
-use Rattle.sect_front.specs.steps.Tokens.{globals_tokens, procedures_tokens, threads_tokens}
+use Rattle.sect_front.specs.Tokens.{primitive_tokens, test_tokens, more_operands, operands_tokens}
+use Rattle.sect_front.specs.Tokens.{statement_tokens, block_tokens, declarations_tokens, hints_tokens}
+use Rattle.sect_front.specs.Tokens.{record_tokens, more_parameters, parameters_tokens, records_tokens}
+use Rattle.sect_front.specs.Tokens.{globals_tokens, procedures_tokens, threads_tokens}
 use Rattle.sect_front.specs.Depth.{statement_depth, block_depth, procedures_depth, threads_depth, depth}
 use Rattle.sect_front.specs.Braces.{brace, open_after, IsShallow}
 use Rattle.sect_front.specs.declared.token.Token.{Token}
@@ -30,7 +30,7 @@ use Rattle.sect_front.specs.declared.tree.Procedure.{Procedure}
 use Rattle.sect_front.specs.declared.tree.Thread.{Thread}
 use Rattle.sect_front.specs.declared.tree.Kind.{Kind}
 use Rattle.sect_front.specs.declared.tree.Kind.TheVariants as kind
-use Rattle.sect_front.proofs.Listed.{tokens_same}
+use Rattle.sect_front.proofs.shared.Listed.{tokens_same}
 
 -- the most braces that are open with a token and after it
 abbrev pub peak_with : Token → ℕ → (ℕ → ℕ) → ℕ

@@ -2,6 +2,7 @@
 use Rattle.std.proofs.Common.{◌≡◌, ℕ, suc, ◌+◌, ◌-◌, ◌<◌, ◌≤◌, List, [], ◌∷◌, ◌++◌, Option, Some, None}
 use Rattle.std.proofs.Common.{length, take, drop, refl, sym, ◌∙◌, ap, subst, arith, append_assoc, append-nil}
 use Rattle.std.proofs.Common.{length-drop}
+use Rattle.std.proofs.lemmas.List.{length-take-le}
 use Rattle.std.specs.List.{slice_get}
 use Rattle.std.specs.Option.{ok_or}
 use Rattle.sect_front.specs.TreeView.{TreeView}
@@ -10,13 +11,16 @@ use Rattle.sect_front.specs.Braces.{brace}
 use Rattle.sect_front.specs.Gaps.{after_gap}
 use Rattle.sect_front.specs.steps.Lexeme.{lexeme_of}
 use Rattle.sect_front.specs.Lexing.{Spells}
+use Rattle.sect_front.specs.Spelling.{spelling_of}
+use Rattle.sect_front.specs.FaultPlaces.{span_from, token_span}
 use Rattle.sect_front.specs.Faults.{tokens_in, IsUnexpectedAt, IsTooDeepAt}
 use Rattle.sect_front.specs.steps.ReaderView.{ReaderView}
 use Rattle.sect_front.specs.steps.Read.{read_one, finish_of}
 use Rattle.sect_front.specs.steps.Verdicts.{Reached, SpellingAt, JudgesText}
 use Rattle.sect_front.specs.declared.token.Token.{Token}
 use Rattle.sect_front.specs.declared.reading.ReadFault.TheVariants as fault
-use Rattle.sect_front.proofs.Reach.{reached_more, gap_fits}
+use Rattle.sect_front.proofs.Reach.{reached_more}
+use Rattle.sect_front.proofs.shared.Lexings.{gap_fits}
 use Rattle.sect_front.proofs.Lexemes.{lexeme_first}
 use Rattle.sect_front.proofs.Verdict.{ReadsTo, reads_more, unexpected, too_deep, finished, unfinished}
 
@@ -29,6 +33,15 @@ pub record ReadHere (bytes here : List ℕ) (r : ReaderView) (k : ℕ) : Type 0 
 -- the token at the front of what is left of a text
 abbrev pub token_here : List ℕ → List ℕ → Token → TokenAt
 token_here bytes here t = record { token = t; at = length bytes - length here }
+
+-- the bytes of the token at the front, and that they are the text's
+pub span_here : (bytes here : List ℕ) (t : Token) (n : ℕ) → lexeme_of here ≡ Some (t, n) → length here ≤ length bytes
+    → (span_from (length bytes - length here) n ≡ token_span (token_here bytes here t))
+    × ((token_span (token_here bytes here t)).end ≤ length bytes)
+span_here bytes here t n e fits =
+    let f = lexeme_first here t n e in
+    let same : n ≡ length (spelling_of t) = sym (length-take-le n here f.within) ∙ ap length f.spells.is in
+    (ap (span_from (length bytes - length here)) same, omega (arith, f.within, fits, same))
 
 -- whatever tokens come before the one place, more of them lead to the other
 pub record Leads (bytes from to : List ℕ) : Type 0 where
@@ -108,8 +121,8 @@ numbered (q ∷ ps) p qs = let n = numbered ps p qs in record {
 
 -- no tree goes on with this token
 pub unexpected_at : (bytes here : List ℕ) (r : ReaderView) (k : ℕ) (p : TokenAt) (h : ReadHere bytes here r k)
-    → read_one r p.token ≡ None → p.at ≤ length bytes → (behind : List TokenAt)
-    → Spells bytes ((h.places ++ p ∷ []) ++ behind) → SpellingAt bytes p.at IsUnexpectedAt
+    → read_one r p.token ≡ None → (token_span p).end ≤ length bytes → (behind : List TokenAt)
+    → Spells bytes ((h.places ++ p ∷ []) ++ behind) → SpellingAt bytes (token_span p) IsUnexpectedAt
 unexpected_at bytes here r k p h none within behind spells =
     let all = (h.places ++ p ∷ []) ++ behind in
     let n = numbered h.places p behind in
@@ -130,8 +143,8 @@ unexpected_at bytes here r k p h none within behind spells =
 
 -- this token opens a brace too many
 pub too_deep_at : (bytes here : List ℕ) (r m : ReaderView) (k : ℕ) (p : TokenAt) (h : ReadHere bytes here r k)
-    → read_one r p.token ≡ Some m → brace k p.token ≡ 33 → p.at ≤ length bytes → (behind : List TokenAt)
-    → Spells bytes ((h.places ++ p ∷ []) ++ behind) → SpellingAt bytes p.at IsTooDeepAt
+    → read_one r p.token ≡ Some m → brace k p.token ≡ 33 → (token_span p).end ≤ length bytes → (behind : List TokenAt)
+    → Spells bytes ((h.places ++ p ∷ []) ++ behind) → SpellingAt bytes (token_span p) IsTooDeepAt
 too_deep_at bytes here r m k p h some deep within behind spells =
     let all = (h.places ++ p ∷ []) ++ behind in
     let n = numbered h.places p behind in

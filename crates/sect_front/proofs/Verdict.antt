@@ -6,7 +6,7 @@ use Rattle.std.proofs.lemmas.List.{take-append-drop}
 use Rattle.sect_front.specs.Limits.{most_depth}
 use Rattle.sect_front.specs.TreeView.{TreeView}
 use Rattle.sect_front.specs.Grammar.{tokens_of}
-use Rattle.sect_front.specs.steps.Tokens.{source_tokens}
+use Rattle.sect_front.specs.Tokens.{source_tokens}
 use Rattle.sect_front.specs.Braces.{brace, open_after}
 use Rattle.sect_front.specs.steps.ReaderView.{ReaderView, reading, empty}
 use Rattle.sect_front.specs.steps.Read.{read_one, after, finish_of, finish_at}
@@ -21,7 +21,7 @@ use Rattle.sect_front.proofs.TokenFaults as fault
 use Rattle.sect_front.proofs.Keeps.{reading_tokens}
 use Rattle.sect_front.proofs.Finish.{start, finishes, kept_from}
 use Rattle.sect_front.proofs.Passes.{source_passes, last_part}
-use Rattle.sect_front.proofs.Listed.{tokens_same}
+use Rattle.sect_front.proofs.shared.Listed.{tokens_same}
 use Rattle.sect_front.proofs.Peaks.{peak, peak_from, peak_append, peak_cons, depth_peak, shallow_from}
 use Rattle.sect_lemmas.proofs.Options.{some_injective, none_or_some}
 

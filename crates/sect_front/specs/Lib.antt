@@ -8,6 +8,7 @@ pub mod Names
 pub mod TreeView
 pub mod Depth
 pub mod Grammar
+pub mod Tokens
 pub mod Gaps
 pub mod Spelling
 pub mod Layout
@@ -16,4 +17,5 @@ pub mod Lexing
 pub mod Braces
 pub mod Faults
 pub mod Front
+pub mod FaultPlaces
 pub mod steps

@@ -5,8 +5,8 @@ pub mod Step
 pub mod ReaderView
 pub mod Read
 pub mod Recognition
-pub mod Tokens
 pub mod Writes
 pub mod Spread
 pub mod Verdicts
 pub mod Lexeme
+pub mod Below

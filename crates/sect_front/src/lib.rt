@@ -1,6 +1,7 @@
 //! The front end: bytes to tokens, tokens to a tree, and a tree back to text.
 #![tactic(auto)]
 
+mod innermost;
 mod lexer;
 mod limits;
 mod listing;
@@ -12,18 +13,22 @@ mod printing;
 mod reader;
 mod reading;
 mod same;
+mod span;
 mod token;
 mod tree;
 mod within;
 mod words;
 
+pub use innermost::innermost_brace;
+pub use lexer::after_gap;
 pub use limits::{MOST_BYTES, MOST_DEPTH, MOST_NAME_BYTES, limits_of_texts};
 pub use listing::tokens_of;
 pub use literal::Literal;
 pub use name::Name;
-pub use parsing::{FrontFault, parse};
+pub use parsing::{FrontFault, PlacedFault, parse, parse_placed};
 pub use printing::print;
 pub use same::is_same;
+pub use span::Span;
 pub use token::Token;
 pub use tree::{
     Block, Comparison, Declaration, Declarations, GlobalObject, Hints, Kind, Locking, Operand,

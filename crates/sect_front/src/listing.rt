@@ -3,12 +3,12 @@
 ghost use Rattle.std.specs.Prelude.{◌≡◌, ◌∷◌, ◌++◌, OnOk, IfOk};
 ghost use Rattle.sect_front.specs.Grammar.{tokens_of as grammar_tokens, operand_token, operator_token};
 ghost use Rattle.sect_front.specs.Grammar.{comparison_token, kind_token};
-ghost use Rattle.sect_front.specs.steps.Tokens.{primitive_tokens, test_tokens, locking_tokens, statement_tokens};
-ghost use Rattle.sect_front.specs.steps.Tokens.{block_tokens, declarations_tokens, hints_tokens, record_tokens};
-ghost use Rattle.sect_front.specs.steps.Tokens.{global_tokens, thread_tokens, records_tokens, globals_tokens};
-ghost use Rattle.sect_front.specs.steps.Tokens.{threads_tokens, operands_tokens, more_operands, call_tokens};
-ghost use Rattle.sect_front.specs.steps.Tokens.{parameters_tokens, more_parameters, procedure_tokens};
-ghost use Rattle.sect_front.specs.steps.Tokens.{procedures_tokens};
+ghost use Rattle.sect_front.specs.Tokens.{primitive_tokens, test_tokens, locking_tokens, statement_tokens};
+ghost use Rattle.sect_front.specs.Tokens.{block_tokens, declarations_tokens, hints_tokens, record_tokens};
+ghost use Rattle.sect_front.specs.Tokens.{global_tokens, thread_tokens, records_tokens, globals_tokens};
+ghost use Rattle.sect_front.specs.Tokens.{threads_tokens, operands_tokens, more_operands, call_tokens};
+ghost use Rattle.sect_front.specs.Tokens.{parameters_tokens, more_parameters, procedure_tokens};
+ghost use Rattle.sect_front.specs.Tokens.{procedures_tokens};
 ghost use Rattle.sect_front.specs.Trees.{statement_of};
 ghost use Rattle.sect_front.specs.steps.Writes.{Writes};
 

@@ -4,16 +4,18 @@
 //! by recursion on the text, so no text makes it use more stack. What walks over a tree, as its `Drop` and `print` do,
 //! goes as deep as its blocks stand in one another, at most 32.
 
-ghost use Rattle.std.specs.Prelude.{◌≡◌, ◌≢◌, ◌≤◌, length};
+ghost use Rattle.std.specs.Prelude.{◌≡◌, ◌≢◌, ◌≤◌, IfOk, IfErr, length};
 ghost use Rattle.sect_front.specs.Front.{IsSpelled, IsFault, Judges, Gives, Refuses, line_of as line};
+ghost use Rattle.sect_front.specs.FaultPlaces.{IsFaultSpan, IsWithin, word_span};
 ghost use Rattle.sect_front.specs.Lexing.{IsBadAt};
 ghost use Rattle.sect_front.specs.TreeView.{TreeView};
 ghost use Rattle.sect_front.specs.Limits.{most_bytes};
 
 use crate::limits::MOST_BYTES;
 use crate::reading::{ReadFault, read};
+use crate::span::Span;
 use crate::tree::Tree;
-use crate::words::{is_digit, is_letter};
+use crate::words::{is_digit, is_letter, word_length};
 use std::alloc::Global;
 use thiserror::Error;
 
@@ -46,6 +48,13 @@ pub enum FrontFault {
     TooLarge,
 }
 
+/// A fault, and the bytes at which it stands.
+#[derive(Debug, Drop)]
+pub struct PlacedFault {
+    pub fault: FrontFault,
+    pub span: Span,
+}
+
 /// The line of a place.
 fn line_of(bytes: &[u8], at: usize) -> usize
     requires at_in { at ≤ length bytes.now }
@@ -55,19 +64,48 @@ fn line_of(bytes: &[u8], at: usize) -> usize
     bytes[..at].iter().filter(|byte| **byte == b'\n').count() + 1
 }
 
+/// The bytes from a place on that may stand in a name.
+fn word_at(bytes: &[u8], at: usize) -> Span
+    requires at_in { at ≤ length bytes.now }
+    requires fits { length bytes.now ≤ most_bytes }
+    ensures word { result ≡ word_span bytes.now at }
+    ensures within { result.end ≤ length bytes.now }
+{
+    let length = word_length(&bytes[at..]);
+    Span {
+        start: at,
+        end: at + length,
+    }
+}
+
 /// The fault of a bad lexeme.
-fn bad(bytes: &[u8], at: usize) -> FrontFault
+fn bad(bytes: &[u8], at: usize) -> PlacedFault
     requires bad { IsBadAt bytes.now at }
     requires fits { length bytes.now ≤ most_bytes }
-    ensures { IsFault bytes.now result }
+    ensures fault { IsFault bytes.now result.fault }
+    ensures span { IsFaultSpan bytes.now result.fault result.span }
+    ensures within { IsWithin (length bytes.now) result.span }
 {
     let line = line_of(bytes, at);
+    let word = word_at(bytes, at);
     if is_letter(bytes[at]) {
-        FrontFault::LongName { line }
+        PlacedFault {
+            fault: FrontFault::LongName { line },
+            span: word,
+        }
     } else if is_digit(bytes[at]) {
-        FrontFault::BadNumber { line }
+        PlacedFault {
+            fault: FrontFault::BadNumber { line },
+            span: word,
+        }
     } else {
-        FrontFault::BadByte { line }
+        PlacedFault {
+            fault: FrontFault::BadByte { line },
+            span: Span {
+                start: at,
+                end: at + 1,
+            },
+        }
     }
 }
 
@@ -83,32 +121,57 @@ pub fn parse(alloc: Global, bytes: &[u8]) -> Result<Tree, FrontFault>
     ensures refuses { (fault : FrontFault) → fault ≢ FrontFault.Memory → IsFault bytes.now fault
         → Refuses fault result }
 {
-    judge(alloc, bytes)
+    match parse_placed(alloc, bytes) {
+        Ok(tree) => Ok(tree),
+        Err(placed) => Err(placed.fault),
+    }
 }
 
-/// The tree that a text spells, or its first fault. That a tree is the only one and a fault the only fault is
-/// `parse`'s.
-fn judge(alloc: Global, bytes: &[u8]) -> Result<Tree, FrontFault>
-    ensures { Judges bytes.now result }
+/// The tree that a text spells, or its first fault and the bytes at which that stands. That a tree is the only one and
+/// a fault the only fault is `parse`'s.
+pub fn parse_placed(alloc: Global, bytes: &[u8]) -> Result<Tree, PlacedFault>
+    // A tree that is given is spelled so.
+    ensures tree { IfOk result (λ tree. IsSpelled bytes.now tree) }
+    // A fault is the first one, on its line.
+    ensures fault { IfErr result (λ placed. IsFault bytes.now placed.fault) }
+    // It stands at these bytes, which are the text's.
+    ensures span { IfErr result (λ placed. IsFaultSpan bytes.now placed.fault placed.span) }
+    ensures within { IfErr result (λ placed. (placed.fault ≢ FrontFault.Memory)
+        → IsWithin (length bytes.now) placed.span) }
 {
     if bytes.len() > MOST_BYTES {
-        return Err(FrontFault::TooLarge);
+        return Err(PlacedFault {
+            fault: FrontFault::TooLarge,
+            span: Span { start: 0, end: 1 },
+        });
     }
     match read(alloc, bytes) {
         Ok(tree) => Ok(tree),
-        Err(ReadFault::Memory) => Err(FrontFault::Memory),
+        Err(ReadFault::Memory) => Err(PlacedFault {
+            fault: FrontFault::Memory,
+            span: Span { start: 0, end: 0 },
+        }),
         Err(ReadFault::Bad(at)) => Err(bad(bytes, at)),
-        Err(ReadFault::Unexpected(at)) => {
-            let line = line_of(bytes, at);
-            Err(FrontFault::Unexpected { line })
+        Err(ReadFault::Unexpected(span)) => {
+            let line = line_of(bytes, span.start);
+            let fault = FrontFault::Unexpected { line };
+            Err(PlacedFault { fault, span })
         }
-        Err(ReadFault::TooDeep(at)) => {
-            let line = line_of(bytes, at);
-            Err(FrontFault::TooDeep { line })
+        Err(ReadFault::TooDeep(span)) => {
+            let line = line_of(bytes, span.start);
+            let fault = FrontFault::TooDeep { line };
+            Err(PlacedFault { fault, span })
         }
         Err(ReadFault::Unfinished) => {
-            let line = line_of(bytes, bytes.len().saturating_sub(1));
-            Err(FrontFault::UnexpectedEnd { line })
+            let start = bytes.len().saturating_sub(1);
+            let line = line_of(bytes, start);
+            Err(PlacedFault {
+                fault: FrontFault::UnexpectedEnd { line },
+                span: Span {
+                    start,
+                    end: bytes.len(),
+                },
+            })
         }
     }
 }

@@ -16,6 +16,7 @@ ghost use Rattle.sect_front.specs.Limits.{most_depth};
 use crate::lexer::{after_gap, behind, lexeme};
 use crate::limits::MOST_DEPTH;
 use crate::reader::Reader;
+use crate::span::Span;
 use crate::token::Token;
 use crate::tree::Tree;
 use crate::within::StepError;
@@ -27,10 +28,10 @@ pub enum ReadFault {
     Memory,
     /// No token stands at this place, and all that stands before it is tokens.
     Bad(usize),
-    /// The tokens before the one at this place begin a tree, and with it they begin none.
-    Unexpected(usize),
-    /// The token at this place opens too many blocks.
-    TooDeep(usize),
+    /// The tokens before the one with these bytes begin a tree, and with it they begin none.
+    Unexpected(Span),
+    /// The token with these bytes opens too many blocks.
+    TooDeep(Span),
     /// The tokens begin a tree and are none.
     Unfinished,
 }
@@ -77,17 +78,21 @@ fn take_all(alloc: Global, bytes: &[u8], reader: &mut Reader) -> Result<(), Read
         let Some((token, length)) = lexeme(here) else {
             return Err(ReadFault::Bad(at));
         };
+        let span = Span {
+            start: at,
+            end: at + length,
+        };
         here = behind(here, length);
         match reader.step(alloc, &token) {
             Ok(()) => {}
             Err(StepError::Memory) => return Err(ReadFault::Memory),
             Err(StepError::Unexpected) => {
-                return Err(unless_bad(bytes, here, ReadFault::Unexpected(at)));
+                return Err(unless_bad(bytes, here, ReadFault::Unexpected(span)));
             }
         }
         level = braces(level, &token);
         if level > MOST_DEPTH {
-            return Err(unless_bad(bytes, here, ReadFault::TooDeep(at)));
+            return Err(unless_bad(bytes, here, ReadFault::TooDeep(span)));
         }
     }
     Ok(())

@@ -8,7 +8,7 @@ use Rattle.sect_front.specs.TreeView.{TreeView}
 use Rattle.sect_front.specs.declared.parsing.FrontFault.{FrontFault}
 use Rattle.sect_front.specs.declared.parsing.FrontFault.TheVariants as fault
 use Rattle.sect_front.proofs.TokenFaults as token_fault
-use Rattle.sect_front.proofs.Reach.{one_lexing, bad_or_lexed}
+use Rattle.sect_front.proofs.shared.Lexings.{one_lexing, bad_or_lexed}
 use Rattle.sect_front.proofs.Verdict.{given}
 
 -- the same tokens, whichever way they were found

@@ -4,7 +4,9 @@ use Rattle.sect_front.specs.TreeView.{TreeView}
 use Rattle.sect_front.specs.TokenAt.{TokenAt}
 use Rattle.sect_front.specs.Gaps.{after_gap}
 use Rattle.sect_front.specs.Lexing.{Reaches, Spells, IsBadAt}
+use Rattle.sect_front.specs.FaultPlaces.{token_span}
 use Rattle.sect_front.specs.Faults.{tokens_in, IsTree, IsUnexpectedAt, IsTooDeepAt, IsUnfinished}
+use Rattle.sect_front.specs.declared.span.Span.{Span}
 use Rattle.sect_front.specs.declared.token.Token.{Token}
 use Rattle.sect_front.specs.declared.reading.ReadFault.{ReadFault}
 use Rattle.sect_front.specs.declared.reading.ReadFault.TheVariants as fault
@@ -22,22 +24,22 @@ pub record Spelling (bytes : List ℕ) (holds : List Token → Type 0) : Type 0 
   pub spells : Spells bytes places
   pub is : holds (tokens_in places)
 
--- the text spells tokens, one of them stands at this place, and this holds of it by its number
-pub record SpellingAt (bytes : List ℕ) (at : ℕ) (holds : List Token → ℕ → Type 0) : Type 0 where
+-- the text spells tokens, one of them has these bytes, and this holds of it by its number
+pub record SpellingAt (bytes : List ℕ) (span : Span) (holds : List Token → ℕ → Type 0) : Type 0 where
   pub places : List TokenAt
   pub spells : Spells bytes places
   pub index : ℕ
   pub token : TokenAt
   pub found : slice_get places index ≡ Some token
   pub is : holds (tokens_in places) index
-  pub place : at ≡ token.at
-  pub within : at ≤ length bytes
+  pub place : span ≡ token_span token
+  pub within : span.end ≤ length bytes
 
 -- the fault is the text's first
 abbrev pub IsReadFault : List ℕ → ReadFault → Type 0
 IsReadFault bytes (fault.Bad at) = IsBadAt bytes at
-IsReadFault bytes (fault.Unexpected at) = SpellingAt bytes at IsUnexpectedAt
-IsReadFault bytes (fault.TooDeep at) = SpellingAt bytes at IsTooDeepAt
+IsReadFault bytes (fault.Unexpected span) = SpellingAt bytes span IsUnexpectedAt
+IsReadFault bytes (fault.TooDeep span) = SpellingAt bytes span IsTooDeepAt
 IsReadFault bytes fault.Unfinished = Spelling bytes IsUnfinished
 IsReadFault bytes fault.Memory = ⊤
 

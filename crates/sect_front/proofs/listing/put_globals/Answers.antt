@@ -1,5 +1,5 @@
 use Rattle.std.proofs.Common.{arith, refl}
-use Rattle.sect_front.specs.steps.Tokens.{global_tokens, globals_tokens}
+use Rattle.sect_front.specs.Tokens.{global_tokens, globals_tokens}
 use Rattle.sect_front.proofs.Loops.{next}
 use Rattle.sect_front.proofs.listing.put_globals.Goals as goal
 

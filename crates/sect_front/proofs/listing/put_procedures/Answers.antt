@@ -1,5 +1,5 @@
 use Rattle.std.proofs.Common.{arith, refl}
-use Rattle.sect_front.specs.steps.Tokens.{procedure_tokens, procedures_tokens}
+use Rattle.sect_front.specs.Tokens.{procedure_tokens, procedures_tokens}
 use Rattle.sect_front.proofs.Loops.{next}
 use Rattle.sect_front.proofs.listing.put_procedures.Goals as goal
 

@@ -1,5 +1,5 @@
 use Rattle.std.proofs.Common.{arith, refl}
-use Rattle.sect_front.specs.steps.Tokens.{thread_tokens, threads_tokens}
+use Rattle.sect_front.specs.Tokens.{thread_tokens, threads_tokens}
 use Rattle.sect_front.proofs.Loops.{next}
 use Rattle.sect_front.proofs.listing.put_threads.Goals as goal
 

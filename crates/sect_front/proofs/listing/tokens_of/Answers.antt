@@ -1,6 +1,6 @@
 use Rattle.std.proofs.Common.{◌≡◌, [], ◌++◌, ◌∙◌, sym, append-nil}
-use Rattle.sect_front.specs.steps.Tokens.{source_tokens}
-use Rattle.sect_front.proofs.Listed.{tokens_same}
+use Rattle.sect_front.specs.Tokens.{source_tokens}
+use Rattle.sect_front.proofs.shared.Listed.{tokens_same}
 use Rattle.sect_front.proofs.listing.tokens_of.Goals as goal
 
 pub returns : goal.returns

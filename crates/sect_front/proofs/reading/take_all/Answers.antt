@@ -1,12 +1,13 @@
-use Rattle.std.proofs.Common.{◌≡◌, ◌<◌, ◌-◌, ◌++◌, ◌∷◌, [], None, length, arith, refl, sym, ◌∙◌, ap}
+use Rattle.std.proofs.Common.{◌≡◌, ◌<◌, ◌-◌, ◌++◌, ◌∷◌, [], None, length, arith, refl, sym, ◌∙◌, ap, subst}
 use Rattle.std.proofs.lemmas.Bool.Decides.{nat_tests}
-use Rattle.sect_front.specs.Faults.{tokens_in}
+use Rattle.sect_front.specs.Faults.{tokens_in, IsUnexpectedAt, IsTooDeepAt}
+use Rattle.sect_front.specs.steps.Verdicts.{SpellingAt}
 use Rattle.sect_front.specs.steps.Read.{read_one, finish_of}
 use Rattle.sect_front.proofs.Lexemes.{lexeme_first}
 use Rattle.sect_front.proofs.Reach.{reached_none, bad_at, lexed}
 use Rattle.sect_front.proofs.Verdict.{reads_nothing, finished, is_low, brace_most}
-use Rattle.sect_front.proofs.Texts.{token_here, passed, reads_on, shorter, unexpected_at, too_deep_at, text_ends}
-use Rattle.sect_front.proofs.Texts.{nothing_left}
+use Rattle.sect_front.proofs.Texts.{token_here, span_here, passed, reads_on, shorter, unexpected_at, too_deep_at}
+use Rattle.sect_front.proofs.Texts.{text_ends, nothing_left}
 use Rattle.sect_front.proofs.reading.take_all.Goals as goal
 
 pub loop-here-init : goal.loop-here-init
@@ -24,6 +25,12 @@ returns-in_default-clause-fault c =
     (length c.args.bytes.now - length c.loop-here.here.now) read.reached
     (λ e. absurd (omega (arith, ap length e, some))) (sym c.lexeme.ensures ∙ c.in_default.is)
     (omega (arith, read.reached.fits))
+
+pub overflow_add-span : goal.overflow_add-span
+overflow_add-span c =
+    let fits = c.loop-here.invariant.reached.fits in
+    let within = (lexeme_first c.loop-here.here.now _ c.in-Some.length (sym c.lexeme.ensures ∙ c.in-Some.is)).within in
+    grind arith
 
 pub behind-here-requires : goal.behind-here-requires
 behind-here-requires c =
@@ -43,13 +50,15 @@ returns-in-Err-Unexpected-clause-fault c =
     let here = c.loop-here.here.now in
     let read = c.loop-here.invariant in
     let token = c.in-Some.token in
+    let span = span_here bytes here token c.in-Some.length (sym c.lexeme.ensures ∙ c.in-Some.is) read.reached.fits in
     let none : read_one c.loop-here.reader token ≡ None =
     rw c.in-Err-Unexpected.field-0-is at c.in-Err-Unexpected.ensures in
     c.unless_bad.ensures (read.places ++ token_here bytes here token ∷ [])
     (rw c.behind-here.ensures (passed bytes here c.loop-here.reader c.loop-here.level token c.in-Some.length read
     (sym c.lexeme.ensures ∙ c.in-Some.is)))
-    (unexpected_at bytes here c.loop-here.reader c.loop-here.level (token_here bytes here token) read none
-    (omega arith))
+    (λ behind spells. subst (λ span. SpellingAt bytes span IsUnexpectedAt) (sym span.0)
+    (unexpected_at bytes here c.loop-here.reader c.loop-here.level (token_here bytes here token) read none span.1 behind
+    spells))
 
 pub braces-level-requires : goal.braces-level-requires
 braces-level-requires c = omega (arith, is_low _ _ _ c.loop-here.invariant.reads)
@@ -68,6 +77,7 @@ returns-then-level-gt-MOST_DEPTH-clause-fault c =
     let here = c.loop-here.here.now in
     let read = c.loop-here.invariant in
     let token = c.in-Some.token in
+    let span = span_here bytes here token c.in-Some.length (sym c.lexeme.ensures ∙ c.in-Some.is) read.reached.fits in
     let deep : c.braces-level.result ≡ 33 = omega (
       arith,
       is_low _ _ _ read.reads,
@@ -77,8 +87,9 @@ returns-then-level-gt-MOST_DEPTH-clause-fault c =
     c.unless_bad-then-level-gt-MOST_DEPTH.ensures (read.places ++ token_here bytes here token ∷ [])
     (rw c.behind-here.ensures (passed bytes here c.loop-here.reader c.loop-here.level token c.in-Some.length read
     (sym c.lexeme.ensures ∙ c.in-Some.is)))
+    (λ behind spells. subst (λ span. SpellingAt bytes span IsTooDeepAt) (sym span.0)
     (too_deep_at bytes here c.loop-here.reader c.step.new.self c.loop-here.level (token_here bytes here token) read
-    c.in-Ok.ensures (sym c.braces-level.ensures ∙ deep) (omega arith))
+    c.in-Ok.ensures (sym c.braces-level.ensures ∙ deep) span.1 behind spells))
 
 pub loop-here-smaller : goal.loop-here-smaller
 loop-here-smaller c = rw c.behind-here.ensures

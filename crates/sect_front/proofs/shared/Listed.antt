@@ -6,10 +6,10 @@ use Rattle.sect_front.specs.TreeView.{TreeView}
 use Rattle.sect_front.specs.Grammar.{operand_token, operand_list, primitive_list, in_braces, in_parens, separated}
 use Rattle.sect_front.specs.Grammar.{statement_list, statements_list, parameter_list, declaration_list, hint_list}
 use Rattle.sect_front.specs.Grammar.{record_list, global_list, procedure_list, thread_list, kind_token, tokens_of}
-use Rattle.sect_front.specs.steps.Tokens.{primitive_tokens, test_tokens, operands_tokens, call_tokens, statement_tokens}
-use Rattle.sect_front.specs.steps.Tokens.{block_tokens, declarations_tokens, hints_tokens, record_tokens}
-use Rattle.sect_front.specs.steps.Tokens.{parameters_tokens, procedure_tokens, thread_tokens, records_tokens}
-use Rattle.sect_front.specs.steps.Tokens.{globals_tokens, procedures_tokens, threads_tokens, source_tokens}
+use Rattle.sect_front.specs.Tokens.{primitive_tokens, test_tokens, operands_tokens, call_tokens, statement_tokens}
+use Rattle.sect_front.specs.Tokens.{block_tokens, declarations_tokens, hints_tokens, record_tokens}
+use Rattle.sect_front.specs.Tokens.{parameters_tokens, procedure_tokens, thread_tokens, records_tokens}
+use Rattle.sect_front.specs.Tokens.{globals_tokens, procedures_tokens, threads_tokens, source_tokens}
 use Rattle.sect_front.specs.declared.token.Token.{Token}
 use Rattle.sect_front.specs.declared.tree.Locking.TheVariants as locking
 use Rattle.sect_front.specs.declared.token.Token.TheVariants as token

@@ -17,7 +17,7 @@ use Rattle.sect_front.specs.declared.parsing.FrontFault.{FrontFault}
 use Rattle.sect_front.specs.declared.parsing.FrontFault.TheVariants as fault
 use Rattle.sect_front.proofs.TokenFaults.{TokenFault, IsTokenFault}
 use Rattle.sect_front.proofs.TokenFaults as token_fault
-use Rattle.sect_front.proofs.Reach.{one_lexing, one_bad, bad_or_lexed}
+use Rattle.sect_front.proofs.shared.Lexings.{one_lexing, one_bad, bad_or_lexed}
 use Rattle.sect_front.proofs.shared.Only.{only}
 
 take_take : {A : Type 0} (i j : ℕ) (xs : List A) → i ≤ j → take i (take j xs) ≡ take i xs

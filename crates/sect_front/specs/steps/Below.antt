@@ -1,0 +1,6 @@
+-- Numbers below another.
+use Rattle.std.specs.Prelude.{ℕ, ◌<◌, List}
+use Rattle.std.specs.List.{All}
+
+abbrev pub AreBelow : ℕ → List ℕ → Type 0
+AreBelow total list = All (λ n. n < total) list

@@ -1,0 +1,46 @@
+//! The innermost brace that is open at the end of a text.
+
+ghost use Rattle.std.specs.Prelude.{◌≡◌, ◌<◌, ◌-◌, ℕ, List, IfOk, IfSome, OnOk, length, slice_get};
+ghost use Rattle.sect_front.specs.Lexing.{Spells};
+ghost use Rattle.sect_front.specs.TokenAt.{TokenAt};
+ghost use Rattle.sect_front.specs.FaultPlaces.{open_behind, open_braces};
+ghost use Rattle.sect_front.specs.steps.Below.{AreBelow};
+
+use crate::lexer::{after_gap, behind, lexeme};
+use crate::token::Token;
+use std::alloc::{AllocError, Global};
+
+/// Keeps which braces are open, behind one more token that stands at this place.
+fn pass_token(braces: &mut Vec<usize>, at: usize, token: &Token) -> Result<(), AllocError>
+    ensures open { OnOk result (braces.new.items ≡ open_behind at braces.old.items token.now) }
+    ensures below { (total : ℕ) → at < total → AreBelow total braces.old.items
+        → OnOk result (AreBelow total braces.new.items) }
+{
+    match token {
+        Token::OpenBrace => braces.push(at)?,
+        Token::CloseBrace => {
+            braces.pop();
+        }
+        _ => {}
+    }
+    Ok(())
+}
+
+/// The place of the innermost brace that is open at the end of a text, if all that stands in the text is tokens.
+pub fn innermost_brace(alloc: Global, bytes: &[u8]) -> Result<Option<usize>, AllocError>
+    ensures brace { IfOk result (λ brace. (places : List TokenAt) → Spells bytes.now places
+        → brace ≡ slice_get (open_braces places) (length (open_braces places) - 1)) }
+    ensures within { IfOk result (λ brace. IfSome brace (λ at. at < length bytes.now)) }
+{
+    let mut braces = Vec::new(alloc);
+    let mut here = after_gap(bytes);
+    while !here.is_empty() {
+        let at = bytes.len() - here.len();
+        let Some((token, length)) = lexeme(here) else {
+            return Ok(None);
+        };
+        here = behind(here, length);
+        pass_token(&mut braces, at, &token)?;
+    }
+    Ok(braces.last().copied())
+}

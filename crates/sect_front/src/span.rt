@@ -1,0 +1,8 @@
+//! Bytes of a source text.
+
+/// Bytes of a source text: from `start` to before `end`, both counted from 0.
+#[derive(Clone, Copy, Debug, PartialEq, Eq)]
+pub struct Span {
+    pub start: usize,
+    pub end: usize,
+}

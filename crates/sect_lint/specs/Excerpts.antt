@@ -1,0 +1,82 @@
+-- A place of a text, as it is shown: its line, and carets under its bytes.
+use Rattle.std.specs.Prelude.{ℕ, ◌+◌, ◌-◌, ◌/◌, ◌%◌, ◌==◌, ◌&&◌, ◌||◌, not, nat_lt, Bool, if◌then◌else◌, min}
+use Rattle.std.specs.Prelude.{List, [], ◌∷◌, ◌++◌, length, take, drop, take_while, replicate, codes}
+use Rattle.std.specs.List.{flat_map}
+use Rattle.std.specs.Fmt.{decimal}
+use Rattle.sect_front.specs.Gaps.{line_feed}
+use Rattle.sect_front.specs.Front.{line_of}
+use Rattle.sect_front.specs.declared.span.Span.{Span}
+use Rattle.sect_places.specs.Positions.{column_of}
+
+abbrev pub tab : ℕ
+tab = 9
+
+-- printable ASCII, or a tab
+abbrev pub is_plain : ℕ → Bool
+is_plain byte = byte == tab || (nat_lt 31 byte && nat_lt byte 127)
+
+-- the digit of a number below 16
+abbrev pub hexadecimal : ℕ → ℕ
+hexadecimal n = if nat_lt n 10 then n + 48 else n + 87
+
+-- a byte that isn't plain is shown as `\x9f`, so that no text writes control sequences to a terminal
+abbrev pub shown : ℕ → List ℕ
+shown byte =
+    if is_plain byte then byte ∷ []
+    else codes "\\x" ++ hexadecimal (byte / 16) ∷ hexadecimal (byte % 16) ∷ []
+
+-- what stands under a byte: a tab under a tab, and else a mark under each of the signs that show it
+abbrev pub under : List ℕ → ℕ → List ℕ
+under mark byte =
+    if byte == tab then tab ∷ [] else (if is_plain byte then mark else mark ++ mark ++ mark ++ mark)
+
+-- no line feed
+abbrev pub in_line : ℕ → Bool
+in_line byte = not (byte == line_feed)
+
+-- the line in which a place stands, without its line feed
+abbrev pub line_text : List ℕ → ℕ → List ℕ
+line_text source at = take_while in_line (drop (at + 1 - column_of source at) source)
+
+-- the most bytes of a line that are shown
+abbrev pub most_shown : ℕ
+most_shown = 120
+
+-- how many bytes are left out at the front of a line of so many, so that its byte of this number is shown
+abbrev pub left_out : ℕ → ℕ → ℕ
+left_out total place = min (place - 60) (total - most_shown)
+
+abbrev pub dots : Bool → List ℕ → List ℕ
+dots cut mark = if cut then mark else []
+
+-- the line
+abbrev pub shown_line : List ℕ → ℕ → List ℕ
+shown_line line from =
+    dots (nat_lt 0 from) (codes "...") ++ flat_map shown (take most_shown (drop from line))
+    ++ dots (nat_lt (from + most_shown) (length line)) (codes "...")
+
+-- one caret at least, also under a line feed
+abbrev pub carets : List ℕ → List ℕ
+carets [] = codes "^"
+carets (b ∷ bs) = flat_map (under (codes "^")) (b ∷ bs)
+
+-- what stands under the line, where so many bytes from this one on are marked
+abbrev pub marked_line : List ℕ → ℕ → ℕ → ℕ → List ℕ
+marked_line line from place count =
+    dots (nat_lt 0 from) (codes "   ") ++ flat_map (under (codes " ")) (take (place - from) (drop from line))
+    ++ carets (take count (drop (place - from) (take most_shown (drop from line))))
+
+-- the blanks under a line's number
+abbrev pub margin : ℕ → List ℕ
+margin line = replicate (length (decimal line) + 1) 32
+
+-- the place of a span, its line and what stands under it
+unfoldable pub excerpt : List ℕ → Span → List ℕ
+excerpt source span =
+    let line : ℕ = line_of source span.start in
+    let column : ℕ = column_of source span.start in
+    let text : List ℕ = line_text source span.start in
+    let from : ℕ = left_out (length text) (column - 1) in
+    codes " --> " ++ decimal line ++ codes ":" ++ decimal column ++ codes "\n" ++ margin line ++ codes "|\n"
+    ++ decimal line ++ codes " | " ++ shown_line text from ++ codes "\n" ++ margin line ++ codes "| "
+    ++ marked_line text from (column - 1) (span.end - span.start)

@@ -1,0 +1,52 @@
+-- A diagnostic as a value of JSON.
+use Rattle.std.specs.Prelude.{ℕ, List, [], ◌∷◌, ◌++◌, codes}
+use Rattle.std.specs.Fmt.{decimal}
+use Rattle.serde_json.specs.Data.{Data, number, string, array, object, unsigned, no_members, member}
+use Rattle.serde_json.specs.View.{items_of}
+use Rattle.sect_front.specs.Front.{line_of}
+use Rattle.sect_front.specs.FaultPlaces.{span_from}
+use Rattle.sect_front.specs.declared.span.Span.{Span}
+use Rattle.sect_places.specs.Positions.{column_of}
+use Rattle.sect_lint.specs.declared.diagnostic.Detail.{Detail}
+use Rattle.sect_lint.specs.declared.diagnostic.Detail.TheVariants as detail
+use Rattle.sect_lint.specs.declared.diagnostic.Diagnostic.{Diagnostic}
+use Rattle.sect_lint.specs.Mistakes.{number_of, title_of, note_of}
+
+abbrev pub count : ℕ → Data
+count n = number (unsigned n)
+
+abbrev pub list : List Data → Data
+list values = array (items_of values)
+
+-- a place: bytes are counted from 0, lines and columns from 1
+abbrev pub place_json : List ℕ → ℕ → Data
+place_json source at =
+    object (member (codes "column") (count (column_of source at)) (member (codes "line") (count (line_of source at))
+    (member (codes "offset") (count at) no_members)))
+
+-- the place of the first byte, and the place behind the last
+abbrev pub span_json : List ℕ → Span → Data
+span_json source span =
+    object (member (codes "end") (place_json source span.end) (member (codes "start")
+    (place_json source span.start) no_members))
+
+abbrev pub label_json : List ℕ → List ℕ → Span → Data
+label_json source message span =
+    object (member (codes "message") (string message) (member (codes "span") (span_json source span) no_members))
+
+-- what is said beside the carets, each with its own place
+abbrev pub labels_json : List ℕ → Diagnostic → Data
+labels_json source d = told d.detail
+  where
+    told : Detail → Data
+    told detail.Nothing = list []
+    told (detail.Bytes n) = list (label_json source (decimal n ++ codes " bytes") d.span ∷ [])
+    told (detail.OpenBrace at) = list (label_json source (codes "this `{` is open") (span_from at 1) ∷ [])
+
+abbrev pub diagnostic_json : List ℕ → Diagnostic → Data
+diagnostic_json source d =
+    object (member (codes "code") (count (number_of d.mistake)) (member (codes "labels") (labels_json source d)
+    (member (codes "message") (string (title_of d.mistake))
+    (member (codes "notes") (list (string (note_of d.mistake) ∷ []))
+    (member (codes "severity") (string (codes "error")) (member (codes "span") (span_json source d.span)
+    no_members))))))

@@ -1,0 +1,75 @@
+-- Where a mistake stands.
+use Rattle.std.specs.Prelude.{◌≡◌, ℕ, zero, suc, ◌+◌, ◌-◌, ◌<◌, List, [], ◌∷◌, length, map, get_or, ⊤}
+use Rattle.sect_front.specs.TreeView.{TreeView}
+use Rattle.sect_front.specs.Front.{IsSpelled}
+use Rattle.sect_front.specs.FaultPlaces.{token_span, IsFaultSpan}
+use Rattle.sect_front.specs.declared.span.Span.{Span}
+use Rattle.sect_front.specs.declared.tree.Record.{Record}
+use Rattle.sect_types.specs.Items.{items}
+use Rattle.sect_types.specs.declared.rule.TypeFault.{TypeFault}
+use Rattle.sect_types.specs.declared.rule.TypeFault.TheVariants as types
+use Rattle.sect_names.specs.declared.fault.SchemeFault.{SchemeFault}
+use Rattle.sect_names.specs.declared.fault.SchemeFault.TheVariants as scheme
+use Rattle.sect_names.specs.declared.refusal.Refusal.{Refusal}
+use Rattle.sect_names.specs.declared.refusal.Refusal.TheVariants as refusal
+use Rattle.sect_places.specs.declared.range.TokenRange.{TokenRange}
+use Rattle.sect_places.specs.Ranges.{range, item_tokens}
+use Rattle.sect_places.specs.Spans.{span_in}
+use Rattle.sect_lint.specs.declared.culprit.Culprit.{Culprit}
+use Rattle.sect_lint.specs.declared.culprit.Culprit.TheVariants as culprit
+use Rattle.sect_lint.specs.declared.mistake.Mistake.{Mistake}
+use Rattle.sect_lint.specs.declared.mistake.Mistake.TheVariants as mistake
+
+-- the item that is at fault
+abbrev pub of_types : TypeFault → Culprit
+of_types types.Memory = culprit.Item 0
+of_types (types.Unknown item) = culprit.Item item
+of_types (types.Twice item) = culprit.Item item
+of_types (types.WrongType item) = culprit.Item item
+of_types (types.SharedOutside item) = culprit.Item item
+of_types (types.Nested item) = culprit.Item item
+of_types (types.TooMany item) = culprit.Item item
+of_types (types.Recursion item) = culprit.Item item
+of_types (types.Arguments item) = culprit.Item item
+
+-- the record that is at fault
+abbrev pub of_scheme : SchemeFault → Culprit
+of_scheme scheme.Memory = culprit.Record 0
+of_scheme scheme.BadK = culprit.Record 0
+of_scheme (scheme.NoSuchGlobal r) = culprit.Record r
+of_scheme (scheme.GuardIsGuarded r) = culprit.Record r
+of_scheme (scheme.HintTwice r) = culprit.Record r
+
+-- the number of a record's item: the records before it are items, and so are their fields
+abbrev pub record_item : List Record → ℕ → ℕ
+record_item [] r = 0
+record_item (x ∷ xs) zero = 0
+record_item (x ∷ xs) (suc r) = 1 + length x.fields + record_item xs r
+
+-- the number of the item that is at fault
+abbrev pub item_number : TreeView → Culprit → ℕ
+item_number tree (culprit.Item item) = item
+item_number tree (culprit.Record r) = record_item tree.records r
+
+-- the tokens of an item that the carets stand under: the name that is declared twice, which comes last, else all
+abbrev pub marked : Mistake → TokenRange → TokenRange
+marked mistake.Twice r = range (r.first + r.count - 1) 1
+marked _ r = r
+
+abbrev pub no_range : TokenRange
+no_range = range 0 0
+
+-- the bytes are those of the item at fault in the tree that the text spells, as far as they are marked
+pub record IsItemSpan (source : List ℕ) (tree : TreeView) (m : Mistake) (who : Culprit) (span : Span) : Type 0 where
+  pub spelled : IsSpelled source tree
+  pub there : item_number tree who < length (items tree)
+  pub is : span ≡ span_in (map token_span spelled.places)
+      (marked m (get_or (item_tokens tree) (item_number tree who) no_range))
+
+-- the mistake of a text that is refused so stands at these bytes
+abbrev pub IsPlaceOf : List ℕ → Refusal → Mistake → Span → Type 0
+IsPlaceOf source refusal.Memory m span = ⊤
+IsPlaceOf source (refusal.Front why) m span = IsFaultSpan source why span
+IsPlaceOf source (refusal.Types why) m span = (tree : TreeView) × IsItemSpan source tree m (of_types why) span
+IsPlaceOf source (refusal.Scheme why) m span =
+    (tree : TreeView) × IsItemSpan source tree m (of_scheme why) span

@@ -1,0 +1,55 @@
+-- What is reported of a text that is refused.
+use Rattle.std.specs.Prelude.{◌≡◌, ◌⊎◌, ◌<◌, ℕ, Option, Some, None, List, ◌++◌, length, codes}
+use Rattle.std.specs.Fmt.{decimal}
+use Rattle.sect_front.specs.Front.{line_of}
+use Rattle.sect_front.specs.FaultPlaces.{IsWithin}
+use Rattle.sect_front.specs.declared.span.Span.{Span}
+use Rattle.sect_names.specs.Schemes.{SchemeView}
+use Rattle.sect_names.specs.Sources.{IsAccepted, IsDue}
+use Rattle.sect_names.specs.declared.fault.SchemeFault.TheVariants as scheme
+use Rattle.sect_names.specs.declared.refusal.Refusal.{Refusal}
+use Rattle.sect_names.specs.declared.refusal.Refusal.TheVariants as refusal
+use Rattle.sect_lint.specs.declared.diagnostic.Detail.{Detail}
+use Rattle.sect_lint.specs.declared.diagnostic.Detail.TheVariants as detail
+use Rattle.sect_lint.specs.declared.diagnostic.Diagnostic.{Diagnostic}
+use Rattle.sect_lint.specs.declared.mistake.Mistake.{Mistake}
+use Rattle.sect_lint.specs.Mistakes.{mistake_of, number_of, title_of, note_of}
+use Rattle.sect_lint.specs.Places.{IsPlaceOf}
+use Rattle.sect_lint.specs.Details.{IsFrontDetail, IsDetailWithin, detail_text}
+use Rattle.sect_lint.specs.Excerpts.{excerpt, margin}
+
+abbrev pub IsDetail : List ℕ → Refusal → Span → Detail → Type 0
+IsDetail source (refusal.Front why) span told = IsFrontDetail source why span told
+IsDetail source _ span told = told ≡ detail.Nothing
+
+-- the diagnostic names the mistake of a text that is refused so, and its bytes. All places are the text's
+pub record IsDiagnosisOf (source : List ℕ) (why : Refusal) (d : Diagnostic) : Type 0 where
+  pub mistake : mistake_of why ≡ Some d.mistake
+  pub place : IsPlaceOf source why d.mistake d.span
+  pub within : IsWithin (length source) d.span
+  pub detail : IsDetail source why d.span d.detail
+  pub told_within : IsDetailWithin (length source) d.detail
+
+-- nothing is said of a text that is accepted, and of one that is refused the mistake for which it is
+abbrev pub IsJudged : List ℕ → ℕ → Option Diagnostic → Type 0
+IsJudged source k None = (s : SchemeView) × IsAccepted source k s
+IsJudged source k (Some d) = (why : Refusal) × IsDue source k why × IsDiagnosisOf source why d
+
+-- memory ran out, or no path may have so many fields
+abbrev pub IsNotJudged : ℕ → Refusal → Type 0
+IsNotJudged k why = (why ≡ refusal.Memory) ⊎ ((why ≡ refusal.Scheme scheme.BadK) × (3 < k))
+
+-- the number and the title of a mistake
+unfoldable pub heading : Mistake → List ℕ
+heading m = codes "error[" ++ decimal (number_of m) ++ codes "]: " ++ title_of m ++ codes "\n"
+
+-- what is wanted, below a line of this number
+unfoldable pub note_line : ℕ → Mistake → List ℕ
+note_line line m = codes "\n" ++ margin line ++ codes "= " ++ note_of m
+
+-- the report of a diagnostic: the mistake, its place with what is said beside the carets, and what is wanted, but for
+-- the line feed at its end
+abbrev pub report : List ℕ → Diagnostic → List ℕ
+report source d =
+    heading d.mistake ++ excerpt source d.span ++ detail_text source d.detail
+    ++ note_line (line_of source d.span.start) d.mistake

@@ -1,0 +1,67 @@
+-- A diagnostic as a log of SARIF 2.1.0, which code hosts and editors read.
+use Rattle.std.specs.Prelude.{ℕ, ◌-◌, List, [], ◌∷◌, codes}
+use Rattle.std.specs.Fmt.{decimal}
+use Rattle.serde_json.specs.Data.{Data, string, object, no_members, member}
+use Rattle.sect_front.specs.Front.{line_of}
+use Rattle.sect_front.specs.declared.span.Span.{Span}
+use Rattle.sect_places.specs.Positions.{column_of}
+use Rattle.sect_lint.specs.declared.diagnostic.Diagnostic.{Diagnostic}
+use Rattle.sect_lint.specs.declared.mistake.Mistake.{Mistake}
+use Rattle.sect_lint.specs.Mistakes.{number_of, title_of, note_of}
+use Rattle.sect_lint.specs.Json.{count, list}
+
+abbrev pub text_json : List ℕ → Data
+text_json text = object (member (codes "text") (string text) no_members)
+
+-- the bytes, lines and columns of a span
+abbrev pub region_json : List ℕ → Span → Data
+region_json source span =
+    object (member (codes "byteLength") (count (span.end - span.start)) (member (codes "byteOffset") (count span.start)
+    (member (codes "endColumn") (count (column_of source span.end))
+    (member (codes "endLine") (count (line_of source span.end))
+    (member (codes "startColumn") (count (column_of source span.start))
+    (member (codes "startLine") (count (line_of source span.start)) no_members))))))
+
+-- the text is read from standard input
+abbrev pub location_json : List ℕ → Span → Data
+location_json source span =
+    object (member (codes "physicalLocation") (object (member (codes "artifactLocation")
+    (object (member (codes "uri") (string (codes "stdin")) no_members)) (member (codes "region")
+    (region_json source span) no_members))) no_members)
+
+abbrev pub result_json : List ℕ → Diagnostic → Data
+result_json source d =
+    object (member (codes "level") (string (codes "error"))
+    (member (codes "locations") (list (location_json source d.span ∷ []))
+    (member (codes "message") (text_json (title_of d.mistake))
+    (member (codes "ruleId") (string (decimal (number_of d.mistake))) no_members))))
+
+abbrev pub rule_json : Mistake → Data
+rule_json m =
+    object (member (codes "help") (text_json (note_of m)) (member (codes "id") (string (decimal (number_of m)))
+    (member (codes "shortDescription") (text_json (title_of m)) no_members)))
+
+-- the program that looked, with these rules
+abbrev pub tool_json : Data → Data
+tool_json rules =
+    object (member (codes "driver")
+    (object (member (codes "name") (string (codes "sectc")) (member (codes "rules") rules no_members))) no_members)
+
+-- a run that has these results
+abbrev pub run_json : Data → Data → Data
+run_json results tool =
+    object (member (codes "columnKind") (string (codes "unicodeCodePoints")) (member (codes "results") results
+    (member (codes "tool") tool no_members)))
+
+-- the log of one run
+abbrev pub log_json : Data → Data
+log_json run =
+    object (member (codes "$schema") (string (codes "https://json.schemastore.org/sarif-2.1.0.json"))
+    (member (codes "runs") (list (run ∷ [])) (member (codes "version") (string (codes "2.1.0")) no_members)))
+
+abbrev pub diagnostic_log : List ℕ → Diagnostic → Data
+diagnostic_log source d =
+    log_json (run_json (list (result_json source d ∷ [])) (tool_json (list (rule_json d.mistake ∷ []))))
+
+abbrev pub empty_log : Data
+empty_log = log_json (run_json (list []) (tool_json (list [])))

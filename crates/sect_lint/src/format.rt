@@ -1,0 +1,87 @@
+//! The forms in which a diagnostic is printed.
+
+ghost use Rattle.std.specs.Prelude.{◌≡◌, IfOk, length, false};
+ghost use Rattle.std.specs.String.{string_bytes};
+ghost use Rattle.serde_json.specs.View.{view};
+ghost use Rattle.serde_json.specs.Written.{compact_text, has_float};
+ghost use Rattle.sect_front.specs.FaultPlaces.{IsWithin};
+ghost use Rattle.sect_lint.specs.Details.{IsDetailWithin};
+ghost use Rattle.sect_lint.specs.Reports.{report};
+ghost use Rattle.sect_lint.specs.Formats.{report_as as report_by, clean};
+
+use crate::diagnostic::Diagnostic;
+use crate::json::diagnostic_value;
+use crate::report::put_report;
+use crate::sarif::{diagnostic_log, empty_log};
+use serde_json::Value;
+use std::alloc::{AllocError, Global};
+
+/// How a diagnostic is printed.
+#[derive(Clone, Copy, Debug, PartialEq, Eq)]
+pub enum Format {
+    /// For a reader.
+    Text,
+    /// An object of JSON.
+    Json,
+    /// A log of SARIF 2.1.0.
+    Sarif,
+}
+
+/// A value without blanks.
+fn compact(alloc: Global, value: &Value) -> Result<String, AllocError>
+    requires { has_float (view value.now) ≡ false }
+    ensures { IfOk result (λ text. string_bytes text ≡ compact_text (view value.now)) }
+{
+    let text = value.to_string(alloc)?;
+    Ok(text)
+}
+
+/// The report of a diagnostic for a reader.
+fn report_text(alloc: Global, source: &[u8], diagnostic: &Diagnostic) -> Result<String, AllocError>
+    requires span { IsWithin (length source.now) diagnostic.now.span }
+    requires detail { IsDetailWithin (length source.now) diagnostic.now.detail }
+    ensures { IfOk result (λ text. string_bytes text ≡ report source.now diagnostic.now) }
+{
+    let mut text = String::new(alloc);
+    put_report(alloc, &mut text, source, diagnostic)?;
+    Ok(text)
+}
+
+/// A diagnostic of a source text as it is printed, but for the line feed at its end.
+pub fn report_as(
+    alloc: Global,
+    source: &[u8],
+    diagnostic: &Diagnostic,
+    format: Format,
+) -> Result<String, AllocError>
+    requires span { IsWithin (length source.now) diagnostic.now.span }
+    requires detail { IsDetailWithin (length source.now) diagnostic.now.detail }
+    ensures { IfOk result (λ text. string_bytes text ≡ report_by format source.now diagnostic.now) }
+{
+    match format {
+        Format::Text => report_text(alloc, source, diagnostic),
+        Format::Json => {
+            let value = diagnostic_value(alloc, source, diagnostic)?;
+            compact(alloc, &value)
+        }
+        Format::Sarif => {
+            let log = diagnostic_log(alloc, source, diagnostic)?;
+            compact(alloc, &log)
+        }
+    }
+}
+
+/// What is printed of a source text of which nothing is told.
+pub fn clean_text(alloc: Global, format: Format) -> Result<String, AllocError>
+    ensures { IfOk result (λ text. string_bytes text ≡ clean format) }
+{
+    match format {
+        Format::Text | Format::Json => Ok(String::new(alloc)),
+        Format::Sarif => {
+            let log = empty_log(alloc)?;
+            let mut text = compact(alloc, &log)?;
+            text.push_str("\n")?;
+            Ok(text)
+        }
+    }
+}

@@ -1,0 +1,208 @@
+//! Whether a source text is refused, for which mistake, and where that stands.
+
+ghost use Rattle.std.specs.Prelude.{◌≡◌, ◌≢◌, ◌≤◌, ◌<◌, ℕ, Err, IfOk, IfErr, length};
+ghost use Rattle.sect_front.specs.TreeView.{TreeView};
+ghost use Rattle.sect_front.specs.Front.{IsSpelled, IsFault};
+ghost use Rattle.sect_front.specs.FaultPlaces.{IsFaultSpan, IsWithin};
+ghost use Rattle.sect_types.specs.First as types;
+ghost use Rattle.sect_types.specs.Items.{items};
+ghost use Rattle.sect_types.specs.Programs.{ProgramView};
+ghost use Rattle.sect_names.specs.Sources.{IsTypedText};
+ghost use Rattle.sect_names.specs.Verdicts as schemes;
+ghost use Rattle.sect_names.specs.declared.refusal.Refusal.TheVariants as refusal;
+ghost use Rattle.sect_lint.specs.Places.{IsItemSpan, item_number};
+ghost use Rattle.sect_lint.specs.Details.{IsFrontDetail, IsDetailWithin};
+ghost use Rattle.sect_lint.specs.Reports.{IsDiagnosisOf, IsJudged, IsNotJudged};
+
+use crate::culprit::{Culprit, marked_range};
+use crate::diagnostic::{Detail, Diagnostic};
+use crate::mistake::Mistake;
+use sect_front::{FrontFault, PlacedFault, Span, Tree, innermost_brace, parse, parse_placed};
+use sect_names::{Refusal, SchemeFault, check_k, scheme_of};
+use sect_places::{item_ranges, range_span, token_spans};
+use sect_types::{Program, TypeFault, check_types};
+use std::alloc::{AllocError, Global};
+
+/// What is said beside the carets of a text that spells no tree.
+fn front_detail(alloc: Global, source: &[u8], placed: &PlacedFault) -> Result<Detail, AllocError>
+    requires { placed.now.span.start ≤ placed.now.span.end }
+    ensures detail { IfOk result (IsFrontDetail source.now placed.now.fault placed.now.span) }
+    ensures within { IfOk result (IsDetailWithin (length source.now)) }
+{
+    let detail = match &placed.fault {
+        FrontFault::LongName { .. } => Detail::Bytes(placed.span.end - placed.span.start),
+        FrontFault::TooLarge => Detail::Bytes(source.len()),
+        FrontFault::UnexpectedEnd { .. } => match innermost_brace(alloc, source)? {
+            Some(at) => Detail::OpenBrace(at),
+            None => Detail::Nothing,
+        },
+        _ => Detail::Nothing,
+    };
+    Ok(detail)
+}
+
+/// What is told of a text that spells no tree.
+fn front_diagnostic(
+    alloc: Global,
+    source: &[u8],
+    placed: &PlacedFault,
+) -> Result<Diagnostic, Refusal>
+    requires span { IsFaultSpan source.now placed.now.fault placed.now.span }
+    requires within { placed.now.fault ≢ FrontFault.Memory → IsWithin (length source.now) placed.now.span }
+    ensures told { IfOk result (IsDiagnosisOf source.now (refusal.Front placed.now.fault)) }
+    ensures known { IfOk result (λ _. placed.now.fault ≢ FrontFault.Memory) }
+    ensures fails { IfErr result (λ why. why ≡ refusal.Memory) }
+{
+    match Mistake::of_front(&placed.fault) {
+        Some(mistake) => {
+            let detail = front_detail(alloc, source, placed)?;
+            Ok(Diagnostic {
+                mistake,
+                span: placed.span,
+                detail,
+            })
+        }
+        None => Err(Refusal::Memory),
+    }
+}
+
+/// The bytes of the item at fault in a tree that the text spells, as far as they are marked for this mistake.
+fn item_span(
+    alloc: Global,
+    source: &[u8],
+    tree: &Tree,
+    mistake: Mistake,
+    culprit: Culprit,
+) -> Result<Span, AllocError>
+    requires spelled { IsSpelled source.now tree.now }
+    requires there { item_number tree.now culprit < length (items tree.now) }
+    ensures item { IfOk result (IsItemSpan source.now tree.now mistake culprit) }
+    ensures within { IfOk result (IsWithin (length source.now)) }
+{
+    let tokens = token_spans(alloc, source, tree)?;
+    let ranges = item_ranges(alloc, tree)?;
+    let range = marked_range(mistake, culprit.range(tree, ranges.as_slice()));
+    Ok(range_span(tokens.as_slice(), range))
+}
+
+/// The tree of a text that spells one.
+fn tree_of(alloc: Global, source: &[u8]) -> Result<Tree, Refusal>
+    requires { (tree : TreeView) × IsSpelled source.now tree }
+    ensures spelled { IfOk result (IsSpelled source.now) }
+    ensures same { (tree : TreeView) → IsSpelled source.now tree → IfOk result (λ given. given ≡ tree) }
+    ensures fails { IfErr result (λ why. why ≡ refusal.Memory) }
+{
+    match parse(alloc, source) {
+        Ok(tree) => Ok(tree),
+        Err(_) => Err(Refusal::Memory),
+    }
+}
+
+/// What is told of a text whose tree breaks a rule on types.
+fn types_diagnostic(alloc: Global, source: &[u8], fault: &TypeFault) -> Result<Diagnostic, Refusal>
+    requires { (tree : TreeView) × IsSpelled source.now tree × types.Judges {A = ℕ} tree (Err fault.now) }
+    ensures told { IfOk result (IsDiagnosisOf source.now (refusal.Types fault.now)) }
+    ensures known { IfOk result (λ _. fault.now ≢ TypeFault.Memory) }
+    ensures fails { IfErr result (λ why. why ≡ refusal.Memory) }
+{
+    let Some(mistake) = Mistake::of_types(fault) else {
+        return Err(Refusal::Memory);
+    };
+    let tree = tree_of(alloc, source)?;
+    let span = item_span(alloc, source, &tree, mistake, Culprit::of_types(fault))?;
+    Ok(Diagnostic {
+        mistake,
+        span,
+        detail: Detail::Nothing,
+    })
+}
+
+/// What is told of a text whose program breaks a rule on hints.
+fn hints_diagnostic(
+    alloc: Global,
+    source: &[u8],
+    fault: &SchemeFault,
+) -> Result<Diagnostic, Refusal>
+    requires known { fault.now ≢ SchemeFault.BadK }
+    requires refused { (k : ℕ) × (p : ProgramView) × IsTypedText source.now p × schemes.Judges p k (Err fault.now) }
+    ensures told { IfOk result (IsDiagnosisOf source.now (refusal.Scheme fault.now)) }
+    ensures known { IfOk result (λ _. fault.now ≢ SchemeFault.Memory) }
+    ensures fails { IfErr result (λ why. why ≡ refusal.Memory) }
+{
+    let Some(mistake) = Mistake::of_scheme(fault) else {
+        return Err(Refusal::Memory);
+    };
+    let tree = tree_of(alloc, source)?;
+    let span = item_span(alloc, source, &tree, mistake, Culprit::of_scheme(fault))?;
+    Ok(Diagnostic {
+        mistake,
+        span,
+        detail: Detail::Nothing,
+    })
+}
+
+/// Judges a program of a source text.
+fn lint_program(
+    alloc: Global,
+    source: &[u8],
+    program: Program,
+    k: u16,
+) -> Result<Option<Diagnostic>, Refusal>
+    requires text { IsTypedText source.now program }
+    requires offered { k ≤ 3 }
+    ensures judged { IfOk result (IsJudged source.now k) }
+    ensures fails { IfErr result (λ why. why ≡ refusal.Memory) }
+{
+    match scheme_of(alloc, program, k) {
+        Ok(scheme) => {
+            scheme.facts();
+            Ok(None)
+        }
+        Err(fault) => {
+            let diagnostic = hints_diagnostic(alloc, source, &fault)?;
+            Ok(Some(diagnostic))
+        }
+    }
+}
+
+/// Judges a tree that a source text spells.
+fn lint_tree(
+    alloc: Global,
+    source: &[u8],
+    tree: Tree,
+    k: u16,
+) -> Result<Option<Diagnostic>, Refusal>
+    requires text { IsSpelled source.now tree }
+    requires offered { k ≤ 3 }
+    ensures judged { IfOk result (IsJudged source.now k) }
+    ensures fails { IfErr result (λ why. why ≡ refusal.Memory) }
+{
+    match check_types(alloc, tree) {
+        Ok(program) => {
+            let _facts = program.tree();
+            lint_program(alloc, source, program, k)
+        }
+        Err(fault) => {
+            let diagnostic = types_diagnostic(alloc, source, &fault)?;
+            Ok(Some(diagnostic))
+        }
+    }
+}
+
+/// Whether a source text is refused, for which mistake, and where that stands: nothing where it is accepted. How many
+/// fields a path may have is judged before the source. `Memory` is answered only where a growth was refused.
+pub fn lint(alloc: Global, source: &[u8], k: u16) -> Result<Option<Diagnostic>, Refusal>
+    // The text is accepted, or the mistake is that for which it is refused.
+    ensures judged { IfOk result (IsJudged source.now k) }
+    // Nothing else is answered but that no path may have so many fields.
+    ensures fails { IfErr result (IsNotJudged k) }
+{
+    check_k(k)?;
+    match parse_placed(alloc, source) {
+        Ok(tree) => lint_tree(alloc, source, tree, k),
+        Err(placed) => {
+            let diagnostic = front_diagnostic(alloc, source, &placed)?;
+            Ok(Some(diagnostic))
+        }
+    }
+}

@@ -1,0 +1,86 @@
+//! What is reported of a source text that is refused.
+
+ghost use Rattle.std.specs.Prelude.{◌≡◌, ◌≤◌, ◌++◌, OnOk, length};
+ghost use Rattle.std.specs.Fmt.{decimal};
+ghost use Rattle.std.specs.String.{string_bytes};
+ghost use Rattle.sect_front.specs.FaultPlaces.{IsWithin};
+ghost use Rattle.sect_lint.specs.Details.{place_text, detail_text, IsDetailWithin};
+ghost use Rattle.sect_lint.specs.Reports.{heading, note_line, report};
+
+use crate::diagnostic::{Detail, Diagnostic};
+use crate::excerpt::{put_excerpt, put_margin};
+use crate::mistake::Mistake;
+use sect_places::position_of;
+use std::alloc::{AllocError, Global};
+use std::fmt::Write;
+
+/// Adds the line and the column of a place.
+fn put_place(text: &mut String, source: &[u8], at: usize) -> Result<(), AllocError>
+    requires { at ≤ length source.now }
+    ensures { OnOk result (string_bytes text.new ≡ string_bytes text.old ++ place_text source.now at) }
+{
+    let position = position_of(source, at);
+    Ok(write!(text, "{}:{}", position.line, position.column)?)
+}
+
+/// Adds what is said beside the carets.
+fn put_detail(text: &mut String, source: &[u8], detail: Detail) -> Result<(), AllocError>
+    requires { IsDetailWithin (length source.now) detail }
+    ensures { OnOk result (string_bytes text.new ≡ string_bytes text.old ++ detail_text source.now detail) }
+{
+    match detail {
+        Detail::Nothing => Ok(()),
+        Detail::Bytes(count) => Ok(write!(text, " {count} bytes")?),
+        Detail::OpenBrace(at) => {
+            text.push_str(" the `{` at ")?;
+            put_place(text, source, at)?;
+            text.push_str(" is open")
+        }
+    }
+}
+
+/// Adds the number and the title of a mistake.
+#[tactic(auto, unfolding(crate::specs::Reports::heading))]
+fn put_heading(text: &mut String, mistake: Mistake) -> Result<(), AllocError>
+    ensures { OnOk result (string_bytes text.new ≡ string_bytes text.old ++ heading mistake) }
+{
+    let title = mistake.title();
+    Ok(write!(text, "error[{}]: {title}\n", mistake.number())?)
+}
+
+/// Adds what is wanted, below a line of this number.
+#[tactic(auto, unfolding(crate::specs::Reports::note_line))]
+fn put_note(
+    text: &mut String,
+    mistake: Mistake,
+    number: &str,
+    line: usize,
+) -> Result<(), AllocError>
+    requires { number.now ≡ decimal line }
+    ensures { OnOk result (string_bytes text.new ≡ string_bytes text.old ++ note_line line mistake) }
+{
+    text.push_str("\n")?;
+    put_margin(text, number)?;
+    Ok(write!(text, "= {}", mistake.note())?)
+}
+
+/// Adds the report of a diagnostic of a source text: the number and the title of the mistake, where it stands, the line
+/// with carets under the bytes, and what is wanted, but for the line feed at its end.
+pub fn put_report(
+    alloc: Global,
+    text: &mut String,
+    source: &[u8],
+    diagnostic: &Diagnostic,
+) -> Result<(), AllocError>
+    requires span { IsWithin (length source.now) diagnostic.now.span }
+    requires detail { IsDetailWithin (length source.now) diagnostic.now.detail }
+    ensures { OnOk result (string_bytes text.new ≡ string_bytes text.old ++ report source.now diagnostic.now) }
+{
+    let line = position_of(source, diagnostic.span.start).line;
+    let number = format!(in alloc; "{line}")?;
+    put_heading(text, diagnostic.mistake)?;
+    put_excerpt(text, source, diagnostic.span, number.as_str())?;
+    put_detail(text, source, diagnostic.detail)?;
+    put_note(text, diagnostic.mistake, number.as_str(), line)?;
+    Ok(())
+}

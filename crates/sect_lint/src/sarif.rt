@@ -1,0 +1,108 @@
+//! A diagnostic as a log of SARIF 2.1.0.
+
+ghost use Rattle.std.specs.Prelude.{◌≡◌, IfOk, length};
+ghost use Rattle.serde_json.specs.View.{view};
+ghost use Rattle.sect_front.specs.FaultPlaces.{IsWithin};
+ghost use Rattle.sect_lint.specs.Sarif.{region_json, location_json, result_json, rule_json, tool_json};
+ghost use Rattle.sect_lint.specs.Sarif.{run_json, log_json, diagnostic_log as log_by, empty_log as empty_by};
+
+use crate::diagnostic::Diagnostic;
+use crate::mistake::Mistake;
+use sect_front::Span;
+use sect_places::position_of;
+use serde_json::{Value, json};
+use std::alloc::{AllocError, Global};
+
+/// The bytes, lines and columns of a span.
+fn region_value(alloc: Global, source: &[u8], span: Span) -> Result<Value, AllocError>
+    requires { IsWithin (length source.now) span }
+    ensures { IfOk result (λ v. view v ≡ region_json source.now span) }
+{
+    let start = position_of(source, span.start);
+    let end = position_of(source, span.end);
+    let (offset, bytes) = (span.start, span.end - span.start);
+    let (start_line, start_column) = (start.line, start.column);
+    let (end_line, end_column) = (end.line, end.column);
+    json!(in alloc; {"byteLength": bytes, "byteOffset": offset, "endColumn": end_column, "endLine": end_line,
+        "startColumn": start_column, "startLine": start_line})
+}
+
+/// Where a span stands.
+fn location_value(alloc: Global, source: &[u8], span: Span) -> Result<Value, AllocError>
+    requires { IsWithin (length source.now) span }
+    ensures { IfOk result (λ v. view v ≡ location_json source.now span) }
+{
+    let region = region_value(alloc, source, span)?;
+    json!(in alloc; {"physicalLocation": {"artifactLocation": {"uri": "stdin"}, "region": region}})
+}
+
+/// A mistake, and where it stands.
+fn result_value(alloc: Global, source: &[u8], diagnostic: &Diagnostic) -> Result<Value, AllocError>
+    requires { IsWithin (length source.now) diagnostic.now.span }
+    ensures { IfOk result (λ v. view v ≡ result_json source.now diagnostic.now) }
+{
+    let location = location_value(alloc, source, diagnostic.span)?;
+    let title = diagnostic.mistake.title();
+    let rule = format!(in alloc; "{}", diagnostic.mistake.number())?;
+    json!(in alloc; {"level": "error", "locations": [location], "message": {"text": title}, "ruleId": rule})
+}
+
+/// What a mistake is.
+fn rule_value(alloc: Global, mistake: Mistake) -> Result<Value, AllocError>
+    ensures { IfOk result (λ v. view v ≡ rule_json mistake) }
+{
+    let note = mistake.note();
+    let title = mistake.title();
+    let rule = format!(in alloc; "{}", mistake.number())?;
+    json!(in alloc; {"help": {"text": note}, "id": rule, "shortDescription": {"text": title}})
+}
+
+/// The program that looked, with these rules.
+fn tool_value(alloc: Global, rules: Value) -> Result<Value, AllocError>
+    ensures { IfOk result (λ v. view v ≡ tool_json (view rules)) }
+{
+    json!(in alloc; {"driver": {"name": "sectc", "rules": rules}})
+}
+
+/// A run that has these results.
+fn run_value(alloc: Global, results: Value, tool: Value) -> Result<Value, AllocError>
+    ensures { IfOk result (λ v. view v ≡ run_json (view results) (view tool)) }
+{
+    json!(in alloc; {"columnKind": "unicodeCodePoints", "results": results, "tool": tool})
+}
+
+/// The log of one run.
+fn log_value(alloc: Global, run: Value) -> Result<Value, AllocError>
+    ensures { IfOk result (λ v. view v ≡ log_json (view run)) }
+{
+    json!(in alloc; {"$schema": "https://json.schemastore.org/sarif-2.1.0.json", "runs": [run], "version": "2.1.0"})
+}
+
+/// The log of a diagnostic of a source text.
+pub fn diagnostic_log(
+    alloc: Global,
+    source: &[u8],
+    diagnostic: &Diagnostic,
+) -> Result<Value, AllocError>
+    requires { IsWithin (length source.now) diagnostic.now.span }
+    ensures { IfOk result (λ v. view v ≡ log_by source.now diagnostic.now) }
+{
+    let result = result_value(alloc, source, diagnostic)?;
+    let rule = rule_value(alloc, diagnostic.mistake)?;
+    let rules = json!(in alloc; [rule])?;
+    let tool = tool_value(alloc, rules)?;
+    let results = json!(in alloc; [result])?;
+    let run = run_value(alloc, results, tool)?;
+    log_value(alloc, run)
+}
+
+/// The log of a text of which nothing is told.
+pub fn empty_log(alloc: Global) -> Result<Value, AllocError>
+    ensures { IfOk result (λ v. view v ≡ empty_by) }
+{
+    let rules = json!(in alloc; [])?;
+    let tool = tool_value(alloc, rules)?;
+    let results = json!(in alloc; [])?;
+    let run = run_value(alloc, results, tool)?;
+    log_value(alloc, run)
+}

@@ -1,3 +1,5 @@
+mod RunsLemmas
+mod SteppingLemmas
 mod Counts
 mod PartsLemmas
 mod ZerosLemmas
@@ -18,6 +20,7 @@ mod Keeps
 mod Finish
 mod Readings
 mod Allowed
+mod AgainLaws
 mod Verdict
 mod Only
 mod Alone

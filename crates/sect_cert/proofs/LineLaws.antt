@@ -110,7 +110,7 @@ pub record Spells (ws : List (List ℕ)) (x : CertLine) : Type 0 where
   pub words : ws ≡ line_words x
   pub good : IsLine x
 
-only_take : (ws : List (List ℕ)) (n : ℕ) → only_number ws ≡ Some n → (ws ≡ decimal n ∷ []) × IsNumber n
+pub only_take : (ws : List (List ℕ)) (n : ℕ) → only_number ws ≡ Some n → (ws ≡ decimal n ∷ []) × IsNumber n
 only_take [] n h = cc
 only_take (w ∷ []) n h = let t : (w ≡ decimal n) × (n < 4294967296) = decimal_number w n h in
     (ap (λ y. y ∷ []) t.0, t.1)

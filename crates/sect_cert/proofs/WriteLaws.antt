@@ -1,8 +1,11 @@
 -- What is written piece by piece is the text of a certificate.
 use Rattle.std.proofs.Common.{◌≡◌, ℕ, ◌+◌, List, [], ◌∷◌, ◌++◌, map, length, refl, sym, ◌∙◌, ap, append-nil}
-use Rattle.std.proofs.Common.{append_assoc, drop, ◌≤◌}
-use Rattle.std.proofs.lemmas.List.{at_drop_all}
-use Rattle.std.specs.Prelude.{codes}
+use Rattle.std.proofs.Common.{append_assoc, drop, ◌≤◌, ◌<◌, zero, suc, Some, arith}
+use Rattle.std.proofs.lemmas.List.{at_drop_all, drop_more, flat_map_more, take_more}
+use Rattle.std.proofs.lemmas.Option.{get_or_from_slice_get}
+use Rattle.std.specs.Prelude.{codes, slice_get, take}
+use Rattle.std.specs.Option.{option_map}
+use Rattle.std.proofs.lemmas.List.{length-take-le}
 use Rattle.std.specs.Fmt.{decimal}
 use Rattle.std.specs.List.{join_with_byte, flat_map}
 use Rattle.sect_cert.specs.Spelling.{base_text, path_text, lock_words, some_words, list_words, step_words, steps_words}
@@ -12,6 +15,7 @@ use Rattle.sect_cert.specs.Texts.{nodes_lines, chains_lines, section_lines, sect
 use Rattle.sect_cert.specs.Texts.{certificate_text}
 use Rattle.sect_cert.specs.steps.Writes.{spaced, field_text, lock_text, next_lock, step_text, next_step, fed_line}
 use Rattle.sect_cert.specs.steps.Writes.{nodes_text, chain_text, section_text, sections_text}
+use Rattle.sect_cert.specs.steps.Writes.{IsListBefore, IsLockBefore, arrow_before}
 use Rattle.sect_cert.specs.declared.lock.CertPath.{CertPath}
 use Rattle.sect_cert.specs.declared.lock.CertLock.{CertLock}
 use Rattle.sect_cert.specs.declared.lock.CertLock.TheVariants as lock
@@ -27,7 +31,7 @@ path_joined : (base : List ℕ) (fields : List (List ℕ)) → join_with_byte 46
 path_joined base [] = sym (append-nil base)
 path_joined base (f ∷ fs) = ap (λ x. base ++ 46 ∷ x) (path_joined f fs)
 
-line_joined : (head : List ℕ) (ws : List (List ℕ)) → join_with_byte 32 (head ∷ ws) ≡ head ++ spaced ws
+pub line_joined : (head : List ℕ) (ws : List (List ℕ)) → join_with_byte 32 (head ∷ ws) ≡ head ++ spaced ws
 line_joined head [] = sym (append-nil head)
 line_joined head (w ∷ ws) = ap (λ x. head ++ 32 ∷ x) (line_joined w ws)
 
@@ -90,13 +94,14 @@ pub list_written : (l : CertLock) (ls : List CertLock) (i : ℕ) (old whole fron
 list_written l ls i old whole front h low g =
     behind_first next_lock ls i old (lock_text l) whole front (spaced (list_words (l ∷ ls))) h low g (some_spaced l ls)
 
-pub steps_written : (s : CertStep) (ss : List CertStep) (i : ℕ) (old whole front : List ℕ) → front ≡ old ++ step_text s
-    → length ss ≤ i →
-    whole ++ flat_map next_step (drop i ss) ≡ front ++ flat_map next_step ss
-    → whole ≡ old ++ spaced (chain_words (s ∷ ss))
-steps_written s ss i old whole front h low g =
-    behind_first next_step ss i old (step_text s) whole front (spaced (chain_words (s ∷ ss))) h low g
-    (steps_spaced s ss)
+arrow_more : (ss : List CertStep) (x : CertStep)
+    → spaced (chain_words (ss ++ x ∷ [])) ≡ spaced (chain_words ss) ++ (arrow_before (length ss) ++ step_text x)
+arrow_more [] x = refl
+arrow_more (s ∷ ss) x =
+    steps_spaced s (ss ++ x ∷ [])
+    ∙ (ap (λ t. step_text s ++ t) (sym (flat_map_more next_step [] ss x))
+    ∙ (sym (append_assoc (step_text s) (flat_map next_step ss) (next_step x))
+    ∙ ap (λ t. t ++ next_step x) (sym (steps_spaced s ss))))
 
 -- a line: its first word, a number before a colon, and the words behind it
 numbered : (old head digits : List ℕ) (ws : List (List ℕ)) →
@@ -201,3 +206,50 @@ cert_written c =
     ∙ sym (fed_one (line.K c.k) (line.Sections (length c.sections) ∷ rest)
     ∙ ap (λ x. first ++ x) (fed_one (line.Sections (length c.sections)) rest
     ∙ ap (λ x. second ++ x) (sections_written c.sections 0 (line.End ∷ [])))))
+
+there : {X : Type 0} (xs : List X) (i : ℕ) → i < length xs → (x : X) × (slice_get xs i ≡ Some x)
+there [] i h = absurd (omega (arith, h))
+there (x ∷ xs) zero h = (x, refl)
+there (x ∷ xs) (suc i) h = there xs i (omega (arith, h))
+
+-- the line of one more node, by the text of its list
+pub next_node_written : (nodes : List (List CertLock)) (node : ℕ) (old list new whole : List ℕ) → node < length nodes
+    → old ++ nodes_text node (drop node nodes) ≡ whole
+    → ((locks : List CertLock) → list ≡ spaced (list_words locks) → new ≡ old ++ fed_line (line.Node node locks))
+    → IsListBefore nodes (node + 1) list → new ++ nodes_text (node + 1) (drop (node + 1) nodes) ≡ whole
+next_node_written nodes node old list new whole within before one is =
+    let at = there nodes node within in
+    let rest : drop node nodes ≡ at.0 ∷ drop (node + 1) nodes =
+    drop_more nodes node at.0 within
+    ∙ ap (λ x. x ∷ drop (node + 1) nodes) (get_or_from_slice_get nodes node at.0 at.0 at.1) in
+    ap (λ x. x ++ nodes_text (node + 1) (drop (node + 1) nodes)) (one at.0 (is node at.0 refl at.1))
+    ∙ append_assoc old (fed_line (line.Node node at.0)) (nodes_text (node + 1) (drop (node + 1) nodes))
+    ∙ ap (λ x. old ++ nodes_text node x) (sym rest)
+    ∙ before
+
+-- one step more, by the text of its lock
+pub next_step_written : (steps : List CertStep) (index node : ℕ) (old lock out new : List ℕ) → index < length steps
+    → option_map (λ (x : CertStep). x.node) (slice_get steps index) ≡ Some node → IsLockBefore steps (index + 1) lock
+    → out ≡ old ++ spaced (chain_words (take index steps))
+    → new ≡ out ++ (arrow_before index ++ 32 ∷ (decimal node ++ lock))
+    → new ≡ old ++ spaced (chain_words (take (index + 1) steps))
+next_step_written steps index node old lock out new within at_node at_lock before is =
+    let at = there steps index within in
+    let x = at.0 in
+    let first = take index steps in
+    let rest : take (index + 1) steps ≡ first ++ x ∷ [] =
+    take_more steps index x within ∙ ap (λ y. first ++ y ∷ []) (get_or_from_slice_get steps index x x at.1) in
+    let count : length first ≡ index = length-take-le index steps (omega (arith, within)) in
+    let number : Some x.node ≡ Some node =
+    sym (ap (option_map (λ (y : CertStep). y.node)) at.1) ∙ at_node in
+    let same : node ≡ x.node = cc in
+    let text : lock ≡ lock_text x.lock = at_lock index x refl at.1 in
+    is
+    ∙ (ap (λ y. y ++ (arrow_before index ++ 32 ∷ (decimal node ++ lock))) before
+    ∙ (ap (λ y. (old ++ spaced (chain_words first)) ++ (arrow_before index ++ 32 ∷ (decimal node ++ y))) text
+    ∙ (ap (λ n. (old ++ spaced (chain_words first)) ++ (arrow_before index ++ 32 ∷ (decimal n ++ lock_text x.lock)))
+    same
+    ∙ (append_assoc old (spaced (chain_words first)) (arrow_before index ++ step_text x)
+    ∙ (ap (λ n. old ++ (spaced (chain_words first) ++ (arrow_before n ++ step_text x))) (sym count)
+    ∙ (ap (λ y. old ++ y) (sym (arrow_more first x))
+    ∙ ap (λ ss. old ++ spaced (chain_words ss)) (sym rest)))))))

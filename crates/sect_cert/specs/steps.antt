@@ -2,6 +2,8 @@
 pub mod Numbers
 pub mod Readers
 pub mod Certificates
+pub mod Runs
+pub mod Stepping
 pub mod Writes
 pub mod Subjects
 pub mod Lists
@@ -9,3 +11,4 @@ pub mod Chains
 pub mod Reading
 pub mod Stages
 pub mod Closing
+pub mod Again

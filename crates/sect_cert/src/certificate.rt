@@ -1,7 +1,9 @@
 //! What a certificate says. It knows no program: its lists stand in any order, and may repeat a lock.
 
+use crate::chain_steps::ChainSteps;
 use crate::items::Items;
 use crate::lock::CertLock;
+use crate::runs::Runs;
 
 /// A node, by its number, and a lock that is needed from there on.
 #[derive(Drop)]
@@ -18,14 +20,14 @@ pub struct Chain {
     /// The lock, by its number in the entry list.
     pub lock: u32,
     /// At least one where the certificate has a text.
-    pub steps: Items<CertStep>,
+    pub steps: ChainSteps,
 }
 
 /// What is said of one section.
 #[derive(Drop)]
 pub struct CertSection {
     /// For each node, by number and the exit counted, the locks that are needed from there on.
-    pub nodes: Items<Items<CertLock>>,
+    pub nodes: Runs<Items<CertLock>>,
     /// The locks to take at the entry.
     pub entry: Items<CertLock>,
     /// The chains, by rising numbers where the certificate has a text.

@@ -36,13 +36,6 @@ impl<T: Drop> Items<T> {
         Items { items }
     }
 
-    /// The vector that they stand in.
-    pub fn into_vec(self) -> Vec<T>
-        ensures { result.items ≡ self }
-    {
-        self.items
-    }
-
     /// The elements, in order.
     pub fn as_slice(&self) -> &[T]
         ensures { result.now ≡ self.now }

@@ -12,8 +12,10 @@
 //! certificate has one text, and a text at most one certificate.
 #![tactic(auto)]
 
+mod again;
 mod certificate;
 mod chain;
+mod chain_steps;
 mod fault;
 mod items;
 mod line;
@@ -22,14 +24,17 @@ mod lock;
 mod numbers;
 mod parts;
 mod reading;
+mod runs;
 mod stage;
 mod subject;
 mod writing;
 mod zeros;
 
 pub use certificate::{Cert, CertSection, CertStep, Chain};
+pub use chain_steps::ChainSteps;
 pub use fault::CertFault;
 pub use items::Items;
 pub use lock::{CertBase, CertLock, CertPath};
 pub use reading::read_cert;
+pub use runs::Runs;
 pub use writing::write_cert;

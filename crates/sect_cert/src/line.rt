@@ -1,6 +1,7 @@
 //! One line after the first.
 
-ghost use Rattle.std.specs.Prelude.{◌≡◌};
+ghost use Rattle.std.specs.Prelude.{◌≡◌, ◌++◌, codes, IsTrue};
+ghost use Rattle.std.specs.Fmt.{decimal};
 ghost use Rattle.sect_cert.specs.Parts.{parts};
 ghost use Rattle.sect_cert.specs.steps.Readers.{ReadsAs};
 ghost use Rattle.sect_cert.specs.steps.Reading.{line_of as line_at, only_number as only_number_at};
@@ -96,6 +97,20 @@ fn end_line(words: Parts<'_>) -> Option<CertLine>
         Some(CertLine::End)
     } else {
         None
+    }
+}
+
+/// Whether the line of the node of this number begins so, up to the colon.
+pub fn is_node(head: &[u8], number: usize) -> bool
+    ensures { IsTrue result → head.now ≡ codes "node " ++ decimal number }
+{
+    let (word, words) = Parts::of(head, b' ');
+    if word != b"node".as_slice() {
+        return false;
+    }
+    match only_number(words) {
+        Some(found) => found as usize == number,
+        None => false,
     }
 }
 

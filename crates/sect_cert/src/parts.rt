@@ -1,6 +1,7 @@
 //! The parts of a text that is cut at a byte.
 
-ghost use Rattle.std.specs.Prelude.{◌≡◌, ◌++◌, ◌∷◌, [], IsTrue, ◌↔◌, length, MatchOption, take_while, not, ◌==◌};
+ghost use Rattle.std.specs.Prelude.{◌≡◌, ◌++◌, ◌∷◌, [], IsTrue, ◌↔◌, length, MatchOption, IfSome, take_while, not};
+ghost use Rattle.std.specs.Prelude.{◌==◌};
 ghost use Rattle.std.specs.Option.{option_copied};
 ghost use Rattle.sect_cert.specs.Parts.{parts, parts_left};
 
@@ -41,6 +42,14 @@ fn cut(bytes: &[u8], mark: u8) -> (&[u8], Option<&[u8]>)
     } else {
         (bytes, None)
     }
+}
+
+/// What stands before the first mark and behind it, where there is one.
+pub fn halves(bytes: &[u8], mark: u8) -> Option<(&[u8], &[u8])>
+    ensures { IfSome result (λ halves. parts mark bytes.now ≡ halves.0.now ∷ parts mark halves.1.now) }
+{
+    let (front, back) = cut(bytes, mark);
+    Some((front, back?))
 }
 
 impl<'a> Parts<'a> {

@@ -5,6 +5,7 @@ ghost use Rattle.sect_cert.specs.Texts.{HasText, certificate_text};
 ghost use Rattle.sect_cert.specs.Verdicts.{is_old as old_text, Judges, Gives, Refuses};
 ghost use Rattle.sect_cert.specs.steps.Closing.{is_finished_of, Closes, IsFaultOn, JudgesLines};
 
+use crate::again::Lines;
 use crate::certificate::Cert;
 use crate::fault::{CertFault, LineFault};
 use crate::parts::Parts;
@@ -50,16 +51,18 @@ fn read_lines(alloc: Global, bytes: &[u8]) -> Result<Cert, CertFault>
     ensures { JudgesLines bytes.now result }
 {
     let (mut text, mut others) = Parts::of(bytes, b'\n');
+    let mut before = b"".as_slice();
     let mut stage = CertStage::Header;
     let mut line = 1usize;
     while let Some(next) = others.next() {
         if is_finished(&stage) {
             return Err(CertFault::NotCanonical { line });
         }
-        stage = match read_line(alloc, stage, text) {
+        stage = match read_line(alloc, stage, Lines { before, text }) {
             Ok(stage) => stage,
             Err(fault) => return Err(fault_on(fault, line)),
         };
+        before = text;
         text = next;
         line += 1;
     }

@@ -1,15 +1,18 @@
 //! A certificate, line by line.
 
 ghost use Rattle.std.specs.Prelude.{◌≡◌};
+ghost use Rattle.sect_cert.specs.steps.Again.{IsAfter};
 ghost use Rattle.sect_cert.specs.steps.Certificates.{is_rising};
 ghost use Rattle.sect_cert.specs.steps.Stages.{GoesTo, ClosesTo, begin_of, close_of, node_of, chain_of, stage_of};
 ghost use Rattle.sect_cert.specs.steps.Stages.{later_of, header_of, read_of, is_header_due};
 
+use crate::again::{Lines, is_next};
 use crate::certificate::{Cert, CertSection, Chain};
 use crate::fault::LineFault;
 use crate::items::Items;
 use crate::line::{CertLine, line_of};
 use crate::lock::CertLock;
+use crate::runs::Runs;
 use crate::zeros::{is_exact, without_zeros};
 use std::alloc::Global;
 
@@ -36,7 +39,7 @@ pub enum CertStage {
     /// The lines before the first section.
     Between(Open),
     /// A section's first line, with its number of nodes, and lists of nodes.
-    Nodes(Open, u32, Items<Items<CertLock>>),
+    Nodes(Open, u32, Runs<Items<CertLock>>),
     /// A section's entry list, and chains.
     Chains(Open, CertSection),
     /// The whole.
@@ -54,7 +57,7 @@ fn begin(alloc: Global, begun: Open, line: CertLine) -> Result<CertStage, LineFa
             if !more {
                 Err(LineFault::Bad)
             } else if section as usize == here {
-                Ok(CertStage::Nodes(begun, nodes, Items::new(alloc)))
+                Ok(CertStage::Nodes(begun, nodes, Runs::new(alloc)))
             } else {
                 Err(LineFault::Odd)
             }
@@ -87,7 +90,7 @@ fn node(
     alloc: Global,
     begun: Open,
     count: u32,
-    mut lists: Items<Items<CertLock>>,
+    mut lists: Runs<Items<CertLock>>,
     line: CertLine,
 ) -> Result<CertStage, LineFault>
     ensures { GoesTo result (node_of begun count lists line) }
@@ -194,9 +197,10 @@ fn header(text: &[u8]) -> Result<CertStage, LineFault>
     }
 }
 
-/// Takes the text of a line after the first. One with leading zeros is read without them, and then refused.
+/// Takes the text of a line after the first, and reads all of it. One with leading zeros is read without them, and then
+/// refused.
 #[tactic(auto, using(crate::proofs::ZerosLemmas::plain_exact))]
-fn later(alloc: Global, stage: CertStage, text: &[u8]) -> Result<CertStage, LineFault>
+fn whole(alloc: Global, stage: CertStage, text: &[u8]) -> Result<CertStage, LineFault>
     ensures { GoesTo result (later_of stage text.now) }
 {
     if is_exact(text) {
@@ -209,13 +213,44 @@ fn later(alloc: Global, stage: CertStage, text: &[u8]) -> Result<CertStage, Line
     Err(LineFault::Odd)
 }
 
+/// Takes the text of a line in a section's nodes. The list of the node before isn't read again.
+fn behind_nodes(
+    alloc: Global,
+    begun: Open,
+    count: u32,
+    mut lists: Runs<Items<CertLock>>,
+    lines: Lines<'_>,
+) -> Result<CertStage, LineFault>
+    requires { IsAfter (CertStage.Nodes begun count lists) lines.before.now }
+    ensures { GoesTo result (later_of (CertStage.Nodes begun count lists) lines.entry.text.now) }
+{
+    let here = lists.len();
+    if 0 < here && here < count as usize && is_next(lines, here) {
+        lists.push_again()?;
+        return Ok(CertStage::Nodes(begun, count, lists));
+    }
+    whole(alloc, CertStage::Nodes(begun, count, lists), lines.text)
+}
+
+/// Takes the text of a line after the first.
+fn later(alloc: Global, stage: CertStage, lines: Lines<'_>) -> Result<CertStage, LineFault>
+    requires { IsAfter stage lines.before.now }
+    ensures { GoesTo result (later_of stage lines.entry.text.now) }
+{
+    match stage {
+        CertStage::Nodes(begun, count, lists) => behind_nodes(alloc, begun, count, lists, lines),
+        other => whole(alloc, other, lines.text),
+    }
+}
+
 /// Takes the text of one more line.
-pub fn read_line(alloc: Global, stage: CertStage, text: &[u8]) -> Result<CertStage, LineFault>
-    ensures { GoesTo result (read_of stage text.now) }
+pub fn read_line(alloc: Global, stage: CertStage, lines: Lines<'_>) -> Result<CertStage, LineFault>
+    requires { IsAfter stage lines.before.now }
+    ensures { GoesTo result (read_of stage lines.entry.text.now) }
 {
     if is_header(&stage) {
-        header(text)
+        header(lines.text)
     } else {
-        later(alloc, stage, text)
+        later(alloc, stage, lines)
     }
 }

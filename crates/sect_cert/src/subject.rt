@@ -1,6 +1,6 @@
 //! What stands in a lock: its mode, and what it locks.
 
-ghost use Rattle.std.specs.Prelude.{◌≡◌};
+ghost use Rattle.std.specs.Prelude.{◌≡◌, IsTrue};
 ghost use Rattle.sect_cert.specs.steps.Readers.{ReadsAs};
 ghost use Rattle.sect_cert.specs.steps.Subjects.{base_of as base_in, path_of as path_in, mode_of as mode_in};
 ghost use Rattle.sect_cert.specs.steps.Subjects.{path_lock as path_lock_of, class_lock as class_lock_of};
@@ -23,6 +23,17 @@ pub enum CertMode {
     Write,
     /// `M`
     Make,
+}
+
+/// Whether two modes are one.
+pub fn is_same_mode(one: CertMode, other: CertMode) -> bool
+    ensures { IsTrue result → one ≡ other }
+{
+    match one {
+        CertMode::Read => matches!(other, CertMode::Read),
+        CertMode::Write => matches!(other, CertMode::Write),
+        CertMode::Make => matches!(other, CertMode::Make),
+    }
 }
 
 /// The mode that a word is.

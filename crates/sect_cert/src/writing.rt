@@ -1,20 +1,24 @@
 //! A certificate as text.
 
-ghost use Rattle.std.specs.Prelude.{◌≡◌, ◌++◌, ◌∷◌, [], Result, OnOk, IfOk, length, codes};
+ghost use Rattle.std.specs.Prelude.{◌≡◌, ◌++◌, ◌+◌, ◌<◌, ◌∷◌, [], List, Result, OnOk, IfOk, length, codes};
+ghost use Rattle.sect_cert.specs.declared.lock.CertLock.{CertLock};
 ghost use Rattle.std.specs.Fmt.{decimal};
 ghost use Rattle.std.specs.List.{flat_map};
 ghost use Rattle.sect_cert.specs.Spelling.{base_text, path_text, list_words, chain_words};
 ghost use Rattle.sect_cert.specs.Texts.{HasText, header_text, certificate_text};
 ghost use Rattle.sect_cert.specs.Verdicts.{Judges, Gives};
-ghost use Rattle.sect_cert.specs.steps.Writes.{spaced, field_text, lock_text, next_lock, step_text, next_step};
+ghost use Rattle.sect_cert.specs.steps.Writes.{IsListBefore, IsLockBefore, arrow_before};
+ghost use Rattle.sect_cert.specs.steps.Writes.{spaced, field_text, lock_text, next_lock};
 ghost use Rattle.sect_cert.specs.steps.Writes.{fed_line, chain_text, nodes_text, section_text, sections_text};
 ghost use Rattle.sect_cert.specs.declared.lock.CertLock.TheVariants as lock;
 ghost use Rattle.sect_cert.specs.declared.line.CertLine.TheVariants as line;
 
-use crate::certificate::{Cert, CertSection, CertStep, Chain};
+use crate::certificate::{Cert, CertSection, Chain};
+use crate::chain_steps::ChainSteps;
 use crate::fault::CertFault;
 use crate::items::Items;
 use crate::lock::{CertBase, CertLock, CertPath};
+use crate::runs::Runs;
 use sect_front::Name;
 use std::alloc::{AllocError, Global};
 
@@ -146,58 +150,103 @@ fn put_list(alloc: Global, out: &mut Vec<u8>, locks: &[CertLock]) -> Result<(), 
     Ok(())
 }
 
-/// Writes the words of a step, each behind a blank.
-fn put_step(alloc: Global, out: &mut Vec<u8>, step: &CertStep) -> Result<(), AllocError>
-    ensures { OnOk result (out.new.items ≡ out.old.items ++ step_text step.now) }
+/// Makes the text of a step's lock of that of the step before, which is mostly the same.
+fn next_lock_text(
+    alloc: Global,
+    text: &mut Vec<u8>,
+    steps: &ChainSteps,
+    index: usize,
+) -> Result<(), AllocError>
+    requires there { index < length steps.now }
+    requires before { IsLockBefore steps.now index text.old.items }
+    ensures { OnOk result (IsLockBefore steps.now (index + 1) text.new.items) }
 {
-    put_number(alloc, out, step.node as usize)?;
-    put_lock(alloc, out, &step.lock)
+    if 0 < index && steps.is_one(index, index - 1) {
+        return Ok(());
+    }
+    text.clear();
+    put_lock(alloc, text, steps.lock(index))
 }
 
-/// Writes an arrow and the words of a step, each behind a blank.
-fn put_next_step(alloc: Global, out: &mut Vec<u8>, step: &CertStep) -> Result<(), AllocError>
-    ensures { OnOk result (out.new.items ≡ out.old.items ++ next_step step.now) }
+/// Writes an arrow behind a blank, but not before the first step.
+fn put_arrow(out: &mut Vec<u8>, index: usize) -> Result<(), AllocError>
+    ensures { OnOk result (out.new.items ≡ out.old.items ++ arrow_before index) }
 {
-    put_word(out, b">")?;
-    put_step(alloc, out, step)
+    if index == 0 {
+        return Ok(());
+    }
+    put_word(out, b">")
+}
+
+/// Writes a step, each word behind a blank, by the text of its lock.
+fn put_step(
+    alloc: Global,
+    out: &mut Vec<u8>,
+    index: usize,
+    node: u32,
+    lock: &[u8],
+) -> Result<(), AllocError>
+    ensures { OnOk result (out.new.items ≡ out.old.items ++ (arrow_before index ++ 32 ∷ (decimal node ++ lock.now))) }
+{
+    put_arrow(out, index)?;
+    put_number(alloc, out, node as usize)?;
+    out.extend_from_slice(lock)
 }
 
 /// Writes the steps of a chain, joined by arrows, behind a blank.
-fn put_steps(alloc: Global, out: &mut Vec<u8>, steps: &[CertStep]) -> Result<(), AllocError>
+fn put_steps(alloc: Global, out: &mut Vec<u8>, steps: &ChainSteps) -> Result<(), AllocError>
     ensures { OnOk result (out.new.items ≡ out.old.items ++ spaced (chain_words steps.now)) }
 {
-    let Some((first, others)) = steps.split_first() else {
-        return Ok(());
-    };
-    put_step(alloc, out, first)?;
-    for step in others {
-        put_next_step(alloc, out, step)?;
+    let mut lock = Vec::new(alloc);
+    for index in 0..steps.len() {
+        next_lock_text(alloc, &mut lock, steps, index)?;
+        put_step(alloc, out, index, steps.node(index), lock.as_slice())?;
     }
     Ok(())
 }
 
-/// Writes the line of a node.
-fn put_node(
-    alloc: Global,
-    out: &mut Vec<u8>,
-    node: usize,
-    locks: &[CertLock],
-) -> Result<(), AllocError>
-    ensures { OnOk result (out.new.items ≡ out.old.items ++ fed_line (line.Node node locks.now)) }
+/// Writes the line of a node, by the text of its list.
+fn put_node(alloc: Global, out: &mut Vec<u8>, node: usize, list: &[u8]) -> Result<(), AllocError>
+    ensures { OnOk result ((locks : List CertLock) → list.now ≡ spaced (list_words locks)
+        → out.new.items ≡ out.old.items ++ fed_line (line.Node node locks)) }
 {
     out.extend_from_slice(b"node")?;
     put_number(alloc, out, node)?;
     out.push(b':')?;
-    put_list(alloc, out, locks)?;
+    out.extend_from_slice(list)?;
     Ok(out.push(b'\n')?)
 }
 
+/// Makes the text of a node's list of that of the node before, which is mostly the same.
+fn next_list(
+    alloc: Global,
+    text: &mut Vec<u8>,
+    nodes: &Runs<Items<CertLock>>,
+    node: usize,
+) -> Result<(), AllocError>
+    requires there { node < length nodes.now }
+    requires before { IsListBefore nodes.now node text.old.items }
+    ensures { OnOk result (IsListBefore nodes.now (node + 1) text.new.items) }
+{
+    if 0 < node && nodes.is_one(node, node - 1) {
+        return Ok(());
+    }
+    text.clear();
+    put_list(alloc, text, nodes.at(node).as_slice())
+}
+
 /// Writes the lines of a section's nodes.
-fn put_nodes(alloc: Global, out: &mut Vec<u8>, nodes: &[Items<CertLock>]) -> Result<(), AllocError>
+fn put_nodes(
+    alloc: Global,
+    out: &mut Vec<u8>,
+    nodes: &Runs<Items<CertLock>>,
+) -> Result<(), AllocError>
     ensures { OnOk result (out.new.items ≡ out.old.items ++ nodes_text 0 nodes.now) }
 {
-    for (node, locks) in nodes.iter().enumerate() {
-        put_node(alloc, out, node, locks.as_slice())?;
+    let mut list = Vec::new(alloc);
+    for node in 0..nodes.len() {
+        next_list(alloc, &mut list, nodes, node)?;
+        put_node(alloc, out, node, list.as_slice())?;
     }
     Ok(())
 }
@@ -218,7 +267,7 @@ fn put_chain(alloc: Global, out: &mut Vec<u8>, chain: &Chain) -> Result<(), Allo
     out.extend_from_slice(b"chain")?;
     put_number(alloc, out, chain.lock as usize)?;
     out.push(b':')?;
-    put_steps(alloc, out, chain.steps.as_slice())?;
+    put_steps(alloc, out, &chain.steps)?;
     Ok(out.push(b'\n')?)
 }
 
@@ -258,7 +307,7 @@ fn put_section(
     ensures { OnOk result (out.new.items ≡ out.old.items ++ section_text number section.now) }
 {
     put_head(alloc, out, number, section.nodes.len())?;
-    put_nodes(alloc, out, section.nodes.as_slice())?;
+    put_nodes(alloc, out, &section.nodes)?;
     put_entry(alloc, out, section.entry.as_slice())?;
     put_chains(alloc, out, section.chains.as_slice())
 }

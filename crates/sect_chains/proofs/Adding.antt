@@ -6,7 +6,7 @@ use Rattle.std.proofs.lemmas.List.{map-append, length-map}
 use Rattle.std.proofs.lemmas.Option.{slice_get_within, get_or_from_slice_get}
 use Rattle.sect_lemmas.specs.Lists.{Has}
 use Rattle.sect_lemmas.proofs.Listing.{Has-map}
-use Rattle.sect_lemmas.proofs.Places.{at_of, one_at, pushed_at, Has-index}
+use Rattle.sect_lemmas.proofs.Places.{at_of, pushed_at, Has-index}
 use Rattle.sect_graph.specs.declared.flow.Node.{Node}
 use Rattle.sect_graph.specs.Paths.{LeadsTo}
 use Rattle.sect_names.specs.declared.link.Link.{Link}

@@ -1,6 +1,6 @@
 -- Numbers in the canonical order of their locks.
 use Rattle.std.proofs.Common.{◌≡◌, ◌↔◌, ℕ, ◌+◌, ◌<◌, List, [], ◌∷◌, ◌++◌, Some, map, take, length, get_or, sym, ap, ◌∙◌}
-use Rattle.std.proofs.Common.{subst}
+use Rattle.std.proofs.Common.{◌≤◌, subst, arith}
 use Rattle.std.specs.Prelude.{slice_get}
 use Rattle.std.proofs.lemmas.List.{map-append, take_more}
 use Rattle.std.proofs.lemmas.Option.{get_or_from_slice_get}
@@ -44,3 +44,13 @@ order_is keys locks numbers order apart there all sorted same within = record {
       subst (Has order)
       (apart_one keys m.0 n (lock_at keys n) apart (named keys m.0 (within m.0 m.1) ∙ ap (λ l. Some l) m.2) at) m.1;
 }
+
+-- at most one number is in order
+pub few_in_order : (keys : List Lock) (numbers order : List ℕ) → length numbers ≤ 1 → order ≡ numbers
+    → IsOrderOf keys numbers order
+few_in_order keys [] order few is =
+    subst (IsOrderOf keys []) (sym is) (record { sorted = tt; same = λ n h. h; all = λ n h. h })
+few_in_order keys (m ∷ []) order few is =
+    subst (IsOrderOf keys (m ∷ [])) (sym is)
+    (record { sorted = (λ l h. absurd h, tt); same = λ n h. h; all = λ n h. h })
+few_in_order keys (m ∷ k ∷ numbers) order few is = absurd (omega (arith, few))

@@ -1,5 +1,5 @@
 -- Steps that are added in order, node after node and step after step.
-use Rattle.std.proofs.Common.{◌≡◌, ◌⊎◌, ℕ, ◌+◌, ◌<◌, ◌≤◌, List, [], ◌∷◌, Option, Some, None, inl, inr, refl, sym, ap}
+use Rattle.std.proofs.Common.{◌≡◌, ◌⊎◌, ℕ, ◌+◌, ◌<◌, ◌≤◌, List, [], Option, Some, None, inl, inr, sym, ap}
 use Rattle.std.proofs.Common.{◌∙◌, subst, take, length, get_or, arith}
 use Rattle.std.specs.Prelude.{slice_get, ⊤}
 use Rattle.std.proofs.lemmas.Bool.{cases_lt}
@@ -16,10 +16,9 @@ use Rattle.sect_names.specs.declared.lock.Lock.{Lock}
 use Rattle.sect_names.specs.Schemes.{SchemeView}
 use Rattle.sect_names.specs.Carrying.{CarriedBack}
 use Rattle.sect_names.specs.Chains.{link, IsGeneratedAt, LinksTo}
-use Rattle.sect_chains.specs.declared.keep.KeptLink.{KeptLink}
 use Rattle.sect_chains.specs.declared.work.Trail.{Trail}
-use Rattle.sect_chains.specs.steps.Working.{links_of, nexts_of, IsGeneratedBy, IsGeneratedBelow}
-use Rattle.sect_chains.specs.steps.Ordering.{AllCameBefore, IsInTime, Adds, links_in, nexts_in, IsInOrder, AddsTo, IsBelow}
+use Rattle.sect_chains.specs.steps.Working.{IsGeneratedBy, IsGeneratedBelow}
+use Rattle.sect_chains.specs.steps.Ordering.{AllCameBefore, IsInTime, links_in, nexts_in, IsInOrder, AddsTo}
 use Rattle.sect_chains.specs.steps.Ordering.{LinkBelow, BeginsInOrder}
 use Rattle.sect_chains.proofs.Adding.{adds_none, adds_as, adds_then, time_more, before_below, before_beside, below_more}
 use Rattle.sect_chains.proofs.Adding.{below_here, below_none, before_node, link_there, none_kept, none_sorted, taken_at}

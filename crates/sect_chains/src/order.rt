@@ -27,8 +27,8 @@ fn sorted(alloc: Global, numbering: &Numbering, numbers: &[usize]) -> Result<Vec
     Ok(locks.into_iter().collect(alloc)?)
 }
 
-/// These numbers, in the canonical order of their locks.
-pub fn in_order(
+/// These numbers, in the canonical order of their locks, which are sorted.
+fn ordered(
     alloc: Global,
     numbering: &Numbering,
     numbers: &[usize],
@@ -44,5 +44,24 @@ pub fn in_order(
             order.push(number)?;
         }
     }
+    Ok(order)
+}
+
+/// These numbers, in the canonical order of their locks. Mostly there is one.
+#[tactic(auto, using(crate::proofs::Listing::few_in_order))]
+pub fn in_order(
+    alloc: Global,
+    numbering: &Numbering,
+    numbers: &[usize],
+) -> Result<Vec<usize>, AllocError>
+    requires apart { AreApart numbering.now.keys }
+    requires numbers { (n : ℕ) → Has numbers.now n → n < length numbering.now.keys }
+    ensures { IfOk result (λ order. IsOrderOf numbering.now.keys numbers.now order.items) }
+{
+    if 1 < numbers.len() {
+        return ordered(alloc, numbering, numbers);
+    }
+    let mut order = Vec::new(alloc);
+    order.extend_from_slice(numbers)?;
     Ok(order)
 }

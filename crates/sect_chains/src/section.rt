@@ -50,8 +50,8 @@ pub fn chains(
         → IfOk result (λ chains.
         AreChains scheme.now of.thread (end_of scheme.now section) g locks.now.entry chains.items) }
 {
-    scheme.rules();
-    scheme.program().typing();
+    scheme.facts();
+    scheme.program().facts();
     needed_locks_have_trails(scheme, locks, section);
     only_the_programs(scheme, section);
     let thread = scheme.program().section(section).thread;
@@ -92,8 +92,8 @@ fn only_the_programs(scheme: &Scheme, section: u16)
         → slice_get (sections_of scheme.now.program.texts) section ≡ Some of
         → slice_get scheme.now.graphs.sections section ≡ Some g → RespectCover scheme.now of.thread g }
 {
-    scheme.rules();
-    scheme.program().typing();
+    scheme.facts();
+    scheme.program().facts();
     locks_stay_the_programs();
     carrying_back_respects_covering();
     steps_of_sections();
@@ -110,8 +110,8 @@ fn needed_locks_have_trails(scheme: &Scheme, locks: &Locks, section: u16)
         → slice_get scheme.now.graphs.sections section ≡ Some g
         → AreTops scheme.now of.thread (end_of scheme.now section) g locks.now.entry }
 {
-    scheme.rules();
-    let _ = locks.entry();
+    scheme.facts();
+    let _facts = locks.entry();
 }
 
 /// The first chain of each of these locks.

@@ -11,8 +11,8 @@ use Rattle.sect_names.specs.Schemes.{SchemeView}
 use Rattle.sect_cert.specs.declared.certificate.Cert.{Cert}
 use Rattle.sect_check.specs.declared.claims.Claims.{Claims}
 use Rattle.sect_check.specs.Names.{Denotes}
-use Rattle.sect_check.specs.Meaning.{IsSectionAt, DenotesAll}
-use Rattle.sect_check.specs.steps.Shapes.{AreLawfulLists}
+use Rattle.sect_check.specs.Meaning.{IsSectionAt, DenotesStep, DenotesChain, DenotesAll}
+use Rattle.sect_check.specs.steps.Shapes.{AreLawfulLists, AreLawfulChains}
 
 -- the list at a place has what was found there
 has_listed : {X : Type 0} (lists : List (List X)) (j : ℕ) (x : X) → Has (slice_index_or lists j []) x
@@ -33,3 +33,16 @@ all_lawful s a all denoted i c at of g section j l h =
     let named = zipped_at (AllZip (Denotes s of.thread)) x.0.nodes c.nodes d.nodes j list.0 list.1 in
     let n = Has-index list.0 l list.2 in
     (zipped_at (Denotes s of.thread) named.0 list.0 named.2 n.0 l n.1).2.1
+
+-- so is each lock of a chain
+pub all_lawful_chains : (s : SchemeView) (a : Cert) (all : List Claims) → DenotesAll s a all → (i : ℕ) (c : Claims)
+    → slice_get all i ≡ Some c → (of : SectionView) (g : List Node) → IsSectionAt s i of g
+    → AreLawfulChains s of.thread c.chains
+all_lawful_chains s a all denoted i c at of g section x has link linked =
+    let t = of.thread in
+    let y = at_of a.sections i (omega (arith, slice_get_within all i c at, denoted.count)) in
+    let d = denoted.each i of g y.0 c section y.1 at in
+    let n = Has-index c.chains x has in
+    let chain = zipped_at (DenotesChain s t) y.0.chains c.chains d.chains n.0 x n.1 in
+    let m = Has-index x.links link linked in
+    (zipped_at (DenotesStep s t) chain.0.steps x.links chain.2.1 m.0 link m.1).2.1.1

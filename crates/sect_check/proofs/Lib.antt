@@ -1,6 +1,7 @@
 mod Scanning
 mod Standing
 mod Resolving
+mod Linking
 mod Generating
 mod Edges
 mod Stepping

@@ -2,17 +2,24 @@
 use Rattle.std.proofs.Common.{◌≡◌, ℕ, ◌<◌, List, [], Option, Some, None, refl, sym, ap, ◌∙◌, Bool, true, false}
 use Rattle.std.proofs.Common.{length, get_or, arith}
 use Rattle.std.specs.Prelude.{slice_get, slice_index_or, ◌&&◌}
+use Rattle.std.specs.Option.{option_map}
+use Rattle.std.specs.Str.{bytes_eq}
+use Rattle.std.proofs.lemmas.List.Quantifiers.{position-Some}
+use Rattle.std.proofs.lemmas.Slice.Eq.{bytes_eq-Decides}
 use Rattle.std.proofs.lemmas.Bool.Decides.{Decides-eqb}
 use Rattle.std.proofs.lemmas.Slice.Eq.{slice_eq-Decides}
 use Rattle.std.proofs.lemmas.Option.{slice_get-get_or, slice_get_within, get_or_from_slice_get}
 use Rattle.sect_front.specs.TreeView.{TreeView}
 use Rattle.sect_types.specs.First.{IsTyped}
-use Rattle.sect_types.specs.Sight.{same_name, names_of_globals}
+use Rattle.sect_types.specs.Sight.{same_name, place, names_of_globals}
 use Rattle.sect_types.specs.Programs.{ProgramView, IsOfTree}
 use Rattle.sect_types.specs.declared.types.ValueType.{ValueType}
 use Rattle.sect_types.proofs.shared.SoundLemmas.{same_names}
 use Rattle.sect_types.specs.declared.local_name.LocalName.{LocalName}
 use Rattle.sect_types.specs.LocalNames.{all_local_names, place_of_local, is_same_local, is_same_call}
+use Rattle.sect_points.specs.declared.holders.Variable.{Variable}
+use Rattle.sect_points.specs.declared.holders.Variable.TheVariants.{Global, Local}
+use Rattle.sect_check.specs.Names.{local_named, global_named, or_variable, variable_named}
 use Rattle.sect_lemmas.proofs.Positions.{first_position, no_position}
 use Rattle.sect_types.proofs.shared.LocalRows.{as_many_names}
 use Rattle.sect_types.proofs.shared.LocalFacts.{locals_differ, no_global}
@@ -100,3 +107,25 @@ no_local_of_global t typed u g name at =
         let alike = by_name name l.name l.call same in
         absurd (no_global t typed u k g l (slice_get-get_or names k unnamed lt) alike.0
         (at ∙ ap (λ z. Some z) alike.1))
+
+-- a global of this name is what the name stands for
+pub global_found : (t : TreeView) → IsTyped t → (u g : ℕ) (x : List ℕ) → place x (names_of_globals t.globals) ≡ Some g
+    → variable_named t u x ≡ Some (Global g)
+global_found t typed u g x found =
+    let names = names_of_globals t.globals in
+    let at = position-Some (bytes_eq x) names g [] found in
+    let there : slice_get names g ≡ Some x =
+    slice_get-get_or names g [] at.0 ∙ ap (λ n. Some n) (sym ((bytes_eq-Decides x (get_or names g [])).0 at.1)) in
+    ap (λ o. or_variable (option_map (λ i. Local u i) o) (global_named t x)) (no_local_of_global t typed u g x there)
+    ∙ ap (option_map (λ n. Global n)) found
+
+-- where no global has the name, it stands for a local
+pub no_global_found : (t : TreeView) (u : ℕ) (x : List ℕ) → place x (names_of_globals t.globals) ≡ None
+    → variable_named t u x ≡ local_named t u (record { name = x; call = None })
+no_global_found t u x none =
+    ap (λ o. or_variable (local_named t u (record { name = x; call = None })) (option_map (λ n. Global n) o)) none
+    ∙ either (local_named t u (record { name = x; call = None }))
+  where
+    either : (o : Option Variable) → or_variable o None ≡ o
+    either None = refl
+    either (Some v) = refl

@@ -18,7 +18,7 @@ use Rattle.sect_cert.specs.declared.lock.CertPath.{CertPath}
 use Rattle.sect_check.specs.declared.unresolved.Unresolved.{Unresolved}
 use Rattle.sect_check.specs.declared.unresolved.Unresolved.TheVariants.{Memory, Wrong}
 use Rattle.sect_check.specs.Names.{path_named}
-use Rattle.sect_check.specs.steps.Resolving.{Resolves}
+use Rattle.sect_check.specs.steps.Resolving.{Resolves, Extends}
 use Rattle.sect_lemmas.proofs.Places.{Has-index}
 use Rattle.sect_check.proofs.Standing.{path_stands}
 
@@ -83,3 +83,16 @@ module _ (s : SchemeView) (t : ℕ) (named : CertPath) (e : Effect) where
         ap (option_map (λ x. lock.Path x e)) is,
         record { own = own.0; of = own.1.0; refers = own.1.1; short = fits.0; classed = fits.1 },
       )
+
+-- a refusal at an element, where those before it have theirs
+pub extends_not : {A B C : Type 0} (R : A → B → Type 0) (xs : List A) (n : ℕ) (x z : A) (ys : List B)
+    (r : Result C Unresolved) (e : Unresolved) → n < length xs → slice_get xs n ≡ Some x → z ≡ x
+    → IsErrAnd r (λ u. u ≡ e) → Resolves {A = B} (Err e) (R z) → Extends R xs n ys r
+extends_not R xs n x z ys (Ok u) e within at same err given = absurd err
+extends_not {B = B} {C = C} R xs n x z ys (Err u) e within at same err given =
+    subst (λ w. Extends {C = C} R xs n ys (Err w)) (sym err) (go e given)
+  where
+    go : (e : Unresolved) → Resolves {A = B} (Err e) (R z) → Extends {C = C} R xs n ys (Err e)
+    go Wrong g = zip_none R xs n x within (sym (get_or_from_slice_get xs n x x at))
+        (subst (λ w. (y : B) → R w y → ⊥) same g)
+    go Memory g = tt

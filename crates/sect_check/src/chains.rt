@@ -4,7 +4,7 @@ ghost use Rattle.std.specs.Prelude.{◌≡◌, ◌<◌, ℕ, MatchOption};
 ghost use Rattle.sect_lemmas.specs.Lists.{Has};
 ghost use Rattle.sect_names.specs.Needed.{end_locks};
 ghost use Rattle.sect_check.specs.declared.claims.ChainClaim.{ChainClaim};
-ghost use Rattle.sect_check.specs.steps.Shapes.{DoRise, HasNumber, HaveNumbersBelow};
+ghost use Rattle.sect_check.specs.steps.Shapes.{DoRise, HasNumber, HaveNumbersBelow, AreLawfulChains};
 ghost use Rattle.sect_check.specs.steps.Parts.{JudgesChain, JudgesChains};
 
 use crate::claims::{ChainClaim, Claims};
@@ -43,6 +43,7 @@ fn judge_chain(
     lock: &Lock,
 ) -> Result<(), SectionFault>
     requires rise { DoRise claims.now.chains }
+    requires lawful { AreLawfulChains scheme.now thread claims.now.chains }
     requires below { HaveNumbersBelow claims.now.chains number }
     ensures { JudgesChain scheme.now thread (end_locks locking) flow.now claims.now number lock.now result }
 {
@@ -65,7 +66,8 @@ pub fn judge_chains(
     flow: &Flow,
     claims: &Claims,
 ) -> Result<(), SectionFault>
-    requires { DoRise claims.now.chains }
+    requires rise { DoRise claims.now.chains }
+    requires lawful { AreLawfulChains scheme.now thread claims.now.chains }
     ensures { JudgesChains scheme.now thread (end_locks locking) flow.now claims.now result }
 {
     let entry = claims.entry.as_slice();

@@ -10,7 +10,7 @@ ghost use Rattle.sect_check.specs.Meaning.{IsSectionAt, DenotesAll};
 ghost use Rattle.sect_check.specs.Valid.{IsValid, AreEntriesLeast};
 ghost use Rattle.sect_check.specs.Verdicts.{IsRead, Judges};
 ghost use Rattle.sect_check.specs.steps.Resolving.{Resolves, DenotesAt};
-ghost use Rattle.sect_check.specs.steps.Shapes.{HaveShape, AreLawfulLists};
+ghost use Rattle.sect_check.specs.steps.Shapes.{HaveShape, AreLawfulLists, AreLawfulChains};
 ghost use Rattle.sect_check.specs.steps.Parts.{JudgesAt, JudgesCert};
 
 use crate::claiming::claims_of;
@@ -39,8 +39,8 @@ fn claims_at(
     requires there { number < length sections.now }
     ensures { Resolves result (DenotesAt scheme.now sections.now number) }
 {
-    scheme.rules();
-    scheme.program().typing();
+    scheme.facts();
+    scheme.program().facts();
     let thread = scheme.program().section(number).thread;
     let flow = scheme.graph().section(number);
     let naming = Naming::new(scheme, globals, thread);
@@ -51,8 +51,8 @@ fn claims_at(
 fn all_claims(alloc: Global, scheme: &Scheme, cert: &Cert) -> Result<Items<Claims>, Unresolved>
     ensures { Resolves result (DenotesAll scheme.now cert.now) }
 {
-    scheme.rules();
-    scheme.program().typing();
+    scheme.facts();
+    scheme.program().facts();
     let count = scheme.program().section_count();
     if cert.k != scheme.k() as u32 || cert.sections.len() != count as usize {
         return Err(Unresolved::Wrong);
@@ -72,9 +72,11 @@ fn judge_at(alloc: Global, scheme: &Scheme, claims: &Claims, number: u16) -> Res
     requires shape { (of : SectionView) (g : List Node) → IsSectionAt scheme.now number of g → HaveShape g claims.now }
     requires lawful { (of : SectionView) (g : List Node) → IsSectionAt scheme.now number of g
         → AreLawfulLists scheme.now of.thread claims.now }
+    requires chains { (of : SectionView) (g : List Node) → IsSectionAt scheme.now number of g
+        → AreLawfulChains scheme.now of.thread claims.now.chains }
     ensures { JudgesAt scheme.now number claims.now result }
 {
-    scheme.rules();
+    scheme.facts();
     let thread = scheme.program().section(number).thread;
     let locking = scheme.program().locking(number);
     let flow = scheme.graph().section(number);
@@ -89,7 +91,7 @@ fn judge_cert(alloc: Global, scheme: &Scheme, cert: &Cert) -> Result<(), CheckFa
     requires { HasText cert.now }
     ensures { JudgesCert scheme.now cert.now result }
 {
-    scheme.rules();
+    scheme.facts();
     let all = match all_claims(alloc, scheme, cert) {
         Ok(all) => all,
         Err(Unresolved::Memory) => return Err(CheckFault::Memory),

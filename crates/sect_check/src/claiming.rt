@@ -1,15 +1,16 @@
 //! What a certificate claims of a section, by the program's numbers.
 
+ghost use Rattle.std.specs.Prelude.{◌<◌, length, take};
 ghost use Rattle.std.specs.List.{AllZip};
 ghost use Rattle.sect_check.specs.Names.{Denotes};
 ghost use Rattle.sect_check.specs.Meaning.{DenotesStep, DenotesChain, DenotesSection};
-ghost use Rattle.sect_check.specs.steps.Resolving.{Resolves};
+ghost use Rattle.sect_check.specs.steps.Resolving.{Resolves, Extends};
 
 use crate::claims::{ChainClaim, Claims};
 use crate::locks::lock_of;
 use crate::naming::Naming;
 use crate::unresolved::Unresolved;
-use sect_cert::{CertLock, CertSection, CertStep, Chain, Items};
+use sect_cert::{CertLock, CertSection, Chain, ChainSteps, Items, Runs};
 use sect_graph::Flow;
 use sect_names::{Link, Lock};
 use std::alloc::Global;
@@ -26,40 +27,72 @@ fn locks_of(alloc: Global, naming: &Naming, list: &[CertLock]) -> Result<Items<L
     Ok(Items::from_vec(locks))
 }
 
+/// Puts a node's list behind those of the nodes before. One that repeats the list before isn't looked up again.
+fn next_list(
+    alloc: Global,
+    naming: &Naming,
+    nodes: &Runs<Items<CertLock>>,
+    node: usize,
+    lists: &mut Runs<Items<Lock>>,
+) -> Result<(), Unresolved>
+    requires there { node < length nodes.now }
+    requires before { AllZip (AllZip (Denotes naming.now.scheme naming.now.thread)) (take node nodes.now) lists.old }
+    ensures { Extends (AllZip (Denotes naming.now.scheme naming.now.thread)) nodes.now node lists.new result }
+{
+    if 0 < node && nodes.is_one(node, node - 1) {
+        lists.push_again()?;
+        return Ok(());
+    }
+    let list = locks_of(alloc, naming, nodes.at(node).as_slice())?;
+    lists.push(list)?;
+    Ok(())
+}
+
 /// The lists of the nodes.
 fn lists_of(
     alloc: Global,
     naming: &Naming,
-    nodes: &[Items<CertLock>],
-) -> Result<Items<Items<Lock>>, Unresolved>
+    nodes: &Runs<Items<CertLock>>,
+) -> Result<Runs<Items<Lock>>, Unresolved>
     ensures { Resolves result (AllZip (AllZip (Denotes naming.now.scheme naming.now.thread)) nodes.now) }
 {
-    let mut lists = Vec::new(alloc);
-    for list in nodes {
-        lists.push(locks_of(alloc, naming, list.as_slice())?)?;
+    let mut lists = Runs::new(alloc);
+    for node in 0..nodes.len() {
+        next_list(alloc, naming, nodes, node, &mut lists)?;
     }
-    Ok(Items::from_vec(lists))
+    Ok(lists)
 }
 
-/// A step of a chain.
-fn link_of(alloc: Global, naming: &Naming, step: &CertStep) -> Result<Link, Unresolved>
-    ensures { Resolves result (DenotesStep naming.now.scheme naming.now.thread step.now) }
+/// Puts the link of a step behind those of the steps before. A lock that repeats the one before isn't looked up again.
+fn next_link(
+    alloc: Global,
+    naming: &Naming,
+    steps: &ChainSteps,
+    index: usize,
+    links: &mut Vec<Link>,
+) -> Result<(), Unresolved>
+    requires there { index < length steps.now }
+    requires before { AllZip (DenotesStep naming.now.scheme naming.now.thread) (take index steps.now) links.old.items }
+    ensures { Extends (DenotesStep naming.now.scheme naming.now.thread) steps.now index links.new.items result }
 {
-    let lock = lock_of(alloc, naming, &step.lock)?;
-    Ok(Link {
-        node: step.node,
-        lock,
-    })
+    let node = steps.node(index);
+    if 0 < index && steps.is_one(index, index - 1) {
+        let lock = links[index - 1].lock.try_clone()?;
+        links.push(Link { node, lock })?;
+        return Ok(());
+    }
+    let lock = lock_of(alloc, naming, steps.lock(index))?;
+    links.push(Link { node, lock })?;
+    Ok(())
 }
 
 /// The steps of a chain.
-#[tactic(auto, using(sect_lemmas::proofs::Places::zip_more))]
-fn links_of(alloc: Global, naming: &Naming, steps: &[CertStep]) -> Result<Items<Link>, Unresolved>
+fn links_of(alloc: Global, naming: &Naming, steps: &ChainSteps) -> Result<Items<Link>, Unresolved>
     ensures { Resolves result (AllZip (DenotesStep naming.now.scheme naming.now.thread) steps.now) }
 {
     let mut links = Vec::new(alloc);
-    for step in steps {
-        links.push(link_of(alloc, naming, step)?)?;
+    for index in 0..steps.len() {
+        next_link(alloc, naming, steps, index, &mut links)?;
     }
     Ok(Items::from_vec(links))
 }
@@ -68,7 +101,7 @@ fn links_of(alloc: Global, naming: &Naming, steps: &[CertStep]) -> Result<Items<
 fn chain_claim(alloc: Global, naming: &Naming, chain: &Chain) -> Result<ChainClaim, Unresolved>
     ensures { Resolves result (DenotesChain naming.now.scheme naming.now.thread chain.now) }
 {
-    let links = links_of(alloc, naming, chain.steps.as_slice())?;
+    let links = links_of(alloc, naming, &chain.steps)?;
     Ok(ChainClaim {
         lock: chain.lock,
         links,
@@ -103,7 +136,7 @@ pub fn claims_of(
     if section.nodes.len() != flow.exit() as usize + 1 {
         return Err(Unresolved::Wrong);
     }
-    let nodes = lists_of(alloc, naming, section.nodes.as_slice())?;
+    let nodes = lists_of(alloc, naming, &section.nodes)?;
     let entry = locks_of(alloc, naming, section.entry.as_slice())?;
     let chains = chain_claims(alloc, naming, section.chains.as_slice())?;
     Ok(Claims {

@@ -1,6 +1,6 @@
 //! What a certificate claims of a section, by the program's numbers.
 
-use sect_cert::Items;
+use sect_cert::{Items, Runs};
 use sect_names::{Link, Lock};
 
 /// A claimed chain: the number of its lock in the entry list, and its steps.
@@ -14,7 +14,7 @@ pub struct ChainClaim {
 /// to take at the entry; and why they are needed.
 #[derive(Drop)]
 pub struct Claims {
-    pub nodes: Items<Items<Lock>>,
+    pub nodes: Runs<Items<Lock>>,
     pub entry: Items<Lock>,
     pub chains: Items<ChainClaim>,
 }

@@ -16,7 +16,7 @@ pub fn list_at(claims: &Claims, node: u16) -> &[Lock]
     requires { node < length claims.now.nodes }
     ensures { result.now ≡ list_at claims.now node }
 {
-    claims.nodes.as_slice()[node as usize].as_slice()
+    claims.nodes.at(node as usize).as_slice()
 }
 
 /// Whether the lock is in the list.
@@ -30,7 +30,7 @@ pub fn has(locks: &[Lock], lock: &Lock) -> bool
 pub fn set_of(alloc: Global, locks: &[Lock]) -> Result<IndexSet<Lock>, AllocError>
     ensures { IfOk result (λ set. (l : Lock) → Has set.keys l ↔ Has locks.now l) }
 {
-    let mut set = IndexSet::new(alloc);
+    let mut set = IndexSet::with_capacity(alloc, locks.len())?;
     for lock in locks {
         set.insert(lock.try_clone()?)?;
     }

@@ -2,15 +2,19 @@
 
 ghost use Rattle.std.specs.Prelude.{◌≡◌, ◌≤◌, ◌<◌, ◌↔◌, length, slice_get, Some, MatchOption, IfOk, IsTrue};
 ghost use Rattle.sect_graph.specs.Paths.{IsSuccessor};
+ghost use Rattle.sect_names.specs.Locks.{IsLockOf};
+ghost use Rattle.sect_names.specs.Carrying.{CarriedBack};
 ghost use Rattle.sect_names.specs.Needed.{end_locks};
 ghost use Rattle.sect_names.specs.Chains.{link, IsGeneratedAt, LinksTo, IsChain};
 ghost use Rattle.sect_check.specs.Faults.{IsFirst, ComesRight, EndsRight, IsStepRight};
+ghost use Rattle.sect_check.specs.steps.Shapes.{AreLawfulLinks};
 
 use crate::covering::has;
 use crate::lists::generated_at;
 use sect_front::Locking;
 use sect_graph::{Flow, Successors};
-use sect_names::{Link, Lock, Scheme};
+use sect_names::{Link, Lock, Scheme, stays};
+use sect_types::Label;
 use std::alloc::{AllocError, Global};
 
 /// The node of this number, unless it is the exit or past it.
@@ -54,6 +58,25 @@ fn is_generated(
     }
 }
 
+/// Whether a lock is needed before a node because of another that is needed after it.
+fn is_carried_back(
+    alloc: Global,
+    scheme: &Scheme,
+    thread: u16,
+    label: &Label,
+    after: &Lock,
+    before: &Lock,
+) -> Result<bool, AllocError>
+    requires { IsLockOf scheme.now thread after.now }
+    ensures { IfOk result (λ it. IsTrue it ↔ CarriedBack scheme.now thread label.now after.now before.now) }
+{
+    if stays(thread, label, after) {
+        return Ok(before == after);
+    }
+    let carried = scheme.rewrite(alloc, thread, *label, after)?;
+    Ok(has(carried.as_slice(), before))
+}
+
 /// Whether a step links to another.
 fn links_to(
     alloc: Global,
@@ -63,6 +86,7 @@ fn links_to(
     step: &Link,
     next: &Link,
 ) -> Result<bool, AllocError>
+    requires { IsLockOf scheme.now thread next.now.lock }
     ensures { IfOk result (λ it. IsTrue it ↔ LinksTo scheme.now thread flow.now step.now next.now) }
 {
     let Some(node) = node_of(flow, step.node) else {
@@ -71,8 +95,8 @@ fn links_to(
     if !leads_to(flow.succ(node), next.node) {
         return Ok(false);
     }
-    let carried = scheme.rewrite(alloc, thread, flow.action(node), &next.lock)?;
-    Ok(has(carried.as_slice(), &step.lock))
+    let label = flow.action(node);
+    is_carried_back(alloc, scheme, thread, &label, &next.lock, &step.lock)
 }
 
 /// Whether the steps begin at the entry with this lock.
@@ -95,7 +119,8 @@ fn is_right(
     links: &[Link],
     number: usize,
 ) -> Result<bool, AllocError>
-    requires { number < length links.now }
+    requires number { number < length links.now }
+    requires lawful { AreLawfulLinks scheme.now thread links.now }
     ensures { IfOk result (λ it. IsTrue it ↔ (ComesRight scheme.now thread flow.now links.now number
         × EndsRight scheme.now thread (end_locks locking) flow.now links.now number)) }
 {
@@ -127,6 +152,7 @@ pub fn first_wrong(
     lock: &Lock,
     links: &[Link],
 ) -> Result<Option<usize>, AllocError>
+    requires { AreLawfulLinks scheme.now thread links.now }
     ensures { IfOk result (λ found. MatchOption found
         (IsChain scheme.now thread (end_locks locking) flow.now lock.now links.now)
         (IsFirst (IsStepRight scheme.now thread (end_locks locking) flow.now lock.now links.now))) }

@@ -6,7 +6,7 @@ ghost use Rattle.sect_graph.specs.Paths.{IsSuccessor};
 ghost use Rattle.sect_names.specs.declared.lock.Lock.{Lock};
 ghost use Rattle.sect_names.specs.Needed.{end_locks};
 ghost use Rattle.sect_names.specs.Chains.{link, IsGeneratedAt};
-ghost use Rattle.sect_check.specs.Valid.{CoversGenerated, AreCarriedInto, CoversCarried};
+ghost use Rattle.sect_check.specs.Valid.{list_at, CoversGenerated, AreCarriedInto, CoversCarried};
 ghost use Rattle.sect_check.specs.Faults.{IsFirst, IsFirstPair};
 ghost use Rattle.sect_names.specs.Locks.{CoveredBy, IsLockOf};
 ghost use Rattle.sect_names.specs.Carrying.{CarriedBack};
@@ -104,24 +104,74 @@ fn is_carried_into(
     are_covered(scheme, set, carried.as_slice())
 }
 
-/// Whether what these locks are carried back to over a node is covered by locks of the set.
+/// Whether what the locks of a list are carried back to over a node is covered by locks of the set. Where the set has
+/// them all, those that stay are covered.
 fn carries_into(
     alloc: Global,
     scheme: &Scheme,
     thread: u16,
     label: Label,
     set: &IndexSet<Lock>,
-    locks: &[Lock],
+    list: Listed<'_>,
 ) -> Result<bool, AllocError>
-    requires { (l : Lock) → Has locks.now l → IsLockOf scheme.now thread l }
-    ensures { IfOk result (λ it. IsTrue it ↔ AreCarriedInto scheme.now thread label set.now.keys locks.now) }
+    requires lawful { (l : Lock) → Has list.locks.now l → IsLockOf scheme.now thread l }
+    requires held { IsTrue list.held → (l : Lock) → Has list.locks.now l → Has set.now.keys l }
+    ensures { IfOk result (λ it. IsTrue it
+        ↔ AreCarriedInto scheme.now thread label set.now.keys list.entry.locks.now) }
 {
-    for lock in locks {
+    for lock in list.locks {
+        if list.held && stays(thread, &label, lock) {
+            continue;
+        }
         if !is_carried_into(alloc, scheme, thread, &label, set, lock)? {
             return Ok(false);
         }
     }
     Ok(true)
+}
+
+/// A node, and the locks of its list.
+#[derive(Clone, Copy)]
+struct Left<'a> {
+    from: u16,
+    set: &'a IndexSet<Lock>,
+}
+
+/// The locks of a list, and whether they are known to be those of another one.
+#[derive(Clone, Copy)]
+struct Listed<'a> {
+    locks: &'a [Lock],
+    held: bool,
+}
+
+/// The list of a node, and whether it is that of the other.
+fn list_beside(claims: &Claims, other: u16, node: u16) -> Listed<'_>
+    requires other { other < length claims.now.nodes }
+    requires node { node < length claims.now.nodes }
+    ensures locks { result.locks.now ≡ list_at claims.now node }
+    ensures held { IsTrue result.held → list_at claims.now node ≡ list_at claims.now other }
+{
+    Listed {
+        locks: list_at(claims, node),
+        held: claims.nodes.is_one(node as usize, other as usize),
+    }
+}
+
+/// The locks of a node's list, where those of the list before are at hand.
+fn next_set(
+    alloc: Global,
+    claims: &Claims,
+    node: u16,
+    set: IndexSet<Lock>,
+) -> Result<IndexSet<Lock>, AllocError>
+    requires there { node < length claims.now.nodes }
+    requires before { (h : ℕ) → node ≡ h + 1 → (l : Lock) → Has set.keys l ↔ Has (list_at claims.now h) l }
+    ensures { IfOk result (λ set. (l : Lock) → Has set.keys l ↔ Has (list_at claims.now node) l) }
+{
+    if 0 < node && claims.nodes.is_one(node as usize, node as usize - 1) {
+        return Ok(set);
+    }
+    set_of(alloc, list_at(claims, node))
 }
 
 /// The nodes to which control may go on, the lesser first; they may be one.
@@ -149,27 +199,29 @@ fn first_uncarried_from(
     thread: u16,
     flow: &Flow,
     claims: &Claims,
-    from: u16,
+    left: Left<'_>,
 ) -> Result<Option<u16>, AllocError>
-    requires there { from < length flow.now }
+    requires there { left.from < length flow.now }
+    requires set { (l : Lock) → Has left.set.now.keys l ↔ Has (list_at claims.now left.from) l }
     requires count { length claims.now.nodes ≡ length flow.now + 1 }
     requires within { StaysWithin flow.now }
     requires lawful { AreLawfulLists scheme.now thread claims.now }
     ensures none { IfOk result (λ found. IfNone found ((j : ℕ) →
-        CoversCarried scheme.now thread flow.now claims.now from j)) }
+        CoversCarried scheme.now thread flow.now claims.now left.entry.from j)) }
     ensures some { IfOk result (λ found. IfSome found
-        (IsFirst (CoversCarried scheme.now thread flow.now claims.now from))) }
+        (IsFirst (CoversCarried scheme.now thread flow.now claims.now left.entry.from))) }
 {
-    let label = flow.action(from);
-    let (first, second) = in_order(flow.succ(from));
-    let set = set_of(alloc, list_at(claims, from))?;
-    if !carries_into(alloc, scheme, thread, label, &set, list_at(claims, first))? {
+    let label = flow.action(left.from);
+    let (first, second) = in_order(flow.succ(left.from));
+    let at_first = list_beside(claims, left.from, first);
+    if !carries_into(alloc, scheme, thread, label, left.set, at_first)? {
         return Ok(Some(first));
     }
     if second == first {
         return Ok(None);
     }
-    if !carries_into(alloc, scheme, thread, label, &set, list_at(claims, second))? {
+    let at_second = list_beside(claims, left.from, second);
+    if !carries_into(alloc, scheme, thread, label, left.set, at_second)? {
         return Ok(Some(second));
     }
     Ok(None)
@@ -192,8 +244,11 @@ pub fn first_uncarried(
     ensures some { IfOk result (λ found. IfSome found (λ e.
         IsFirstPair (CoversCarried scheme.now thread flow.now claims.now) e.0 e.1)) }
 {
+    let mut set = IndexSet::new(alloc);
     for from in 0..flow.exit() {
-        if let Some(to) = first_uncarried_from(alloc, scheme, thread, flow, claims, from)? {
+        set = next_set(alloc, claims, from, set)?;
+        let left = Left { from, set: &set };
+        if let Some(to) = first_uncarried_from(alloc, scheme, thread, flow, claims, left)? {
             return Ok(Some((from, to)));
         }
     }

@@ -49,8 +49,8 @@ fn local_number(program: &Program, thread: u16, name: &LocalName) -> Option<u16>
     requires { thread < length program.now.locals }
     ensures { result ≡ place_of_local name.now (slice_index_or (all_local_names program.now.source) thread []) }
 {
-    program.typing();
-    let _tree = program.tree();
+    program.facts();
+    let _facts = program.tree();
     let count = program.locals()[thread as usize].as_slice().len() as u16;
     for number in 0..count {
         if is_same_local(name, &program.local_name(thread, number)) {
@@ -73,7 +73,7 @@ pub fn local_named(program: &Program, thread: u16, name: &LocalName) -> Option<V
 pub fn field_named(program: &Program, of: u16, name: &Name) -> Option<Field>
     ensures { result ≡ field_by program.now.source of name.now }
 {
-    program.typing();
+    program.facts();
     let shape = program.tree().records().get(of as usize)?;
     let number = number_in(shape.fields.as_slice(), name)?;
     Some(Field {

@@ -64,25 +64,26 @@ impl<'a> Naming<'a> {
     fn global_number(&self, name: &Name) -> Option<u16>
         ensures { result ≡ place name.now (names_of_globals self.now.scheme.program.source.globals) }
     {
-        self.scheme.program().typing();
-        let _tree = self.scheme.program().tree();
+        self.scheme.program().facts();
+        let _facts = self.scheme.program().tree();
         let number = self.globals.get_index_of(name)?;
         Some(number as u16)
     }
 
-    /// The variable that a name stands for: a local, else a global.
+    /// The variable that a name stands for: a local, else a global. The global is sought first, since its name is no
+    /// local's.
     fn variable_named(&self, name: &Name) -> Option<Variable>
         ensures { result ≡ variable_by self.now.scheme.program.source self.now.thread name.now }
     {
+        let _facts = self.scheme.program().tree();
+        if let Some(number) = self.global_number(name) {
+            return Some(Variable::Global(number));
+        }
         let own = LocalName {
             name: *name,
             call: None,
         };
-        if let Some(variable) = local_named(self.scheme.program(), self.thread, &own) {
-            return Some(variable);
-        }
-        let number = self.global_number(name)?;
-        Some(Variable::Global(number))
+        local_named(self.scheme.program(), self.thread, &own)
     }
 
     /// The variable at which a path begins.

@@ -6,7 +6,7 @@ ghost use Rattle.sect_names.specs.declared.lock.Lock.{Lock};
 ghost use Rattle.sect_names.specs.Needed.{end_locks};
 ghost use Rattle.sect_names.specs.Order.{AreInOrder};
 ghost use Rattle.sect_check.specs.Valid.{AreApart};
-ghost use Rattle.sect_check.specs.steps.Shapes.{HaveShape, StaysWithin, AreLawfulLists};
+ghost use Rattle.sect_check.specs.steps.Shapes.{HaveShape, StaysWithin, AreLawfulLists, AreLawfulChains};
 ghost use Rattle.sect_check.specs.steps.Parts.{JudgesLists, JudgesEntry, JudgesSection};
 
 use crate::chains::judge_chains;
@@ -89,6 +89,7 @@ pub fn judge_section(
     requires shape { HaveShape flow.now claims.now }
     requires within { StaysWithin flow.now }
     requires lawful { AreLawfulLists scheme.now thread claims.now }
+    requires chains { AreLawfulChains scheme.now thread claims.now.chains }
     ensures { JudgesSection scheme.now thread (end_locks locking) flow.now claims.now result }
 {
     judge_lists(alloc, scheme, thread, locking, flow, claims)?;

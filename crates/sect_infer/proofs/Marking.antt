@@ -1,10 +1,11 @@
 -- Marks that say which numbers are there.
-use Rattle.std.proofs.Common.{◌≡◌, ◌↔◌, ℕ, zero, suc, ◌+◌, ◌<◌, List, [], ◌∷◌, ◌++◌, Bool, true, false, nat_eq, length}
-use Rattle.std.proofs.Common.{get_or, set, take, drop, refl, sym, ap, ◌∙◌, subst, arith, true≢false, inl, inr}
+use Rattle.std.proofs.Common.{◌≡◌, ◌↔◌, ℕ, zero, suc, ◌+◌, ◌<◌, ◌≤◌, List, [], ◌∷◌, ◌++◌, Bool, true, false, nat_eq}
+use Rattle.std.proofs.Common.{length, get_or, set, take, drop, replicate, refl, sym, ap, ◌∙◌, subst, arith, inl, inr}
+use Rattle.std.proofs.Common.{true≢false}
 use Rattle.std.specs.Prelude.{slice_index_or, ◌||◌}
 use Rattle.std.specs.Cmp.{unsigned_Decides}
 use Rattle.std.proofs.lemmas.Bool.{cases_eq}
-use Rattle.std.proofs.lemmas.List.{get_or-set_same, get_or-set_other, take_more}
+use Rattle.std.proofs.lemmas.List.{get_or-set_same, get_or-set_other, take_more, take_all}
 use Rattle.sect_lemmas.specs.Lists.{Has}
 use Rattle.sect_lemmas.proofs.Elements.{drop_next}
 use Rattle.sect_infer.specs.Numbers.{has_number, with_number, with_numbers, AreApart, AreMarked}
@@ -100,3 +101,22 @@ with_next ns ms i m within is =
     behind : (ns ms : List ℕ) (m : ℕ) → with_numbers ns (ms ++ m ∷ []) ≡ with_number (with_numbers ns ms) m
     behind ns [] m = refl
     behind ns (k ∷ ms) m = behind (with_number ns k) ms m
+
+no_mark : (k n : ℕ) → get_or (replicate k false) n false ≡ false
+no_mark zero n = refl
+no_mark (suc k) zero = refl
+no_mark (suc k) (suc n) = no_mark k n
+
+-- room for more marks marks nothing
+pub room_marks_nothing : (marks : List Bool) (k n : ℕ)
+    → get_or (marks ++ replicate k false) n false ≡ get_or marks n false
+room_marks_nothing [] k n = no_mark k n
+room_marks_nothing (m ∷ marks) k zero = refl
+room_marks_nothing (m ∷ marks) k (suc n) = room_marks_nothing marks k n
+
+-- marks that are grown up to a number
+pub grown_marks : (old new : List Bool) (number k : ℕ) → length old ≤ number
+    → new ≡ take number old ++ replicate k false → (n : ℕ) → slice_index_or new n false ≡ slice_index_or old n false
+grown_marks old new number k short is n =
+    ap (λ xs. get_or xs n false) (is ∙ ap (λ xs. xs ++ replicate k false) (take_all number old short))
+    ∙ room_marks_nothing old k n

@@ -1,6 +1,6 @@
 //! The locks of a section, node by node.
 
-ghost use Rattle.std.specs.Prelude.{◌≡◌, ◌↔◌, ◌<◌, ℕ, List, map, length, slice_get, Some, IfOk};
+ghost use Rattle.std.specs.Prelude.{◌≡◌, ◌↔◌, ◌<◌, ℕ, List, map, length, slice_get, Some, IfOk, IsTrue};
 ghost use Rattle.sect_lemmas.specs.Lists.{Has};
 ghost use Rattle.sect_names.specs.declared.lock.Lock.{Lock};
 ghost use Rattle.sect_names.specs.Order.{AreInOrder};
@@ -147,6 +147,15 @@ impl Locks {
             self.order.as_slice(),
             self.lists.of(node),
         )
+    }
+
+    /// Whether two nodes are known to have the same locks.
+    pub fn are_one(&self, node: u16, other: u16) -> bool
+        requires node { node < length self.now.at }
+        requires other { other < length self.now.at }
+        ensures { IsTrue result → slice_get self.now.at node ≡ slice_get self.now.at other }
+    {
+        self.lists.of(node) == self.lists.of(other)
     }
 
     /// The locks that the section takes at its entry: the least set that protects, in canonical order.

@@ -1,6 +1,6 @@
 //! Sets of numbers.
 
-ghost use Rattle.std.specs.Prelude.{◌≡◌, ◌++◌, ◌∷◌, [], false, OnOk};
+ghost use Rattle.std.specs.Prelude.{◌≡◌, ◌<◌, ℕ, ◌++◌, ◌∷◌, [], false, length, slice_index_or, OnOk};
 ghost use Rattle.sect_infer.specs.Numbers.{has_number, with_number, with_numbers};
 
 use std::alloc::{AllocError, Global};
@@ -22,6 +22,18 @@ impl Model for Numbers {
     ghost view = { λ n. n.members.items };
 
     ghost invariant = { λ n. AreMarked n.members.items n.marks.items };
+}
+
+/// Makes room for the mark of a number. No more numbers are marked.
+fn make_room(marks: &mut Vec<bool>, number: usize) -> Result<(), AllocError>
+    ensures room { OnOk result (number < length marks.new.items) }
+    ensures same { (n : ℕ) → slice_index_or marks.new.items n false ≡ slice_index_or marks.old.items n false }
+{
+    if marks.len() <= number {
+        marks.resize(number, false)?;
+        marks.push(false)?;
+    }
+    Ok(())
 }
 
 impl Numbers {
@@ -57,9 +69,7 @@ impl Numbers {
         requires { has_number self.old number ≡ false }
         ensures { OnOk result (self.new ≡ self.old ++ number ∷ []) }
     {
-        while self.marks.len() <= number {
-            self.marks.push(false)?;
-        }
+        make_room(&mut self.marks, number)?;
         self.members.push(number)?;
         self.marks[number] = true;
         Ok(())

@@ -36,8 +36,8 @@ pub fn infer(alloc: Global, scheme: &Scheme, section: u16) -> Result<Locks, Allo
         → IfOk result (λ sets. (j : ℕ) (locks : List Lock) → slice_get sets.at j ≡ Some locks
         → (lock : Lock) → Has locks lock → IsLockOf scheme.now of.thread lock) }
 {
-    scheme.rules();
-    scheme.program().typing();
+    scheme.facts();
+    scheme.program().facts();
     only_the_programs(scheme, section);
     let thread = scheme.program().section(section).thread;
     let flow = scheme.graph().section(section);
@@ -52,8 +52,8 @@ fn only_the_programs(scheme: &Scheme, section: u16)
     ensures { (of : SectionView) (g : List Node) → slice_get (sections_of scheme.now.program.texts) section ≡ Some of
         → slice_get scheme.now.graphs.sections section ≡ Some g → AreLawful scheme.now of.thread g }
 {
-    scheme.rules();
-    scheme.program().typing();
+    scheme.facts();
+    scheme.program().facts();
     locks_stay_the_programs();
     carrying_back_respects_covering();
     steps_of_sections();

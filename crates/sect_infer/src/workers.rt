@@ -86,7 +86,7 @@ fn share<S: Seen>(
     requires { 0 < workers }
     ensures { IfOk result (λ found. IsShare scheme.now workers worker found.items) }
 {
-    scheme.program().typing();
+    scheme.program().facts();
     let mut found = Vec::new(alloc);
     for section in 0..scheme.program().section_count() {
         if section % workers == worker {
@@ -102,7 +102,7 @@ fn share<S: Seen>(
 fn no_locks(alloc: Global, scheme: &Scheme) -> Result<Vec<Option<Locks>>, AllocError>
     ensures { IfOk result (λ places. AreInPlace scheme.now places.items) }
 {
-    scheme.program().typing();
+    scheme.program().facts();
     let mut places = Vec::new(alloc);
     for _ in 0..scheme.program().section_count() {
         places.push(None)?;
@@ -124,7 +124,7 @@ fn put_all(scheme: &Scheme, places: &mut Vec<Option<Locks>>, found: Vec<SectionL
     requires found { AreFound scheme.now found.items }
     ensures { AreInPlace scheme.now places.new.items }
 {
-    let _ = scheme;
+    let _facts = scheme;
     for SectionLocks { section, locks } in found {
         put(places, section, locks);
     }
@@ -140,7 +140,7 @@ fn complete<S: Seen>(
     requires { AreInPlace scheme.now places.items }
     ensures { IfOk result (λ all. AreAllInferred scheme.now all.items) }
 {
-    let _few = scheme.program().section_count();
+    let _facts = scheme.program().section_count();
     let mut all = Vec::new(alloc);
     let mut section = 0;
     for place in places {

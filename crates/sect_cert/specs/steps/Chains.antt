@@ -1,13 +1,15 @@
 -- The steps of a chain, read word by word.
 use Rattle.std.specs.Prelude.{◌≡◌, ℕ, if◌then◌else◌, List, [], ◌∷◌, ◌++◌, Option, Some, None, option_and_then, codes}
-use Rattle.std.specs.Prelude.{Result, Ok, Err, ⊤}
+use Rattle.std.specs.Prelude.{◌-◌, length, slice_get, Result, Ok, Err}
 use Rattle.std.specs.Option.{option_map}
 use Rattle.std.specs.Str.{bytes_eq}
 use Rattle.sect_cert.specs.steps.Numbers.{number_of}
 use Rattle.sect_cert.specs.steps.Certificates.{step_with}
 use Rattle.sect_cert.specs.steps.Subjects.{mode_of, class_lock, subject_of}
 use Rattle.sect_cert.specs.declared.fault.LineFault.{LineFault}
-use Rattle.sect_cert.specs.declared.fault.LineFault.TheVariants as fault
+use Rattle.sect_cert.specs.steps.Readers.{Refuses}
+use Rattle.sect_cert.specs.declared.lock.CertLock.{CertLock}
+use Rattle.sect_cert.specs.declared.subject.CertMode.{CertMode}
 use Rattle.sect_cert.specs.declared.certificate.CertStep.{CertStep}
 use Rattle.sect_cert.specs.declared.chain.ChainWord.{ChainWord}
 use Rattle.sect_cert.specs.declared.chain.ChainWord.TheVariants as due
@@ -30,11 +32,16 @@ walk_of ss (due.Class n m) w =
     option_map (λ c. chain_state (ss ++ step_with n (class_lock m c) ∷ []) due.Whole) (number_of w)
 walk_of ss due.Whole w = if bytes_eq w (codes ">") then Some (chain_state ss due.Node) else None
 
-abbrev pub WalksTo : Result ChainWord LineFault → List CertStep → Option ChainState → Type 0
-WalksTo (Ok p) ss next = next ≡ Some (chain_state ss p)
-WalksTo (Err fault.Memory) ss next = ⊤
-WalksTo (Err fault.Bad) ss next = next ≡ None
-WalksTo (Err fault.Odd) ss next = ⊥
+-- the lock of the last step is read from a mode and a word
+abbrev pub WasRead : List CertStep → CertMode → List ℕ → Type 0
+WasRead ss m w =
+    (last : CertStep) × (slice_get ss (length ss - 1) ≡ Some last) × (subject_of m w ≡ Some last.lock)
+
+-- a step with the lock that is read is put behind the others
+abbrev pub PutsStep :
+    {A : Type 0} → Result A LineFault → List CertStep → List CertStep → ℕ → Option CertLock → Type 0
+PutsStep (Ok x) old new n read = (l : CertLock) × (read ≡ Some l) × (new ≡ old ++ step_with n l ∷ [])
+PutsStep (Err f) old new n read = Refuses f read
 
 abbrev pub walk_on : ChainState → List (List ℕ) → Option ChainState
 walk_on s [] = Some s

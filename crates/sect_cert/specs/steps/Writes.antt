@@ -1,7 +1,7 @@
 -- Texts as they are written, piece by piece.
-use Rattle.std.specs.Prelude.{ℕ, ◌+◌, List, [], ◌∷◌, ◌++◌, length, codes}
+use Rattle.std.specs.Prelude.{◌≡◌, ℕ, zero, suc, ◌+◌, List, [], ◌∷◌, ◌++◌, Some, length, slice_get, codes}
 use Rattle.std.specs.List.{flat_map}
-use Rattle.sect_cert.specs.Spelling.{lock_words, step_words}
+use Rattle.sect_cert.specs.Spelling.{lock_words, list_words, step_words}
 use Rattle.sect_cert.specs.Lines.{line_text}
 use Rattle.sect_cert.specs.declared.lock.CertLock.{CertLock}
 use Rattle.sect_cert.specs.declared.certificate.CertStep.{CertStep}
@@ -32,6 +32,21 @@ step_text s = spaced (step_words s [])
 
 abbrev pub next_step : CertStep → List ℕ
 next_step s = codes " >" ++ step_text s
+
+-- where a list stands before this number, the text is of the last such
+abbrev pub IsListBefore : List (List CertLock) → ℕ → List ℕ → Type 0
+IsListBefore lists number text =
+    (h : ℕ) (ls : List CertLock) → number ≡ h + 1 → slice_get lists h ≡ Some ls → text ≡ spaced (list_words ls)
+
+-- where a step stands before this number, the text is of the lock of the last such
+abbrev pub IsLockBefore : List CertStep → ℕ → List ℕ → Type 0
+IsLockBefore steps number text =
+    (h : ℕ) (x : CertStep) → number ≡ h + 1 → slice_get steps h ≡ Some x → text ≡ lock_text x.lock
+
+-- what stands before a step: nothing before the first, else an arrow behind a blank
+abbrev pub arrow_before : ℕ → List ℕ
+arrow_before zero = []
+arrow_before (suc n) = codes " >"
 
 -- a line with its line feed
 abbrev pub fed_line : CertLine → List ℕ

@@ -1,5 +1,6 @@
 -- The search for what the names of a certificate stand for.
-use Rattle.std.specs.Prelude.{◌≡◌, ℕ, ⊤, List, Option, Some, None, Result, Ok, Err, slice_get}
+use Rattle.std.specs.Prelude.{◌≡◌, ℕ, ◌+◌, ⊤, List, take, Option, Some, None, Result, Ok, Err, slice_get}
+use Rattle.std.specs.List.{AllZip}
 use Rattle.sect_types.specs.Sections.{SectionView}
 use Rattle.sect_graph.specs.declared.flow.Node.{Node}
 use Rattle.sect_names.specs.Schemes.{SchemeView}
@@ -19,6 +20,13 @@ abbrev pub Resolves : {A : Type 0} → Result A Unresolved → (A → Type 0) �
 Resolves (Ok x) R = R x
 Resolves {A} (Err Wrong) R = (y : A) → R y → ⊥
 Resolves (Err Memory) R = ⊤
+
+-- each of so many elements has one that is so related to it, the last too; or it is refused, and there are none for all
+abbrev pub Extends :
+    {A B C : Type 0} → (A → B → Type 0) → List A → ℕ → List B → Result C Unresolved → Type 0
+Extends R xs n ys (Ok x) = AllZip R (take (n + 1) xs) ys
+Extends {B} R xs n ys (Err Wrong) = (zs : List B) → AllZip R xs zs → ⊥
+Extends R xs n ys (Err Memory) = ⊤
 
 -- the answer to a search among names: what is found, or that there is nothing
 abbrev pub Finds : {A : Type 0} → Result A Unresolved → Option A → Type 0

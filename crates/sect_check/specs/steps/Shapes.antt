@@ -3,6 +3,7 @@ use Rattle.std.specs.Prelude.{◌≡◌, ◌≤◌, ◌<◌, ◌+◌, ℕ, List,
 use Rattle.sect_lemmas.specs.Lists.{Has}
 use Rattle.sect_graph.specs.declared.flow.Node.{Node}
 use Rattle.sect_graph.specs.Paths.{LeadsTo}
+use Rattle.sect_names.specs.declared.link.Link.{Link}
 use Rattle.sect_names.specs.declared.lock.Lock.{Lock}
 use Rattle.sect_names.specs.Schemes.{SchemeView}
 use Rattle.sect_names.specs.Locks.{IsLockOf}
@@ -34,3 +35,11 @@ StaysWithin g = (i j : ℕ) (x : Node) → slice_get g i ≡ Some x → LeadsTo 
 -- the locks of the lists are ones that sections of the thread may take
 abbrev pub AreLawfulLists : SchemeView → ℕ → Claims → Type 0
 AreLawfulLists s t c = (j : ℕ) (l : Lock) → Has (slice_index_or c.nodes j []) l → IsLockOf s t l
+
+-- so are the locks of links
+abbrev pub AreLawfulLinks : SchemeView → ℕ → List Link → Type 0
+AreLawfulLinks s t links = (a : Link) → Has links a → IsLockOf s t a.lock
+
+-- and those of the chains
+abbrev pub AreLawfulChains : SchemeView → ℕ → List ChainClaim → Type 0
+AreLawfulChains s t chains = (x : ChainClaim) → Has chains x → AreLawfulLinks s t x.links

@@ -8,6 +8,5 @@ returns c = rw (
   c.in_ok-push.ensures.items,
   c.in_ok-put_number.ensures,
   c.in_ok-extend_from_slice.ensures.items,
-  c.as_slice.ensures,
 )
     (chain_written c.args.out.now.items c.args.chain.now)

@@ -1,8 +1,10 @@
-use Rattle.std.proofs.Common.{◌≡◌, ◌++◌, drop}
-use Rattle.std.specs.List.{flat_map}
-use Rattle.sect_cert.specs.steps.Writes.{next_step}
+use Rattle.std.proofs.Common.{◌≡◌, ◌++◌, take}
+use Rattle.sect_cert.specs.Spelling.{chain_words}
+use Rattle.sect_cert.specs.steps.Writes.{spaced, IsLockBefore}
 use Rattle.sect_cert.proofs.writing.put_steps.Given as goal
 
-abbrev pub invariant-loop-step : goal.invariant-loop-step
-invariant-loop-step l = l.out.items ++ flat_map next_step (drop l.step-index l.others) ≡ l.initial.out.items
-    ++ flat_map next_step l.others
+abbrev pub invariant-loop-index : goal.invariant-loop-index
+invariant-loop-index l = record {
+  written : l.out.items ≡ l.fn.out.items ++ spaced (chain_words (take l.index l.steps));
+  lock : IsLockBefore l.steps l.index l.lock.items;
+}

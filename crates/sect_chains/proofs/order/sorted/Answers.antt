@@ -1,9 +1,8 @@
-use Rattle.std.proofs.Common.{◌≡◌, ◌<◌, ◌≤◌, ◌↔◌, Some, refl, sym, arith, length, get_or, subst, take, inl, inr, IfOk}
+use Rattle.std.proofs.Common.{◌≡◌, ◌<◌, ◌≤◌, Some, refl, sym, arith, length, get_or, subst, inl, inr, IfOk}
 use Rattle.std.specs.Prelude.{slice_get}
 use Rattle.std.proofs.lemmas.Iterator.{items_from_collect}
 use Rattle.std.proofs.lemmas.Iterator.Consumers.{YieldsList-from_rest}
 use Rattle.std.proofs.lemmas.List.{take_all, get_or_default}
-use Rattle.sect_lemmas.specs.Lists.{Has}
 use Rattle.sect_lemmas.proofs.Making.{last_of, so_far}
 use Rattle.sect_lemmas.proofs.Membership.{Has-get_or}
 use Rattle.sect_lemmas.proofs.Places.{one_at}

@@ -1,4 +1,4 @@
-use Rattle.std.proofs.Common.{◌≡◌, length, refl}
+use Rattle.std.proofs.Common.{◌≡◌, length}
 use Rattle.sect_lemmas.specs.Lists.{Has}
 use Rattle.sect_names.specs.declared.link.Link.{Link}
 use Rattle.sect_chains.specs.declared.work.Trail.{Trail}

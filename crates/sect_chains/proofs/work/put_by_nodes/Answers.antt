@@ -1,5 +1,3 @@
-use Rattle.std.proofs.Common.{◌≡◌, length, sym, ap, ◌∙◌, subst, arith}
-use Rattle.sect_names.specs.declared.lock.Lock.{Lock}
 use Rattle.sect_chains.specs.steps.Working.{kept_of, IsGeneratedBelow}
 use Rattle.sect_chains.proofs.Carrying.{generated_none, generated_next}
 use Rattle.sect_chains.proofs.Spreading.{below_begin, below_before, below_next}

@@ -1,5 +1,6 @@
 use Rattle.std.proofs.Common.{List, refl, subst}
 use Rattle.sect_lemmas.specs.Lists.{Has}
+use Rattle.sect_names.specs.declared.link.Link.{Link}
 use Rattle.sect_names.specs.Needed.{end_locks}
 use Rattle.sect_check.specs.declared.claims.ChainClaim.{ChainClaim}
 use Rattle.sect_check.proofs.Chaining.{broken_at}
@@ -7,6 +8,12 @@ use Rattle.sect_check.proofs.chains.judge_chain.Goals as goal
 
 pub chain_of-requires-clause-below : goal.chain_of-requires-clause-below
 chain_of-requires-clause-below c = rw c.as_slice.ensures c.requires.below
+
+pub first_wrong-requires : goal.first_wrong-requires
+first_wrong-requires c = λ a h.
+    let chain = c.in-Some.chain.now in
+    c.requires.lawful chain (subst (λ (xs : List ChainClaim). Has xs chain) c.as_slice.ensures c.in-Some.ensures.0) a
+    (subst (λ (links : List Link). Has links a) c.as_slice-links.ensures h)
 
 pub returns-in-Some-2 : goal.returns-in-Some-2
 returns-in-Some-2 c =

@@ -46,7 +46,7 @@ returns-in-None c =
     let all = ltb-false (length c.as_slice-entry.result.now) (length c.as_slice.result.now)
     (sym c.in-None.ensures.lookup.0) in (
       chains_done s c.args.thread last c.args.flow.now claims n past c.loop-number.invariant,
-      no_others s c.args.thread last c.args.flow.now claims n past c.loop-number.invariant c.requires
+      no_others s c.args.thread last c.args.flow.now claims n past c.loop-number.invariant c.requires.rise
           (omega (arith, all, ap length c.as_slice-entry.ensures, ap length c.as_slice.ensures)),
     )
 
@@ -64,4 +64,4 @@ returns-in-Some c =
     let at = subst (λ (xs : List ChainClaim). slice_get xs (length claims.entry) ≡ Some chain) c.as_slice.ensures
     (subst (λ k. slice_get chains k ≡ Some chain) (ap length c.as_slice-entry.ensures) found) in
     stray_breaks c.args.scheme.now c.args.thread (end_locks c.args.locking) c.args.flow.now claims n past
-    c.loop-number.invariant c.requires chain at
+    c.loop-number.invariant c.requires.rise chain at

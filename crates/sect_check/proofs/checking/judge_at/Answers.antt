@@ -39,7 +39,7 @@ judge_section-requires-clause-shape c =
 pub judge_section-requires-clause-within : goal.judge_section-requires-clause-within
 judge_section-requires-clause-within c =
     let at = section_at (goal.at.judge_section-requires-clause-within c).After-section-flow in
-    (c.rules.ensures.graphed.sections c.args.number _ _ at.0 at.1).within
+    (c.facts.ensures.graphed.sections c.args.number _ _ at.0 at.1).within
 
 pub returns-in-Ok : goal.returns-in-Ok
 returns-in-Ok c =
@@ -55,3 +55,7 @@ returns-in-Ok c =
 pub judge_section-requires-clause-lawful : goal.judge_section-requires-clause-lawful
 judge_section-requires-clause-lawful c =
     c.requires.lawful _ _ (section_at (goal.at.judge_section-requires-clause-lawful c).After-section-flow)
+
+pub judge_section-requires-clause-chains : goal.judge_section-requires-clause-chains
+judge_section-requires-clause-chains c =
+    c.requires.chains _ _ (section_at (goal.at.judge_section-requires-clause-chains c).After-section-flow)

@@ -5,7 +5,7 @@ use Rattle.sect_types.specs.Programs.{ProgramView}
 use Rattle.sect_types.specs.Sections.{sections_of}
 use Rattle.sect_check.specs.Meaning.{DenotesAll}
 use Rattle.sect_check.proofs.Judging.{passes_on, valid_more, all_valid}
-use Rattle.sect_check.proofs.Denoting.{all_lawful}
+use Rattle.sect_check.proofs.Denoting.{all_lawful, all_lawful_chains}
 use Rattle.sect_check.proofs.Numbering.{all_shaped}
 use Rattle.sect_check.proofs.checking.judge_cert.Goals.{After-section_count-section-end, After-index-claims-section}
 use Rattle.sect_check.proofs.checking.judge_cert.Goals as goal
@@ -68,4 +68,11 @@ judge_at-requires-clause-lawful c =
     let at = goal.at.judge_at-requires-clause-lawful c in
     let d = denoted at.After-section_count-section-end in
     all_lawful c.args.scheme.now c.args.cert.now c.as_slice-claims.result.now d.0 c.loop-section.section
+    c.index-claims-section.result (claims_read at.After-index-claims-section d)
+
+pub judge_at-requires-clause-chains : goal.judge_at-requires-clause-chains
+judge_at-requires-clause-chains c =
+    let at = goal.at.judge_at-requires-clause-chains c in
+    let d = denoted at.After-section_count-section-end in
+    all_lawful_chains c.args.scheme.now c.args.cert.now c.as_slice-claims.result.now d.0 c.loop-section.section
     c.index-claims-section.result (claims_read at.After-index-claims-section d)

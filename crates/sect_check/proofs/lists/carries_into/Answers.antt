@@ -1,3 +1,6 @@
+use Rattle.std.proofs.Common.{subst}
+use Rattle.sect_names.specs.Locks.{CoveredBy}
+use Rattle.sect_names.proofs.shared.Covering.{covers_refl}
 use Rattle.std.proofs.Common.{◌<◌, length, arith, sym, ◌∙◌, true≢false}
 use Rattle.sect_check.proofs.Scanning.{item_has}
 use Rattle.sect_check.proofs.Generating.{carried_more}
@@ -5,13 +8,14 @@ use Rattle.sect_check.proofs.lists.carries_into.Goals as goal
 
 pub is_carried_into-requires : goal.is_carried_into-requires
 is_carried_into-requires c =
-    let locks = c.args.locks.now in
+    let locks = c.args.list.locks.now in
     let within : c.loop-lock.lock-index < length locks = omega arith in
-    c.requires c.lock-item.result (item_has locks c.loop-lock.lock-index c.lock-item.result within c.lock-item.is)
+    c.requires.lawful c.lock-item.result
+    (item_has locks c.loop-lock.lock-index c.lock-item.result within c.lock-item.is)
 
 pub returns-then-not-branch : goal.returns-then-not-branch
 returns-then-not-branch c =
-    let locks = c.args.locks.now in
+    let locks = c.args.list.locks.now in
     let within : c.loop-lock.lock-index < length locks = omega arith in
     let x = c.lock-item.result in
     let has = item_has locks c.loop-lock.lock-index x within c.lock-item.is in (
@@ -22,8 +26,22 @@ returns-then-not-branch c =
 
 pub loop-lock-preserved : goal.loop-lock-preserved
 loop-lock-preserved c =
-    let locks = c.args.locks.now in
+    let locks = c.args.list.locks.now in
     let within : c.loop-lock.lock-index < length locks = omega arith in
     carried_more c.args.scheme.now c.args.thread c.args.label c.args.set.now.keys locks c.loop-lock.lock-index
     c.lock-item.result
     within c.lock-item.is c.loop-lock.invariant (c.in_ok-is_carried_into.ensures.0 c.if-not-branch.false)
+
+pub loop-lock-preserved-then-stays : goal.loop-lock-preserved-then-stays
+loop-lock-preserved-then-stays c =
+    let s = c.args.scheme.now in
+    let keys = c.args.set.now.keys in
+    let locks = c.args.list.locks.now in
+    let within : c.loop-lock.lock-index < length locks = omega arith in
+    let x = c.lock-item.result in
+    let has = item_has locks c.loop-lock.lock-index x within c.lock-item.is in
+    let stay = c.stays.ensures c.if-stays.true s (c.requires.lawful x has) in
+    carried_more s c.args.thread c.args.label keys locks c.loop-lock.lock-index x within c.lock-item.is
+    c.loop-lock.invariant
+    (λ r back. subst (CoveredBy s keys) (sym ((stay r).0 back))
+    (x, c.requires.held c.if-list.true x has, covers_refl s x))

@@ -5,52 +5,52 @@ use Rattle.sect_check.proofs.lists.first_uncarried_from.Goals as goal
 
 pub returns-then-not-branch-clause-some : goal.returns-then-not-branch-clause-some
 returns-then-not-branch-clause-some c =
-    first_is c.args.scheme.now _ c.args.flow.now c.args.claims.now c.args.from _ _
-    c.action-label.ensures c.succ.ensures _ _ c.list_at.ensures c.in_ok-set.ensures _ _
-    c.in_order-first.ensures.each c.in_order-first.ensures.order _ c.list_at-2.ensures
+    first_is c.args.scheme.now _ c.args.flow.now c.args.claims.now c.args.left.from _ _
+    c.action-label.ensures c.succ.ensures c.args.left.set.now.keys _ refl c.requires.set _ _
+    c.in_order-first.ensures.each c.in_order-first.ensures.order _ c.list_beside-at_first.ensures.locks
     (λ h. true≢false (sym (c.in_ok-carries_into.ensures.1 h) ∙ c.if-not-branch.true))
 
 pub returns-then-not-branch-2-clause-some : goal.returns-then-not-branch-2-clause-some
 returns-then-not-branch-2-clause-some c =
-    second_is c.args.scheme.now _ c.args.flow.now c.args.claims.now c.args.from _ _
-    c.action-label.ensures c.succ.ensures _ _ c.list_at.ensures c.in_ok-set.ensures _ _
-    c.in_order-first.ensures.each c.in_order-first.ensures.order _ c.list_at-2.ensures
-    (c.in_ok-carries_into.ensures.0 c.if-not-branch.false) _ c.list_at-3.ensures
+    second_is c.args.scheme.now _ c.args.flow.now c.args.claims.now c.args.left.from _ _
+    c.action-label.ensures c.succ.ensures c.args.left.set.now.keys _ refl c.requires.set _ _
+    c.in_order-first.ensures.each c.in_order-first.ensures.order _ c.list_beside-at_first.ensures.locks
+    (c.in_ok-carries_into.ensures.0 c.if-not-branch.false) _ c.list_beside-at_second.ensures.locks
     (λ h. true≢false (sym (c.in_ok-carries_into-2.ensures.1 h) ∙ c.if-not-branch-2.true))
 
 pub returns-clause-none : goal.returns-clause-none
 returns-clause-none c =
-    all_hold c.args.scheme.now _ c.args.flow.now c.args.claims.now c.args.from _ _
-    c.action-label.ensures c.succ.ensures _ _ c.list_at.ensures c.in_ok-set.ensures _ _
-    c.in_order-first.ensures.each c.in_order-first.ensures.order _ c.list_at-2.ensures
-    (c.in_ok-carries_into.ensures.0 c.if-not-branch.false) _ c.list_at-3.ensures
+    all_hold c.args.scheme.now _ c.args.flow.now c.args.claims.now c.args.left.from _ _
+    c.action-label.ensures c.succ.ensures c.args.left.set.now.keys _ refl c.requires.set _ _
+    c.in_order-first.ensures.each c.in_order-first.ensures.order _ c.list_beside-at_first.ensures.locks
+    (c.in_ok-carries_into.ensures.0 c.if-not-branch.false) _ c.list_beside-at_second.ensures.locks
     (c.in_ok-carries_into-2.ensures.0 c.if-not-branch-2.false)
 
 pub returns-then-second-first-clause-none : goal.returns-then-second-first-clause-none
 returns-then-second-first-clause-none c =
-    one_holds c.args.scheme.now _ c.args.flow.now c.args.claims.now c.args.from _ _
-    c.action-label.ensures c.succ.ensures _ _ c.list_at.ensures c.in_ok-set.ensures _ _
-    c.in_order-first.ensures.each c.in_order-first.ensures.order _ c.list_at-2.ensures
+    one_holds c.args.scheme.now _ c.args.flow.now c.args.claims.now c.args.left.from _ _
+    c.action-label.ensures c.succ.ensures c.args.left.set.now.keys _ refl c.requires.set _ _
+    c.in_order-first.ensures.each c.in_order-first.ensures.order _ c.list_beside-at_first.ensures.locks
     c.if-second-first.true (c.in_ok-carries_into.ensures.0 c.if-not-branch.false)
 
-pub list_at-requires-2 : goal.list_at-requires-2
-list_at-requires-2 c =
+pub list_beside-at_first-requires-clause-node : goal.list_beside-at_first-requires-clause-node
+list_beside-at_first-requires-clause-node c =
     let first = c.in_order-first.result.0 in
-    let to = stays c.args.flow.now c.requires.within c.args.from c.succ.result c.succ.ensures first
+    let to = stays c.args.flow.now c.requires.within c.args.left.from c.succ.result c.succ.ensures first
     ((c.in_order-first.ensures.each first).1 (inl refl)) in
     omega (arith, to, c.requires.count)
 
-pub list_at-requires-3 : goal.list_at-requires-3
-list_at-requires-3 c =
+pub list_beside-at_second-requires-clause-node : goal.list_beside-at_second-requires-clause-node
+list_beside-at_second-requires-clause-node c =
     let second = c.in_order-first.result.1 in
-    let to = stays c.args.flow.now c.requires.within c.args.from c.succ.result c.succ.ensures second
+    let to = stays c.args.flow.now c.requires.within c.args.left.from c.succ.result c.succ.ensures second
     ((c.in_order-first.ensures.each second).1 (inr refl)) in
     omega (arith, to, c.requires.count)
 
-pub carries_into-requires : goal.carries_into-requires
-carries_into-requires c = λ l h. c.requires.lawful c.in_order-first.result.0 l
-    (subst (λ ls. Has ls l) c.list_at-2.ensures h)
+pub carries_into-requires-clause-lawful : goal.carries_into-requires-clause-lawful
+carries_into-requires-clause-lawful c = λ l h. c.requires.lawful c.in_order-first.result.0 l
+    (subst (λ ls. Has ls l) c.list_beside-at_first.ensures.locks h)
 
-pub carries_into-requires-2 : goal.carries_into-requires-2
-carries_into-requires-2 c = λ l h. c.requires.lawful c.in_order-first.result.1 l
-    (subst (λ ls. Has ls l) c.list_at-3.ensures h)
+pub carries_into-requires-2-clause-lawful : goal.carries_into-requires-2-clause-lawful
+carries_into-requires-2-clause-lawful c = λ l h. c.requires.lawful c.in_order-first.result.1 l
+    (subst (λ ls. Has ls l) c.list_beside-at_second.ensures.locks h)

@@ -17,5 +17,5 @@ overflow_cast-result c =
     (ltb-true c.args.of (length records) (sym look.0)) look.1 in
     let there = subst (λ (l : List Record). slice_get l c.args.of ≡ Some shape)
     (c.records.ensures ∙ ap (λ (t : TreeView). t.records) c.tree.ensures.tree) at in
-    let few = few_fields p c.tree.ensures.numbers c.typing.ensures.limits c.args.of shape there in
+    let few = few_fields p c.tree.ensures.numbers c.facts.ensures.limits c.args.of shape there in
     omega (arith, few, c.in_ok-number.ensures.within, ap length c.as_slice.ensures)

@@ -32,7 +32,7 @@ returns c =
     let t = c.args.thread in
     let row = c.index-locals-thread.result in
     let is : row ≡ get_or p.locals t row = c.index-locals-thread.is ∙ ap (λ l. get_or l t row) c.locals.ensures in
-    let many = counted p c.tree-tree.ensures.numbers t row c.requires is in
+    let many = counted p c.tree-facts.ensures.numbers t row c.requires is in
     let past = c.loop-number-test.false in
     sym (no_position (is_same_local c.args.name.now) (slice_index_or (all_local_names p.source) t []) unnamed
     (λ k lt. c.loop-number.invariant k (omega (arith, lt, many, ap length c.as_slice.ensures, past))))

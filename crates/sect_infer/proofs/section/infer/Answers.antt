@@ -31,7 +31,7 @@ section_at c = section_read c.args.scheme.now c.args.section _ _ _ _ c.program-2
 
 graph_is : (c : After-locking) → IsGraphOf c.section-thread.result.body.now c.section-flow.result.now
 graph_is c = let at = section_at c in
-    c.rules.ensures.graphed.sections c.args.section (section_shown c.section-thread.result) c.section-flow.result.now
+    c.facts.ensures.graphed.sections c.args.section (section_shown c.section-thread.result) c.section-flow.result.now
     at.0 at.1
 
 -- the locks of the section that was read are those of the section of this number

@@ -20,8 +20,8 @@ overflow_add-section g c =
     c.in-Some.place c.in-Some.is c.next.ensures.steps in
     let few : length places.items ≤ MOST_SECTIONS =
     let n = ap (λ (p : ProgramView). length (sections_of p.texts)) c.program.ensures in
-    let m = c.section_count-few.ensures.count in
-    omega (arith, c.requires.count, n, m, c.section_count-few.ensures.few) in
+    let m = c.section_count-facts.ensures.count in
+    omega (arith, c.requires.count, n, m, c.section_count-facts.ensures.few) in
     omega (arith, few, turn.0, c.loop-place.invariant.number)
 
 pub loop-place-preserved : goal.loop-place-preserved

@@ -1,7 +1,7 @@
 use Rattle.std.proofs.Common.{◌≡◌, ◌<◌, ℕ, map, take, length}
 use Rattle.sect_lemmas.specs.Lists.{Has}
 use Rattle.sect_infer.specs.Numberings.{lock_at}
-use Rattle.sect_chains.proofs.order.in_order.Given as goal
+use Rattle.sect_chains.proofs.order.ordered.Given as goal
 
 abbrev pub invariant-loop-lock : goal.invariant-loop-lock
 invariant-loop-lock l = record {

@@ -5,8 +5,8 @@ use Rattle.sect_lemmas.specs.Lists.{Has}
 use Rattle.sect_lemmas.proofs.Membership.{Has-get_or, Has-slice_get}
 use Rattle.sect_lemmas.proofs.Inserting.{behind}
 use Rattle.sect_chains.proofs.Listing.{order_next, order_is}
-use Rattle.sect_chains.proofs.order.in_order.Goals as goal
-use Rattle.sect_chains.proofs.order.in_order.Goals.{in-Some+in_ok-push, in_default}
+use Rattle.sect_chains.proofs.order.ordered.Goals as goal
+use Rattle.sect_chains.proofs.order.ordered.Goals.{in-Some+in_ok-push, in_default}
 
 pub loop-lock-preserved : goal.loop-lock-preserved
 loop-lock-preserved c =
@@ -27,7 +27,8 @@ loop-lock-preserved c =
       })
       | in_default w ↦
           let there = subst (Has locks) (sym c.lock-item.is) (Has-get_or locks i l within) in
-          let has = (c.in_ok-locks.ensures.all l).0 (subst (λ ls. Has ls l) c.as_slice-lock-items.ensures.value there) in
+          let kept = subst (λ ls. Has ls l) c.as_slice-lock-items.ensures.value there in
+          let has = (c.in_ok-locks.ensures.all l).0 kept in
           absurd (w.in_default.ensures (Has-slice_get keys has.0 l has.2))
     ]
 

@@ -31,6 +31,7 @@ use Rattle.sect_emit.proofs.shared.Modes.{sharing_turned, at_least_itself}
 use Rattle.sect_emit.proofs.shared.Pointing.{denoted}
 use Rattle.sect_emit.proofs.shared.Plans.{gathered-all, fixed_part_keys, object_part_keys, object_wish_from}
 use Rattle.sect_emit.proofs.shared.PlanModes.{plan_gives_object, key_of-injective, class_or_object, all_or_object}
+use Rattle.sect_emit.proofs.shared.TypedPrograms.{typed_program}
 use Rattle.sect_conflicts.specs.declared.conflict.PathPair.{PathPair}
 use Rattle.sect_conflicts.specs.Conflicts.{Clash, AlwaysAsks, AlwaysClash, MayGoTogether, MayBeOne, paths_between, set_at}
 use Rattle.sect_conflicts.specs.Laws.{IsSectionOver, Meets, PlansAlwaysClash, PlansClashWherePathsMeet, PlansNeverClash}
@@ -73,7 +74,7 @@ never_both s locks others part is store locals k m n h j =
 
 module _ (c : CompiledView) (compiled : IsCompiled c) where
   typed : IsTypedProgram (program_of c)
-  typed = record { sound = compiled.numbers.sound; sited = compiled.numbers.sited }
+  typed = typed_program c compiled
 
   -- what is compiled of a section
   module _ (i : ℕ) (store : StoreView) (w : WorkView) (over : IsSectionOver c i store w) where

@@ -1,4 +1,5 @@
 pub mod Conflicts
 pub mod Comparing
 pub mod Laws
+pub mod Naming
 pub mod steps

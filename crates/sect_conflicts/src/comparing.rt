@@ -34,7 +34,7 @@ fn conflict_of(
     requires second { second < length profiles.now }
     ensures { IfOk result (IsConflict compiled.now first second) }
 {
-    compiled.rules();
+    compiled.facts();
     let profile = &profiles[first as usize];
     let other = &profiles[second as usize];
     if let Some(clash) = first_clash(profile.always.as_slice(), other.always.as_slice()) {

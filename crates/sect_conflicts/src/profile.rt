@@ -51,7 +51,7 @@ fn profile_of(alloc: Global, compiled: &Compiled, section: u16) -> Result<Profil
     requires { section < length (sections_of compiled.now.scheme.program.texts) }
     ensures { IfOk result (IsProfile compiled.now section) }
 {
-    compiled.rules();
+    compiled.facts();
     let thread = compiled.scheme().program().section(section).thread;
     let locks = compiled.set(section);
     let always = always_asked(alloc, compiled.part(section), locks)?;

@@ -1,7 +1,7 @@
 -- The lines of sections, each with the chains of its locks.
 use Rattle.std.proofs.Common.{◌≡◌, ℕ, ◌+◌, List, [], ◌∷◌, ◌++◌, Some, length, length-append, sym, ap, ◌∙◌, subst, arith}
 use Rattle.std.proofs.Common.{inl, inr}
-use Rattle.std.specs.Prelude.{slice_get, slice_index_or}
+use Rattle.std.specs.Prelude.{slice_get, slice_index_or, option_map}
 use Rattle.std.proofs.lemmas.Option.{slice_get_within, slice_get-get_or, get_or_from_slice_get}
 use Rattle.sect_lemmas.proofs.Places.{pushed_at}
 use Rattle.sect_types.specs.Programs.{ProgramView}
@@ -14,9 +14,39 @@ use Rattle.sect_names.specs.declared.lock.Lock.{Lock}
 use Rattle.sect_names.specs.Needed.{end_of}
 use Rattle.sect_chains.specs.Chains.{AreChains}
 use Rattle.sect_emit.specs.Compiled.{CompiledView, IsCompiled}
-use Rattle.sect_emit.specs.Explaining.{explained_lines, section_at, section_explained, IsChained, IsExplained}
+use Rattle.sect_emit.specs.Explaining.{deed_text, explained_lines, section_at, section_deed, section_explained}
+use Rattle.sect_emit.specs.Explaining.{IsChained, IsExplained}
 use Rattle.sect_emit.specs.Listing.{by_number}
 use Rattle.sect_emit.proofs.Numbered.{one_behind}
+
+-- the section that stands there
+module _ (v : CompiledView) (i : ℕ) (s : SectionView)
+    (at : slice_get (sections_of v.scheme.program.texts) i ≡ Some s) where
+  pub section_here : section_at v i ≡ s
+  section_here = get_or_from_slice_get (sections_of v.scheme.program.texts) i s (record { thread = 0; body = Stop }) at
+
+  -- what a node of its graph does
+  pub deed_here : (p : ProgramView) (g : List Node) (n : ℕ) → p ≡ v.scheme.program → g ≡ flow_nodes s.body
+      → deed_text p.source s.thread (option_map (λ x. x.label) (slice_get g n)) ≡ section_deed v i n
+  deed_here p g n program graph =
+      ap (λ (q : ProgramView). deed_text q.source s.thread (option_map (λ x. x.label) (slice_get g n))) program
+      ∙ (ap (λ h. deed_text v.scheme.program.source s.thread (option_map (λ x. x.label) (slice_get h n))) graph
+      ∙ ap (λ (x : SectionView). deed_text v.scheme.program.source x.thread
+      (option_map (λ y. y.label) (slice_get (flow_nodes x.body) n))) (sym section_here))
+
+  -- its lock set
+  pub set_here : IsCompiled v → slice_get v.sets i ≡ Some (slice_index_or v.sets i [])
+  set_here compiled =
+      let within = slice_get_within (sections_of v.scheme.program.texts) i s at in
+      slice_get-get_or v.sets i [] (omega (arith, within, compiled.set_count))
+
+  -- the chains that were found for that
+  pub chained_here : (g : List Node) (chains : List (List Link)) → g ≡ flow_nodes s.body
+      → AreChains v.scheme s.thread (end_of v.scheme i) g (slice_index_or v.sets i []) chains → IsChained v i chains
+  chained_here g chains graph found =
+      let set = slice_index_or v.sets i [] in
+      subst (λ (x : SectionView). AreChains v.scheme x.thread (end_of v.scheme i) (flow_nodes x.body) set chains)
+      (sym section_here) (subst (λ h. AreChains v.scheme s.thread (end_of v.scheme i) h set chains) graph found)
 
 -- a section with the chains that were found for its locks
 pub explained : (v : CompiledView) → IsCompiled v → (p : ProgramView) → p ≡ v.scheme.program
@@ -28,15 +58,9 @@ pub explained : (v : CompiledView) → IsCompiled v → (p : ProgramView) → p 
     → AreChains v.scheme s.thread (end_of v.scheme i) g set chains)
     → (x : List (List Link)) × IsChained v i x × (new ≡ old ++ section_explained v i x)
 explained v compiled p program i s g at graph old new given chains same put found =
-    let within = slice_get_within (sections_of v.scheme.program.texts) i s at in
-    let set = slice_index_or v.sets i [] in
-    let here : section_at v i ≡ s = get_or_from_slice_get (sections_of v.scheme.program.texts) i s
-    (record { thread = 0; body = Stop }) at in
-    let chained : AreChains v.scheme s.thread (end_of v.scheme i) g set chains = found set
-    (slice_get-get_or v.sets i [] (omega (arith, within, compiled.set_count))) in (
+    let here = section_here v i s at in (
       chains,
-      subst (λ (x : SectionView). AreChains v.scheme x.thread (end_of v.scheme i) (flow_nodes x.body) set chains)
-          (sym here) (subst (λ h. AreChains v.scheme s.thread (end_of v.scheme i) h set chains) graph chained),
+      chained_here v i s at g chains graph (found (slice_index_or v.sets i []) (set_here v i s at compiled)),
       put ∙ (ap (λ (q : ProgramView). old ++ explained_lines q.source i s.thread g given) program
           ∙ (ap (λ cs. old ++ explained_lines v.scheme.program.source i s.thread g cs) same
           ∙ (ap (λ h. old ++ explained_lines v.scheme.program.source i s.thread h chains) graph

@@ -1,10 +1,11 @@
 -- Lists of what a certificate says, one element more.
-use Rattle.std.proofs.Common.{◌≡◌, ℕ, ◌+◌, ◌<◌, List, [], ◌∷◌, ◌++◌, inl, inr, length, length-append, take, get_or}
-use Rattle.std.proofs.Common.{refl, sym, ap, ◌∙◌, subst, arith}
+use Rattle.std.proofs.Common.{◌≡◌, ◌≢◌, ℕ, ◌+◌, ◌-◌, ◌<◌, List, [], ◌∷◌, ◌++◌, inl, inr, length, length-append, take}
+use Rattle.std.proofs.Common.{get_or, refl, sym, ap, ◌∙◌, subst, arith}
 use Rattle.std.specs.Prelude.{slice_get, Some, Result, Ok, Err, IfOk, map}
+use Rattle.std.specs.Option.{option_map}
 use Rattle.std.specs.List.{AllByRecursion, AllZip}
-use Rattle.std.proofs.lemmas.List.{length-take-le, map-append}
-use Rattle.std.proofs.lemmas.Option.{slice_get_within, get_or_from_slice_get, slice_get-get_or}
+use Rattle.std.proofs.lemmas.List.{length-take-le, length-map, map-append}
+use Rattle.std.proofs.lemmas.Option.{slice_get_within, get_or_from_slice_get, slice_get-get_or, slice_get-map}
 use Rattle.sect_front.specs.TreeView.{TreeView}
 use Rattle.sect_names.specs.declared.link.Link.{Link}
 use Rattle.sect_names.specs.declared.lock.Lock.{Lock}
@@ -14,9 +15,11 @@ use Rattle.sect_cert.specs.declared.certificate.CertSection.{CertSection}
 use Rattle.sect_cert.specs.Texts.{IsSection, AreRising}
 use Rattle.sect_names.specs.Schemes.{SchemeView}
 use Rattle.sect_infer.specs.Sets.{LocksView}
-use Rattle.sect_lemmas.proofs.Places.{one_at, pushed_at}
+use Rattle.sect_lemmas.proofs.Places.{one_at, pushed_at, at_of, each_at}
 use Rattle.sect_emit.specs.steps.Spelled.{IsSectionSpelled}
-use Rattle.sect_emit.specs.Words.{list_words, chain_words, chains_words}
+use Rattle.sect_cert.specs.declared.certificate.CertStep.{CertStep}
+use Rattle.sect_emit.specs.Words.{list_words, lock_words, step_words, chain_words, chains_words}
+use Rattle.sect_check.proofs.shared.Repeating.{taken}
 use Rattle.sect_emit.proofs.Adding.{take_next}
 
 -- what holds of each element and of one more
@@ -101,3 +104,58 @@ pub if_ok_both : {A E : Type 0} {P R Q : A → Type 0} (r : Result A E) → ((x 
     → IfOk r R → IfOk r Q
 if_ok_both (Ok x) f p q = f x p q
 if_ok_both (Err e) f p q = tt
+
+-- the last list once more, where a node's locks are those of the node before
+pub list_again : (t : TreeView) (at : List (List Lock)) (i : ℕ) (P : List CertLock → Type 0)
+    (old new : List (List CertLock)) → 0 < i → i < length at → slice_get at i ≡ slice_get at (i - 1)
+    → old ≡ map (list_words t) (take i at) → AllByRecursion P old
+    → ((last : List CertLock) → slice_get old (length old - 1) ≡ Some last → new ≡ old ++ last ∷ [])
+    → (new ≡ map (list_words t) (take (i + 1) at)) × AllByRecursion P new
+list_again t at i P old new some within same before good again =
+    let locks = at_of at (i - 1) (omega (arith, within)) in
+    let words = list_words t locks.0 in
+    let long : length old ≡ i =
+    ap length before ∙ length-map (take i at) (list_words t) ∙ length-take-le i at (omega (arith, within)) in
+    let there : slice_get old (length old - 1) ≡ Some words =
+    ap (λ n. slice_get old (n - 1)) long
+    ∙ ap (λ (ls : List (List CertLock)). slice_get ls (i - 1)) before
+    ∙ slice_get-map (list_words t) (take i at) (i - 1)
+    ∙ ap (option_map (list_words t)) (taken at i (i - 1) (omega (arith, some)) ∙ locks.1) in (
+      next_list t at i locks.0 words old new (same ∙ locks.1) refl before (again words there),
+      subst (AllByRecursion P) (sym (again words there))
+          (all_more P old words good (each_at P old good (length old - 1) words there)),
+    )
+
+-- one step more of a chain
+pub next_step : (t : TreeView) (links : List Link) (i : ℕ) (link : Link) (old new : List CertStep) → i < length links
+    → slice_get links i ≡ Some link → old ≡ map (step_words t) (take i links) → new ≡ old ++ step_words t link ∷ []
+    → new ≡ map (step_words t) (take (i + 1) links)
+next_step t links i link old new within at before pushed =
+    pushed ∙ ap (λ xs. xs ++ step_words t link ∷ []) before
+    ∙ sym (map-append (step_words t) (take i links) (link ∷ []))
+    ∙ ap (map (step_words t))
+    (sym (take_next links i link within (sym (get_or_from_slice_get links i link link at))))
+
+-- the last lock once more, where a link has the lock of the one before
+pub step_again : (t : TreeView) (links : List Link) (i : ℕ) (last link : Link) (old new : List CertStep) → 0 < i
+    → i < length links → slice_get links (i - 1) ≡ Some last → slice_get links i ≡ Some link → last.lock ≡ link.lock
+    → old ≡ map (step_words t) (take i links)
+    → ((x : CertStep) → slice_get old (length old - 1) ≡ Some x
+    → new ≡ old ++ record { node = link.node; lock = x.lock } ∷ [])
+    → new ≡ map (step_words t) (take (i + 1) links)
+step_again t links i last link old new some within at_last at same before again =
+    let long : length old ≡ i =
+    ap length before ∙ length-map (take i links) (step_words t) ∙ length-take-le i links (omega (arith, within)) in
+    let there : slice_get old (length old - 1) ≡ Some (step_words t last) =
+    ap (λ n. slice_get old (n - 1)) long
+    ∙ ap (λ (xs : List CertStep). slice_get xs (i - 1)) before
+    ∙ slice_get-map (step_words t) (take i links) (i - 1)
+    ∙ ap (option_map (step_words t)) (taken links i (i - 1) (omega (arith, some)) ∙ at_last) in
+    next_step t links i link old new within at before
+    (again (step_words t last) there
+    ∙ ap (λ l. old ++ record { node = link.node; lock = lock_words t l } ∷ []) same)
+
+-- a list that isn't empty has a last place
+pub some_long : {X : Type 0} (xs : List X) → xs ≢ [] → length xs - 1 < length xs
+some_long [] some = absurd (some refl)
+some_long (x ∷ xs) some = omega arith

@@ -11,7 +11,8 @@ use Rattle.sect_emit.specs.Certificates.{IsCertificateOf}
 use Rattle.sect_emit.specs.steps.Spelled.{IsSpelled}
 use Rattle.sect_lemmas.specs.Lists.{Has}
 use Rattle.sect_types.specs.Sections.{SectionView, sections_of}
-use Rattle.sect_types.specs.Programs.{ProgramView, IsWellNumbered, sites_of, total_statements}
+use Rattle.sect_types.specs.First.{IsTyped}
+use Rattle.sect_types.specs.Programs.{IsOfTree}
 use Rattle.sect_lemmas.proofs.Places.{at_of, one_at, pushed_at, Has-index}
 use Rattle.sect_lemmas.proofs.Membership.{Has-slice_get}
 use Rattle.sect_names.specs.Printing.{AreNamed}
@@ -30,11 +31,6 @@ use Rattle.sect_emit.specs.Plan.{IsFixedPart}
 use Rattle.sect_emit.specs.Compiled.{CompiledView, IsCompiled, AreSetsLeast}
 use Rattle.sect_emit.specs.steps.Inferred.{entries_of, AreFixedParts, IsWhole}
 use Rattle.sect_emit.specs.steps.Wishes.{IsClassedLock}
-
--- the program is well numbered, by its own counts
-abbrev pub IsNumbered : ProgramView → Type 0
-IsNumbered p = IsWellNumbered p (length (sections_of p.texts)) (length (sites_of p.globals p.texts))
-    (total_statements p.texts)
 
 -- one part more
 pub one_part : (s : SchemeView) (sets : List (List Lock)) (parts : List (List Grip)) (locks : List Lock)
@@ -151,13 +147,12 @@ module _ (s : SchemeView) (all : List LocksView) (parts : List (List Grip)) (sch
       let told = whole.inferred.each i kept.0 kept.1 of g.0 at g.1 in
       (subst (IsLeast s of.thread (end_of s i) of.body) kept.2 told.0.least, subst AreInOrder kept.2 told.0.in_order)
 
-  -- a sound program with what is kept of its sections is compiled
-  pub compiled : IsNumbered s.program → IsCompiled (record { scheme = s; sets = entries_of all; parts = parts })
-  compiled numbers = record {
-    sections = length (sections_of s.program.texts);
-    sites = length (sites_of s.program.globals s.program.texts);
-    statements = total_statements s.program.texts;
-    numbers = numbers;
+  -- the program of a typed tree with what is kept of its sections is compiled
+  pub compiled : IsTyped s.program.source → IsOfTree s.program
+      → IsCompiled (record { scheme = s; sets = entries_of all; parts = parts })
+  compiled typed of_tree = record {
+    typed = typed;
+    of_tree = of_tree;
     scheme = scheme;
     set_count = set_count;
     part_count = part_count;

@@ -10,3 +10,4 @@ pub mod Securing
 pub mod Sets
 pub mod Starting
 pub mod Crossing
+pub mod TypedPrograms

@@ -2,7 +2,8 @@
 use Rattle.std.specs.Prelude.{◌≡◌, ℕ, List, Some, length, slice_get}
 use Rattle.sect_lemmas.specs.Lists.{Has}
 use Rattle.sect_types.specs.Sections.{SectionView, sections_of}
-use Rattle.sect_types.specs.Programs.{ProgramView, IsWellNumbered}
+use Rattle.sect_types.specs.First.{IsTyped}
+use Rattle.sect_types.specs.Programs.{ProgramView, IsOfTree}
 use Rattle.sect_names.specs.declared.lock.Lock.{Lock}
 use Rattle.sect_names.specs.Locks.{IsLockOf}
 use Rattle.sect_names.specs.Schemes.{SchemeView, IsScheme}
@@ -22,13 +23,11 @@ pub record CompiledView : Type 0 where
 abbrev pub program_of : CompiledView → ProgramView
 program_of c = c.scheme.program
 
--- the program is sound; each set protects its section, with locks that sections of its thread may take; each part is
--- that of its set
+-- the program is that of a typed tree; each set protects its section, with locks that sections of its thread may take;
+-- each part is that of its set
 pub record IsCompiled (c : CompiledView) : Type 0 where
-  pub sections : ℕ
-  pub sites : ℕ
-  pub statements : ℕ
-  pub numbers : IsWellNumbered c.scheme.program sections sites statements
+  pub typed : IsTyped c.scheme.program.source
+  pub of_tree : IsOfTree c.scheme.program
   pub scheme : IsScheme c.scheme
   pub set_count : length c.sets ≡ length (sections_of c.scheme.program.texts)
   pub part_count : length c.parts ≡ length (sections_of c.scheme.program.texts)

@@ -63,6 +63,11 @@ explained_lines t i u g chains =
 abbrev pub section_at : CompiledView → ℕ → SectionView
 section_at c i = slice_index_or (sections_of c.scheme.program.texts) i (record { thread = 0; body = Stop })
 
+-- what a node of section i does
+abbrev pub section_deed : CompiledView → ℕ → ℕ → List ℕ
+section_deed c i n = deed_text c.scheme.program.source (section_at c i).thread
+    (option_map (λ x. x.label) (slice_get (flow_nodes (section_at c i).body) n))
+
 -- the lines of section i of a compiled program with these chains
 abbrev pub section_explained : CompiledView → ℕ → List (List Link) → List ℕ
 section_explained c i chains =

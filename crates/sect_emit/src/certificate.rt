@@ -37,8 +37,8 @@ pub fn found(
     ensures named { IfOk result (λ chains. (links : List Link) → Has chains.items links
         → IsChainNamed scheme.now.program links) }
 {
-    scheme.rules();
-    scheme.program().typing();
+    scheme.facts();
+    scheme.program().facts();
     locks_stay_the_programs();
     steps_of_sections();
     chains(alloc, scheme, locks, section)
@@ -56,7 +56,7 @@ fn section_of(
     ensures words { IfOk result (IsSectionSpelled scheme.now section locks.now) }
     ensures good { IfOk result IsSection }
 {
-    scheme.rules();
+    scheme.facts();
     let chains = found(alloc, scheme, locks, section)?;
     let program = scheme.program();
     let count = scheme.graph().section(section).exit() + 1;
@@ -73,8 +73,8 @@ pub fn certificate_of(alloc: Global, scheme: &Scheme, all: &[Locks]) -> Result<C
     ensures words { IfOk result (IsSpelled scheme.now all.now) }
     ensures text { IfOk result HasText }
 {
-    scheme.rules();
-    scheme.program().typing();
+    scheme.facts();
+    scheme.program().facts();
     let mut sections = Vec::new(alloc);
     for section in 0..scheme.program().section_count() {
         sections.push(section_of(alloc, scheme, &all[section as usize], section)?)?;

@@ -83,14 +83,13 @@ impl Compiled {
     }
 
     /// What a compiled program keeps.
-    pub fn rules(&self)
+    pub fn facts(&self)
         ensures compiled { IsCompiled self.now }
         ensures least { AreSetsLeast self.now }
     {
-        let _ = &self.locks;
-        self.scheme.rules();
-        self.scheme.program().typing();
-        let _typed = self.scheme.program().tree();
+        let _facts = &self.locks;
+        self.scheme.facts();
+        let _facts = self.scheme.program().tree();
     }
 
     /// What inference knows of the program.
@@ -142,9 +141,9 @@ impl Compiled {
         ensures valid { IfOk result (IsValid self.now.scheme) }
     {
         spelled_locks_are_valid();
-        self.scheme.rules();
-        self.scheme.program().typing();
-        let _typed = self.scheme.program().tree();
+        self.scheme.facts();
+        self.scheme.program().facts();
+        let _facts = self.scheme.program().tree();
         certificate_of(alloc, &self.scheme, self.locks.as_slice())
     }
 }

@@ -81,7 +81,7 @@ fn planned(alloc: Global, scheme: Scheme, locks: Vec<Locks>) -> Result<Compiled,
 {
     let parts = all_parts(alloc, &scheme, locks.as_slice())?;
     let compiled = Compiled::of(scheme, locks, parts);
-    compiled.rules();
+    compiled.facts();
     Ok(compiled)
 }
 
@@ -102,7 +102,7 @@ fn all_parts(alloc: Global, scheme: &Scheme, all: &[Locks]) -> Result<Vec<Vec<Gr
     ensures { IfOk result (λ parts.
         AreFixedParts scheme.now (entries_of all.now) (map (λ v. v.items) parts.items)) }
 {
-    scheme.rules();
+    scheme.facts();
     let mut parts = Vec::new(alloc);
     for locks in all {
         parts.push(fixed_part(alloc, scheme, locks.entry())?)?;

@@ -1,13 +1,15 @@
 //! Why the sections of a compiled program take their locks, as it is printed.
 
 ghost use Rattle.std.specs.Prelude.{◌≡◌, ◌<◌, ◌++◌, List, length, replicate, IfOk, OnOk};
+ghost use Rattle.std.specs.Prelude.{option_map, slice_get};
 ghost use Rattle.std.specs.String.{string_bytes};
 ghost use Rattle.sect_lemmas.specs.Lists.{Has};
 ghost use Rattle.sect_types.specs.Sections.{sections_of};
 ghost use Rattle.sect_names.specs.declared.link.Link.{Link};
 ghost use Rattle.sect_names.specs.Printing.{IsNamed};
 ghost use Rattle.sect_emit.specs.Words.{IsChainNamed};
-ghost use Rattle.sect_emit.specs.Explaining.{node_text, widest, step_line, lock_line, chain_lines, chains_lines};
+ghost use Rattle.sect_emit.specs.Explaining.{deed_text, node_text, widest, step_line, lock_line};
+ghost use Rattle.sect_emit.specs.Explaining.{chain_lines, chains_lines};
 ghost use Rattle.sect_emit.specs.Explaining.{explained_lines, section_explained, IsChained};
 ghost use Rattle.sect_emit.specs.Explaining.{IsExplanation};
 ghost use Rattle.sect_emit.specs.steps.Naming.{AreNodesOf};
@@ -54,7 +56,7 @@ fn put_section(
     ensures { OnOk result ((chains : List (List Link)) × IsChained compiled.now section chains
         × (string_bytes text.new ≡ string_bytes text.old ++ section_explained compiled.now section chains)) }
 {
-    compiled.rules();
+    compiled.facts();
     let program = compiled.scheme().program();
     let explained = Explained {
         program,
@@ -157,13 +159,33 @@ fn node_text(alloc: Global, section: Explained<'_>, node: u32) -> Result<String,
         ≡ node_text section.entry.program.now.source section.entry.thread section.entry.flow.now node) }
 {
     let mut text = format!(in alloc; "node {node}: ")?;
-    if node < section.flow.exit() as u32 {
-        let label = section.flow.action(node as u16);
-        put_label(&mut text, section.program, section.thread, label)?;
-    } else {
-        text.push_str("exit")?;
-    }
+    put_deed(
+        &mut text,
+        section.program,
+        section.thread,
+        section.flow,
+        node,
+    )?;
     Ok(text)
+}
+
+/// Adds what a node of a graph of a thread does; the exit is called so.
+pub fn put_deed(
+    text: &mut String,
+    program: &Program,
+    thread: u16,
+    flow: &Flow,
+    node: u32,
+) -> Result<(), AllocError>
+    requires { AreNodesOf program.now thread flow.now }
+    ensures { OnOk result (string_bytes text.new ≡ string_bytes text.old ++ deed_text program.now.source thread
+        (option_map (λ x. x.label) (slice_get flow.now node))) }
+{
+    if node < flow.exit() as u32 {
+        put_label(text, program, thread, flow.action(node as u16))
+    } else {
+        text.push_str("exit")
+    }
 }
 
 /// Adds the line of a step, in which the lock stands behind a column of this width.

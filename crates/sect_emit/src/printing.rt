@@ -45,9 +45,9 @@ fn put_thread(text: &mut String, compiled: &Compiled, thread: u16) -> Result<(),
     ensures { OnOk result ((of : TextView) → slice_get compiled.now.scheme.program.texts thread ≡ Some of
         → string_bytes text.new ≡ string_bytes text.old ++ thread_listed compiled.now thread of) }
 {
-    compiled.rules();
+    compiled.facts();
     let program = compiled.scheme().program();
-    let _sound = program.text(thread);
+    let _facts = program.text(thread);
     let flow = compiled.scheme().graph().thread(thread);
     put_thread_lines(text, program, thread, flow)
 }
@@ -76,7 +76,7 @@ pub fn put_thread_name(text: &mut String, program: &Program, thread: u16) -> Res
     ensures { OnOk result (string_bytes text.new
         ≡ string_bytes text.old ++ thread_name program.now.source thread) }
 {
-    program.typing();
+    program.facts();
     Ok(write!(text, "{}", program.tree().threads()[thread as usize].name)?)
 }
 
@@ -97,7 +97,7 @@ fn put_section(text: &mut String, compiled: &Compiled, section: u16) -> Result<(
         → slice_get (sections_of compiled.now.scheme.program.texts) section ≡ Some of
         → string_bytes text.new ≡ string_bytes text.old ++ section_listed compiled.now section of) }
 {
-    compiled.rules();
+    compiled.facts();
     let program = compiled.scheme().program();
     let listed = Listed {
         number: section,

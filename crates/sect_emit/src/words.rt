@@ -1,6 +1,8 @@
 //! Locks and chains by the names that stand in a program's text.
 
-ghost use Rattle.std.specs.Prelude.{◌≡◌, ◌≤◌, List, map, length, IfOk};
+ghost use Rattle.std.specs.Prelude.{◌≡◌, ◌≢◌, ◌≤◌, ◌<◌, ◌+◌, ◌-◌, List, [], ◌∷◌, ◌++◌, map, take, length, Some};
+ghost use Rattle.std.specs.Prelude.{slice_get, IfOk, OnOk, IsTrue};
+ghost use Rattle.sect_cert.specs.declared.certificate.CertStep.{CertStep};
 ghost use Rattle.std.specs.List.{AllByRecursion};
 ghost use Rattle.sect_lemmas.specs.Lists.{Has};
 ghost use Rattle.sect_cert.specs.Texts.{IsBase, IsPath, IsLock, IsStep, IsChain};
@@ -12,7 +14,7 @@ ghost use Rattle.sect_names.specs.Printing.{IsNamed, AreNamed};
 ghost use Rattle.sect_emit.specs.Words.{path_words, lock_words, list_words, step_words, chain_words, chains_words};
 ghost use Rattle.sect_emit.specs.Words.{IsChainNamed};
 
-use sect_cert::{CertBase, CertLock, CertPath, CertStep, Items};
+use sect_cert::{CertBase, CertLock, CertPath, CertStep, ChainSteps, Items, Runs};
 use sect_chains::Chain;
 use sect_infer::Locks;
 use sect_names::{Effect, Link, Lock, Path, Right, field_name};
@@ -29,12 +31,12 @@ fn base_of(program: &Program, variable: Variable) -> CertBase
     match variable {
         Variable::Global(number) => {
             let name = program.tree().globals()[number as usize].name;
-            let _good = name.as_bytes();
+            let _facts = name.as_bytes();
             CertBase::Name(name)
         }
         Variable::Local(thread, number) => {
             let local = program.local_name(thread, number);
-            let _good = local.name.as_bytes();
+            let _facts = local.name.as_bytes();
             match local.call {
                 None => CertBase::Name(local.name),
                 Some(call) => CertBase::InCall(local.name, call),
@@ -52,7 +54,7 @@ fn path_of(alloc: Global, program: &Program, path: &Path) -> Result<CertPath, Al
     let mut fields = Vec::new(alloc);
     for field in path.fields() {
         let name = field_name(program, *field);
-        let _good = name.as_bytes();
+        let _facts = name.as_bytes();
         fields.push(*name)?;
     }
     Ok(CertPath {
@@ -114,6 +116,48 @@ fn step_of(alloc: Global, program: &Program, link: &Link) -> Result<CertStep, Al
     Ok(step(link.node, lock))
 }
 
+/// Adds a step at a node with the lock of the last one.
+fn step_again(steps: &mut ChainSteps, node: u32) -> Result<(), AllocError>
+    requires some { steps.old ≢ [] }
+    requires good { AllByRecursion IsStep steps.old }
+    ensures words { OnOk result ((last : CertStep) → slice_get steps.old (length steps.old - 1) ≡ Some last
+        → steps.new ≡ steps.old ++ record { node = node; lock = last.lock } ∷ []) }
+    ensures good { OnOk result (AllByRecursion IsStep steps.new) }
+{
+    steps.push_again(node)?;
+    Ok(())
+}
+
+/// Whether the locks of two steps are equal.
+fn have_one_lock(one: &Link, other: &Link) -> bool
+    ensures { IsTrue result → one.now.lock ≡ other.now.lock }
+{
+    one.lock == other.lock
+}
+
+/// Puts a step of a chain by its names behind those before it. Mostly its lock is the one before.
+fn next_step(
+    alloc: Global,
+    program: &Program,
+    links: &[Link],
+    index: usize,
+    steps: &mut ChainSteps,
+) -> Result<(), AllocError>
+    requires there { index < length links.now }
+    requires named { IsChainNamed program.now links.now }
+    requires words { steps.old ≡ map (step_words program.now.source) (take index links.now) }
+    requires good { AllByRecursion IsStep steps.old }
+    ensures words { OnOk result (steps.new ≡ map (step_words program.now.source) (take (index + 1) links.now)) }
+    ensures good { OnOk result (AllByRecursion IsStep steps.new) }
+{
+    let link = &links[index];
+    if 0 < index && have_one_lock(&links[index - 1], link) {
+        return step_again(steps, link.node);
+    }
+    let step = step_of(alloc, program, link)?;
+    steps.push(step)
+}
+
 /// The chain of the lock of this number by its names.
 fn chain_of(
     alloc: Global,
@@ -125,14 +169,12 @@ fn chain_of(
     ensures words { IfOk result (λ words. words ≡ chain_words program.now.source lock chain.now) }
     ensures good { IfOk result IsChain }
 {
-    let mut steps = Vec::new(alloc);
-    for link in chain.links() {
-        steps.push(step_of(alloc, program, link)?)?;
+    let mut steps = ChainSteps::new(alloc);
+    let links = chain.links();
+    for index in 0..links.len() {
+        next_step(alloc, program, links, index, &mut steps)?;
     }
-    Ok(sect_cert::Chain {
-        lock,
-        steps: Items::from_vec(steps),
-    })
+    Ok(sect_cert::Chain { lock, steps })
 }
 
 /// The chains of locks, in order, by their names.
@@ -153,22 +195,46 @@ pub fn chains_of(
     Ok(Items::from_vec(list))
 }
 
+/// Puts a node's list by its names behind those of the nodes before. Mostly it repeats the list before.
+fn next_list(
+    alloc: Global,
+    program: &Program,
+    locks: &Locks,
+    node: u16,
+    lists: &mut Runs<Items<CertLock>>,
+) -> Result<(), AllocError>
+    requires there { node < length locks.now.at }
+    requires named { (list : List Lock) → Has locks.now.at list → AreNamed program.now list }
+    requires words { lists.old ≡ map (list_words program.now.source) (take node locks.now.at) }
+    requires good { AllByRecursion (λ list. AllByRecursion IsLock list) lists.old }
+    ensures words { OnOk result (lists.new ≡ map (list_words program.now.source) (take (node + 1) locks.now.at)) }
+    ensures good { OnOk result (AllByRecursion (λ list. AllByRecursion IsLock list) lists.new) }
+{
+    if 0 < node && locks.are_one(node, node - 1) {
+        lists.push_again()?;
+        return Ok(());
+    }
+    let needed = locks.at(alloc, node)?;
+    let list = list_of(alloc, program, needed.as_slice())?;
+    lists.push(list)?;
+    Ok(())
+}
+
 /// The lists of a section's nodes, of which there are so many, by their names.
 pub fn lists_of(
     alloc: Global,
     program: &Program,
     locks: &Locks,
     count: u16,
-) -> Result<Items<Items<CertLock>>, AllocError>
+) -> Result<Runs<Items<CertLock>>, AllocError>
     requires count { length locks.now.at ≡ count }
     requires named { (list : List Lock) → Has locks.now.at list → AreNamed program.now list }
     ensures words { IfOk result (λ lists. lists ≡ map (list_words program.now.source) locks.now.at) }
     ensures good { IfOk result (λ lists. AllByRecursion (λ list. AllByRecursion IsLock list) lists) }
 {
-    let mut lists = Vec::new(alloc);
+    let mut lists = Runs::new(alloc);
     for node in 0..count {
-        let needed = locks.at(alloc, node)?;
-        lists.push(list_of(alloc, program, needed.as_slice())?)?;
+        next_list(alloc, program, locks, node, &mut lists)?;
     }
-    Ok(Items::from_vec(lists))
+    Ok(lists)
 }

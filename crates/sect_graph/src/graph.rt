@@ -71,7 +71,7 @@ impl Graph {
 pub fn graph_of(alloc: Global, program: &Program) -> Result<Graph, AllocError>
     ensures { IfOk result (AreGraphs program.now.texts) }
 {
-    program.typing();
+    program.facts();
     let mut threads = Vec::new(alloc);
     let mut sections = Vec::new(alloc);
     for thread in 0..program.thread_count() {

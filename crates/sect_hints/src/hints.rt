@@ -21,7 +21,7 @@ fn guard_named(program: &Program, names: &IndexSet<Name>, name: &Name) -> Result
     requires { names.now.keys ≡ names_of_globals program.now.source.globals }
     ensures { FindsNamed program.now name.now result }
 {
-    program.typing();
+    program.facts();
     let tree = program.tree();
     let Some(global) = names.get_index_of(name) else {
         return Err(Rule::NoSuchGlobal);
@@ -71,7 +71,7 @@ fn judge(alloc: Global, program: &Program) -> Result<Guards, HintFault>
     ensures guards { IfOk result (AreGuards program.now) }
     ensures unguarded { IfOk result (AreUnguarded program.now) }
 {
-    program.typing();
+    program.facts();
     let tree = program.tree();
     let names = names_of(alloc, tree.globals())?;
     let mut list = Vec::new(alloc);

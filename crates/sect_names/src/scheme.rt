@@ -137,10 +137,10 @@ fn classes_of(alloc: Global, program: &Program) -> Result<Classes, AllocError>
 
 impl Scheme {
     /// What a scheme keeps.
-    pub fn rules(&self)
+    pub fn facts(&self)
         ensures { IsScheme self.now }
     {
-        let _ = &self.program;
+        let _facts = &self.program;
     }
 
     /// The program.

@@ -26,7 +26,7 @@ pub fn accept(alloc: Global, source: &[u8], k: u16) -> Result<Scheme, Refusal>
     check_k(k)?;
     let program = program_of(alloc, source)?;
     let scheme = scheme_of(alloc, program, k)?;
-    scheme.rules();
+    scheme.facts();
     Ok(scheme)
 }
 
@@ -39,6 +39,6 @@ pub fn program_of(alloc: Global, source: &[u8]) -> Result<Program, Refusal>
 {
     let tree = parse(alloc, source)?;
     let program = check_types(alloc, tree)?;
-    let _typed = program.tree();
+    let _facts = program.tree();
     Ok(program)
 }

@@ -72,7 +72,7 @@ impl Classes {
     pub fn parted(&self)
         ensures { IsParted self.now }
     {
-        let _ = &self.numbers;
+        let _facts = &self.numbers;
     }
 
     /// The sets whose sites these are.

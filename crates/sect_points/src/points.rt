@@ -63,7 +63,7 @@ fn fill_by(
     ensures below { OnOk result (AreBelow sets.new) }
     ensures places { OnOk result (SameHolders sets.old sets.new) }
 {
-    program.typing();
+    program.facts();
     let mut marks = Marks::new(alloc, sets.locals().len())?;
     sets.bounds();
     moved.bounds();

@@ -128,12 +128,12 @@ fn turn(sets: &mut PointsTo, placed: ThreadAction, bases: &SiteSet, marks: &mut 
             )
         }
         Action::Load(target, base, field) => {
-            let _ = base;
+            let _facts = base;
             let sites = sets.gathered(bases, field.number);
             add(sets, Holder::Local(thread, target), &sites, marks)
         }
         Action::Store(base, field, value) => {
-            let _ = base;
+            let _facts = base;
             let sites = value_sites(sets, thread, value);
             spread(sets, bases, field.number, &sites, marks)
         }

@@ -70,7 +70,7 @@ fn run_named<J: Naming + Send + Sync, R: Threads + Wait + Sync, G: Gate>(
     }
     let mut world = run.into_inner().into_world(compiled);
     run_rest(rt, gate, compiled, &mut world)?;
-    world.rules();
+    world.facts();
     Ok(world.finish())
 }
 

@@ -15,7 +15,7 @@ pub fn turn_of(world: &mut World<'_>, thread: u16) -> Result<Turned, RunFault>
     ensures same { IsSameRun world.old world.new }
     ensures granted { OnOk result (AreBelow (threads_in world.old.compiled) world.new.granted) }
 {
-    world.rules();
+    world.facts();
     states_are_well_kept();
     match world.turn(thread) {
         Ok(turned) => Ok(turned),

@@ -16,4 +16,5 @@ pub mod SectionSound
 pub mod SoundLemmas
 pub mod Starts
 pub mod Stores
+pub mod TypedPrograms
 pub mod WholeRows

@@ -255,7 +255,7 @@ impl<'a> Called<'a> {
         requires { number < length self.now }
         ensures { IfOk result (λ marked. AreReturning self.now number marked.items) }
     {
-        let _ = &self.callers;
+        let _facts = &self.callers;
         let count = self.procedures.len();
         let mut marked = vec![in alloc; false; count]?;
         let mut found = Vec::new(alloc);

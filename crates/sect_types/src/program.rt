@@ -319,7 +319,7 @@ fn judge_tree(alloc: Global, tree: &Tree, spot: &mut Spot) -> Result<Parts, Faul
         p.section_count p.site_count p.statement_count) }
     ensures fresh { IfOk result (λ p. p.fresh.items ≡ map (fresh_in tree.now) tree.now.threads) }
 {
-    let _ = tree.is_empty();
+    let _facts = tree.is_empty();
     let called = Called::new(alloc, tree.procedures())?;
     let shown = declarations(alloc, tree, spot)?;
     let context = Context {
@@ -412,7 +412,7 @@ impl Program {
     /// What typing means for the numbers, which the clauses say: each name is the number of something that is there,
     /// and types agree; loads, stores, `new` and `print` stand inside sections alone, and no section in a section; all
     /// counts are within the limits; sections and sites are numbered in text order.
-    pub fn typing(&self)
+    pub fn facts(&self)
         ensures sound { AreSound self.now.records self.now.globals self.now.locals self.now.texts }
         ensures records_there { AreRecordsThere self.now }
         ensures limits { IsWithinLimits self.now }
@@ -420,7 +420,7 @@ impl Program {
         ensures sites { AllSited (length self.now.globals) self.now.texts }
         ensures lockings { length self.now.lockings ≡ length (sections_of self.now.texts) }
     {
-        let _ = &self.texts;
+        let _facts = &self.texts;
     }
 
     /// The types of the fields of each record.

@@ -21,7 +21,6 @@ use Rattle.sect_graph.specs.declared.flow.Node.{Node}
 use Rattle.sect_graph.specs.declared.flow.Successors.{Successors}
 use Rattle.sect_graph.specs.declared.flow.Successors.TheVariants.{Next as To}
 use Rattle.sect_graph.specs.Rests.{Begins}
-use Rattle.sect_names.specs.Records.{IsTypedProgram}
 use Rattle.sect_names.specs.Schemes.{guard_of}
 use Rattle.sect_names.proofs.shared.Placing.{statement_sited}
 use Rattle.sect_points.specs.Statements.{thread_action}
@@ -33,6 +32,7 @@ use Rattle.sect_table.specs.Sound.{IsKept}
 use Rattle.sect_emit.specs.declared.plan.Grip.{Grip}
 use Rattle.sect_emit.specs.Plan.{key_of}
 use Rattle.sect_emit.specs.Compiled.{CompiledView, IsCompiled, program_of}
+use Rattle.sect_emit.proofs.shared.TypedPrograms.{typed_program}
 use Rattle.sect_world.specs.Events.{guard_at, fresh_grip, grips_of, step_in}
 use Rattle.sect_world.specs.Kept.{IsTextOf}
 use Rattle.sect_world.specs.declared.inside.Making.{Making}
@@ -91,15 +91,12 @@ new_goes c p is t w v s new rest k x to n label successors number begins does =
     subst (λ z. Goes rest t s z (Ok n) v (add s t (object_by p new.of new.site))) (sym step)
     (ap rest m ∙ b.leads, refl, refl)
 
-typed_of : (c : CompiledView) → IsCompiled c → IsTypedProgram (program_of c)
-typed_of c is = record { sound = is.numbers.sound; sited = is.numbers.sited }
-
 -- nothing guards an object that is made for a record that nothing guards
 site_guard : (c : CompiledView) → IsCompiled c → (t : ℕ) (target of site : ℕ) (after : TextView)
     → IsTextOf (program_of c) t true (Do (action.New target of site) after)
     → guard_at c site ≡ guard_of c.scheme.guards of
 site_guard c is t target of site after text =
-    guard_of_site c site of (statement_sited (program_of c) (typed_of c is)
+    guard_of_site c site of (statement_sited (program_of c) (typed_program c is)
     (thread_action t (action.New target of site)) text.listed.0)
 
 -- and it brings the key of its object

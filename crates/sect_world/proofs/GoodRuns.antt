@@ -13,11 +13,11 @@ use Rattle.sect_world.proofs.MetPlans.{beginnings_are_held}
 use Rattle.sect_names.specs.declared.lock.Lock.TheVariants as lock
 use Rattle.sect_names.specs.Needed.{end_of}
 use Rattle.sect_names.specs.Along.{NeededIn, GoesBy}
-use Rattle.sect_names.specs.Records.{IsTypedProgram}
 use Rattle.sect_world.specs.declared.event.Event.{Event}
 use Rattle.sect_types.specs.Whole.{FrameView, first_frames}
 use Rattle.sect_emit.specs.Compiled.{CompiledView, IsCompiled, program_of}
 use Rattle.sect_emit.specs.State.{Outside, Running, ThreadState, State, IsThread, outside, start}
+use Rattle.sect_emit.proofs.shared.TypedPrograms.{typed_program}
 use Rattle.sect_world.specs.Runs.{RunsTo, IsRun}
 use Rattle.sect_world.specs.Held.{HoldsEnough, may_read}
 use Rattle.sect_world.specs.Laws.{AccessesAreHeld, StatesAreWellKept}
@@ -62,9 +62,9 @@ module _ (c : CompiledView) where
   -- in a good state each thread holds enough for its next access
   pub good_holds_enough : IsCompiled c → (s : State) → Good c s → (t : ℕ) → HoldsEnough c s t
   good_holds_enough ok s good t th i k a at running is =
-      let typed : IsTypedProgram (program_of c) = record { sound = ok.numbers.sound; sited = ok.numbers.sited } in
-      next_access_is_held c ok.scheme typed t s.store th.frame.work (pointed_thread c s good.kept t th at) th.held
-      i k (stands_inside c s good.kept t th at i k running) (good.secured t th i k at running) th.frame.work.fuel a is
+      next_access_is_held c ok.scheme (typed_program c ok) t s.store th.frame.work
+      (pointed_thread c s good.kept t th at) th.held i k (stands_inside c s good.kept t th at i k running)
+      (good.secured t th i k at running) th.frame.work.fuel a is
 
 -- in each state of a run each thread holds enough for its next access
 pub accesses_are_held : (c : CompiledView) → IsCompiled c → AccessesAreHeld c
@@ -86,8 +86,7 @@ module _ (c : CompiledView) (ok : IsCompiled c) (fuel : ℕ) (trace : List Event
         → may_read c s.store th.held o ≡ true
     needed_beginnings_are_held t th i k at running p q f e needed goes o is =
         let good = runs_are_good c ok fuel trace s run in
-        let typed : IsTypedProgram (program_of c) = record { sound = ok.numbers.sound; sited = ok.numbers.sited } in
-        (beginnings_are_held c ok.scheme typed t s.store th.frame.work (pointed_thread c s good.kept t th at) th.held i
-        k
+        (beginnings_are_held c ok.scheme (typed_program c ok) t s.store th.frame.work
+        (pointed_thread c s good.kept t th at) th.held i k
         (stands_inside c s good.kept t th at i k running) (good.secured t th i k at running) p q f e needed goes o
         is).1

@@ -47,6 +47,7 @@ use Rattle.sect_world.proofs.AllowedChanges.{IsAllowed, asked_is_allowed}
 use Rattle.sect_world.specs.Accesses.{change_in, Asks}
 use Rattle.sect_world.specs.Held.{class_mode_in, next_access}
 use Rattle.sect_emit.specs.ModeTests.{is_writing}
+use Rattle.sect_emit.proofs.shared.TypedPrograms.{typed_program}
 use Rattle.sect_world.proofs.Holding.{passes_in, in_passes, class_is}
 use Rattle.sect_world.proofs.StepChanges.{change_is_asked}
 use Rattle.sect_world.proofs.HeldAccesses.{next_access_is_held}
@@ -137,7 +138,7 @@ none_held c s = record { objects = λ o x m is at. absurd cc; classes = λ n m i
 
 module _ (c : CompiledView) (ok : IsCompiled c) where
   typed_of : IsTypedProgram (program_of c)
-  typed_of = record { sound = ok.numbers.sound; sited = ok.numbers.sited }
+  typed_of = typed_program c ok
 
   module _ (s : State) (good : Good c s) (t : ℕ) (th : ThreadState) (at : IsThread s t th) where
     -- who begins a section has secured all that it needs

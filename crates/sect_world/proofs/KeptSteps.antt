@@ -32,6 +32,7 @@ use Rattle.sect_names.proofs.shared.Placing.{statement_sited}
 use Rattle.sect_emit.specs.Compiled.{CompiledView, IsCompiled, program_of}
 use Rattle.sect_emit.specs.Pointed.{IsPointed, ArePointed, ObjectsStay, StepsTo}
 use Rattle.sect_emit.proofs.shared.Pointing.{HasDone, action_done, step_pointed}
+use Rattle.sect_emit.proofs.shared.TypedPrograms.{typed_program}
 use Rattle.sect_world.specs.Kept.{IsTextOf, IsStoreKept, IsWorkKept}
 use Rattle.sect_world.proofs.Listing.{text_joined}
 
@@ -128,7 +129,7 @@ module _ (c : CompiledView) (is : IsCompiled c) where
       by false e = all q y e
 
   typed : IsTypedProgram (program_of c)
-  typed = record { sound = is.numbers.sound; sited = is.numbers.sited }
+  typed = typed_program c is
 
   done_shaped : (t : ℕ) (a : Action) → IsProgramStep c.scheme t (Act a) → (s after : StoreView) (w v : WorkView)
       → t < length s.made

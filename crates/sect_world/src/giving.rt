@@ -79,7 +79,7 @@ fn end_after(compiled: &Compiled, thread: u16, how: Option<Fault>, node: u16) ->
     match how {
         Some(fault) => Some(End::Failed(fault)),
         None => {
-            compiled.rules();
+            compiled.facts();
             let flow = compiled.scheme().graph().thread(thread);
             if node < flow.exit() {
                 None

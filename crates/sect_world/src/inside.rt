@@ -116,7 +116,7 @@ fn run_inside(
         (step_in compiled.now thread k work.old store.old)) table.old table.new) }
     ensures refused { OnErr result ((work.new ≡ work.old) × (store.new ≡ store.old) × (table.new ≡ table.old)) }
 {
-    compiled.rules();
+    compiled.facts();
     let program = compiled.scheme().program();
     match new_with_key(compiled, work, flow.action(node)) {
         Some(new) => {
@@ -159,7 +159,7 @@ pub fn step_inside(
     ensures sited { OnOk result (IsSited compiled.now runner.new.stage) }
     ensures refused { OnErr result ((runner.new ≡ runner.old) × (store.new ≡ store.old) × (table.new ≡ table.old)) }
 {
-    compiled.rules();
+    compiled.facts();
     let flow = compiled.scheme().graph().section(section);
     let went = run_inside(
         alloc,

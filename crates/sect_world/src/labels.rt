@@ -16,6 +16,6 @@ pub fn next_label(compiled: &Compiled, thread: u16, node: u16) -> Label
     requires on { rest_at (text_at compiled.now thread) node ≢ Stop }
     ensures { IsNext result (rest_at (text_at compiled.now thread) node) }
 {
-    compiled.rules();
+    compiled.facts();
     compiled.scheme().graph().thread(thread).action(node)
 }

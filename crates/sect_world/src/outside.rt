@@ -48,7 +48,7 @@ fn run_outside(
         work.old store.old store.new went work.new) }
     ensures refused { OnErr result ((work.new ≡ work.old) × (store.new ≡ store.old)) }
 {
-    compiled.rules();
+    compiled.facts();
     let program = compiled.scheme().program();
     let flow = compiled.scheme().graph().thread(thread);
     run_node(alloc, program, thread, flow, node, work, store)
@@ -77,7 +77,7 @@ pub fn step_outside(
     ensures store { store.new ≡ store.old }
     ensures refused { OnErr result (runner.new ≡ runner.old) }
 {
-    compiled.rules();
+    compiled.facts();
     let node = runner.node;
     match run_outside(alloc, compiled, thread, node, &mut runner.work, store)? {
         Ok(next) => {
@@ -103,7 +103,7 @@ fn plan_for(
     ensures { IfOk result (λ plan. plan.items
         ≡ plan_at compiled.now section store.now runner.now.work.locals) }
 {
-    compiled.rules();
+    compiled.facts();
     let plan = plan_of(
         alloc,
         compiled.part(section),
@@ -186,7 +186,7 @@ pub fn begin(compiled: &Compiled, thread: u16, section: u16, runner: &mut Runner
     ensures wanted { (runner.new.wanted ≡ runner.old.wanted) × (runner.new.taken ≡ runner.old.taken) }
     ensures work { (runner.new.work ≡ runner.old.work) × (runner.new.ended ≡ runner.old.ended) }
 {
-    compiled.rules();
+    compiled.facts();
     let flow = compiled.scheme().graph().thread(thread);
     runner.stage = Stage::Running(section, 0);
     runner.node = chosen(flow.succ(runner.node), true);

@@ -72,7 +72,7 @@ fn first_end(compiled: &Compiled, thread: u16) -> Option<End>
     requires { thread < length (program_of compiled.now).texts }
     ensures { BeginsSo (text_at compiled.now thread) result }
 {
-    compiled.rules();
+    compiled.facts();
     let flow = compiled.scheme().graph().thread(thread);
     if flow.exit() == 0 {
         Some(End::Done)

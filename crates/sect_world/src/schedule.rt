@@ -26,7 +26,7 @@ fn counted_turn(world: &mut World<'_>, thread: u16) -> Result<usize, WorldFault>
     ensures refused { IfErr result (λ fault.
         IsRefused fault thread (length (program_of world.old.compiled).texts)) }
 {
-    world.rules();
+    world.facts();
     let before = world.trace().len();
     match world.turn(thread) {
         Ok(_) => Ok(world.trace().len() - before),
@@ -55,7 +55,7 @@ pub fn run_schedule(
             Err(fault) => return Err(fault),
         }
     }
-    world.rules();
+    world.facts();
     Ok(Progress {
         run: world.finish(),
         made,

@@ -103,7 +103,7 @@ impl<'a> World<'a> {
     pub fn start(alloc: Global, compiled: &'a Compiled, fuel: u32) -> Result<World<'a>, AllocError>
         ensures { IfOk result (λ world. world ≡ first_world compiled.now fuel) }
     {
-        compiled.rules();
+        compiled.facts();
         let program = compiled.scheme().program();
         let threads = program.thread_count() as usize;
         let moment = Moment {
@@ -122,13 +122,13 @@ impl<'a> World<'a> {
     }
 
     /// What each world keeps: its events are a run of its compiled program, which leads from the start to its state.
-    pub fn rules(&self)
+    pub fn facts(&self)
         ensures compiled { IsCompiled self.now.compiled }
         ensures run { IsRun self.now.compiled self.now.fuel self.now.trace self.now.state }
         ensures order { self.now.order ≡ order_of self.now.trace }
         ensures going { IsStuck self.now.state → ⊥ }
     {
-        let _ = &self.moment.trace;
+        let _facts = &self.moment.trace;
     }
 
     /// The events, in order.
@@ -513,7 +513,7 @@ impl<'a> World<'a> {
         ensures err { OnErr result (self.new ≡ self.old) }
         ensures going { IsStuck self.new.state → ⊥ }
     {
-        self.rules();
+        self.facts();
         if thread as usize >= self.threads() {
             return Err(WorldFault::NoSuchThread(thread));
         }
@@ -523,7 +523,7 @@ impl<'a> World<'a> {
             Stage::Running(section, node) => self.turn_inside(thread, section, node)?,
             Stage::Faulted(_, why) => self.leave(thread, Some(why))?,
         };
-        self.rules();
+        self.facts();
         Ok(turned)
     }
 }

@@ -1,5 +1,5 @@
--- The paths that are told of two sections have names.
-use Rattle.std.proofs.Common.{◌≡◌, ℕ, zero, suc, List, [], ◌∷◌, Some, refl}
+-- The paths that are told of sections have names.
+use Rattle.std.proofs.Common.{◌≡◌, ℕ, zero, suc, List, [], ◌∷◌, Some, refl, subst}
 use Rattle.std.specs.Prelude.{slice_get, slice_index_or}
 use Rattle.sect_lemmas.specs.Lists.{Has}
 use Rattle.sect_points.specs.Paths.{PathView}
@@ -9,7 +9,12 @@ use Rattle.sect_names.specs.Locks.{IsPathOf}
 use Rattle.sect_emit.specs.Compiled.{CompiledView, IsCompiled, program_of}
 use Rattle.sect_emit.proofs.shared.Sets.{set_named}
 use Rattle.sect_conflicts.specs.declared.conflict.PathPair.{PathPair}
-use Rattle.sect_conflicts.specs.Conflicts.{MayBeOne, MayGoTogether, paths_between, set_at}
+use Rattle.sect_conflicts.specs.declared.conflict.SectionPair.{SectionPair}
+use Rattle.sect_conflicts.specs.declared.conflict.Conflict.{Conflict}
+use Rattle.sect_conflicts.specs.declared.conflict.Conflict.TheVariants.{Always, Sometimes, Never}
+use Rattle.sect_conflicts.specs.Comparing.{AreConflicts}
+use Rattle.sect_conflicts.specs.Conflicts.{IsConflict, MayBeOne, MayGoTogether, paths_between, set_at}
+use Rattle.sect_conflicts.specs.Naming.{IsConflictNamed, AreConflictsNamed}
 use Rattle.sect_conflicts.proofs.PathPairs.{between_locked}
 use Rattle.sect_conflicts.proofs.Selecting.{selected}
 
@@ -31,3 +36,12 @@ module _ (c : CompiledView) (compiled : IsCompiled c) where
       let had = selected (MayBeOne c.scheme) (paths_between (set_at c i) (set_at c j)) pairs together.meetings pair h in
       let m = between_locked (set_at c i) (set_at c j) pair had.0 in
       (path_named i pair.first m.0 m.2, path_named j pair.second m.1 m.3)
+
+  conflict_named : (i j : ℕ) (conflict : Conflict) → IsConflict c i j conflict → IsConflictNamed (program_of c) conflict
+  conflict_named i j (Always clash) told = tt
+  conflict_named i j (Sometimes pairs) told =
+      ((λ none. subst (λ ps. Has ps told.1.0) none told.1.1), pair_named i j pairs.items told.0)
+  conflict_named i j Never told = tt
+
+  pub conflicts_named : (pairs : List SectionPair) → AreConflicts c pairs → AreConflictsNamed (program_of c) pairs
+  conflicts_named pairs told pair h = conflict_named pair.first pair.second pair.conflict (told.each pair h).1

@@ -15,7 +15,7 @@ returns c =
     let of = section_shown c.section-thread.result in
     let at = subst (λ (q : ProgramView). slice_get (sections_of q.texts) c.args.section ≡ Some of)
     (c.program.ensures ∙ ap (λ (s : SchemeView). s.program) c.scheme.ensures) c.section-thread.ensures.section in
-    is_profile p c.rules.ensures.compiled c.args.section set c.part.result.now c.set-locks.ensures c.part.ensures of at
+    is_profile p c.facts.ensures.compiled c.args.section set c.part.result.now c.set-locks.ensures c.part.ensures of at
     (record { thread = c.section-thread.result.thread; always = c.in_ok-always.always; sites = sites }) refl
     c.in_ok-always.ensures
     (subst (λ s. AreSitesOfLocks s set sites.items) c.scheme-2.ensures c.in_ok-sites.ensures)

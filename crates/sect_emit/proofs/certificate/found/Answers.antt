@@ -20,11 +20,11 @@ returns-clause-few c =
     let i = c.args.section in
     let of = at_of (sections_of s.program.texts) i c.requires.section in
     let within = c.requires.section in
-    let g = at_of s.graphs.sections i (omega (arith, within, c.rules.ensures.graphed.section_count)) in
+    let g = at_of s.graphs.sections i (omega (arith, within, c.facts.ensures.graphed.section_count)) in
     let told = c.requires.inferred of.0 g.0 of.1 g.1 in
-    let limits = subst IsWithinLimits c.program.ensures c.typing.ensures.limits in
+    let limits = subst IsWithinLimits c.program.ensures c.facts-2.ensures.limits in
     let entry = c.args.locks.now.entry in
-    let few = few_locks s c.rules.ensures limits of.0.thread entry told.0.in_order (told.1 0 entry told.0.first) in
+    let few = few_locks s c.facts.ensures limits of.0.thread entry told.0.in_order (told.1 0 entry told.0.first) in
     if_ok c.chains.result (λ chains are.
     (let e = zip_length (IsFirstChain s of.0.thread (end_of s i) g.0) entry chains.items are in omega (arith, few, e)))
     (c.chains.ensures of.0 g.0 of.1 g.1)
@@ -35,12 +35,12 @@ returns-clause-named c =
     let i = c.args.section in
     let within = c.requires.section in
     let of = at_of (sections_of s.program.texts) i within in
-    let g = at_of s.graphs.sections i (omega (arith, within, c.rules.ensures.graphed.section_count)) in
+    let g = at_of s.graphs.sections i (omega (arith, within, c.facts.ensures.graphed.section_count)) in
     let sound = subst (λ (p : ProgramView). AreSound p.records p.globals p.locals p.texts) c.program.ensures
-    c.typing.ensures.sound in
-    let lawful = section_lawful s (c.locks_stay_the_programs.ensures.generated s c.rules.ensures)
-    (c.locks_stay_the_programs.ensures.carried s c.rules.ensures)
-    (λ section x stands. (c.steps_of_sections.ensures.sound s c.rules.ensures sound section x stands).0) i of.0 g.0 of.1
+    c.facts-2.ensures.sound in
+    let lawful = section_lawful s (c.locks_stay_the_programs.ensures.generated s c.facts.ensures)
+    (c.locks_stay_the_programs.ensures.carried s c.facts.ensures)
+    (λ section x stands. (c.steps_of_sections.ensures.sound s c.facts.ensures sound section x stands).0) i of.0 g.0 of.1
     g.1 in
     if_ok c.chains.result (λ chains are. chains_named s of.0.thread (end_of s i) g.0 lawful c.args.locks.now.entry
     chains.items are) (c.chains.ensures of.0 g.0 of.1 g.1)

@@ -21,14 +21,14 @@ pub lists_of-requires-clause-named : goal.lists_of-requires-clause-named
 lists_of-requires-clause-named c = λ list has.
     let s = c.args.scheme.now in
     subst (λ p. AreNamed p list) (sym c.program-program.ensures)
-    (all_named s c.rules.ensures c.args.section c.args.locks.now c.requires.section c.requires.inferred list has)
+    (all_named s c.facts.ensures c.args.section c.args.locks.now c.requires.section c.requires.inferred list has)
 
 pub list_of-requires : goal.list_of-requires
 list_of-requires c =
     let s = c.args.scheme.now in
     subst (λ p. AreNamed p c.entry.result.now) (sym c.program-program.ensures)
     (subst (AreNamed s.program) (sym c.entry.ensures)
-    (entry_named s c.rules.ensures c.args.section c.args.locks.now c.requires.section c.requires.inferred))
+    (entry_named s c.facts.ensures c.args.section c.args.locks.now c.requires.section c.requires.inferred))
 
 pub returns-clause-good : goal.returns-clause-good
 returns-clause-good c = record {

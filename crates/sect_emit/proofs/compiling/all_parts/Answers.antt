@@ -18,7 +18,7 @@ fixed_part-requires c =
     let i = c.loop-locks.locks-index in
     let within : i < length all = omega arith in
     subst (λ ls. (l : _) → Has ls l → IsClassedLock c.args.scheme.now l) (sym c.entry.ensures)
-    (classed_entry c.args.scheme.now all c.rules.ensures c.requires i c.locks-item.result within c.locks-item.is)
+    (classed_entry c.args.scheme.now all c.facts.ensures c.requires i c.locks-item.result within c.locks-item.is)
 
 pub loop-locks-preserved : goal.loop-locks-preserved
 loop-locks-preserved c =

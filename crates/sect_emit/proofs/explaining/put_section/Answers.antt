@@ -13,7 +13,7 @@ use Rattle.sect_emit.proofs.explaining.put_section.Goals as goal
 
 pub put_explained-requires-clause-nodes : goal.put_explained-requires-clause-nodes
 put_explained-requires-clause-nodes c =
-    section_named c.args.compiled.now c.rules.ensures.compiled c.graph.result.now
+    section_named c.args.compiled.now c.facts.ensures.compiled c.graph.result.now
     (c.graph.ensures ∙ ap (λ (s : SchemeView). s.graphs) c.scheme-2.ensures) c.program-program.result.now
     (c.program-program.ensures ∙ ap (λ (s : SchemeView). s.program) c.scheme.ensures) c.args.section
     (section_shown c.section.result) c.section-2.result.now c.section.ensures.section c.section-2.ensures
@@ -31,8 +31,8 @@ returns c =
     c.section.ensures.section in
     let there = subst (λ (g : GraphView). slice_get g.sections i ≡ Some flow) graphs c.section-2.ensures in
     on_ok c.put_explained.result c.put_explained.ensures (λ put.
-    explained v c.rules.ensures.compiled c.program-program.result.now program i s flow here
-    (section_graph v c.rules.ensures.compiled c.graph.result.now graphs i s flow here c.section-2.ensures)
+    explained v c.facts.ensures.compiled c.program-program.result.now program i s flow here
+    (section_graph v c.facts.ensures.compiled c.graph.result.now graphs i s flow here c.section-2.ensures)
     (string_bytes c.args.text.now) (string_bytes c.put_explained.new.text) c.as_slice.result.now
     c.in_ok-chains.chains.items c.as_slice.ensures.value put
     (λ set at. c.in_ok-chains.ensures.chains s flow set here there at))

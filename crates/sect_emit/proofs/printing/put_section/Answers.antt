@@ -18,11 +18,11 @@ pub put_section_lines-requires-clause-locks : goal.put_section_lines-requires-cl
 put_section_lines-requires-clause-locks c =
     let program = c.program-program.ensures ∙ ap (λ (s : SchemeView). s.program) c.scheme.ensures in
     subst (λ (p : ProgramView). AreNamed p c.set.result.now) (sym program)
-    (set_named c.args.compiled.now c.rules.ensures.compiled c.args.section c.set.result.now c.set.ensures)
+    (set_named c.args.compiled.now c.facts.ensures.compiled c.args.section c.set.result.now c.set.ensures)
 
 pub put_section_lines-requires-clause-nodes : goal.put_section_lines-requires-clause-nodes
 put_section_lines-requires-clause-nodes c =
-    section_named c.args.compiled.now c.rules.ensures.compiled c.graph.result.now
+    section_named c.args.compiled.now c.facts.ensures.compiled c.graph.result.now
     (c.graph.ensures ∙ ap (λ (s : SchemeView). s.graphs) c.scheme-2.ensures) c.program-program.result.now
     (c.program-program.ensures ∙ ap (λ (s : SchemeView). s.program) c.scheme.ensures) c.args.section
     (section_shown c.section.result) c.section-2.result.now c.section.ensures.section c.section-2.ensures
@@ -50,5 +50,5 @@ returns c =
     ∙ (ap (λ ls. old ++ section_lines t i of.thread (slice_index_or v.parts i []) ls flow)
     (sym (get_or_from_slice_get v.sets i set [] c.set.ensures))
     ∙ ap (λ g. old ++ section_lines t i of.thread (slice_index_or v.parts i []) (slice_index_or v.sets i []) g)
-    (section_graph v c.rules.ensures.compiled c.graph.result.now
+    (section_graph v c.facts.ensures.compiled c.graph.result.now
     (c.graph.ensures ∙ ap (λ (s : SchemeView). s.graphs) c.scheme-2.ensures) i of flow at c.section-2.ensures))))))

@@ -9,11 +9,11 @@ use Rattle.sect_emit.proofs.printing.put_thread.Goals as goal
 
 pub put_thread_lines-requires-clause-named : goal.put_thread_lines-requires-clause-named
 put_thread_lines-requires-clause-named c =
-    thread_named c.args.compiled.now c.rules.ensures.compiled c.graph.result.now
+    thread_named c.args.compiled.now c.facts.ensures.compiled c.graph.result.now
     (c.graph.ensures ∙ ap (λ (s : SchemeView). s.graphs) c.scheme-2.ensures) c.program-program.result.now
     (c.program-program.ensures ∙ ap (λ (s : SchemeView). s.program) c.scheme.ensures) c.args.thread
-    c.text-sound.result.now c.thread-flow.result.now c.text-sound.ensures.text c.thread-flow.ensures
-    c.text-sound.ensures.sound
+    c.text-facts.result.now c.thread-flow.result.now c.text-facts.ensures.text c.thread-flow.ensures
+    c.text-facts.ensures.sound
 
 pub returns : goal.returns
 returns c =
@@ -24,6 +24,6 @@ returns c =
     ∙ (ap (λ (p : ProgramView). old ++ thread_lines p.source c.args.thread flow)
     (c.program-program.ensures ∙ ap (λ (s : SchemeView). s.program) c.scheme.ensures)
     ∙ ap (λ g. old ++ thread_lines v.scheme.program.source c.args.thread g)
-    (thread_graph v c.rules.ensures.compiled c.graph.result.now
+    (thread_graph v c.facts.ensures.compiled c.graph.result.now
     (c.graph.ensures ∙ ap (λ (s : SchemeView). s.graphs) c.scheme-2.ensures) c.args.thread of flow at
     c.thread-flow.ensures)))

@@ -4,6 +4,6 @@ use Rattle.sect_cert.specs.Texts.{IsStep}
 use Rattle.sect_emit.specs.Words.{step_words}
 use Rattle.sect_emit.proofs.words.chain_of.Given as goal
 
-abbrev pub invariant-loop-link : goal.invariant-loop-link
-invariant-loop-link l = (l.steps.items ≡ map (step_words l.program.source) (take l.link-index l.link-items))
-    × AllByRecursion IsStep l.steps.items
+abbrev pub invariant-loop-index : goal.invariant-loop-index
+invariant-loop-index l =
+    (l.steps ≡ map (step_words l.program.source) (take l.index l.links)) × AllByRecursion IsStep l.steps

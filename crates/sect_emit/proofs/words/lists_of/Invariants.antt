@@ -6,5 +6,5 @@ use Rattle.sect_emit.proofs.words.lists_of.Given as goal
 
 abbrev pub invariant-loop-node : goal.invariant-loop-node
 invariant-loop-node l =
-    (l.lists.items ≡ map (list_words l.program.source) (take l.node l.locks.at))
-    × AllByRecursion (λ list. AllByRecursion IsLock list) l.lists.items
+    (l.lists ≡ map (list_words l.program.source) (take l.node l.locks.at))
+    × AllByRecursion (λ list. AllByRecursion IsLock list) l.lists

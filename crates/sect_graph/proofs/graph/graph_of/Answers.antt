@@ -8,7 +8,7 @@ flow_of-requires c =
       arith,
       nodes_few c.text-text.result.now,
       count_at c.args.program.now.texts c.loop-thread.thread c.text-text.result.now c.text-text.ensures.text,
-      c.typing.ensures.limits.few_statements,
+      c.facts.ensures.limits.few_statements,
     )
 
 pub put_text-requires : goal.put_text-requires
@@ -17,7 +17,7 @@ put_text-requires c =
       arith,
       count_at c.args.program.now.texts c.loop-thread.thread c.text-text.result.now
           c.text-text.ensures.text,
-      c.typing.ensures.limits.few_statements,
+      c.facts.ensures.limits.few_statements,
     )
 
 pub loop-thread-preserved : goal.loop-thread-preserved

@@ -19,5 +19,5 @@ returns-in_err-program-clause-only c = λ p text.
 
 pub returns-clause-only : goal.returns-clause-only
 returns-clause-only c = λ p text.
-    one_program p c.in_ok-program.program text.numbers c.tree-typed.ensures.numbers
+    one_program p c.in_ok-program.program text.numbers c.tree-facts.ensures.numbers
     (c.in_ok-program.ensures.same ∙ c.in_ok-tree.ensures.only p.source text.spelled)

@@ -9,8 +9,8 @@ use Rattle.sect_points.proofs.points.fill_by.Goals as goal
 pub close-requires-clause-fits : goal.close-requires-clause-fits
 close-requires-clause-fits c =
     subst (AllFit c.args.sets.now) (sym c.requires.readers)
-    (all_fit c.args.program.now c.args.sets.now c.requires.room c.typing.ensures.sound c.typing.ensures.sites
-    c.typing.ensures.limits)
+    (all_fit c.args.program.now c.args.sets.now c.requires.room c.facts.ensures.sound c.facts.ensures.sites
+    c.facts.ensures.limits)
 
 pub close-requires-clause-same : goal.close-requires-clause-same
 close-requires-clause-same c =
@@ -18,11 +18,11 @@ close-requires-clause-same c =
     c.bounds.ensures.rows c.bounds-2.ensures.rows
 
 pub close-requires-clause-few : goal.close-requires-clause-few
-close-requires-clause-few c = few_rows c.args.program.now c.args.sets.now c.requires.room c.typing.ensures.limits
+close-requires-clause-few c = few_rows c.args.program.now c.args.sets.now c.requires.room c.facts.ensures.limits
 
 pub close-requires-clause-suits : goal.close-requires-clause-suits
 close-requires-clause-suits c =
-    all_markable c.args.program.now c.args.sets.now c.in_ok-marks.marks c.requires.room c.typing.ensures.limits
+    all_markable c.args.program.now c.args.sets.now c.in_ok-marks.marks c.requires.room c.facts.ensures.limits
     c.bounds.ensures.few c.bounds.ensures.rows
     (c.in_ok-marks.ensures.locals ∙ ap (λ xs. length xs * LOCAL_ROWS) c.locals.ensures) c.in_ok-marks.ensures.fields
 

@@ -7,7 +7,7 @@ pub returns : goal.returns
 returns g c =
     let same = c.in_ok-run_rest.ensures.same in
     let world = c.into_world-world.ensures in
-    let rules = c.rules.ensures in
+    let rules = c.facts.ensures in
     let finish = c.finish.ensures in
     completed c.args.compiled.now c.args.fuel c.run_rest.new.world c.finish.result (same.0 ∙ world.0)
     (same.1 ∙ (world.1 ∙ c.requires.fuel)) finish.events finish.outcome rules.run rules.order

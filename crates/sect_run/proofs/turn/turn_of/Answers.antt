@@ -7,8 +7,8 @@ use Rattle.sect_run.proofs.turn.turn_of.Goals as goal
 
 pub unreachable-requires : goal.unreachable-requires
 unreachable-requires c =
-    let kept = c.states_are_well_kept.ensures.kept _ c.rules.ensures.compiled in
-    let many = (kept _ _ _ c.rules.ensures.run).as_many in
+    let kept = c.states_are_well_kept.ensures.kept _ c.facts.ensures.compiled in
+    let many = (kept _ _ _ c.facts.ensures.run).as_many in
     let e = c.in-Err-NoSuchThread in
     let count = length c.args.world.now.state.threads in
     let refused = subst (λ fault. IsRefused fault c.args.thread count) e.field-0-is e.ensures.refused in
@@ -18,5 +18,5 @@ pub returns-in-Ok-clause-granted : goal.returns-in-Ok-clause-granted
 returns-in-Ok-clause-granted c =
     let turned = c.in-Ok.ensures.ok in
     subst (AreBelow (threads_in c.args.world.now.compiled)) (sym turned.granted)
-    (let_in_there _ (c.states_are_well_kept.ensures.kept _ c.rules.ensures.compiled) _ _ _ c.rules.ensures.run _ _ _ _
+    (let_in_there _ (c.states_are_well_kept.ensures.kept _ c.facts.ensures.compiled) _ _ _ c.facts.ensures.run _ _ _ _
     turned.does)

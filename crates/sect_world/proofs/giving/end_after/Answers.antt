@@ -17,7 +17,7 @@ returns-then-node-exit c =
     let before : c.args.node < length c.thread-flow.result.now =
     omega (arith, c.if-node-exit.true, c.exit.ensures.number) in
     subst (λ how. EndsSo how (rest_at (text_at c.args.compiled.now t) c.args.node) None) (sym c.in-None.is)
-    (ends_on c.args.compiled.now c.rules.ensures.compiled t c.requires c.thread-flow.result.now at c.args.node before)
+    (ends_on c.args.compiled.now c.facts.ensures.compiled t c.requires c.thread-flow.result.now at c.args.node before)
 
 pub returns-else-node-exit : goal.returns-else-node-exit
 returns-else-node-exit c =
@@ -27,4 +27,4 @@ returns-else-node-exit c =
     let past : length c.thread-flow.result.now ≤ c.args.node =
     omega (arith, c.if-node-exit.false, c.exit.ensures.number) in
     subst (λ how. EndsSo how (rest_at (text_at c.args.compiled.now t) c.args.node) (Some Done)) (sym c.in-None.is)
-    (ends_off c.args.compiled.now c.rules.ensures.compiled t c.requires c.thread-flow.result.now at c.args.node past)
+    (ends_off c.args.compiled.now c.facts.ensures.compiled t c.requires c.thread-flow.result.now at c.args.node past)

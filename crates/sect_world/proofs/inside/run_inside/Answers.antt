@@ -18,7 +18,7 @@ returns-in_ok-make_object-in-Some-clause-goes c = λ rest k x at begins step.
 pub returns-in_ok-make_object-in-Some-clause-table : goal.returns-in_ok-make_object-in-Some-clause-table
 returns-in_ok-make_object-in-Some-clause-table c = λ rest k x at begins text.
     let label = looked_up (λ (y : Node). y.label) _ x _ at c.action.ensures ∙ c.in-Some.ensures.0 in
-    new_holds c.args.compiled.now c.rules.ensures.compiled _
+    new_holds c.args.compiled.now c.facts.ensures.compiled _
     (c.program-program.ensures ∙ ap (λ (s : SchemeView). s.program) c.scheme.ensures) c.args.thread c.args.work.now
     c.make_object.new.work c.args.store.now c.in-Some.new rest k x _ _
     label c.in-Some.ensures.2 begins text c.in_ok-make_object-in-Some.ensures.work
@@ -29,5 +29,5 @@ pub returns-in-None-clause-table : goal.returns-in-None-clause-table
 returns-in-None-clause-table c = if_ok c.run_node.result (λ rest k x at begins text.
     let none = subst (λ l. GivesKey c.args.compiled.now.scheme.guards c.args.work.now.fuel l None)
     (sym (looked_up (λ (y : Node). y.label) _ x _ at c.action.ensures)) c.in-None.ensures in
-    others_hold c.args.compiled.now c.rules.ensures.compiled c.args.thread c.args.work.now c.args.store.now rest k x
+    others_hold c.args.compiled.now c.facts.ensures.compiled c.args.thread c.args.work.now c.args.store.now rest k x
     c.args.table.now none begins text)

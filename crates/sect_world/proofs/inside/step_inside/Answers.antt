@@ -28,7 +28,7 @@ node_at : (c : After-section-flow)
     × (begins_step (rest_at (body_at c.args.compiled.now c.args.section) c.args.node) ≡ true)
 node_at c =
     let x = at_of c.section-flow.result.now c.args.node (c.requires.node c.section-flow.result.now (graph_at c)) in
-    let b = inside_step c.args.compiled.now c.rules.ensures.compiled c.args.thread c.args.section c.args.node
+    let b = inside_step c.args.compiled.now c.facts.ensures.compiled c.args.thread c.args.section c.args.node
     c.section-flow.result.now x.0 c.requires.section (graph_at c) x.1 c.requires.text in
     (x.0, x.1, b.0, b.1)
 
@@ -36,7 +36,7 @@ pub run_inside-requires-clause-step : goal.run_inside-requires-clause-step
 run_inside-requires-clause-step c = λ x at.
     let m = c.args.compiled.now in
     let graph = graph_at (goal.at.run_inside-requires-clause-step c).After-section-flow in
-    let b = inside_step m c.rules.ensures.compiled c.args.thread c.args.section c.args.node c.section-flow.result.now x
+    let b = inside_step m c.facts.ensures.compiled c.args.thread c.args.section c.args.node c.section-flow.result.now x
     c.requires.section graph at c.requires.text in
     step_label (rest_at (body_at m c.args.section)) x (rest_at (body_at m c.args.section) c.args.node) b.1 b.0
 

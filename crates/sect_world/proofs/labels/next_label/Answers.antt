@@ -11,7 +11,7 @@ action-requires c =
     let t = c.args.thread in
     let same = c.graph.ensures ∙ ap (λ (s : SchemeView). s.graphs) c.scheme.ensures in
     let at = sym (ap (λ (g : GraphView). slice_get g.threads t) same) ∙ c.thread.ensures in
-    before_exit_of c.args.compiled.now c.rules.ensures.compiled t c.requires.thread c.args.node c.requires.on
+    before_exit_of c.args.compiled.now c.facts.ensures.compiled t c.requires.thread c.args.node c.requires.on
     c.thread.result.now at
 
 pub returns : goal.returns
@@ -19,5 +19,5 @@ returns c =
     let t = c.args.thread in
     let same = c.graph.ensures ∙ ap (λ (s : SchemeView). s.graphs) c.scheme.ensures in
     let at = sym (ap (λ (g : GraphView). slice_get g.threads t) same) ∙ c.thread.ensures in
-    next_of_node c.args.compiled.now c.rules.ensures.compiled t c.requires.thread c.args.node c.requires.on
+    next_of_node c.args.compiled.now c.facts.ensures.compiled t c.requires.thread c.args.node c.requires.on
     c.thread.result.now at c.action.result c.action.ensures

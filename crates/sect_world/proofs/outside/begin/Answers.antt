@@ -19,6 +19,6 @@ returns-clause-text c = λ i body k is.
     (sym (c.graph.ensures ∙ ap (λ (s : SchemeView). s.graphs) c.scheme.ensures)) ∙ c.thread-flow.ensures in
     let x = at_of g j (c.requires.node g graph) in
     let b = subst (Begins (rest_at (text_at m t)) x.0) is
-    ((thread_graph m c.rules.ensures.compiled t c.requires.thread g graph).running.begins j x.0 x.1) in
+    ((thread_graph m c.facts.ensures.compiled t c.requires.thread g graph).running.begins j x.0 x.1) in
     after_node (rest_at (text_at m t)) x.0 i body k c.succ.result c.chosen-runner.result b
     (told_of (λ (y : Node). y.next) g j c.succ.result c.succ.ensures x.0 x.1) c.chosen-runner.ensures

@@ -17,7 +17,7 @@ run_node-requires-clause-step c = λ x at.
     ap (λ (g : GraphView). slice_get g.threads t)
     (sym (c.graph.ensures ∙ ap (λ (s : SchemeView). s.graphs) c.scheme-2.ensures)) ∙ c.thread-flow.ensures in
     step_label (rest_at (text_at m t)) x (rest_at (text_at m t) c.args.node) c.requires.step
-    ((thread_graph m c.rules.ensures.compiled t c.requires.thread c.thread-flow.result.now graph).running.begins
+    ((thread_graph m c.facts.ensures.compiled t c.requires.thread c.thread-flow.result.now graph).running.begins
     c.args.node x at)
 
 pub returns-clause-steps : goal.returns-clause-steps
@@ -29,7 +29,7 @@ returns-clause-steps c =
     ap (λ (g : GraphView). slice_get g.threads t)
     (sym (c.graph.ensures ∙ ap (λ (s : SchemeView). s.graphs) c.scheme-2.ensures)) ∙ c.thread-flow.ensures in
     let x = at_of g c.args.node (c.requires.node g graph) in
-    let b = (thread_graph m c.rules.ensures.compiled t c.requires.thread g graph).running.begins c.args.node x.0 x.1 in
+    let b = (thread_graph m c.facts.ensures.compiled t c.requires.thread g graph).running.begins c.args.node x.0 x.1 in
     all_locally m t (environment_at (program_of m) t) (rest_at (text_at m t) c.args.node) c.args.work.now
     c.args.store.now c.run_node.new.store c.run_node.new.work
     c.program-program.result.now (c.program-program.ensures ∙ ap (λ (s : SchemeView). s.program) c.scheme.ensures)

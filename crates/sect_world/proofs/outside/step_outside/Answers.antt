@@ -16,7 +16,7 @@ returns-then-next-exit-clause-steps c =
     (sym (c.graph.ensures ∙ ap (λ (s : SchemeView). s.graphs) c.scheme.ensures)) ∙ c.thread.ensures in
     let past : length g ≤ c.in-Ok.next = omega (arith, c.exit.ensures.number, c.if-next-exit.true) in
     settled_at_exit (rest_at (text_at m t) c.in-Ok.next) c.run_outside.new.work
-    (at_exit m c.rules.ensures.compiled t g c.in-Ok.next c.requires.thread graph past)
+    (at_exit m c.facts.ensures.compiled t g c.in-Ok.next c.requires.thread graph past)
     ∙ c.in_ok-next.ensures.steps.on c.in-Ok.next c.in-Ok.is
 
 pub returns-else-next-exit-clause-steps : goal.returns-else-next-exit-clause-steps
@@ -29,5 +29,5 @@ returns-else-next-exit-clause-steps c =
     (sym (c.graph.ensures ∙ ap (λ (s : SchemeView). s.graphs) c.scheme.ensures)) ∙ c.thread.ensures in
     let before : c.in-Ok.next < length g = omega (arith, c.exit.ensures.number, c.if-next-exit.false) in
     rw c.requires.alive
-    (sym (before_exit m c.rules.ensures.compiled t g c.in-Ok.next c.requires.thread graph before
+    (sym (before_exit m c.facts.ensures.compiled t g c.in-Ok.next c.requires.thread graph before
     c.run_outside.new.work) ∙ c.in_ok-next.ensures.steps.on c.in-Ok.next c.in-Ok.is)

@@ -11,7 +11,7 @@ returns-then-exit-eq0 c =
     let t = c.args.thread in
     let same = c.graph.ensures ∙ ap (λ (s : SchemeView). s.graphs) c.scheme.ensures in
     let at = sym (ap (λ (g : GraphView). slice_get g.threads t) same) ∙ c.thread-flow.ensures in
-    begins_off c.args.compiled.now c.rules.ensures.compiled t c.requires c.thread-flow.result.now at
+    begins_off c.args.compiled.now c.facts.ensures.compiled t c.requires c.thread-flow.result.now at
     (omega (arith, c.if-exit-eq0.true, c.exit.ensures.number))
 
 pub returns-else-exit-eq0 : goal.returns-else-exit-eq0
@@ -19,5 +19,5 @@ returns-else-exit-eq0 c =
     let t = c.args.thread in
     let same = c.graph.ensures ∙ ap (λ (s : SchemeView). s.graphs) c.scheme.ensures in
     let at = sym (ap (λ (g : GraphView). slice_get g.threads t) same) ∙ c.thread-flow.ensures in
-    begins_on c.args.compiled.now c.rules.ensures.compiled t c.requires c.thread-flow.result.now at
+    begins_on c.args.compiled.now c.facts.ensures.compiled t c.requires c.thread-flow.result.now at
     (omega (arith, c.if-exit-eq0.false, c.exit.ensures.number))

@@ -15,10 +15,10 @@ returns-in-Ok-clause-counted c =
 
 pub returns-in-Ok-clause-within : goal.returns-in-Ok-clause-within
 returns-in-Ok-clause-within c =
-    let many = (runs_are_well_kept _ c.rules.ensures.compiled _ _ _ c.rules.ensures.run).as_many in
+    let many = (runs_are_well_kept _ c.facts.ensures.compiled _ _ _ c.facts.ensures.run).as_many in
     subst (λ n. c.args.thread < n) many c.in-Ok.ensures.there
 
 pub returns-in-Err-clause-refused : goal.returns-in-Err-clause-refused
 returns-in-Err-clause-refused c =
-    let many = (runs_are_well_kept _ c.rules.ensures.compiled _ _ _ c.rules.ensures.run).as_many in
+    let many = (runs_are_well_kept _ c.facts.ensures.compiled _ _ _ c.facts.ensures.run).as_many in
     subst (IsRefused c.in-Err.fault c.args.thread) many c.in-Err.ensures.refused

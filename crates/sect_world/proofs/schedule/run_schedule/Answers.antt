@@ -35,7 +35,7 @@ returns-clause-ok c =
     let whole = take_all c.loop-thread.thread-index c.args.schedule.now c.loop-thread-test.false in
     let so = subst (λ ts. SoFar c.args.compiled.now c.args.fuel ts c.loop-thread.world c.loop-thread.made.items) whole
     inv.0 in
-    let r = c.rules.ensures in
+    let r = c.facts.ensures in
     let f = c.finish.ensures in
     progress c.args.compiled.now c.args.fuel c.args.schedule.now c.loop-thread.world _ so f.events f.outcome f.serial
     r.run r.order r.going

@@ -27,13 +27,13 @@ pub returns-clause-valid : goal.returns-clause-valid
 returns-clause-valid c =
     let s = c.self.inside.scheme in
     let all = c.self.inside.locks.items in
-    let typed = subst (λ (p : ProgramView). IsTyped p.source) c.program-2.ensures c.tree-typed.ensures.typed in
-    let tree = subst IsOfTree c.program-2.ensures c.tree-typed.ensures.numbers in
+    let typed = subst (λ (p : ProgramView). IsTyped p.source) c.program-2.ensures c.tree-facts.ensures.typed in
+    let tree = subst IsOfTree c.program-2.ensures c.tree-facts.ensures.numbers in
     let sound = subst (λ (p : ProgramView). AreSound p.records p.globals p.locals p.texts) c.program.ensures
-    c.typing.ensures.sound in
+    c.facts-2.ensures.sound in
     if_ok c.certificate_of.result
     (λ a spelled. subst (λ (v : CompiledView). IsValid v.scheme a) c.self.view_is
-    (c.spelled_locks_are_valid.ensures s c.rules.ensures typed tree sound all c.self.invariant.inferred a
+    (c.spelled_locks_are_valid.ensures s c.facts.ensures typed tree sound all c.self.invariant.inferred a
     (subst (λ xs. IsSpelled s xs a) c.as_slice.ensures.value spelled)))
     c.certificate_of.ensures.words
 
@@ -43,7 +43,7 @@ returns-clause-only c =
     let all = c.self.inside.locks.items in
     if_ok_both c.certificate_of.result
     (λ a spelled text. subst (λ (v : CompiledView). (other : Cert) → IsCertificateOf v other → other ≡ a) c.self.view_is
-    (λ other is. certificate_one _ c.rules.ensures other a is
+    (λ other is. certificate_one _ c.facts.ensures other a is
     (is_certificate s all _ c.self.invariant.inferred a
     (subst (λ xs. IsSpelled s xs a) c.as_slice.ensures.value spelled) text)))
     c.certificate_of.ensures.words c.certificate_of.ensures.text

@@ -16,7 +16,7 @@ invariant_of-result c =
     let empty = subst (λ n. IsEmptyFor n c.in_ok-with_threads.field-0) count c.in_ok-with_threads.ensures.empty in
     let e = c.in_ok-first_runners.ensures in
     let world = opens c.args.compiled.now c.args.fuel c.in_ok-first_runners.field-0.items c.in_ok-with_threads.field-0
-    c.rules.ensures.compiled e.count e.first empty c.in_ok-with_threads.ensures.kept in
+    c.facts.ensures.compiled e.count e.first empty c.in_ok-with_threads.ensures.kept in
     let many = world.as_many_held in
     let grants = ap (λ (g : Granted). g.threads) c.in_ok-with_threads-2.ensures in (
       rw (c.new.ensures.items, c.new-2.ensures.items, c.new-3.ensures.items, stored) world,

@@ -3,7 +3,7 @@ use Rattle.std.proofs.Common.{subst}
 use Rattle.sect_world.specs.Blocked.{IsStuck}
 use Rattle.sect_world.specs.Worlds.{WorldView}
 use Rattle.sect_world.proofs.Stuck.{no_state_is_stuck}
-use Rattle.sect_world.proofs.world.World.rules.Goals as goal
+use Rattle.sect_world.proofs.world.World.facts.Goals as goal
 
 pub returns-clause-going : goal.returns-clause-going
 returns-clause-going c =

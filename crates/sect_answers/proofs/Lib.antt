@@ -1,4 +1,3 @@
-mod Blocks
 mod Conflicting
 mod Cutting
 mod Lines

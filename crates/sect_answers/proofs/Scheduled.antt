@@ -1,17 +1,17 @@
 -- What a schedule has come to, as it is printed.
-use Rattle.std.proofs.Common.{◌≡◌, ℕ, List, ◌++◌, map, length, sym, ap, subst, ◌∙◌}
+use Rattle.std.proofs.Common.{◌≡◌, ℕ, List, map, length, sym, ap, subst, ◌∙◌}
 use Rattle.sect_types.specs.Programs.{ProgramView}
 use Rattle.sect_store.specs.Outcomes.{OutcomeView}
-use Rattle.sect_store.specs.Printing.{outcome_text}
 use Rattle.sect_emit.specs.Compiled.{CompiledView, program_of}
 use Rattle.sect_world.specs.Runs.{order_of}
 use Rattle.sect_world.specs.Schedules.{IsProgress, all_events}
 use Rattle.sect_world.specs.Worlds.{outcome_at}
 use Rattle.sect_world.specs.declared.schedule.Progress.{Progress}
 use Rattle.sect_answers.specs.Scheduling.{AreTurnsOf}
-use Rattle.sect_answers.specs.Turns.{turn_lines}
-use Rattle.sect_answers.specs.steps.Blocks.{blocks_of, AreEnough}
-use Rattle.sect_answers.proofs.Blocks.{cut_gives_back, joined_are_enough}
+use Rattle.sect_answers.specs.Turns.{turns_in}
+use Rattle.sect_answers.specs.declared.format.Format.{Format}
+use Rattle.sect_lemmas.specs.Blocks.{blocks_of, AreEnough}
+use Rattle.sect_lemmas.proofs.Blocks.{cut_gives_back, joined_are_enough}
 
 module _ (c : CompiledView) (fuel : ℕ) (schedule : List ℕ) (p : Progress) (is : IsProgress c fuel schedule p) where
   -- the turns have made no more events than there are
@@ -23,18 +23,18 @@ module _ (c : CompiledView) (fuel : ℕ) (schedule : List ℕ) (p : Progress) (i
   blocks_are = ap (λ ns. blocks_of ns p.run.events.items) is.made
       ∙ (ap (blocks_of (map length is.blocks)) is.events ∙ cut_gives_back is.blocks)
 
-  -- a line for each of them, and the outcome, are what is to be printed
-  pub turns_printed : (program : ProgramView) (bytes : List ℕ) → program ≡ program_of c
-      → bytes ≡ turn_lines program (blocks_of p.made.items p.run.events.items) ++ outcome_text program p.run.outcome
-      → AreTurnsOf c fuel schedule bytes
-  turns_printed program bytes same printed = record {
+  -- the turns and the outcome are what is to be printed
+  pub turns_printed : (format : Format) (program : ProgramView) (bytes : List ℕ) → program ≡ program_of c
+      → bytes ≡ turns_in format program (blocks_of p.made.items p.run.events.items) p.run.outcome
+      → AreTurnsOf c fuel schedule format bytes
+  turns_printed format program bytes same printed = record {
     state = is.state;
     blocks = is.blocks;
     turns = is.turns;
     printed = printed
-        ∙ (ap (λ bs. turn_lines program bs ++ outcome_text program p.run.outcome) blocks_are
-        ∙ (ap (λ (o : OutcomeView). turn_lines program is.blocks ++ outcome_text program o)
+        ∙ (ap (λ bs. turns_in format program bs p.run.outcome) blocks_are
+        ∙ (ap (λ (o : OutcomeView). turns_in format program is.blocks o)
         (is.outcome ∙ ap (λ es. outcome_at is.state (order_of es)) is.events)
-        ∙ ap (λ (q : ProgramView). turn_lines q is.blocks
-        ++ outcome_text q (outcome_at is.state (order_of (all_events is.blocks)))) same));
+        ∙ ap (λ (q : ProgramView). turns_in format q is.blocks
+        (outcome_at is.state (order_of (all_events is.blocks)))) same));
   }

@@ -1,20 +1,20 @@
 -- What the command `locks` answers to a source text. `locks` cites it.
-use Rattle.std.specs.Prelude.{◌≢◌, ◌≤◌, ℕ, List, length}
-use Rattle.sect_types.specs.Sections.{sections_of}
+use Rattle.std.specs.Prelude.{◌≢◌, ◌≤◌, ℕ, List}
 use Rattle.sect_names.specs.Schemes.{SchemeView}
 use Rattle.sect_names.specs.Sources as sources
 use Rattle.sect_names.specs.Sources.{IsAccepted}
 use Rattle.sect_names.specs.declared.refusal.Refusal as source
 use Rattle.sect_names.specs.declared.refusal.Refusal.TheVariants as source_refusal
+use Rattle.sect_answers.specs.declared.format.Format.{Format}
 use Rattle.sect_answers.specs.declared.refusal.Refusal.{Refusal}
 use Rattle.sect_answers.specs.declared.refusal.Refusal.TheVariants as refusal
-use Rattle.sect_answers.specs.Listing.{IsListing}
+use Rattle.sect_answers.specs.Listing.{AreSetsPrinted}
 
--- the text is accepted, and these are the lines of all its sections, with the least set of each
-pub record IsAnswer (bytes : List ℕ) (k : ℕ) (lines : List ℕ) : Type 0 where
+-- the text is accepted, and these are the lines of all its sections, or their document, with the least set of each
+pub record IsAnswer (bytes : List ℕ) (k : ℕ) (format : Format) (text : List ℕ) : Type 0 where
   pub s : SchemeView
   pub accepted : IsAccepted bytes k s
-  pub listing : IsListing s (length (sections_of s.program.texts)) lines
+  pub printed : AreSetsPrinted s format text
 
 -- a refusal of the source is the program's; want of memory is never inside another
 abbrev pub of_source : source.Refusal → Refusal
@@ -25,6 +25,7 @@ of_source why = refusal.Source why
 abbrev pub IsDue : List ℕ → ℕ → Refusal → Type 0
 IsDue bytes k refusal.Memory = k ≤ 3
 IsDue bytes k (refusal.Source why) = (why ≢ source_refusal.Memory) × sources.IsDue bytes k why
+IsDue bytes k (refusal.Report text) = ⊥
 IsDue bytes k (refusal.Workers why) = ⊥
 IsDue bytes k (refusal.Serial why) = ⊥
 IsDue bytes k (refusal.Check why) = ⊥

@@ -35,5 +35,6 @@ of_compile (fault.Source why) = of_source why
 
 -- the refusal is due: the number of workers is judged first, then k, then the text, and then its hints
 abbrev pub IsCompileDue : List ℕ → ℕ → ℕ → Refusal → Type 0
+IsCompileDue bytes k workers (refusal.Report text) = ⊥
 IsCompileDue bytes k workers (refusal.Workers why) = (why ≡ infer.BadWorkers) × AreRefused workers
 IsCompileDue bytes k workers r = AreOffered workers × IsDue bytes k r

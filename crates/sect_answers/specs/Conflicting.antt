@@ -14,7 +14,10 @@ use Rattle.sect_conflicts.specs.declared.conflict.SectionPair.{SectionPair}
 use Rattle.sect_conflicts.specs.declared.conflict.Conflict.{Conflict}
 use Rattle.sect_conflicts.specs.declared.conflict.Conflict.TheVariants.{Always, Sometimes, Never}
 use Rattle.sect_conflicts.specs.Comparing.{AreConflicts}
+use Rattle.sect_json.specs.Conflicts.{IsConflictsDocument}
 use Rattle.sect_answers.specs.Turns.{key_text}
+use Rattle.sect_answers.specs.declared.format.Format.{Format}
+use Rattle.sect_answers.specs.declared.format.Format.TheVariants.{Text, Json}
 
 -- a key and both modes, as `class 1 S, IX`
 abbrev pub clash_text : ProgramView → KeyClash → List ℕ
@@ -78,8 +81,13 @@ pub record AreConflictLines (c : CompiledView) (bytes : List ℕ) : Type 0 where
   pub told : AreConflicts c pairs
   pub printed : bytes ≡ heading pairs ++ flat_map (pair_line (program_of c)) pairs
 
+-- the bytes are those lines, or the document
+abbrev pub AreConflictsPrinted : CompiledView → Format → List ℕ → Type 0
+AreConflictsPrinted c Text bytes = AreConflictLines c bytes
+AreConflictsPrinted c Json bytes = IsConflictsDocument c bytes
+
 -- the source is accepted, and the bytes say of its compiled program which sections exclude each other
-pub record AreProgramConflicts (source : List ℕ) (k : ℕ) (bytes : List ℕ) : Type 0 where
+pub record AreProgramConflicts (source : List ℕ) (k : ℕ) (format : Format) (bytes : List ℕ) : Type 0 where
   pub compiled : CompiledView
   pub from : IsCompiledFrom source k compiled
-  pub lines : AreConflictLines compiled bytes
+  pub printed : AreConflictsPrinted compiled format bytes

@@ -9,6 +9,7 @@ pub mod Checking
 pub mod Compiling
 pub mod Conflicting
 pub mod Explaining
+pub mod Formats
+pub mod Linting
 pub mod Scheduling
 pub mod Turns
-pub mod steps

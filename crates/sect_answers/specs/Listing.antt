@@ -1,4 +1,4 @@
--- What the command `locks` prints: a line for each section.
+-- What the command `locks` prints: a line for each section, or one document.
 use Rattle.std.specs.Prelude.{◌≡◌, ℕ, ◌+◌, List, [], ◌∷◌, ◌++◌, Some, length, slice_get, codes}
 use Rattle.std.specs.Fmt.{decimal}
 use Rattle.sect_front.specs.TreeView.{TreeView}
@@ -8,6 +8,10 @@ use Rattle.sect_names.specs.Schemes.{SchemeView}
 use Rattle.sect_names.specs.Needed.{IsLeast, end_of}
 use Rattle.sect_names.specs.Order.{AreInOrder}
 use Rattle.sect_names.specs.Printing.{locks_text}
+use Rattle.sect_json.specs.Values.{document_text}
+use Rattle.sect_json.specs.Locks.{locks_json}
+use Rattle.sect_answers.specs.declared.format.Format.{Format}
+use Rattle.sect_answers.specs.declared.format.Format.TheVariants.{Text, Json}
 
 -- the line of a section: its number and its locks
 abbrev pub section_line : TreeView → ℕ → List Lock → List ℕ
@@ -33,3 +37,15 @@ pub record IsListing (s : SchemeView) (count : ℕ) (text : List ℕ) : Type 0 w
   pub each : AreLeast s sets
   pub counted : length sets ≡ count
   pub lines : text ≡ lines_from s.program.source 0 sets
+
+-- this is the document of all sections, with the least set of each
+pub record IsSetsDocument (s : SchemeView) (text : List ℕ) : Type 0 where
+  pub sets : List (List Lock)
+  pub each : AreLeast s sets
+  pub counted : length sets ≡ length (sections_of s.program.texts)
+  pub printed : text ≡ document_text (locks_json s.program.source sets)
+
+-- all sections with their least sets, as lines or as a document
+abbrev pub AreSetsPrinted : SchemeView → Format → List ℕ → Type 0
+AreSetsPrinted s Text text = IsListing s (length (sections_of s.program.texts)) text
+AreSetsPrinted s Json text = IsSetsDocument s text

@@ -11,8 +11,12 @@ use Rattle.sect_emit.specs.State.{State}
 use Rattle.sect_world.specs.declared.event.Event.{Event}
 use Rattle.sect_world.specs.Runs.{IsRun, IsComplete, order_of}
 use Rattle.sect_lemmas.specs.Lists.{Has}
+use Rattle.sect_json.specs.Values.{document_text}
+use Rattle.sect_json.specs.Outcomes.{outcomes_json}
 use Rattle.sect_serial.specs.declared.exploring.OutcomesFault.{OutcomesFault}
 use Rattle.sect_serial.specs.declared.exploring.OutcomesFault.TheVariants as fault
+use Rattle.sect_answers.specs.declared.format.Format.{Format}
+use Rattle.sect_answers.specs.declared.format.Format.TheVariants.{Text, Json}
 use Rattle.sect_answers.specs.declared.refusal.Refusal.{Refusal}
 use Rattle.sect_answers.specs.declared.refusal.Refusal.TheVariants as refusal
 use Rattle.sect_names.specs.Sources.{IsTypedText, IsRefused}
@@ -32,6 +36,11 @@ outcomes_text p o =
     count_text (length o.found) (codes "outcome") ++ codes " of " ++ count_text o.states (codes "state") ++ codes "\n"
     ++ by_place (one_text p) 0 o.found
 
+-- they as text, or as a document
+abbrev pub outcomes_in : Format → ProgramView → OutcomesView → List ℕ
+outcomes_in Text p o = outcomes_text p o
+outcomes_in Json p o = document_text (outcomes_json p o)
+
 -- these are the ends of all complete runs of the compiled program, each with the order in which sections are left
 pub record AreEndsOfRuns (c : CompiledView) (fuel : ℕ) (found : Found) : Type 0 where
   pub right : (x : SerialEndView × List ℕ) → Has found x
@@ -40,14 +49,14 @@ pub record AreEndsOfRuns (c : CompiledView) (fuel : ℕ) (found : Found) : Type 
       → Has (ends_in found) e
 
 -- these are all outcomes of the program of the text, and how many states lead to them, which are at most so many
-pub record AreAllOutcomes (bytes : List ℕ) (fuel most : ℕ) (text : List ℕ) : Type 0 where
+pub record AreAllOutcomes (bytes : List ℕ) (fuel most : ℕ) (format : Format) (text : List ℕ) : Type 0 where
   pub program : ProgramView
   pub typed : IsTypedText bytes program
   pub outcomes : OutcomesView
   pub explores : Explores program fuel most outcomes
   -- however the program is compiled, its threads come to these ends and to no others
   pub runs : (k : ℕ) (c : CompiledView) → IsCompiledFrom bytes k c → AreEndsOfRuns c fuel outcomes.found
-  pub printed : text ≡ outcomes_text program outcomes
+  pub printed : text ≡ outcomes_in format program outcomes
 
 -- too many states are the program's refusal; want of memory is never inside another
 abbrev pub of_outcomes : OutcomesFault → Refusal
@@ -60,6 +69,7 @@ IsOutcomesDue bytes fuel most refusal.Memory = ⊤
 IsOutcomesDue bytes fuel most (refusal.Source why) = (why ≢ source_refusal.Memory) × IsRefused bytes why
 IsOutcomesDue bytes fuel most (refusal.Outcomes why) =
     (why ≢ fault.Memory) × ((p : ProgramView) × IsTypedText bytes p × IsUnlisted p fuel most why)
+IsOutcomesDue bytes fuel most (refusal.Report text) = ⊥
 IsOutcomesDue bytes fuel most (refusal.Workers why) = ⊥
 IsOutcomesDue bytes fuel most (refusal.Serial why) = ⊥
 IsOutcomesDue bytes fuel most (refusal.Check why) = ⊥

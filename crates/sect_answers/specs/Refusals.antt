@@ -1,6 +1,7 @@
 -- The line of a refusal. `put_refusal` cites it.
 use Rattle.std.specs.Prelude.{ℕ, List, ◌++◌, codes}
 use Rattle.std.specs.Fmt.{decimal}
+use Rattle.std.specs.String.{string_bytes}
 use Rattle.sect_front.specs.declared.parsing.FrontFault.{FrontFault}
 use Rattle.sect_front.specs.declared.parsing.FrontFault.TheVariants as front
 use Rattle.sect_types.specs.declared.rule.TypeFault.{TypeFault}
@@ -108,6 +109,7 @@ world_text world.Memory = no_memory
 abbrev pub refusal_text : Refusal → List ℕ
 refusal_text refusal.Memory = no_memory
 refusal_text (refusal.Source why) = codes "refused " ++ source_text why
+refusal_text (refusal.Report text) = string_bytes text
 refusal_text (refusal.Workers why) = codes "refused " ++ workers_text why
 refusal_text (refusal.Serial why) = codes "refused " ++ serial_text why
 refusal_text (refusal.Outcomes why) = codes "refused " ++ states_text why

@@ -1,11 +1,10 @@
 -- What the command `schedule` answers to a source text. `schedule_outcome` cites it.
-use Rattle.std.specs.Prelude.{◌≡◌, ◌≢◌, ◌≤◌, ◌<◌, ℕ, List, ◌++◌, length}
+use Rattle.std.specs.Prelude.{◌≡◌, ◌≢◌, ◌≤◌, ◌<◌, ℕ, List, length}
 use Rattle.sect_lemmas.specs.Lists.{Has}
 use Rattle.sect_names.specs.Schemes.{SchemeView}
 use Rattle.sect_names.specs.Sources as sources
 use Rattle.sect_names.specs.Sources.{IsAccepted}
 use Rattle.sect_names.specs.declared.refusal.Refusal.TheVariants as source_refusal
-use Rattle.sect_store.specs.Printing.{outcome_text}
 use Rattle.sect_emit.specs.Compiled.{CompiledView, IsCompiledFrom, program_of}
 use Rattle.sect_emit.specs.State.{State, start}
 use Rattle.sect_world.specs.Runs.{order_of}
@@ -14,24 +13,26 @@ use Rattle.sect_world.specs.Worlds.{outcome_at}
 use Rattle.sect_world.specs.declared.event.Event.{Event}
 use Rattle.sect_world.specs.declared.turned.WorldFault.{WorldFault}
 use Rattle.sect_world.specs.declared.turned.WorldFault.TheVariants as fault
+use Rattle.sect_answers.specs.declared.format.Format.{Format}
 use Rattle.sect_answers.specs.declared.refusal.Refusal.{Refusal}
 use Rattle.sect_answers.specs.declared.refusal.Refusal.TheVariants as refusal
-use Rattle.sect_answers.specs.Turns.{turn_lines}
+use Rattle.sect_answers.specs.Turns.{turns_in}
 
--- these threads have a turn each from the start of the compiled program, and the bytes are a line for each turn, with
+-- these threads have a turn each from the start of the compiled program, and the bytes are all turns, each with
 -- its events, and the outcome of the state that they lead to
-pub record AreTurnsOf (c : CompiledView) (fuel : ℕ) (schedule bytes : List ℕ) : Type 0 where
+pub record AreTurnsOf (c : CompiledView) (fuel : ℕ) (schedule : List ℕ) (format : Format) (bytes : List ℕ)
+    : Type 0 where
   pub state : State
   pub blocks : List (List Event)
   pub turns : TakeTurns c (start c fuel) schedule blocks state
-  pub printed : bytes ≡ turn_lines (program_of c) blocks
-      ++ outcome_text (program_of c) (outcome_at state (order_of (all_events blocks)))
+  pub printed : bytes ≡ turns_in format (program_of c) blocks (outcome_at state (order_of (all_events blocks)))
 
 -- the source is accepted, and the bytes are the turns of its compiled program
-pub record IsScheduled (source : List ℕ) (k fuel : ℕ) (schedule bytes : List ℕ) : Type 0 where
+pub record IsScheduled (source : List ℕ) (k fuel : ℕ) (schedule : List ℕ) (format : Format) (bytes : List ℕ)
+    : Type 0 where
   pub compiled : CompiledView
   pub from : IsCompiledFrom source k compiled
-  pub turns : AreTurnsOf compiled fuel schedule bytes
+  pub turns : AreTurnsOf compiled fuel schedule format bytes
 
 -- each number of the schedule is one of a program's threads
 abbrev pub AreThreads : SchemeView → List ℕ → Type 0
@@ -53,6 +54,7 @@ abbrev pub IsScheduleDue : List ℕ → ℕ → List ℕ → Refusal → Type 0
 IsScheduleDue bytes k schedule refusal.Memory = k ≤ 3
 IsScheduleDue bytes k schedule (refusal.Source why) = (why ≢ source_refusal.Memory) × sources.IsDue bytes k why
 IsScheduleDue bytes k schedule (refusal.Schedule why) = IsNoThread bytes k schedule why
+IsScheduleDue bytes k schedule (refusal.Report text) = ⊥
 IsScheduleDue bytes k schedule (refusal.Workers why) = ⊥
 IsScheduleDue bytes k schedule (refusal.Serial why) = ⊥
 IsScheduleDue bytes k schedule (refusal.Check why) = ⊥

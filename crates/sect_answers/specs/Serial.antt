@@ -2,22 +2,23 @@
 use Rattle.std.specs.Prelude.{◌≡◌, ◌≢◌, ℕ, ⊤, List, Err}
 use Rattle.sect_types.specs.Programs.{ProgramView}
 use Rattle.sect_types.specs.Whole.{SerialEndView, RunsWhole}
-use Rattle.sect_store.specs.Printing.{outcome_text}
 use Rattle.sect_serial.specs.Judging.{Judges, outcome_of}
 use Rattle.sect_serial.specs.declared.whole.SerialFault.{SerialFault}
 use Rattle.sect_serial.specs.declared.whole.SerialFault.TheVariants as fault
+use Rattle.sect_answers.specs.Formats.{outcome_in}
+use Rattle.sect_answers.specs.declared.format.Format.{Format}
 use Rattle.sect_answers.specs.declared.refusal.Refusal.{Refusal}
 use Rattle.sect_answers.specs.declared.refusal.Refusal.TheVariants as refusal
 use Rattle.sect_names.specs.Sources.{IsTypedText, IsRefused}
 use Rattle.sect_names.specs.declared.refusal.Refusal.TheVariants as source_refusal
 
 -- the text has a program that runs by whole sections in this order to an end, and this is the outcome
-pub record IsOutcome (bytes : List ℕ) (fuel : ℕ) (order text : List ℕ) : Type 0 where
+pub record IsOutcome (bytes : List ℕ) (fuel : ℕ) (order : List ℕ) (format : Format) (text : List ℕ) : Type 0 where
   pub program : ProgramView
   pub typed : IsTypedText bytes program
   pub end : SerialEndView
   pub runs : RunsWhole program fuel order end
-  pub printed : text ≡ outcome_text program (outcome_of order end)
+  pub printed : text ≡ outcome_in format program (outcome_of order end)
 
 -- a fault of the order is the program's refusal; want of memory is never inside another
 abbrev pub of_serial : SerialFault → Refusal
@@ -30,6 +31,7 @@ IsSerialDue bytes fuel order refusal.Memory = ⊤
 IsSerialDue bytes fuel order (refusal.Source why) = (why ≢ source_refusal.Memory) × IsRefused bytes why
 IsSerialDue bytes fuel order (refusal.Serial why) =
     (why ≢ fault.Memory) × ((p : ProgramView) × IsTypedText bytes p × Judges p fuel order (Err why))
+IsSerialDue bytes fuel order (refusal.Report text) = ⊥
 IsSerialDue bytes fuel order (refusal.Workers why) = ⊥
 IsSerialDue bytes fuel order (refusal.Check why) = ⊥
 IsSerialDue bytes fuel order (refusal.Schedule why) = ⊥

@@ -4,13 +4,18 @@ use Rattle.std.specs.List.{flat_map}
 use Rattle.std.specs.Fmt.{decimal}
 use Rattle.sect_types.specs.Programs.{ProgramView}
 use Rattle.sect_types.specs.declared.store.ObjectName.TheVariants as object
-use Rattle.sect_store.specs.Printing.{by_place, object_name}
+use Rattle.sect_store.specs.Outcomes.{OutcomeView}
+use Rattle.sect_store.specs.Printing.{by_place, object_name, outcome_text}
 use Rattle.sect_modes.specs.Mode.{mode_text}
 use Rattle.sect_modes.specs.declared.key.Key.{Key}
 use Rattle.sect_modes.specs.declared.key.Key.TheVariants as key
 use Rattle.sect_world.specs.declared.event.Deed.{Deed}
 use Rattle.sect_world.specs.declared.event.Deed.TheVariants.{Local, Enter, Take, Begin, Again, Act, Leave}
 use Rattle.sect_world.specs.declared.event.Event.{Event}
+use Rattle.sect_json.specs.Values.{document_text}
+use Rattle.sect_json.specs.Turns.{turns_json}
+use Rattle.sect_answers.specs.declared.format.Format.{Format}
+use Rattle.sect_answers.specs.declared.format.Format.TheVariants.{Text, Json}
 
 -- all, a class by its number, an object by its name
 abbrev pub key_text : ProgramView → Key → List ℕ
@@ -47,3 +52,8 @@ turn_line p n es = codes "turn " ++ decimal n ++ codes ": " ++ block_text p es
 -- a line for each turn
 abbrev pub turn_lines : ProgramView → List (List Event) → List ℕ
 turn_lines p turns = by_place (turn_line p) 0 turns
+
+-- all turns and the outcome that they have come to, as lines or as a document
+abbrev pub turns_in : Format → ProgramView → List (List Event) → OutcomeView → List ℕ
+turns_in Text p turns o = turn_lines p turns ++ outcome_text p o
+turns_in Json p turns o = document_text (turns_json p turns o)

@@ -7,40 +7,62 @@ ghost use Rattle.sect_names.specs.Schemes.{SchemeView};
 ghost use Rattle.sect_names.specs.Sources.{IsAccepted};
 ghost use Rattle.sect_answers.specs.declared.refusal.Refusal.TheVariants.{Memory};
 ghost use Rattle.sect_answers.specs.Answers.{IsDue};
-ghost use Rattle.sect_answers.specs.Conflicting.{AreProgramConflicts, AreConflictLines, heading, pair_line};
+ghost use Rattle.sect_answers.specs.Conflicting.{AreProgramConflicts, AreConflictsPrinted, AreConflictLines};
+ghost use Rattle.sect_answers.specs.Conflicting.{heading, pair_line};
 ghost use Rattle.sect_answers.specs.Conflicting.{conflict_text};
 ghost use Rattle.sect_answers.specs.Conflicting.{clash_text, path_pair_text, path_pairs_text, pairs_word, count_of};
 ghost use Rattle.sect_answers.specs.Conflicting.{is_always, is_sometimes, is_never};
-ghost use Rattle.sect_answers.specs.steps.Named.{IsPairNamed, ArePairsNamed, IsConflictNamed, AreConflictsNamed};
+ghost use Rattle.sect_conflicts.specs.Naming.{IsPairNamed, ArePairsNamed, IsConflictNamed, AreConflictsNamed};
 
+use crate::format::Format;
 use crate::refusal::Refusal;
 use crate::turns::put_key;
 use sect_conflicts::{Conflict, KeyClash, PathPair, SectionPair, conflicts};
 use sect_emit::{Compiled, compile};
+use sect_json::conflicts_document;
 use sect_names::put_path;
 use sect_types::Program;
 use std::alloc::{AllocError, Global};
 use std::fmt::Write;
 
 /// Which sections of a source text exclude each other: how many pairs of sections of different threads do, and then a
-/// line for each pair, in the order of section numbers.
-pub fn program_conflicts(alloc: Global, source: &[u8], k: u16) -> Result<String, Refusal>
-    // The text is accepted, and each pair has its line.
-    ensures answers { IfOk result (λ text. AreProgramConflicts source.now k (string_bytes text)) }
+/// line for each pair, in the order of section numbers; or the document of the pairs.
+pub fn program_conflicts(
+    alloc: Global,
+    source: &[u8],
+    k: u16,
+    format: Format,
+) -> Result<String, Refusal>
+    // The text is accepted, and each pair has its line, or its value.
+    ensures answers { IfOk result (λ text. AreProgramConflicts source.now k format (string_bytes text)) }
     // A text that is accepted is answered, unless memory runs out.
     ensures only { (s : SchemeView) → IsAccepted source.now k s → IsOkUnless result Memory }
     // A refusal is due, and it is the first that is.
     ensures refuses { IfErr result (IsDue source.now k) }
 {
     let compiled = compile(alloc, source, k)?;
-    Ok(conflict_lines(alloc, &compiled)?)
+    Ok(conflicts_printed(alloc, &compiled, format)?)
+}
+
+/// The pairs of sections of a compiled program, as they are printed.
+fn conflicts_printed(
+    alloc: Global,
+    compiled: &Compiled,
+    format: Format,
+) -> Result<String, AllocError>
+    ensures { IfOk result (λ text. AreConflictsPrinted compiled.now format (string_bytes text)) }
+{
+    match format {
+        Format::Text => conflict_lines(alloc, compiled),
+        Format::Json => conflicts_document(alloc, compiled),
+    }
 }
 
 /// The heading, and a line for each pair of sections.
 fn conflict_lines(alloc: Global, compiled: &Compiled) -> Result<String, AllocError>
     ensures { IfOk result (λ text. AreConflictLines compiled.now (string_bytes text)) }
 {
-    compiled.rules();
+    compiled.facts();
     let pairs = conflicts(alloc, compiled)?;
     let mut text = String::new(alloc);
     put_heading(&mut text, pairs.as_slice())?;

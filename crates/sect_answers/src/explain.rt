@@ -5,21 +5,42 @@ ghost use Rattle.sect_names.specs.Schemes.{SchemeView};
 ghost use Rattle.sect_names.specs.Sources.{IsAccepted};
 ghost use Rattle.sect_answers.specs.declared.refusal.Refusal.TheVariants.{Memory};
 ghost use Rattle.sect_answers.specs.Answers.{IsDue};
-ghost use Rattle.sect_answers.specs.Explaining.{IsProgramExplanation};
+ghost use Rattle.sect_answers.specs.Explaining.{IsProgramExplanation, IsExplanationPrinted};
 
+use crate::format::Format;
 use crate::refusal::Refusal;
-use sect_emit::{compile, explanation};
-use std::alloc::Global;
+use sect_emit::{Compiled, compile, explanation};
+use sect_json::explanation_document;
+use std::alloc::{AllocError, Global};
 
 /// Why each section of a source text takes each of its locks.
-pub fn program_explanation(alloc: Global, source: &[u8], k: u16) -> Result<Vec<u8>, Refusal>
+pub fn program_explanation(
+    alloc: Global,
+    source: &[u8],
+    k: u16,
+    format: Format,
+) -> Result<Vec<u8>, Refusal>
     // The text is accepted, and each section has a chain of steps for each of its locks.
-    ensures answers { IfOk result (λ text. IsProgramExplanation source.now k text.items) }
+    ensures answers { IfOk result (λ text. IsProgramExplanation source.now k format text.items) }
     // A text that is accepted is answered, unless memory runs out.
     ensures only { (s : SchemeView) → IsAccepted source.now k s → IsOkUnless result Memory }
     // A refusal is due, and it is the first that is.
     ensures refuses { IfErr result (IsDue source.now k) }
 {
     let compiled = compile(alloc, source, k)?;
-    Ok(explanation(alloc, &compiled)?)
+    Ok(explanation_printed(alloc, &compiled, format)?)
+}
+
+/// Why each section of a compiled program takes its locks, as it is printed.
+fn explanation_printed(
+    alloc: Global,
+    compiled: &Compiled,
+    format: Format,
+) -> Result<Vec<u8>, AllocError>
+    ensures { IfOk result (λ text. IsExplanationPrinted compiled.now format text.items) }
+{
+    match format {
+        Format::Text => explanation(alloc, compiled),
+        Format::Json => Ok(explanation_document(alloc, compiled)?.into_bytes()),
+    }
 }

@@ -8,27 +8,40 @@ ghost use Rattle.sect_names.specs.declared.lock.Lock.{Lock};
 ghost use Rattle.sect_names.specs.Schemes.{SchemeView};
 ghost use Rattle.sect_names.specs.Sources.{IsAccepted};
 ghost use Rattle.sect_answers.specs.declared.refusal.Refusal.TheVariants.{Memory};
-ghost use Rattle.sect_answers.specs.Listing.{IsLeastInOrder, IsListing, section_line};
+ghost use Rattle.sect_answers.specs.Listing.{IsLeastInOrder, IsListing, AreSetsPrinted, section_line};
 ghost use Rattle.sect_answers.specs.Answers.{IsAnswer, IsDue};
 
+use crate::format::Format;
 use crate::refusal::Refusal;
 use sect_emit::{Compiled, compile};
+use sect_json::locks_document;
 use sect_names::put_locks;
 use std::alloc::{AllocError, Global};
 use std::fmt::Write;
 
-/// The lock set of each section of a source text, a line a section. How many fields a path may have is judged before
-/// the source.
-pub fn locks(alloc: Global, source: &[u8], k: u16) -> Result<String, Refusal>
-    // The text is accepted, and each section has a line with the least set of locks that protects it.
-    ensures answers { IfOk result (λ text. IsAnswer source.now k (string_bytes text)) }
+/// The lock set of each section of a source text, a line a section, or the document of them. How many fields a path may
+/// have is judged before the source.
+pub fn locks(alloc: Global, source: &[u8], k: u16, format: Format) -> Result<String, Refusal>
+    // The text is accepted, and each section has a line, or a value, with the least set of locks that protects it.
+    ensures answers { IfOk result (λ text. IsAnswer source.now k format (string_bytes text)) }
     // A text that is accepted is answered, unless memory runs out.
     ensures only { (s : SchemeView) → IsAccepted source.now k s → IsOkUnless result Memory }
     // A refusal is due, and it is the first that is.
     ensures refuses { IfErr result (IsDue source.now k) }
 {
     let compiled = compile(alloc, source, k)?;
-    Ok(lines(alloc, &compiled)?)
+    Ok(sets_printed(alloc, &compiled, format)?)
+}
+
+/// The lock sets of all sections, as they are printed.
+fn sets_printed(alloc: Global, compiled: &Compiled, format: Format) -> Result<String, AllocError>
+    ensures { IfOk result (λ text. AreSetsPrinted compiled.now.scheme format (string_bytes text)) }
+{
+    compiled.facts();
+    match format {
+        Format::Text => lines(alloc, compiled),
+        Format::Json => locks_document(alloc, compiled),
+    }
 }
 
 /// A line for each section of the program.
@@ -51,7 +64,7 @@ fn put_section(text: &mut String, compiled: &Compiled, section: u16) -> Result<(
         → (locks : List Lock) × IsLeastInOrder compiled.now.scheme section of locks × (string_bytes text.new
         ≡ string_bytes text.old ++ section_line compiled.now.scheme.program.source section locks)) }
 {
-    compiled.rules();
+    compiled.facts();
     write!(text, "section {section}: ")?;
     put_locks(text, compiled.scheme().program(), compiled.set(section))?;
     text.push_str("\n")?;

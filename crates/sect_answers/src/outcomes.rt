@@ -6,9 +6,11 @@ ghost use Rattle.sect_types.specs.Programs.{ProgramView};
 ghost use Rattle.sect_names.specs.Sources.{IsTypedText};
 ghost use Rattle.sect_serial.specs.Exploring.{HasStates};
 ghost use Rattle.sect_answers.specs.declared.refusal.Refusal.TheVariants.{Memory};
-ghost use Rattle.sect_answers.specs.Outcomes.{AreAllOutcomes, IsOutcomesDue, outcomes_text, count_text};
+ghost use Rattle.sect_answers.specs.Outcomes.{AreAllOutcomes, IsOutcomesDue, outcomes_text, outcomes_in, count_text};
 
+use crate::format::Format;
 use crate::refusal::Refusal;
+use sect_json::outcomes_document;
 use sect_names::program_of;
 use sect_serial::{Outcomes, outcomes};
 use sect_store::Printer;
@@ -50,12 +52,37 @@ fn put_outcomes(
     Ok(())
 }
 
+/// All outcomes of a program, as they are printed.
+fn outcomes_printed(
+    alloc: Global,
+    program: &Program,
+    outcomes: &Outcomes,
+    format: Format,
+) -> Result<String, AllocError>
+    ensures { IfOk result (λ text. string_bytes text ≡ outcomes_in format program.now outcomes.now) }
+{
+    match format {
+        Format::Text => {
+            let mut text = String::new(alloc);
+            put_outcomes(alloc, &mut text, program, outcomes)?;
+            Ok(text)
+        }
+        Format::Json => outcomes_document(alloc, program, outcomes),
+    }
+}
+
 /// All outcomes that complete runs of the compiled program of a source text can have, where each thread has this much
 /// fuel: each once, with an order of whole sections that gives it. Where there are more than `most` states between
 /// sections, it is refused. The program's hints aren't looked at.
-pub fn all_outcomes(alloc: Global, source: &[u8], fuel: u32, most: u32) -> Result<String, Refusal>
+pub fn all_outcomes(
+    alloc: Global,
+    source: &[u8],
+    fuel: u32,
+    most: u32,
+    format: Format,
+) -> Result<String, Refusal>
     // These are all outcomes of the program.
-    ensures answers { IfOk result (λ text. AreAllOutcomes source.now fuel most (string_bytes text)) }
+    ensures answers { IfOk result (λ text. AreAllOutcomes source.now fuel most format (string_bytes text)) }
     // A program with no more states than that is answered, unless memory runs out.
     ensures only { (p : ProgramView) (states : ℕ) → IsTypedText source.now p → HasStates p fuel states
         → states ≤ most → IsOkUnless result Memory }
@@ -66,7 +93,5 @@ pub fn all_outcomes(alloc: Global, source: &[u8], fuel: u32, most: u32) -> Resul
     every_order_is_run();
     let program = program_of(alloc, source)?;
     let all = outcomes(alloc, &program, fuel, most)?;
-    let mut text = String::new(alloc);
-    put_outcomes(alloc, &mut text, &program, &all)?;
-    Ok(text)
+    Ok(outcomes_printed(alloc, &program, &all, format)?)
 }

@@ -31,6 +31,7 @@ pub fn put_refusal(text: &mut String, why: &Refusal) -> Result<(), AllocError>
             text.push_str("refused ")?;
             put_source(text, why)
         }
+        Refusal::Report(report) => text.push_str(report.as_str()),
         Refusal::Workers(why) => {
             text.push_str("refused ")?;
             put_workers(text, *why)

@@ -25,6 +25,8 @@ pub enum Refusal {
     Memory,
     /// The source text is refused.
     Source(SourceRefusal),
+    /// The source text is refused, and this is the report of it.
+    Report(String),
     /// The number of workers is refused.
     Workers(InferFault),
     /// The order of the threads is refused.

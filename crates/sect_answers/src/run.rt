@@ -4,15 +4,16 @@ ghost use Rattle.std.specs.Prelude.{◌≡◌, IfOk, IfErr, IsOkUnless};
 ghost use Rattle.std.specs.String.{string_bytes};
 ghost use Rattle.sect_names.specs.Schemes.{SchemeView};
 ghost use Rattle.sect_names.specs.Sources.{IsAccepted};
-ghost use Rattle.sect_store.specs.Printing.{outcome_text as printed};
 ghost use Rattle.sect_emit.specs.Compiled.{program_of};
 ghost use Rattle.sect_world.specs.declared.world.Run.{Run};
 ghost use Rattle.sect_run.specs.Ends.{IsWholeRun};
 ghost use Rattle.sect_answers.specs.declared.refusal.Refusal.TheVariants.{Memory};
 ghost use Rattle.sect_answers.specs.Answers.{IsDue};
+ghost use Rattle.sect_answers.specs.Formats.{outcome_in};
 ghost use Rattle.sect_answers.specs.Running.{IsOutcomeOfRun};
 
-use crate::outcome::outcome_text;
+use crate::format::Format;
+use crate::outcome::outcome_printed;
 use crate::refusal::Refusal;
 use sect_emit::{Compiled, compile};
 use sect_run::{Gate, RunFault, run_threads};
@@ -28,17 +29,18 @@ pub fn run_outcome<R: Threads + Wait + Sync, G: Gate>(
     k: u16,
     fuel: u32,
     gate: &G,
+    format: Format,
 ) -> Result<String, Refusal>
     // The text is accepted, and this is the outcome of a complete run of its compiled program. It comes to the same by
     // whole sections in the order of that run.
-    ensures answers { IfOk result (λ text. IsOutcomeOfRun source.now k fuel (string_bytes text)) }
+    ensures answers { IfOk result (λ text. IsOutcomeOfRun source.now k fuel format (string_bytes text)) }
     // A text that is accepted is run to its end, unless memory runs out.
     ensures only { (s : SchemeView) → IsAccepted source.now k s → IsOkUnless result Memory }
     // A refusal is due, and it is the first that is.
     ensures refuses { IfErr result (IsDue source.now k) }
 {
     let compiled = compile(alloc, source, k)?;
-    Ok(outcome_of(rt, alloc, &compiled, fuel, gate)?)
+    Ok(outcome_of(rt, alloc, &compiled, fuel, gate, format)?)
 }
 
 /// The outcome of a compiled program, run by threads that pass this gate.
@@ -48,10 +50,12 @@ fn outcome_of<R: Threads + Wait + Sync, G: Gate>(
     compiled: &Compiled,
     fuel: u32,
     gate: &G,
+    format: Format,
 ) -> Result<String, RunFault>
     ensures { IfOk result (λ text. (run : Run) × IsWholeRun compiled.now fuel run
-        × (string_bytes text ≡ printed (program_of compiled.now) run.outcome)) }
+        × (string_bytes text ≡ outcome_in format (program_of compiled.now) run.outcome)) }
 {
     let run = run_threads(rt, alloc, compiled, fuel, gate)?;
-    Ok(outcome_text(alloc, compiled.scheme().program(), &run.outcome)?)
+    let program = compiled.scheme().program();
+    Ok(outcome_printed(alloc, program, &run.outcome, format)?)
 }

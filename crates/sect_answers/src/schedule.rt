@@ -8,12 +8,14 @@ ghost use Rattle.sect_store.specs.Printing.{outcome_text as printed};
 ghost use Rattle.sect_world.specs.Schedules.{IsUnrun};
 ghost use Rattle.sect_answers.specs.declared.refusal.Refusal.TheVariants.{Memory};
 ghost use Rattle.sect_answers.specs.Scheduling.{AreTurnsOf, AreThreads, IsScheduled, IsScheduleDue};
-ghost use Rattle.sect_answers.specs.Turns.{turn_lines};
-ghost use Rattle.sect_answers.specs.steps.Blocks.{AreEnough, blocks_of};
+ghost use Rattle.sect_answers.specs.Turns.{turn_lines, turns_in};
+ghost use Rattle.sect_lemmas.specs.Blocks.{AreEnough, blocks_of};
 
+use crate::format::Format;
 use crate::refusal::Refusal;
 use crate::turns::put_turns;
 use sect_emit::{Compiled, compile};
+use sect_json::turns_document;
 use sect_names::texts_have_one_program;
 use sect_store::put_outcome;
 use sect_types::Program;
@@ -28,9 +30,10 @@ pub fn schedule_outcome(
     k: u16,
     fuel: u32,
     schedule: Vec<u16>,
+    format: Format,
 ) -> Result<String, Refusal>
     // The source is accepted, and these are the turns of its compiled program.
-    ensures answers { IfOk result (λ text. IsScheduled source.now k fuel schedule.items (string_bytes text)) }
+    ensures answers { IfOk result (λ text. IsScheduled source.now k fuel schedule.items format (string_bytes text)) }
     // Where a text is accepted and the schedule has numbers of its threads alone, the turns are made, unless memory
     // runs out.
     ensures only { (s : SchemeView) → IsAccepted source.now k s → AreThreads s schedule.items
@@ -40,21 +43,39 @@ pub fn schedule_outcome(
 {
     texts_have_one_program();
     let compiled = compile(alloc, source, k)?;
-    Ok(turns_text(alloc, &compiled, fuel, schedule.as_slice())?)
+    Ok(turns_printed(alloc, &compiled, fuel, schedule.as_slice(), format)?)
 }
 
 /// The turns of these threads from the start of a compiled program, as they are printed.
-fn turns_text(
+fn turns_printed(
     alloc: Global,
     compiled: &Compiled,
     fuel: u32,
     schedule: &[u16],
+    format: Format,
 ) -> Result<String, WorldFault>
-    ensures answers { IfOk result (λ text. AreTurnsOf compiled.now fuel schedule.now (string_bytes text)) }
+    ensures answers { IfOk result (λ text. AreTurnsOf compiled.now fuel schedule.now format (string_bytes text)) }
     ensures refuses { IfErr result (λ why. IsUnrun why schedule.now (length compiled.now.scheme.program.texts)) }
 {
     let progress = run_schedule(alloc, compiled, fuel, schedule)?;
-    Ok(progress_text(alloc, compiled.scheme().program(), &progress)?)
+    Ok(progress_printed(alloc, compiled.scheme().program(), &progress, format)?)
+}
+
+/// The turns of a run, and what it has come to, as they are printed.
+fn progress_printed(
+    alloc: Global,
+    program: &Program,
+    progress: &Progress,
+    format: Format,
+) -> Result<String, AllocError>
+    requires { AreEnough progress.now.made.items progress.now.run.events.items }
+    ensures { IfOk result (λ text. string_bytes text ≡ turns_in format program.now
+        (blocks_of progress.now.made.items progress.now.run.events.items) progress.now.run.outcome) }
+{
+    match format {
+        Format::Text => progress_text(alloc, program, progress),
+        Format::Json => turns_document(alloc, program, progress),
+    }
 }
 
 /// A line for each turn of a run, and what it has come to.

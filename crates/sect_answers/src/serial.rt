@@ -8,7 +8,8 @@ ghost use Rattle.sect_answers.specs.declared.refusal.Refusal.TheVariants.{Memory
 ghost use Rattle.sect_names.specs.Sources.{IsTypedText};
 ghost use Rattle.sect_answers.specs.Serial.{IsOutcome, IsSerialDue};
 
-use crate::outcome::outcome_text;
+use crate::format::Format;
+use crate::outcome::outcome_printed;
 use crate::refusal::Refusal;
 use sect_names::program_of;
 use sect_serial::serial;
@@ -21,9 +22,10 @@ pub fn serial_outcome(
     source: &[u8],
     fuel: u32,
     order: Vec<u16>,
+    format: Format,
 ) -> Result<String, Refusal>
     // The program runs by whole sections in that order to an end, and this is the outcome.
-    ensures answers { IfOk result (λ text. IsOutcome source.now fuel order.items (string_bytes text)) }
+    ensures answers { IfOk result (λ text. IsOutcome source.now fuel order.items format (string_bytes text)) }
     // A program that runs so is answered, unless memory runs out.
     ensures only { (p : ProgramView) (e : SerialEndView) → IsTypedText source.now p
         → RunsWhole p fuel order.items e → IsOkUnless result Memory }
@@ -33,5 +35,5 @@ pub fn serial_outcome(
     let program = program_of(alloc, source)?;
     let end = serial(alloc, &program, fuel, order.as_slice())?;
     let outcome = end.into_outcome(alloc, order)?;
-    Ok(outcome_text(alloc, &program, &outcome)?)
+    Ok(outcome_printed(alloc, &program, &outcome, format)?)
 }

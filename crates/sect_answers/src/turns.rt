@@ -3,7 +3,7 @@
 ghost use Rattle.std.specs.Prelude.{◌≡◌, ◌++◌, OnOk};
 ghost use Rattle.std.specs.String.{string_bytes};
 ghost use Rattle.sect_answers.specs.Turns.{key_text, deed_text, event_text, more_text, block_text, turn_lines};
-ghost use Rattle.sect_answers.specs.steps.Blocks.{AreEnough, blocks_of};
+ghost use Rattle.sect_lemmas.specs.Blocks.{AreEnough, blocks_of};
 
 use sect_modes::Key;
 use sect_store::put_object_name;

@@ -1,3 +1,4 @@
+pub mod Blocks
 pub mod Booleans
 pub mod Changed
 pub mod Distinct

@@ -1,3 +1,4 @@
+pub mod Blocks
 pub mod Distinct
 pub mod Lists
 pub mod Numbers

@@ -2,11 +2,13 @@
 
 ghost use Rattle.std.specs.Prelude.{◌≡◌, ◌++◌, IfOk, OnOk};
 ghost use Rattle.std.specs.String.{string_bytes};
-ghost use Rattle.sect_store.specs.Printing.{numbered_text};
+ghost use Rattle.sect_types.specs.Sight.{names_of_declared};
+ghost use Rattle.sect_store.specs.Printing.{fields_at, numbered_text};
 
 use crate::outcome::Outcome;
-use crate::printing::{put_ends, put_order, put_output, put_store};
+use crate::printing::{fields_at, put_ends, put_order, put_output, put_store};
 use crate::site::site_records;
+use sect_front::Declaration;
 use sect_types::Program;
 use std::alloc::{AllocError, Global};
 use std::fmt::Write;
@@ -42,6 +44,20 @@ impl<'a> Printer<'a> {
     {
         let sites = site_records(alloc, program)?;
         Ok(Printer { program, sites })
+    }
+
+    /// The program.
+    pub fn program(&self) -> &Program
+        ensures { result.now ≡ self.now }
+    {
+        self.program
+    }
+
+    /// The declarations of the fields of the objects that are made at a site.
+    pub fn fields(&self, site: u16) -> &[Declaration]
+        ensures { names_of_declared result.now ≡ fields_at self.now site }
+    {
+        fields_at(self.program, self.sites.as_slice(), site)
     }
 
     /// Adds the outcome of this number: a line with its number and order, how each thread has ended, the output, and a

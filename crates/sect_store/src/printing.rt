@@ -84,7 +84,7 @@ pub fn put_store(
 {
     for (global, object) in store.globals().iter().enumerate() {
         text.push_str("object ")?;
-        put_global(text, program, global)?;
+        put_global_name(text, program, global)?;
         put_fields(text, program, sites, object)?;
     }
     for (thread, row) in store.made().iter().enumerate() {
@@ -147,7 +147,7 @@ fn put_field(
 }
 
 /// The declarations of the fields of the objects that are made at a site.
-fn fields_at<'a>(program: &'a Program, sites: &[u16], site: u16) -> &'a [Declaration]
+pub fn fields_at<'a>(program: &'a Program, sites: &[u16], site: u16) -> &'a [Declaration]
     requires { sites.now ≡ sites_of program.now.globals program.now.texts }
     ensures { names_of_declared result.now ≡ fields_at program.now site }
 {
@@ -182,13 +182,17 @@ pub fn put_object_name(
     ensures { OnOk result (string_bytes text.new ≡ string_bytes text.old ++ object_name program.now name) }
 {
     match name {
-        ObjectName::Global(number) => put_global(text, program, number as usize),
+        ObjectName::Global(number) => put_global_name(text, program, number as usize),
         ObjectName::Made { thread, number } => Ok(write!(text, "{thread}#{number}")?),
     }
 }
 
-/// Adds the name of a global.
-fn put_global(text: &mut String, program: &Program, number: usize) -> Result<(), AllocError>
+/// Adds the name of a global; nothing where there is no such global.
+pub fn put_global_name(
+    text: &mut String,
+    program: &Program,
+    number: usize,
+) -> Result<(), AllocError>
     ensures { OnOk result (string_bytes text.new
         ≡ string_bytes text.old ++ slice_index_or (names_of_globals program.now.source.globals) number []) }
 {

@@ -3,7 +3,7 @@ use Rattle.sect_lemmas.proofs.Results.{given}
 use Rattle.sect_answers.specs.declared.refusal.Refusal.TheVariants as refusal
 use Rattle.sect_answers.proofs.explain.program_explanation.Goals as goal
 
-pub returns-in_err-explanation-clause-only : goal.returns-in_err-explanation-clause-only
-returns-in_err-explanation-clause-only c = λ s accepted.
-    given c.from_residual-in_err-explanation.result (λ r. r ≡ refusal.Memory) refusal.Memory refl
-    c.from_residual-in_err-explanation.ensures.1
+pub returns-in_err-explanation_printed-clause-only : goal.returns-in_err-explanation_printed-clause-only
+returns-in_err-explanation_printed-clause-only c = λ s accepted.
+    given c.from_residual-in_err-explanation_printed.result (λ r. r ≡ refusal.Memory) refusal.Memory refl
+    c.from_residual-in_err-explanation_printed.ensures.1

@@ -3,7 +3,7 @@ use Rattle.sect_lemmas.proofs.Results.{given}
 use Rattle.sect_answers.specs.declared.refusal.Refusal.TheVariants as refusal
 use Rattle.sect_answers.proofs.lock_sets.locks.Goals as goal
 
-pub returns-in_err-lines-clause-only : goal.returns-in_err-lines-clause-only
-returns-in_err-lines-clause-only c =
-    λ s accepted. given c.from_residual-in_err-lines.result (λ r. r ≡ refusal.Memory) refusal.Memory refl
-    c.from_residual-in_err-lines.ensures.1
+pub returns-in_err-sets_printed-clause-only : goal.returns-in_err-sets_printed-clause-only
+returns-in_err-sets_printed-clause-only c =
+    λ s accepted. given c.from_residual-in_err-sets_printed.result (λ r. r ≡ refusal.Memory) refusal.Memory refl
+    c.from_residual-in_err-sets_printed.ensures.1

@@ -14,7 +14,7 @@ put_locks-requires c =
     let set = c.set.result.now in
     subst (λ (p : ProgramView). AreNamed p set)
     (sym (c.program.ensures ∙ ap (λ (s : SchemeView). s.program) c.scheme.ensures))
-    (set_named c.args.compiled.now c.rules.ensures.compiled c.args.section set c.set.ensures)
+    (set_named c.args.compiled.now c.facts.ensures.compiled c.args.section set c.set.ensures)
 
 pub returns : goal.returns
 returns c = λ of at.
@@ -32,7 +32,7 @@ returns c = λ of at.
     let pushed : string_bytes c.push_str.new.self ≡ string_bytes c.put_locks.new.text ++ codes "\n" =
     c.in_ok-push_str.ensures.bytes in (
       set,
-      c.rules.ensures.least i of set at c.set.ensures,
+      c.facts.ensures.least i of set at c.set.ensures,
       pushed ∙ ap (λ (b : List ℕ). b ++ codes "\n")
           (put ∙ ap (λ (b : List ℕ). b ++ locks) wrote ∙ append_assoc old head locks)
           ∙ append_assoc old (head ++ locks) (codes "\n"),

@@ -1,9 +1,9 @@
-use Rattle.std.proofs.Common.{◌≡◌, ◌≤◌, ◌++◌, ◌∙◌, sym, ap, subst}
+use Rattle.std.proofs.Common.{◌≡◌, sym, subst}
 use Rattle.sect_lemmas.proofs.Results.{given}
 use Rattle.sect_types.specs.Programs.{ProgramView}
 use Rattle.sect_serial.specs.Exploring.{HasStates}
 use Rattle.sect_answers.specs.declared.refusal.Refusal.TheVariants as refusal
-use Rattle.sect_answers.specs.Outcomes.{outcomes_text, of_outcomes}
+use Rattle.sect_answers.specs.Outcomes.{of_outcomes}
 use Rattle.sect_answers.proofs.Outcoming.{ends_of_runs, listed_gives}
 use Rattle.sect_answers.proofs.outcomes.all_outcomes.Goals as goal
 
@@ -30,5 +30,5 @@ returns-clause-answers c =
           ends_of_runs d p c.args.fuel all.found (c.every_run_is_serial.ensures d from.compiled)
           (c.every_order_is_run.ensures d from.compiled) (c.in_ok-program.ensures.only d.scheme.program from.accepted.text)
           c.in_ok-all.ensures.outcomes;
-      printed = c.in_ok-put_outcomes.ensures ∙ ap (λ bs. bs ++ outcomes_text p all) c.new-text.ensures.bytes;
+      printed = c.in_ok-outcomes_printed.ensures;
     }

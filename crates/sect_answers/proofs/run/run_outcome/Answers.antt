@@ -2,12 +2,12 @@ use Rattle.std.proofs.Common.{◌≡◌, refl, ◌∙◌, ℕ, List, sym, ap}
 use Rattle.sect_lemmas.proofs.Results.{given}
 use Rattle.sect_types.specs.Whole.{SerialEndView}
 use Rattle.sect_store.specs.Outcomes.{OutcomeView}
-use Rattle.sect_store.specs.Printing.{outcome_text}
 use Rattle.sect_serial.specs.Judging.{outcome_of}
 use Rattle.sect_emit.specs.Compiled.{program_of}
 use Rattle.sect_emit.specs.State.{State}
 use Rattle.sect_world.specs.Runs.{IsComplete, order_of}
 use Rattle.sect_world.specs.Worlds.{outcome_at}
+use Rattle.sect_answers.specs.Formats.{outcome_in}
 use Rattle.sect_answers.specs.declared.refusal.Refusal.TheVariants as refusal
 use Rattle.sect_answers.proofs.run.run_outcome.Goals as goal
 
@@ -43,7 +43,7 @@ returns-clause-answers g c =
         end = whole.end;
         runs = whole.serial;
         printed = printed
-            ∙ ap (λ (o : OutcomeView). outcome_text (program_of compiled) o)
+            ∙ ap (λ (o : OutcomeView). outcome_in c.args.format (program_of compiled) o)
             (whole.outcome ∙ ended_so whole.state whole.end order whole.complete);
       };
     }

@@ -16,15 +16,15 @@ returns-in_err-compiled-clause-refuses c =
     (schedule_source_due c.args.source.now c.args.k c.args.schedule.items why c.in_err-compiled.ensures.refuses)
     c.from_residual.ensures.1
 
-pub returns-in_err-turns_text-clause-refuses : goal.returns-in_err-turns_text-clause-refuses
-returns-in_err-turns_text-clause-refuses c =
-    let why = c.in_err-turns_text.field-0.0 in
+pub returns-in_err-turns_printed-clause-refuses : goal.returns-in_err-turns_printed-clause-refuses
+returns-in_err-turns_printed-clause-refuses c =
+    let why = c.in_err-turns_printed.field-0.0 in
     let unrun = subst (λ ts. IsUnrun why ts (length c.in_ok-compiled.compiled.scheme.program.texts))
-    c.as_slice.ensures.value c.in_err-turns_text.ensures.refuses in
-    given c.from_residual-in_err-turns_text.result (IsScheduleDue c.args.source.now c.args.k c.args.schedule.items)
+    c.as_slice.ensures.value c.in_err-turns_printed.ensures.refuses in
+    given c.from_residual-in_err-turns_printed.result (IsScheduleDue c.args.source.now c.args.k c.args.schedule.items)
     (of_world why)
     (schedule_due c.args.source.now c.args.k c.args.schedule.items c.in_ok-compiled.compiled why
-    c.in_ok-compiled.ensures.compiled.accepted unrun) c.from_residual-in_err-turns_text.ensures.1
+    c.in_ok-compiled.ensures.compiled.accepted unrun) c.from_residual-in_err-turns_printed.ensures.1
 
 pub returns-in_err-compiled-clause-only : goal.returns-in_err-compiled-clause-only
 returns-in_err-compiled-clause-only c = λ s accepted there.
@@ -32,9 +32,9 @@ returns-in_err-compiled-clause-only c = λ s accepted there.
     given c.from_residual.result (λ r. r ≡ refusal.Memory) (of_source why)
     (ap of_source (c.in_err-compiled.ensures.only s accepted)) c.from_residual.ensures.1
 
-pub returns-in_err-turns_text-clause-only : goal.returns-in_err-turns_text-clause-only
-returns-in_err-turns_text-clause-only c = λ s accepted there.
-    let why = c.in_err-turns_text.field-0.0 in
+pub returns-in_err-turns_printed-clause-only : goal.returns-in_err-turns_printed-clause-only
+returns-in_err-turns_printed-clause-only c = λ s accepted there.
+    let why = c.in_err-turns_printed.field-0.0 in
     let schedule = c.args.schedule.items in
     let own = c.in_ok-compiled.compiled.scheme in
     let same : s.program ≡ own.program = c.texts_have_one_program.ensures c.args.source.now own.program s.program
@@ -42,6 +42,6 @@ returns-in_err-turns_text-clause-only c = λ s accepted there.
     let count = length own.program.texts in
     let within : (t : ℕ) → Has schedule t → t < count =
     subst (λ (p : ProgramView). (t : ℕ) → Has schedule t → t < length p.texts) same there in
-    let unrun = subst (λ ts. IsUnrun why ts count) c.as_slice.ensures.value c.in_err-turns_text.ensures.refuses in
-    given c.from_residual-in_err-turns_text.result (λ r. r ≡ refusal.Memory) (of_world why)
-    (schedule_runs schedule count why within unrun) c.from_residual-in_err-turns_text.ensures.1
+    let unrun = subst (λ ts. IsUnrun why ts count) c.as_slice.ensures.value c.in_err-turns_printed.ensures.refuses in
+    given c.from_residual-in_err-turns_printed.result (λ r. r ≡ refusal.Memory) (of_world why)
+    (schedule_runs schedule count why within unrun) c.from_residual-in_err-turns_printed.ensures.1

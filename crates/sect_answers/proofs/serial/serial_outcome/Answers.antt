@@ -17,7 +17,7 @@ returns-in_err-end-clause-only c = λ p e text runs.
     given c.from_residual-in_err-end.result (λ r. r ≡ refusal.Memory) (of_serial why)
     (ended_gives e why (c.in_err-end.ensures.only e slice)) c.from_residual-in_err-end.ensures.1
 
-pub returns-in_err-outcome_text-clause-only : goal.returns-in_err-outcome_text-clause-only
-returns-in_err-outcome_text-clause-only c = λ p e text runs.
-    given c.from_residual-in_err-outcome_text.result (λ r. r ≡ refusal.Memory) refusal.Memory refl
-    c.from_residual-in_err-outcome_text.ensures.1
+pub returns-in_err-outcome_printed-clause-only : goal.returns-in_err-outcome_printed-clause-only
+returns-in_err-outcome_printed-clause-only c = λ p e text runs.
+    given c.from_residual-in_err-outcome_printed.result (λ r. r ≡ refusal.Memory) refusal.Memory refl
+    c.from_residual-in_err-outcome_printed.ensures.1

@@ -2,7 +2,7 @@ use Rattle.std.proofs.Common.{◌≡◌, ◌++◌, drop}
 use Rattle.std.specs.String.{string_bytes}
 use Rattle.sect_store.specs.Printing.{by_place}
 use Rattle.sect_answers.specs.Turns.{turn_line}
-use Rattle.sect_answers.specs.steps.Blocks.{blocks_of, AreEnough}
+use Rattle.sect_lemmas.specs.Blocks.{blocks_of, AreEnough}
 use Rattle.sect_answers.proofs.turns.put_turns.Given as goal
 
 abbrev pub invariant-loop-turn : goal.invariant-loop-turn

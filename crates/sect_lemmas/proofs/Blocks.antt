@@ -2,7 +2,7 @@
 use Rattle.std.proofs.Common.{◌≡◌, ◌≤◌, List, [], ◌∷◌, ◌++◌, map, length, drop, refl, sym, ap, subst, ◌∙◌}
 use Rattle.std.proofs.Common.{take_at, drop_at, length-append, arith}
 use Rattle.std.specs.List.{flat_map}
-use Rattle.sect_answers.specs.steps.Blocks.{blocks_of, AreEnough}
+use Rattle.sect_lemmas.specs.Blocks.{blocks_of, AreEnough}
 
 -- what is joined, cut by the lengths of its blocks, is these blocks
 pub cut_gives_back : {A : Type 0} (blocks : List (List A))

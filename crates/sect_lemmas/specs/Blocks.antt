@@ -1,4 +1,4 @@
--- A list that is cut into blocks of given lengths. `put_turns` cites it.
+-- A list that is cut into blocks of given lengths.
 use Rattle.std.specs.Prelude.{◌≤◌, ⊤, ℕ, List, [], ◌∷◌, length, take, drop}
 
 -- the blocks of these lengths, one behind the other

@@ -1,0 +1,27 @@
+-- What the command `lint` answers to a source text. `findings` cites it.
+use Rattle.std.specs.Prelude.{◌≡◌, ◌<◌, ℕ, Some, None, List, ⊤}
+use Rattle.std.specs.String.{string_bytes}
+use Rattle.sect_names.specs.declared.fault.SchemeFault.TheVariants as scheme
+use Rattle.sect_names.specs.declared.refusal.Refusal.TheVariants as source_refusal
+use Rattle.sect_lint.specs.declared.diagnostic.Diagnostic.{Diagnostic}
+use Rattle.sect_lint.specs.declared.format.Format.{Format}
+use Rattle.sect_lint.specs.Formats.{report_as, clean}
+use Rattle.sect_lint.specs.Reports.{IsJudged}
+use Rattle.sect_answers.specs.declared.refusal.Refusal.{Refusal}
+use Rattle.sect_answers.specs.declared.refusal.Refusal.TheVariants as refusal
+
+-- the text is accepted, and the bytes tell nothing of it
+abbrev pub IsUnblamed : List ℕ → ℕ → Format → List ℕ → Type 0
+IsUnblamed source k format bytes = IsJudged source k None × (bytes ≡ clean format)
+
+-- the bytes are the report of the mistake for which the text is refused
+abbrev pub IsReported : List ℕ → ℕ → Format → List ℕ → Type 0
+IsReported source k format bytes =
+    (d : Diagnostic) × IsJudged source k (Some d) × (bytes ≡ report_as format source d)
+
+-- the refusal is due: the report of the text, or that no path may have so many fields
+abbrev pub IsLintDue : List ℕ → ℕ → Format → Refusal → Type 0
+IsLintDue source k format refusal.Memory = ⊤
+IsLintDue source k format (refusal.Report text) = IsReported source k format (string_bytes text)
+IsLintDue source k format (refusal.Source why) = (why ≡ source_refusal.Scheme scheme.BadK) × (3 < k)
+IsLintDue source k format _ = ⊥

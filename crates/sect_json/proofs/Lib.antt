@@ -1,0 +1,10 @@
+mod Plain
+mod PlainConflicts
+mod PlainExplaining
+mod PlainKeys
+mod PlainLocks
+mod PlainObjects
+mod PlainOutcomes
+mod PlainTurns
+mod Rows
+mod Telling

@@ -1,0 +1,49 @@
+-- Lists of values that are made one by one.
+use Rattle.std.proofs.Common.{◌≡◌, ℕ, ◌+◌, List, [], ◌∷◌, ◌++◌, map, take, drop, Some, sym, ap, ◌∙◌}
+use Rattle.std.proofs.Common.{◌≤◌, length}
+use Rattle.std.specs.Prelude.{slice_get, Vec}
+use Rattle.std.specs.declared.alloc.Global.{Global}
+use Rattle.std.proofs.lemmas.List.{map-append, take_all, take_more, append_assoc}
+use Rattle.std.proofs.lemmas.Option.{slice_get_within, get_or_from_slice_get}
+use Rattle.sect_lemmas.proofs.Elements.{drop_next}
+use Rattle.serde_json.specs.Data.{Data}
+use Rattle.serde_json.specs.View.{view}
+use Rattle.serde_json.specs.declared.value.Value.{Value, Array}
+use Rattle.serde_json.proofs.Views.{view-Array}
+use Rattle.sect_json.specs.Values.{list, by_place}
+
+-- one value more
+pub view_more : (values more : List Value) (v : Value) (d : Data) → more ≡ values ++ v ∷ [] → view v ≡ d
+    → map view more ≡ map view values ++ d ∷ []
+view_more values more v d pushed is =
+    ap (map view) pushed ∙ (map-append view values (v ∷ []) ∙ ap (λ e. map view values ++ e ∷ []) is)
+
+module _ {A : Type 0} (xs : List A) (n : ℕ) (x : A) (at : slice_get xs n ≡ Some x) where
+  -- the values of the first elements, and that of the next
+  pub map_more : (of : A → Data) (values more : List Value) (v : Value) → map view values ≡ map of (take n xs)
+      → more ≡ values ++ v ∷ [] → view v ≡ of x → map view more ≡ map of (take (n + 1) xs)
+  map_more of values more v had pushed is =
+      let taken : take (n + 1) xs ≡ take n xs ++ x ∷ [] = take_more xs n x (slice_get_within xs n x at)
+      ∙ ap (λ y. take n xs ++ y ∷ []) (get_or_from_slice_get xs n x x at) in
+      view_more values more v (of x) pushed is
+      ∙ (ap (λ ds. ds ++ of x ∷ []) had ∙ (sym (map-append of (take n xs) (x ∷ [])) ∙ ap (map of) (sym taken)))
+
+  -- the value at a place, and then those behind it
+  rest_next : (of : ℕ → A → Data) → by_place of n (drop n xs) ≡ of n x ∷ by_place of (n + 1) (drop (n + 1) xs)
+  rest_next of =
+      ap (by_place of n) (drop_next xs n x (slice_get_within xs n x at) (sym (get_or_from_slice_get xs n x x at)))
+
+  -- the values so far and those that are left, where one more is made
+  pub by_place_more : (of : ℕ → A → Data) (values more : List Value) (v : Value) (all : List Data)
+      → map view values ++ by_place of n (drop n xs) ≡ all → more ≡ values ++ v ∷ [] → view v ≡ of n x
+      → map view more ++ by_place of (n + 1) (drop (n + 1) xs) ≡ all
+  by_place_more of values more v all had pushed is =
+      let rest = by_place of (n + 1) (drop (n + 1) xs) in
+      ap (λ ds. ds ++ rest) (view_more values more v (of n x) pushed is)
+      ∙ (append_assoc (map view values) (of n x ∷ []) rest
+      ∙ (ap (λ ds. map view values ++ ds) (sym (rest_next of)) ∙ had))
+
+-- the values of the first elements are those of all, where there are no more
+pub map_all : {A : Type 0} (of : A → Data) (xs : List A) (n : ℕ) (values : Vec Value Global) → length xs ≤ n
+    → map view values.items ≡ map of (take n xs) → view (Array values) ≡ list (map of xs)
+map_all of xs n values past had = view-Array values ∙ ap list (had ∙ ap (map of) (take_all n xs past))

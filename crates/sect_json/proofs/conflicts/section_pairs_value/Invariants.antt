@@ -1,0 +1,7 @@
+use Rattle.std.proofs.Common.{◌≡◌, map, take}
+use Rattle.serde_json.specs.View.{view}
+use Rattle.sect_json.specs.Conflicts.{section_pair_json}
+use Rattle.sect_json.proofs.conflicts.section_pairs_value.Given as goal
+
+abbrev pub invariant-loop-pair : goal.invariant-loop-pair
+invariant-loop-pair l = map view l.values.items ≡ map (section_pair_json l.program) (take l.pair-index l.pairs)

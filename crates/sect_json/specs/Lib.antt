@@ -1,0 +1,9 @@
+pub mod Values
+pub mod Keys
+pub mod Objects
+pub mod Conflicts
+pub mod Outcomes
+pub mod Locks
+pub mod Explaining
+pub mod steps
+pub mod Turns

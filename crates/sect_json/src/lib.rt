@@ -1,0 +1,17 @@
+//! What commands answer, as JSON: each document is defined as a value, and what is written is that value's text.
+#![tactic(auto)]
+
+mod conflicts;
+mod explaining;
+mod keys;
+mod locks;
+mod objects;
+mod outcomes;
+mod turns;
+mod writing;
+
+pub use conflicts::conflicts_document;
+pub use explaining::explanation_document;
+pub use locks::locks_document;
+pub use outcomes::{outcome_document, outcomes_document};
+pub use turns::turns_document;

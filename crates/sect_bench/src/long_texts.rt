@@ -2,8 +2,8 @@
 
 use crate::failure::Failure;
 use sect_cert::{
-    Cert, CertBase, CertFault, CertLock, CertPath, CertSection, CertStep, Chain, Items, read_cert,
-    write_cert,
+    Cert, CertBase, CertFault, CertLock, CertPath, CertSection, CertStep, Chain, ChainSteps, Items,
+    Runs, read_cert, write_cert,
 };
 use sect_front::Name;
 use std::alloc::{AllocError, Global};
@@ -43,7 +43,7 @@ fn certificate(alloc: Global, count: u32, locks: u32) -> Result<Cert, AllocError
 
 /// A section of `NODES` nodes, whose lists have so many locks.
 fn section(alloc: Global, locks: u32) -> Result<CertSection, AllocError> {
-    let mut nodes = Items::new(alloc);
+    let mut nodes = Runs::new(alloc);
     for _ in 0..NODES {
         nodes.push(list(alloc, locks)?)?;
     }
@@ -76,8 +76,8 @@ fn chains(alloc: Global, count: u32) -> Result<Items<Chain>, AllocError> {
 }
 
 /// A step at each node, with the lock of this number.
-fn steps(alloc: Global, number: u32) -> Result<Items<CertStep>, AllocError> {
-    let mut steps = Items::new(alloc);
+fn steps(alloc: Global, number: u32) -> Result<ChainSteps, AllocError> {
+    let mut steps = ChainSteps::new(alloc);
     for node in 0..NODES {
         steps.push(CertStep {
             node,

@@ -7,6 +7,7 @@ use Rattle.sect_answers.specs.Checking.{IsValidInput, IsCheckDue}
 use Rattle.sect_answers.specs.Compiling.{IsCertified, IsProgramListing, IsCompileDue}
 use Rattle.sect_answers.specs.Conflicting.{AreProgramConflicts}
 use Rattle.sect_answers.specs.Explaining.{IsProgramExplanation}
+use Rattle.sect_answers.specs.Linting.{IsUnblamed, IsLintDue}
 use Rattle.sect_answers.specs.Outcomes.{AreAllOutcomes, IsOutcomesDue}
 use Rattle.sect_answers.specs.Refusals.{refusal_text}
 use Rattle.sect_answers.specs.Running.{IsOutcomeOfRun}
@@ -18,32 +19,34 @@ use Rattle.sect_command.specs.declared.dispatch.TheConstants.{DONE, REFUSED, WRO
 use Rattle.sect_command.specs.declared.dispatch.Answer.{Answer}
 use Rattle.sect_command.specs.declared.options.Form.TheVariants.{Listing, Certificate}
 use Rattle.sect_command.specs.declared.options.Request.{Request}
-use Rattle.sect_command.specs.declared.options.Request.TheVariants.{Locks, Compile, Explain, Conflicts, Check}
+use Rattle.sect_command.specs.declared.options.Request.TheVariants.{Locks, Compile, Explain, Conflicts, Lint, Check}
 use Rattle.sect_command.specs.declared.options.Request.TheVariants.{Serial, Outcomes, Schedule, Run}
 
 -- the bytes are what is requested of the source
 abbrev pub Answers : Request → List ℕ → List ℕ → Type 0
-Answers (Locks k) source bytes = IsAnswer source k bytes
+Answers (Locks k format) source bytes = IsAnswer source k format bytes
 Answers (Compile k workers Listing) source bytes = AreOffered workers × IsProgramListing source k bytes
 Answers (Compile k workers Certificate) source bytes = AreOffered workers × IsCertified source k bytes
-Answers (Explain k) source bytes = IsProgramExplanation source k bytes
-Answers (Conflicts k) source bytes = AreProgramConflicts source k bytes
-Answers (Serial fuel order) source bytes = IsOutcome source fuel order.items bytes
-Answers (Outcomes fuel most) source bytes = AreAllOutcomes source fuel most bytes
-Answers (Schedule k fuel schedule) source bytes = IsScheduled source k fuel schedule.items bytes
-Answers (Run k fuel) source bytes = IsOutcomeOfRun source k fuel bytes
+Answers (Explain k format) source bytes = IsProgramExplanation source k format bytes
+Answers (Conflicts k format) source bytes = AreProgramConflicts source k format bytes
+Answers (Serial fuel order format) source bytes = IsOutcome source fuel order.items format bytes
+Answers (Outcomes fuel most format) source bytes = AreAllOutcomes source fuel most format bytes
+Answers (Schedule k fuel schedule format) source bytes = IsScheduled source k fuel schedule.items format bytes
+Answers (Run k fuel format) source bytes = IsOutcomeOfRun source k fuel format bytes
+Answers (Lint k format) source bytes = IsUnblamed source k format bytes
 Answers (Check k) source bytes = IsValidInput source k × (bytes ≡ codes "valid\n")
 
 -- the refusal is due where this is requested of the source
 abbrev pub IsRefusalDue : Request → List ℕ → Refusal → Type 0
-IsRefusalDue (Locks k) source = IsDue source k
+IsRefusalDue (Locks k format) source = IsDue source k
 IsRefusalDue (Compile k workers form) source = IsCompileDue source k workers
-IsRefusalDue (Explain k) source = IsDue source k
-IsRefusalDue (Conflicts k) source = IsDue source k
-IsRefusalDue (Serial fuel order) source = IsSerialDue source fuel order.items
-IsRefusalDue (Outcomes fuel most) source = IsOutcomesDue source fuel most
-IsRefusalDue (Schedule k fuel schedule) source = IsScheduleDue source k schedule.items
-IsRefusalDue (Run k fuel) source = IsDue source k
+IsRefusalDue (Explain k format) source = IsDue source k
+IsRefusalDue (Conflicts k format) source = IsDue source k
+IsRefusalDue (Serial fuel order format) source = IsSerialDue source fuel order.items
+IsRefusalDue (Outcomes fuel most format) source = IsOutcomesDue source fuel most
+IsRefusalDue (Schedule k fuel schedule format) source = IsScheduleDue source k schedule.items
+IsRefusalDue (Run k fuel format) source = IsDue source k
+IsRefusalDue (Lint k format) source = IsLintDue source k format
 IsRefusalDue (Check k) source = IsCheckDue source k
 
 -- what is written for a refusal

@@ -9,8 +9,9 @@ ghost use Rattle.std.specs.String.{string_bytes};
 
 use crate::options::{Form, Request, UsageFault, request_of};
 use sect_answers::{
-    Refusal, all_outcomes, locks, program_certificate, program_conflicts, program_explanation,
-    program_listing, put_refusal, run_outcome, schedule_outcome, serial_outcome, verdict,
+    Refusal, all_outcomes, findings, locks, program_certificate, program_conflicts,
+    program_explanation, program_listing, put_refusal, run_outcome, schedule_outcome,
+    serial_outcome, verdict,
 };
 use sect_run::OpenGate;
 use std::alloc::{AllocError, Global};
@@ -184,7 +185,7 @@ fn printed<R: Threads + Wait + Sync>(
     ensures refuses { IfErr result (IsRefusalDue request source.now) }
 {
     match request {
-        Request::Locks { k } => Ok(locks(alloc, source, k)?.into_bytes()),
+        Request::Locks { k, format } => Ok(locks(alloc, source, k, format)?.into_bytes()),
         Request::Compile {
             k,
             workers,
@@ -195,20 +196,28 @@ fn printed<R: Threads + Wait + Sync>(
             workers,
             form: Form::Certificate,
         } => program_certificate(rt, alloc, source, k, workers),
-        Request::Explain { k } => program_explanation(alloc, source, k),
-        Request::Conflicts { k } => Ok(program_conflicts(alloc, source, k)?.into_bytes()),
-        Request::Serial { fuel, order } => {
-            Ok(serial_outcome(alloc, source, fuel, order)?.into_bytes())
+        Request::Explain { k, format } => program_explanation(alloc, source, k, format),
+        Request::Conflicts { k, format } => {
+            Ok(program_conflicts(alloc, source, k, format)?.into_bytes())
         }
-        Request::Outcomes { fuel, most } => {
-            Ok(all_outcomes(alloc, source, fuel, most)?.into_bytes())
+        Request::Serial {
+            fuel,
+            order,
+            format,
+        } => Ok(serial_outcome(alloc, source, fuel, order, format)?.into_bytes()),
+        Request::Outcomes { fuel, most, format } => {
+            Ok(all_outcomes(alloc, source, fuel, most, format)?.into_bytes())
         }
-        Request::Schedule { k, fuel, schedule } => {
-            Ok(schedule_outcome(alloc, source, k, fuel, schedule)?.into_bytes())
+        Request::Schedule {
+            k,
+            fuel,
+            schedule,
+            format,
+        } => Ok(schedule_outcome(alloc, source, k, fuel, schedule, format)?.into_bytes()),
+        Request::Run { k, fuel, format } => {
+            Ok(run_outcome(rt, alloc, source, k, fuel, &OpenGate, format)?.into_bytes())
         }
-        Request::Run { k, fuel } => {
-            Ok(run_outcome(rt, alloc, source, k, fuel, &OpenGate)?.into_bytes())
-        }
+        Request::Lint { k, format } => Ok(findings(alloc, source, k, format)?.into_bytes()),
         Request::Check { k } => Ok(verdict(alloc, source, k)?.into_bytes()),
     }
 }

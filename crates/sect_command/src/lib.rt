@@ -2,6 +2,8 @@
 #![tactic(auto)]
 
 mod dispatch;
+mod formats;
+mod linting;
 mod options;
 mod running;
 

@@ -3,13 +3,20 @@
 ghost use Rattle.std.specs.Prelude.{◌≡◌, ◌≤◌, true, false, IfOk, IfSome};
 ghost use Rattle.clap.specs.declared.builder.command.Command.TheViews.{out-Command as fields_of};
 
+use crate::formats::{format_of, format_option};
+use crate::linting::{lint_command, lint_format_of};
 use crate::running::{
     FUEL, STATES, outcomes_command, run_command, schedule_command, serial_command, threads_of,
 };
 use clap::error::ErrorKind;
 use clap::{Arg, ArgAction, ArgMatches, Command};
+use sect_answers::Format;
+use sect_lint::Format as LintFormat;
 use std::alloc::{AllocError, AllocFailed, Global};
 use thiserror::Error;
+
+/// The version of the program, and the kit that it is proved by.
+const VERSION: &str = "1.0.0 (rattle-kit-13f)";
 
 /// The greatest number that the command line takes.
 pub const MOST: u32 = 65535;
@@ -26,6 +33,7 @@ pub enum Request {
     /// The lock set of each section, whose paths have at most k fields.
     Locks {
         k: u16,
+        format: Format,
     },
     /// The compiled program, in this form, with paths of at most k fields, by so many workers.
     Compile {
@@ -36,20 +44,29 @@ pub enum Request {
     /// Why each section takes its locks, whose paths have at most k fields.
     Explain {
         k: u16,
+        format: Format,
     },
     /// Which sections exclude each other, where paths have at most k fields.
     Conflicts {
         k: u16,
+        format: Format,
+    },
+    /// What is wrong with the text, in this form, where paths have at most k fields.
+    Lint {
+        k: u16,
+        format: LintFormat,
     },
     /// The outcome of a run by whole sections of these threads, each thread with this much fuel.
     Serial {
         fuel: u32,
         order: Vec<u16>,
+        format: Format,
     },
     /// All outcomes of whole sections, each thread with this much fuel, where they lead to at most so many states.
     Outcomes {
         fuel: u32,
         most: u32,
+        format: Format,
     },
     /// A run by the turns of these threads, each thread with this much fuel, of the program that is compiled with paths
     /// of at most k fields.
@@ -57,11 +74,13 @@ pub enum Request {
         k: u16,
         fuel: u32,
         schedule: Vec<u16>,
+        format: Format,
     },
     /// A run by threads, each with this much fuel, of the program that is compiled with paths of at most k fields.
     Run {
         k: u16,
         fuel: u32,
+        format: Format,
     },
     /// Whether a certificate is valid for the source behind it, with paths of at most k fields.
     Check {
@@ -82,6 +101,9 @@ pub enum UsageFault {
     /// What `clap` refuses: an unknown command or option, an option given twice, a call for help.
     #[error("{0}\nThe source text is read on standard input, as in: sectc locks < FILE\n")]
     Words(clap::Error),
+    /// A call for the version.
+    #[error("{0}")]
+    Version(clap::Error),
     /// A value that isn't decimal digits alone or lies outside `least` to `most`, and its option.
     #[error("error: invalid value '{value}' for '--{option}': a number from {least} to {most} is wanted\n")]
     Number {
@@ -93,6 +115,12 @@ pub enum UsageFault {
     /// A word in the place of a thread's number that isn't decimal digits alone or is too great.
     #[error("error: invalid thread '{0}': a number from 0 to 65535 is wanted\n")]
     Thread(String),
+    /// A value of `--format` that is no format.
+    #[error("error: invalid value '{0}' for '--format': text or json is wanted\n")]
+    Format(String),
+    /// A value of `--format` that is no form of `lint`.
+    #[error("error: invalid value '{0}' for '--format': text, json or sarif is wanted\n")]
+    LintFormat(String),
     /// A growth was refused.
     #[error("out of memory\n")]
     Memory,
@@ -112,10 +140,10 @@ impl<T: Drop> From<AllocFailed<T>> for UsageFault {
 
 impl From<clap::Error> for UsageFault {
     fn from(refused: clap::Error) -> UsageFault {
-        if refused.kind() == ErrorKind::OutOfMemory {
-            UsageFault::Memory
-        } else {
-            UsageFault::Words(refused)
+        match refused.kind() {
+            ErrorKind::OutOfMemory => UsageFault::Memory,
+            ErrorKind::DisplayVersion => UsageFault::Version(refused),
+            _ => UsageFault::Words(refused),
         }
     }
 }
@@ -172,6 +200,17 @@ fn compile_command<'a>(alloc: Global) -> Result<Command<'a>, AllocError>
     command.arg(cert_option(alloc))
 }
 
+/// A command that takes `--k N` and `--format FORMAT`.
+pub fn formatted_command<'a>(
+    alloc: Global,
+    name: &'a str,
+    about: &'a str,
+) -> Result<Command<'a>, AllocError>
+    ensures { IfOk result (λ c. (fields_of c).has_globals ≡ false) }
+{
+    k_command(alloc, name, about)?.arg(format_option(alloc))
+}
+
 /// A command that takes `--k N`.
 pub fn k_command<'a>(
     alloc: Global,
@@ -191,7 +230,9 @@ fn grammar<'a>(alloc: Global) -> Result<Command<'a>, AllocError>
     let sectc = Command::new(alloc, "sectc").about(
         "infers the locks of atomic sections; reads a source text on standard input",
     );
+    let sectc = sectc.version(VERSION);
     let sectc = with_running(alloc, with_inference(alloc, sectc)?)?;
+    let sectc = with(sectc, lint_command(alloc))?;
     let check =
         "tests a certificate: the input is the certificate, and the source text behind its line `end`";
     let sectc = with(sectc, k_command(alloc, "check", check))?;
@@ -204,12 +245,12 @@ fn with_inference<'a>(alloc: Global, grammar: Command<'a>) -> Result<Command<'a>
     ensures { IfOk result (λ c. (fields_of c).has_globals ≡ false) }
 {
     let locks = "prints the lock set of each section of the source text";
-    let grammar = with(grammar, k_command(alloc, "locks", locks))?;
+    let grammar = with(grammar, formatted_command(alloc, "locks", locks))?;
     let grammar = with(grammar, compile_command(alloc))?;
     let explain = "prints why each section of the source text takes each of its locks";
-    let grammar = with(grammar, k_command(alloc, "explain", explain))?;
+    let grammar = with(grammar, formatted_command(alloc, "explain", explain))?;
     let conflicts = "prints which sections of the source text exclude each other, and where";
-    with(grammar, k_command(alloc, "conflicts", conflicts))
+    with(grammar, formatted_command(alloc, "conflicts", conflicts))
 }
 
 /// A grammar with the commands that run a program.
@@ -295,15 +336,22 @@ fn requested(alloc: Global, name: &str, options: &ArgMatches<'_>) -> Result<Requ
         "compile" => compile_request(alloc, options),
         "explain" => Ok(Request::Explain {
             k: k_of(alloc, options)?,
+            format: format_of(alloc, options)?,
         }),
         "conflicts" => Ok(Request::Conflicts {
             k: k_of(alloc, options)?,
+            format: format_of(alloc, options)?,
+        }),
+        "lint" => Ok(Request::Lint {
+            k: k_of(alloc, options)?,
+            format: lint_format_of(alloc, options)?,
         }),
         "check" => Ok(Request::Check {
             k: k_of(alloc, options)?,
         }),
         _locks => Ok(Request::Locks {
             k: k_of(alloc, options)?,
+            format: format_of(alloc, options)?,
         }),
     }
 }
@@ -317,14 +365,20 @@ fn k_of(alloc: Global, options: &ArgMatches<'_>) -> Result<u16, UsageFault> {
 fn serial_request(alloc: Global, options: &ArgMatches<'_>) -> Result<Request, UsageFault> {
     let fuel = FUEL.of(alloc, options)?;
     let order = threads_of(alloc, options)?;
-    Ok(Request::Serial { fuel, order })
+    let format = format_of(alloc, options)?;
+    Ok(Request::Serial {
+        fuel,
+        order,
+        format,
+    })
 }
 
 /// What `outcomes` asks for by its options.
 fn outcomes_request(alloc: Global, options: &ArgMatches<'_>) -> Result<Request, UsageFault> {
     let fuel = FUEL.of(alloc, options)?;
     let most = STATES.of(alloc, options)?;
-    Ok(Request::Outcomes { fuel, most })
+    let format = format_of(alloc, options)?;
+    Ok(Request::Outcomes { fuel, most, format })
 }
 
 /// What `schedule` asks for by its options.
@@ -332,14 +386,21 @@ fn schedule_request(alloc: Global, options: &ArgMatches<'_>) -> Result<Request, 
     let k = k_of(alloc, options)?;
     let fuel = FUEL.of(alloc, options)?;
     let schedule = threads_of(alloc, options)?;
-    Ok(Request::Schedule { k, fuel, schedule })
+    let format = format_of(alloc, options)?;
+    Ok(Request::Schedule {
+        k,
+        fuel,
+        schedule,
+        format,
+    })
 }
 
 /// What `run` asks for by its options.
 fn run_request(alloc: Global, options: &ArgMatches<'_>) -> Result<Request, UsageFault> {
     let k = k_of(alloc, options)?;
     let fuel = FUEL.of(alloc, options)?;
-    Ok(Request::Run { k, fuel })
+    let format = format_of(alloc, options)?;
+    Ok(Request::Run { k, fuel, format })
 }
 
 /// What `compile` asks for by its options.

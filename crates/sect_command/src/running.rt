@@ -3,7 +3,8 @@
 ghost use Rattle.std.specs.Prelude.{◌≡◌, ◌≤◌, false, IfOk};
 ghost use Rattle.clap.specs.declared.builder.command.Command.TheViews.{out-Command as fields_of};
 
-use crate::options::{MOST, UsageFault, k_command, number, numeral};
+use crate::formats::format_option;
+use crate::options::{MOST, UsageFault, formatted_command, number, numeral};
 use clap::{Arg, ArgAction, ArgMatches, Command};
 use std::alloc::{AllocError, Global};
 
@@ -78,6 +79,7 @@ pub fn serial_command<'a>(alloc: Global) -> Result<Command<'a>, AllocError>
     let command = Command::new(alloc, "serial")
         .about(about)
         .arg(fuel_option(alloc))?;
+    let command = command.arg(format_option(alloc))?;
     let threads = "the threads of the sections, in their order";
     command.arg(thread_words(alloc, threads))
 }
@@ -92,7 +94,8 @@ pub fn outcomes_command<'a>(alloc: Global) -> Result<Command<'a>, AllocError>
     let command = Command::new(alloc, "outcomes")
         .about(about)
         .arg(fuel_option(alloc))?;
-    command.arg(numeral(alloc, "most", most))
+    let command = command.arg(numeral(alloc, "most", most))?;
+    command.arg(format_option(alloc))
 }
 
 /// A command that runs a compiled program, with the options that each takes.
@@ -103,7 +106,7 @@ fn compiled_command<'a>(
 ) -> Result<Command<'a>, AllocError>
     ensures { IfOk result (λ c. (fields_of c).has_globals ≡ false) }
 {
-    let command = k_command(alloc, name, about)?;
+    let command = formatted_command(alloc, name, about)?;
     command.arg(fuel_option(alloc))
 }
 

@@ -3,8 +3,8 @@
 
 use crate::programs::printed;
 use sect_cert::{
-    Cert, CertBase, CertFault, CertLock, CertPath, CertSection, CertStep, Chain, Items, read_cert,
-    write_cert,
+    Cert, CertBase, CertFault, CertLock, CertPath, CertSection, CertStep, Chain, ChainSteps, Items,
+    Runs, read_cert, write_cert,
 };
 use sect_front::{Name, is_name};
 use std::alloc::{AllocError, Global};
@@ -98,6 +98,24 @@ fn at<T>(items: &[T], place: usize) -> Result<&T, Fail> {
     }
 }
 
+/// How many locks the list of a node has.
+fn list_len(nodes: &Runs<Items<CertLock>>, node: usize) -> Result<usize, Fail> {
+    if node < nodes.len() {
+        Ok(nodes.at(node).len())
+    } else {
+        Err(Fail::from("too short"))
+    }
+}
+
+/// The node and the lock of the step at an index.
+fn step_at(steps: &ChainSteps, index: usize) -> Result<(u32, &CertLock), Fail> {
+    if index < steps.len() {
+        Ok((steps.node(index), steps.lock(index)))
+    } else {
+        Err(Fail::from("too short"))
+    }
+}
+
 #[test]
 fn a_certificate_is_read_as_what_it_says(rt: HostRuntime) -> Result<(), Fail> {
     match read_cert(rt.alloc(), ADDS_ONE) {
@@ -112,8 +130,8 @@ fn says_it_adds_one(rt: &impl Abort, cert: &Cert) -> Result<(), Fail> {
     assert_eq!(rt; cert.sections.len(), 1);
     let section = at(cert.sections.as_slice(), 0)?;
     assert_eq!(rt; section.nodes.len(), 4);
-    assert_eq!(rt; at(section.nodes.as_slice(), 2)?.len(), 1);
-    assert_eq!(rt; at(section.nodes.as_slice(), 3)?.len(), 0);
+    assert_eq!(rt; list_len(&section.nodes, 2)?, 1);
+    assert_eq!(rt; list_len(&section.nodes, 3)?, 0);
     assert_eq!(rt; section.entry.len(), 1);
     assert_eq!(rt; section.chains.len(), 1);
     leads_to_the_store(rt, at(section.chains.as_slice(), 0)?)
@@ -123,9 +141,9 @@ fn says_it_adds_one(rt: &impl Abort, cert: &Cert) -> Result<(), Fail> {
 fn leads_to_the_store(rt: &impl Abort, chain: &Chain) -> Result<(), Fail> {
     assert_eq!(rt; chain.lock, 0);
     assert_eq!(rt; chain.steps.len(), 3);
-    let step = at(chain.steps.as_slice(), 2)?;
-    assert_eq!(rt; step.node, 2);
-    match &step.lock {
+    let (node, lock) = step_at(&chain.steps, 2)?;
+    assert_eq!(rt; node, 2);
+    match lock {
         CertLock::WritePath(path) => {
             assert_eq!(rt; path.fields.len(), 0);
             match path.base {
@@ -165,10 +183,11 @@ fn made_path(alloc: Global) -> Result<CertPath, Fail> {
 }
 
 /// The lists of two nodes: a path and a class, and nothing.
-fn made_nodes(alloc: Global) -> Result<Items<Items<CertLock>>, Fail> {
+fn made_nodes(alloc: Global) -> Result<Runs<Items<CertLock>>, Fail> {
     let mut list = of_one(alloc, CertLock::ReadPath(made_path(alloc)?))?;
     list.push(CertLock::MakeClass(3))?;
-    let mut nodes = of_one(alloc, list)?;
+    let mut nodes = Runs::new(alloc);
+    nodes.push(list)?;
     nodes.push(Items::new(alloc))?;
     Ok(nodes)
 }
@@ -179,7 +198,8 @@ fn made_chains(alloc: Global) -> Result<Items<Chain>, AllocError> {
         node: 0,
         lock: CertLock::ReadClass(7),
     };
-    let steps = of_one(alloc, step)?;
+    let mut steps = ChainSteps::new(alloc);
+    steps.push(step)?;
     of_one(alloc, Chain { lock: 2, steps })
 }
 

@@ -68,7 +68,7 @@ fn counts_of_a_program(rt: HostRuntime) -> Result<(), Fail> {
 #[test]
 fn statements_by_number(rt: HostRuntime) -> Result<(), Fail> {
     let program = program_of(rt.alloc(), LIST)?;
-    program.typing();
+    program.facts();
     assert!(rt; program.thread_count() == 2);
     let push = program.text(0).as_slice();
     assert!(rt; push.len() == 2);

@@ -2,7 +2,7 @@
 
 use super::programs::PROCEDURE;
 use super::{LIST, TWO_ADD, answer_of, expect_runs_in_order};
-use sect_answers::run_outcome;
+use sect_answers::{Format, run_outcome};
 use sect_run::Gate;
 use sect_world::Kind;
 use std::alloc::{AllocError, Global};
@@ -100,7 +100,15 @@ fn two_sections_overlap(rt: HostRuntime) -> Result<(), Fail> {
         left: AtomicBool::new(false),
         gave_up: AtomicBool::new(false),
     };
-    let shown = run_outcome(&rt, rt.alloc(), APART.as_bytes(), 2, 10_000, &gate)?;
+    let shown = run_outcome(
+        &rt,
+        rt.alloc(),
+        APART.as_bytes(),
+        2,
+        10_000,
+        &gate,
+        Format::Text,
+    )?;
     assert!(rt; !gate.gave_up.load(Ordering::SeqCst));
     assert_eq!(rt;
         shown.as_str(),
@@ -117,7 +125,15 @@ fn two_workers_were_seen(rt: HostRuntime) -> Result<(), Fail> {
         second: AtomicBool::new(false),
         gave_up: AtomicBool::new(false),
     };
-    let shown = run_outcome(&rt, rt.alloc(), APART.as_bytes(), 2, 10_000, &gate)?;
+    let shown = run_outcome(
+        &rt,
+        rt.alloc(),
+        APART.as_bytes(),
+        2,
+        10_000,
+        &gate,
+        Format::Text,
+    )?;
     assert!(rt; !gate.gave_up.load(Ordering::SeqCst));
     assert!(rt; gate.first.load(Ordering::SeqCst));
     assert!(rt; gate.second.load(Ordering::SeqCst));

@@ -20,6 +20,8 @@ const COMMANDS: &[(&str, &str)] = &[
     ("locks", TWO_THREADS),
     ("explain", TWO_THREADS),
     ("conflicts", TWO_THREADS),
+    ("conflicts --format json", TWO_THREADS),
+    ("outcomes --format json", TWO_THREADS),
     ("compile", TWO_THREADS),
     ("compile --cert", TWO_THREADS),
     ("compile --workers 2 --cert", TWO_THREADS),

@@ -1,0 +1,1 @@
+autocmd BufRead,BufNewFile *.sect setfiletype sect

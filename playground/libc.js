@@ -1,0 +1,168 @@
+// What the program's module asks of the C library, in JavaScript: a heap, its words, its input and its output.
+//
+// Nothing here is proved. A heap's blocks have sizes that are powers of two, with a list of free blocks for each size.
+
+const PAGE = 65536;
+
+class Heap {
+  constructor(exports) {
+    this.memory = exports.memory;
+    this.top = Number(exports.__heap_base.value);
+    this.top += -this.top & 15;
+    this.end = this.memory.buffer.byteLength;
+    this.free = Array.from({ length: 48 }, () => []);
+    this.sizes = new Map();
+  }
+
+  /** The address of a block of at least `size` bytes, or 0 where the memory can't grow. */
+  take(size) {
+    const power = Math.max(4, Math.ceil(Math.log2(size)));
+    const block = this.free[power].pop() ?? this.extend(2 ** power);
+    if (block) this.sizes.set(block, power);
+    return block;
+  }
+
+  extend(size) {
+    if (this.top + size > this.end) {
+      const pages = Math.max(16, Math.ceil((this.top + size - this.end) / PAGE));
+      try {
+        this.memory.grow(BigInt(pages));
+      } catch {
+        return 0;
+      }
+      this.end = this.memory.buffer.byteLength;
+    }
+    const block = this.top;
+    this.top += size;
+    return block;
+  }
+
+  give(block) {
+    const power = this.sizes.get(block);
+    this.sizes.delete(block);
+    this.free[power].push(block);
+  }
+
+  /** Moves the first `kept` bytes of a block to one of at least `size` bytes, which may be the same. */
+  resize(block, kept, size) {
+    if (size <= 2 ** this.sizes.get(block)) return block;
+    const to = this.take(size);
+    if (to) {
+      new Uint8Array(this.memory.buffer).copyWithin(to, block, block + Math.min(kept, size));
+      this.give(block);
+    }
+    return to;
+  }
+}
+
+/** The program has ended with a status. */
+export class Exit extends Error {
+  constructor(status) {
+    super(`status ${status}`);
+    this.status = status;
+  }
+}
+
+/** One run of the program: its words and its input, and the pieces of its output so far. */
+export class Run {
+  constructor(words, input) {
+    this.words = words.map((word) => new TextEncoder().encode(word));
+    this.input = input;
+    this.at = 0;
+    this.output = [];
+    this.errno = 0;
+  }
+
+  /** Begins to use the memory of a new instance of the module. */
+  start(exports) {
+    this.memory = exports.memory;
+    this.heap = new Heap(exports);
+  }
+
+  bytes(address, length) {
+    return new Uint8Array(this.memory.buffer, Number(address), Number(length));
+  }
+
+  read(address, length) {
+    const to = this.bytes(address, length);
+    const count = Math.min(to.length, this.input.length - this.at);
+    to.set(this.input.subarray(this.at, this.at + count));
+    this.at += count;
+    return BigInt(count);
+  }
+
+  write(address, length) {
+    this.output.push(this.bytes(address, length).slice());
+    return length;
+  }
+
+  word(index, address, length) {
+    const word = this.words[Number(index)];
+    if (!word) return -1n;
+    const to = this.bytes(address, length);
+    to.set(word.subarray(0, to.length));
+    return word.length <= to.length ? BigInt(word.length) : -2n;
+  }
+
+  /** Puts the two words of an allocation's answer: whether there is a block, and where. */
+  answer(to, block) {
+    const view = new DataView(this.memory.buffer, Number(to), 16);
+    view.setBigUint64(0, block ? 1n : 0n, true);
+    view.setBigUint64(8, BigInt(block || 16), true);
+  }
+
+  /** No feature of an x86 processor is missing, so the program takes no other way for want of one. */
+  features() {
+    const block = this.heap.take(64);
+    this.bytes(block, 64).fill(255);
+    return BigInt(block);
+  }
+
+  imports() {
+    const refused = () => 11;
+    const done = () => 0;
+    return {
+      rattle_alloc: (to, size) => this.answer(to, this.heap.take(Number(size))),
+      rattle_realloc: (to, block, kept, size) =>
+        this.answer(to, this.heap.resize(Number(block), Number(kept), Number(size))),
+      rattle_dealloc: (block) => this.heap.give(Number(block)),
+      malloc: (size) => BigInt(this.heap.take(Number(size))),
+      free: (block) => block && this.heap.give(Number(block)),
+      rattle_arg: (index, address, length) => this.word(index, address, length),
+      rattle_arg_count: () => BigInt(this.words.length),
+      rattle_env: () => -1n,
+      rattle_env_at: () => -1n,
+      rattle_errno: () => this.errno,
+      rattle_set_errno: (errno) => { this.errno = errno; },
+      read: (_stream, address, length) => this.read(address, length),
+      __read: (_stream, address, length) => this.read(address, length),
+      write: (_stream, address, length) => this.write(address, length),
+      __write: (_stream, address, length) => this.write(address, length),
+      _exit: (status) => { throw new Exit(status); },
+      abort: () => { throw new Error("the program gave up"); },
+      // a worker can't be started here, and then the caller makes the turns
+      pthread_create: refused,
+      pthread_attr_init: done,
+      pthread_attr_setguardsize: done,
+      pthread_attr_setstacksize: done,
+      pthread_attr_destroy: done,
+      pthread_self: () => 1n,
+      pthread_join: refused,
+      pthread_detach: refused,
+      sched_yield: done,
+      syscall: () => -1n,
+      __sysv_signal: () => 0n,
+      __x86_get_cpuid_feature_leaf: () => this.features(),
+    };
+  }
+
+  text() {
+    const all = new Uint8Array(this.output.reduce((sum, piece) => sum + piece.length, 0));
+    let at = 0;
+    for (const piece of this.output) {
+      all.set(piece, at);
+      at += piece.length;
+    }
+    return new TextDecoder().decode(all);
+  }
+}

@@ -1,0 +1,153 @@
+// The page: the program's text on the left, what sectc says of it on the right.
+import { Conflicts } from "./conflicts.js";
+import { Editor } from "./editor.js";
+import { Graph } from "./graph.js";
+import { Locks } from "./locks.js";
+import { Outcomes } from "./outcomes.js";
+import { Schedule } from "./schedule.js";
+import { Sectc, Stopped } from "./sectc.js";
+import { sectionsOf } from "./syntax.js";
+import { element } from "./view.js";
+
+const WAIT = 10;
+
+class Page {
+  constructor() {
+    this.sectc = new Sectc();
+    this.editor = new Editor(() => this.changed());
+    this.views = [Locks, Graph, Conflicts, Schedule, Outcomes].map((View) => new View(this));
+    this.view = this.views[0];
+    this.sections = [];
+    this.version = 0;
+  }
+
+  get k() {
+    return document.getElementById("fields").value;
+  }
+
+  ask(...words) {
+    return this.sectc.ask(words, this.editor.text);
+  }
+
+  /** The text has changed: what is shown is made anew, a little after the last key. */
+  changed() {
+    this.views.forEach((view) => view.forget?.());
+    clearTimeout(this.timer);
+    this.timer = setTimeout(() => this.refresh(), WAIT);
+  }
+
+  async refresh() {
+    const version = ++this.version;
+    if (this.sectc.isBusy) this.sectc.stop();
+    const begun = performance.now();
+    this.tell("at work");
+    try {
+      const answer = await this.ask("locks", "--k", this.k);
+      if (version !== this.version) return;
+      await this.judge(answer);
+      this.tell(`answered in ${Math.round(performance.now() - begun)} ms`);
+      await this.showView();
+    } catch (failure) {
+      if (!(failure instanceof Stopped)) throw failure;
+      if (version === this.version) this.tell(failure.message);
+    }
+  }
+
+  tell(what) {
+    document.getElementById("state").textContent = what;
+    document.getElementById("stop").disabled = what !== "at work";
+  }
+
+  /** Shows the locks beside the sections, or the refusal and its place. */
+  async judge(answer) {
+    const faults = document.getElementById("faults");
+    faults.classList.toggle("bad", answer.status !== 0);
+    this.editor.clearMarks();
+    this.sections = [];
+    faults.textContent = answer.status ? answer.text.trim() : "";
+    this.editor.underline([]);
+    if (answer.status) {
+      await this.showReport(faults);
+      return;
+    }
+    this.sections = sectionsOf(this.editor.text);
+    answer.lines.forEach((line, number) => {
+      const click = () => this.open(this.views[0], () => this.views[0].choose(number, 0));
+      this.editor.mark(this.sections[number].start, line.replace(/^section /, ""), line, click);
+    });
+  }
+
+  /** Shows what `lint` says of the mistake, and underlines what it marks. */
+  async showReport(faults) {
+    const report = await this.ask("lint", "--k", this.k);
+    const place = / --> (\d+):(\d+)\n/.exec(report.text);
+    if (!place) return;
+    faults.textContent = report.text.trimEnd();
+    const start = this.editor.placeOf(Number(place[1]), Number(place[2]));
+    const [, carets] = /\n *\|[ \t]*(\^+)/.exec(report.text);
+    this.editor.underline([{ start, end: Math.min(start + carets.length, this.editor.text.length) }]);
+  }
+
+  lightSections(numbers) {
+    this.editor.light(numbers.map((number) => this.sections[number]));
+  }
+
+  async open(view, then) {
+    this.view = view;
+    await this.showView();
+    then?.();
+  }
+
+  async replay(order) {
+    const schedule = this.views.find((view) => view instanceof Schedule);
+    await schedule.replay(order);
+    await this.open(schedule);
+  }
+
+  async showView() {
+    const tabs = this.views.map((view) => element("button", {
+      type: "button", role: "tab", "aria-selected": view === this.view, "aria-controls": "view",
+      tabindex: view === this.view ? 0 : -1, onclick: () => this.open(view),
+    }, view.name));
+    document.getElementById("tabs").replaceChildren(...tabs);
+    await this.view.show(document.getElementById("view"));
+  }
+
+  /** Arrows go from tab to tab, as everywhere. */
+  async key(event) {
+    const step = { ArrowRight: 1, ArrowLeft: -1 }[event.key];
+    if (!step) return;
+    const at = this.views.indexOf(this.view) + step + this.views.length;
+    await this.open(this.views[at % this.views.length]);
+    document.querySelector("[role=tab][aria-selected=true]").focus();
+  }
+}
+
+/** The text in the address, if there is one. */
+function linked() {
+  return location.hash.length > 1 ? decodeURIComponent(location.hash.slice(1)) : null;
+}
+
+async function begin() {
+  const page = new Page();
+  const examples = await (await fetch("out/examples.json")).json();
+  const select = document.getElementById("examples");
+  select.append(...Object.keys(examples).map((name) => element("option", {}, name)));
+  select.addEventListener("change", () => {
+    page.editor.text = examples[select.value];
+    page.changed();
+  });
+  document.getElementById("fields").addEventListener("change", () => page.changed());
+  document.getElementById("stop").addEventListener("click", () => page.sectc.stop());
+  document.getElementById("tabs").addEventListener("keydown", (event) => page.key(event));
+  document.getElementById("link").addEventListener("click", () => {
+    history.replaceState(null, "", `#${encodeURIComponent(page.editor.text)}`);
+    navigator.clipboard?.writeText(location.href).catch(() => {});
+  });
+  addEventListener("hashchange", () => { page.editor.text = linked() ?? ""; page.changed(); });
+  page.editor.text = linked() ?? examples[select.value];
+  globalThis.page = page;
+  await page.refresh();
+}
+
+begin();

@@ -1,0 +1,159 @@
+// A run turn by turn: who holds which key in which mode, who waits, and what the store is.
+import { element, refusal, table } from "./view.js";
+import { picture, objectsOf } from "./store.js";
+import { threadsOf } from "./syntax.js";
+
+const MOST = 2000;
+
+/** What `schedule` prints: the events of each turn, and the lines behind. */
+export function runOf(lines) {
+  const turns = [];
+  const rest = [];
+  for (const line of lines) {
+    const turn = /^turn \d+: (.*)$/.exec(line);
+    if (!turn) rest.push(line);
+    else if (turn[1] === "none") turns.push([]);
+    else turns.push(turn[1].split(", ").map((event) => {
+      const [, thread, deed, key, mode] = /^(\d+) (\w+)(?: (.*) (\w+))?$/.exec(event);
+      return { thread: Number(thread), deed, key, mode };
+    }));
+  }
+  return { turns, rest };
+}
+
+/** The keys that each thread holds after these turns, with their modes. */
+export function heldAfter(turns, count) {
+  const held = Array.from({ length: count }, () => new Map());
+  for (const { thread, deed, key, mode } of turns.flat()) {
+    if (deed === "take") held[thread].set(key, mode);
+    else if (deed === "leave" || deed === "again") held[thread].clear();
+  }
+  return held;
+}
+
+export class Schedule {
+  constructor(page) {
+    this.page = page;
+    this.name = "Schedule";
+    this.turns = [];
+    this.at = 0;
+  }
+
+  /** Begins anew, for another program. */
+  forget() {
+    this.turns = [];
+    this.at = 0;
+  }
+
+  words(turns) {
+    return ["schedule", "--k", this.page.k, ...turns.map(String)];
+  }
+
+  async show(into) {
+    this.into = into;
+    const answer = await this.page.ask(...this.words(this.turns.slice(0, this.at)));
+    if (answer.status) return into.replaceChildren(refusal(answer));
+    this.run = runOf(answer.lines);
+    this.threads = threadsOf(this.page.editor.text);
+    return this.draw();
+  }
+
+  /** Makes one turn more of a thread. Turns that a slider has gone back over are dropped. */
+  async turn(thread) {
+    this.turns = [...this.turns.slice(0, this.at), thread];
+    this.at = this.turns.length;
+    await this.show(this.into);
+  }
+
+  isRunning(thread) {
+    return this.run.rest.includes(`thread ${thread} running`);
+  }
+
+  running() {
+    return this.threads.map((_, thread) => thread).filter((thread) => this.isRunning(thread));
+  }
+
+  async random() {
+    const threads = this.running();
+    if (threads.length) await this.turn(threads[Math.floor(Math.random() * threads.length)]);
+  }
+
+  /** Makes turns of all threads in turn until all have ended, or so many turns are made. */
+  async toTheEnd() {
+    while (this.running().length && this.turns.length < MOST) {
+      const threads = this.running();
+      const more = Array.from({ length: 16 * threads.length }, (_, number) => threads[number % threads.length]);
+      this.turns = [...this.turns.slice(0, this.at), ...more];
+      this.at = this.turns.length;
+      await this.show(this.into);
+    }
+  }
+
+  /** Makes the turns of an order of whole sections: each thread goes on until it has left its next section. */
+  async replay(order) {
+    const turns = [];
+    for (const thread of order) {
+      const before = turns.length;
+      for (let more = 32, left = -1; left < 0 && more <= MOST; more *= 2) {
+        const answer = await this.page.ask(...this.words([...turns, ...Array(more).fill(thread)]));
+        const made = runOf(answer.lines).turns.slice(before);
+        left = made.findIndex((events) => events.some((event) => event.thread === thread && event.deed === "leave"));
+        if (left >= 0) turns.push(...Array(left + 1).fill(thread));
+      }
+    }
+    this.turns = turns;
+    this.at = turns.length;
+  }
+
+  draw() {
+    const made = this.run.turns;
+    const last = made.at(-1);
+    const told = last === undefined ? "no turn yet" : last.length
+      ? last.map(({ thread, deed, key, mode }) => [`${this.threads[thread]}:`, deed, key, mode].filter(Boolean).join(" ")).join(", ")
+      : `${this.threads[this.turns[this.at - 1]]} waits, or has ended`;
+    this.into.replaceChildren(this.turnControls(), this.timeControls(),
+      element("p", { class: "events", "aria-live": "polite", id: "told" }, `turn ${this.at - 1}: ${told}`),
+      this.keys(made), this.ends(), picture(objectsOf(this.run.rest)));
+  }
+
+  turnControls() {
+    const buttons = this.threads.map((name, thread) => element("button", {
+      type: "button", onclick: () => this.turn(thread), ...(this.isRunning(thread) ? {} : { disabled: "" }),
+    }, `turn of ${name}`));
+    return element("div", { class: "controls" }, ...buttons,
+      element("button", { type: "button", onclick: () => this.random() }, "random"),
+      element("button", { type: "button", onclick: () => this.toTheEnd() }, "until all have ended"));
+  }
+
+  timeControls() {
+    const slide = (event) => { this.at = Number(event.target.value); this.show(this.into); };
+    const copy = () => navigator.clipboard.writeText(["sectc", ...this.words(this.turns.slice(0, this.at))].join(" "));
+    return element("div", { class: "controls" },
+      element("label", {}, "back and forth ",
+        element("input", { type: "range", min: 0, max: this.turns.length, value: this.at, onchange: slide, id: "slider" })),
+      element("span", {}, `${this.at} of ${this.turns.length} turns`),
+      element("button", { type: "button", onclick: () => { this.forget(); this.show(this.into); } }, "from the start"),
+      element("button", { type: "button", onclick: copy }, "copy the command"));
+  }
+
+  /** A thread waits if its last turn, after its last event, did nothing though it hasn't ended. */
+  isWaiting(thread, made) {
+    const own = this.turns.slice(0, this.at).lastIndexOf(thread);
+    const since = made.slice(own).some((events) => events.some((event) => event.thread === thread));
+    return own >= 0 && !since && this.isRunning(thread);
+  }
+
+  keys(made) {
+    const held = heldAfter(made, this.threads.length);
+    const keys = [...new Set(held.flatMap((map) => [...map.keys()]))];
+    const heads = this.threads.map((name, thread) => `${name}${this.isWaiting(thread, made) ? " (waits)" : ""}`);
+    const rows = keys.map((key) => [element("th", { scope: "row" }, key),
+      ...held.map((map) => element("td", map.has(key) ? { class: "held" } : {}, map.get(key) ?? ""))]);
+    return table(keys.length ? "Who holds which key, and in which mode" : "No key is held.", [["key", ...heads], ...rows]);
+  }
+
+  ends() {
+    const lines = this.run.rest.filter((line) => !line.startsWith("object "));
+    return element("pre", {}, lines.join("\n"));
+  }
+}

@@ -1,21 +1,16 @@
 // The locks of each section, and for each the chain of steps from the section's entry to where it is needed.
+import { lockText } from "./answers.js";
 import { element, refusal } from "./view.js";
 
-/** What `explain` prints: of each section its thread and its locks, and of each lock its steps. */
-export function explained(lines) {
-  const sections = [];
-  for (const line of lines) {
-    const section = /^section (\d+) in thread (\S+)$/.exec(line);
-    const lock = /^lock (.*)$/.exec(line);
-    const step = /^ {2}node (\d+): (.*?) {2,}(\S.*)$/.exec(line);
-    if (section) sections.push({ number: Number(section[1]), thread: section[2], locks: [] });
-    else if (lock) sections.at(-1).locks.push({ name: lock[1], steps: [] });
-    else if (step) {
-      const { steps } = sections.at(-1).locks.at(-1);
-      steps.push({ node: Number(step[1]), text: step[2], lock: step[3] });
-    }
-  }
-  return sections;
+/** What a document of `explain` says: of each section its locks, and of each lock its steps. */
+export function explained({ sections }) {
+  return sections.map(({ section, chains }) => ({
+    number: section,
+    locks: chains.map(({ steps }) => ({
+      name: lockText(steps[0].lock),
+      steps: steps.map(({ node, text, lock }) => ({ node, text, lock: lockText(lock) })),
+    })),
+  }));
 }
 
 export class Locks {
@@ -26,9 +21,9 @@ export class Locks {
   }
 
   async show(into) {
-    const answer = await this.page.ask("explain", "--k", this.page.k);
+    const answer = await this.page.askDocument("explain", "--k", this.page.k);
     if (answer.status) return into.replaceChildren(refusal(answer));
-    this.sections = explained(answer.lines);
+    this.sections = explained(answer.document);
     this.into = into;
     if (this.chosen && !this.lock(this.chosen)) this.chosen = null;
     return this.draw();
@@ -49,7 +44,7 @@ export class Locks {
 
   draw() {
     const parts = this.sections.map((section) => element("div", {},
-      element("h2", {}, `section ${section.number} in thread ${section.thread}`),
+      element("h2", {}, `section ${section.number} in thread ${this.page.sections[section.number].thread}`),
       section.locks.length ? this.chips(section) : element("p", {}, "no lock is needed")));
     if (!parts.length) parts.push(element("p", {}, "There is no section in this program."));
     if (this.chosen) parts.push(this.chain());

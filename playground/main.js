@@ -1,4 +1,5 @@
 // The page: the program's text on the left, what sectc says of it on the right.
+import { documentOf } from "./answers.js";
 import { Conflicts } from "./conflicts.js";
 import { Editor } from "./editor.js";
 import { Graph } from "./graph.js";
@@ -25,8 +26,15 @@ class Page {
     return document.getElementById("fields").value;
   }
 
+  /** Asks the program of the text. */
   ask(...words) {
     return this.sectc.ask(words, this.editor.text);
+  }
+
+  /** The same, as a document where it isn't refused. */
+  async askDocument(...words) {
+    const answer = await this.ask(...words, "--format", "json");
+    return answer.status ? answer : { ...answer, document: documentOf(answer.text) };
   }
 
   /** The text has changed: what is shown is made anew, a little after the last key. */

@@ -1,31 +1,16 @@
 // A run turn by turn: who holds which key in which mode, who waits, and what the store is.
+import { keyText, outcomeLines } from "./answers.js";
 import { element, refusal, table } from "./view.js";
-import { picture, objectsOf } from "./store.js";
+import { picture } from "./store.js";
 import { threadsOf } from "./syntax.js";
 
 const MOST = 2000;
-
-/** What `schedule` prints: the events of each turn, and the lines behind. */
-export function runOf(lines) {
-  const turns = [];
-  const rest = [];
-  for (const line of lines) {
-    const turn = /^turn \d+: (.*)$/.exec(line);
-    if (!turn) rest.push(line);
-    else if (turn[1] === "none") turns.push([]);
-    else turns.push(turn[1].split(", ").map((event) => {
-      const [, thread, deed, key, mode] = /^(\d+) (\w+)(?: (.*) (\w+))?$/.exec(event);
-      return { thread: Number(thread), deed, key, mode };
-    }));
-  }
-  return { turns, rest };
-}
 
 /** The keys that each thread holds after these turns, with their modes. */
 export function heldAfter(turns, count) {
   const held = Array.from({ length: count }, () => new Map());
   for (const { thread, deed, key, mode } of turns.flat()) {
-    if (deed === "take") held[thread].set(key, mode);
+    if (deed === "take") held[thread].set(keyText(key), mode);
     else if (deed === "leave" || deed === "again") held[thread].clear();
   }
   return held;
@@ -51,9 +36,9 @@ export class Schedule {
 
   async show(into) {
     this.into = into;
-    const answer = await this.page.ask(...this.words(this.turns.slice(0, this.at)));
+    const answer = await this.page.askDocument(...this.words(this.turns.slice(0, this.at)));
     if (answer.status) return into.replaceChildren(refusal(answer));
-    this.run = runOf(answer.lines);
+    this.run = answer.document;
     this.threads = threadsOf(this.page.editor.text);
     return this.draw();
   }
@@ -66,7 +51,7 @@ export class Schedule {
   }
 
   isRunning(thread) {
-    return this.run.rest.includes(`thread ${thread} running`);
+    return this.run.outcome.threads[thread].state === "running";
   }
 
   running() {
@@ -95,8 +80,8 @@ export class Schedule {
     for (const thread of order) {
       const before = turns.length;
       for (let more = 32, left = -1; left < 0 && more <= MOST; more *= 2) {
-        const answer = await this.page.ask(...this.words([...turns, ...Array(more).fill(thread)]));
-        const made = runOf(answer.lines).turns.slice(before);
+        const answer = await this.page.askDocument(...this.words([...turns, ...Array(more).fill(thread)]));
+        const made = answer.document.turns.slice(before);
         left = made.findIndex((events) => events.some((event) => event.thread === thread && event.deed === "leave"));
         if (left >= 0) turns.push(...Array(left + 1).fill(thread));
       }
@@ -109,11 +94,11 @@ export class Schedule {
     const made = this.run.turns;
     const last = made.at(-1);
     const told = last === undefined ? "no turn yet" : last.length
-      ? last.map(({ thread, deed, key, mode }) => [`${this.threads[thread]}:`, deed, key, mode].filter(Boolean).join(" ")).join(", ")
+      ? last.map(({ thread, deed, key, mode }) => [`${this.threads[thread]}:`, deed, key && keyText(key), mode].filter(Boolean).join(" ")).join(", ")
       : `${this.threads[this.turns[this.at - 1]]} waits, or has ended`;
     this.into.replaceChildren(this.turnControls(), this.timeControls(),
       element("p", { class: "events", "aria-live": "polite", id: "told" }, `turn ${this.at - 1}: ${told}`),
-      this.keys(made), this.ends(), picture(objectsOf(this.run.rest)));
+      this.keys(made), element("pre", {}, outcomeLines(this.run.outcome).join("\n")), picture(this.run.outcome.objects));
   }
 
   turnControls() {
@@ -150,10 +135,5 @@ export class Schedule {
     const rows = keys.map((key) => [element("th", { scope: "row" }, key),
       ...held.map((map) => element("td", map.has(key) ? { class: "held" } : {}, map.get(key) ?? ""))]);
     return table(keys.length ? "Who holds which key, and in which mode" : "No key is held.", [["key", ...heads], ...rows]);
-  }
-
-  ends() {
-    const lines = this.run.rest.filter((line) => !line.startsWith("object "));
-    return element("pre", {}, lines.join("\n"));
   }
 }

@@ -6,14 +6,6 @@ const ROW = 18;
 const GAP = 50;
 const PER_ROW = 4;
 
-/** What lines `object NAME field=value ..` say. */
-export function objectsOf(lines) {
-  return lines.map((line) => /^object (\S+) ?(.*)$/.exec(line)).filter(Boolean).map(([, name, fields]) => ({
-    name,
-    fields: fields ? fields.split(" ").map((field) => field.split("=")) : [],
-  }));
-}
-
 function placed(objects) {
   const tall = Math.max(...objects.map(({ fields }) => fields.length), 0);
   return objects.map((object, number) => ({
@@ -28,7 +20,7 @@ function box({ name, fields, x, y, height }) {
   const text = (content, row, weight) =>
     drawn("text", { x: x + 8, y: y + row * ROW + 15, "font-weight": weight }, content);
   return drawn("g", {}, drawn("rect", { class: "box", x, y, width: WIDTH, height, rx: 3 }), text(name, 0, "bold"),
-    ...fields.map(([field, value], row) => text(`${field} = ${value}`, row + 1, "normal")));
+    ...fields.map(({ name: field, value }, row) => text(`${field} = ${value}`, row + 1, "normal")));
 }
 
 function arrow(from, row, to) {
@@ -40,12 +32,12 @@ function arrow(from, row, to) {
   return drawn("path", { class: "edge", d: path, "marker-end": "url(#head)" });
 }
 
-/** A picture of the objects. */
+/** A picture of the objects of an outcome. */
 export function picture(objects) {
   if (!objects.length) return element("p", {}, "There is no object.");
   const all = placed(objects);
   const byName = new Map(all.map((object) => [object.name, object]));
-  const arrows = all.flatMap((object) => object.fields.map(([, value], row) =>
+  const arrows = all.flatMap((object) => object.fields.map(({ value }, row) =>
     byName.has(value) ? arrow(object, row, byName.get(value)) : "").filter(Boolean));
   const width = Math.min(all.length, PER_ROW) * (WIDTH + GAP) + 10;
   const height = Math.max(...all.map(({ y, height: tall }) => y + tall)) + 14;

@@ -26,6 +26,7 @@ abbrev pub IsDue : List ℕ → ℕ → Refusal → Type 0
 IsDue bytes k refusal.Memory = k ≤ 3
 IsDue bytes k (refusal.Source why) = (why ≢ source_refusal.Memory) × sources.IsDue bytes k why
 IsDue bytes k (refusal.Report text) = ⊥
+IsDue bytes k (refusal.Section i) = ⊥
 IsDue bytes k (refusal.Workers why) = ⊥
 IsDue bytes k (refusal.Serial why) = ⊥
 IsDue bytes k (refusal.Check why) = ⊥

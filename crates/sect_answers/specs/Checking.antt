@@ -31,6 +31,7 @@ IsCheckDue input k (refusal.Check why) =
     (why ≢ fault.Memory) × OfParts input (λ cert source. Judges {A = ⊤} source k cert (Err why))
 IsCheckDue input k (refusal.Source why) = ⊥
 IsCheckDue input k (refusal.Report text) = ⊥
+IsCheckDue input k (refusal.Section i) = ⊥
 IsCheckDue input k (refusal.Workers why) = ⊥
 IsCheckDue input k (refusal.Serial why) = ⊥
 IsCheckDue input k (refusal.Schedule why) = ⊥

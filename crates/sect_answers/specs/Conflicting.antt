@@ -15,7 +15,7 @@ use Rattle.sect_conflicts.specs.declared.conflict.Conflict.{Conflict}
 use Rattle.sect_conflicts.specs.declared.conflict.Conflict.TheVariants.{Always, Sometimes, Never}
 use Rattle.sect_conflicts.specs.Comparing.{AreConflicts}
 use Rattle.sect_json.specs.Conflicts.{IsConflictsDocument}
-use Rattle.sect_answers.specs.Turns.{key_text}
+use Rattle.sect_draw.specs.Words.{key_text}
 use Rattle.sect_answers.specs.declared.format.Format.{Format}
 use Rattle.sect_answers.specs.declared.format.Format.TheVariants.{Text, Json}
 

@@ -5,11 +5,13 @@ pub mod Answers
 pub mod Refusals
 pub mod Serial
 pub mod Splitting
+pub mod Charting
 pub mod Checking
 pub mod Compiling
 pub mod Conflicting
 pub mod Explaining
 pub mod Formats
+pub mod Graphing
 pub mod Linting
 pub mod Scheduling
 pub mod Turns

@@ -1,18 +1,22 @@
 -- What the command `lint` answers to a source text. `findings` cites it.
-use Rattle.std.specs.Prelude.{◌≡◌, ◌<◌, ℕ, Some, None, List, ⊤}
+use Rattle.std.specs.Prelude.{◌≡◌, ◌<◌, ℕ, Some, List, ⊤}
 use Rattle.std.specs.String.{string_bytes}
 use Rattle.sect_names.specs.declared.fault.SchemeFault.TheVariants as scheme
 use Rattle.sect_names.specs.declared.refusal.Refusal.TheVariants as source_refusal
 use Rattle.sect_lint.specs.declared.diagnostic.Diagnostic.{Diagnostic}
 use Rattle.sect_lint.specs.declared.format.Format.{Format}
-use Rattle.sect_lint.specs.Formats.{report_as, clean}
+use Rattle.sect_lint.specs.Formats.{report_as}
 use Rattle.sect_lint.specs.Reports.{IsJudged}
+use Rattle.sect_emit.specs.Compiled.{CompiledView, IsCompiledFrom}
+use Rattle.sect_warnings.specs.Formats.{AreWarningsPrinted}
 use Rattle.sect_answers.specs.declared.refusal.Refusal.{Refusal}
 use Rattle.sect_answers.specs.declared.refusal.Refusal.TheVariants as refusal
 
--- the text is accepted, and the bytes tell nothing of it
-abbrev pub IsUnblamed : List ℕ → ℕ → Format → List ℕ → Type 0
-IsUnblamed source k format bytes = IsJudged source k None × (bytes ≡ clean format)
+-- the text is accepted, and the bytes are the warnings that are due of its compiled program
+pub record IsUnblamed (source : List ℕ) (k : ℕ) (format : Format) (bytes : List ℕ) : Type 0 where
+  pub compiled : CompiledView
+  pub from : IsCompiledFrom source k compiled
+  pub warned : AreWarningsPrinted source compiled format bytes
 
 -- the bytes are the report of the mistake for which the text is refused
 abbrev pub IsReported : List ℕ → ℕ → Format → List ℕ → Type 0

@@ -70,6 +70,7 @@ IsOutcomesDue bytes fuel most (refusal.Source why) = (why ≢ source_refusal.Mem
 IsOutcomesDue bytes fuel most (refusal.Outcomes why) =
     (why ≢ fault.Memory) × ((p : ProgramView) × IsTypedText bytes p × IsUnlisted p fuel most why)
 IsOutcomesDue bytes fuel most (refusal.Report text) = ⊥
+IsOutcomesDue bytes fuel most (refusal.Section i) = ⊥
 IsOutcomesDue bytes fuel most (refusal.Workers why) = ⊥
 IsOutcomesDue bytes fuel most (refusal.Serial why) = ⊥
 IsOutcomesDue bytes fuel most (refusal.Check why) = ⊥

@@ -115,3 +115,4 @@ refusal_text (refusal.Serial why) = codes "refused " ++ serial_text why
 refusal_text (refusal.Outcomes why) = codes "refused " ++ states_text why
 refusal_text (refusal.Check why) = codes "refused " ++ check_text why
 refusal_text (refusal.Schedule why) = codes "refused " ++ world_text why
+refusal_text (refusal.Section i) = codes "refused 71 NoSuchSection " ++ decimal i

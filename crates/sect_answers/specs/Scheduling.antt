@@ -55,6 +55,7 @@ IsScheduleDue bytes k schedule refusal.Memory = k ≤ 3
 IsScheduleDue bytes k schedule (refusal.Source why) = (why ≢ source_refusal.Memory) × sources.IsDue bytes k why
 IsScheduleDue bytes k schedule (refusal.Schedule why) = IsNoThread bytes k schedule why
 IsScheduleDue bytes k schedule (refusal.Report text) = ⊥
+IsScheduleDue bytes k schedule (refusal.Section i) = ⊥
 IsScheduleDue bytes k schedule (refusal.Workers why) = ⊥
 IsScheduleDue bytes k schedule (refusal.Serial why) = ⊥
 IsScheduleDue bytes k schedule (refusal.Check why) = ⊥

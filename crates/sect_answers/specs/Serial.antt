@@ -32,6 +32,7 @@ IsSerialDue bytes fuel order (refusal.Source why) = (why ≢ source_refusal.Memo
 IsSerialDue bytes fuel order (refusal.Serial why) =
     (why ≢ fault.Memory) × ((p : ProgramView) × IsTypedText bytes p × Judges p fuel order (Err why))
 IsSerialDue bytes fuel order (refusal.Report text) = ⊥
+IsSerialDue bytes fuel order (refusal.Section i) = ⊥
 IsSerialDue bytes fuel order (refusal.Workers why) = ⊥
 IsSerialDue bytes fuel order (refusal.Check why) = ⊥
 IsSerialDue bytes fuel order (refusal.Schedule why) = ⊥

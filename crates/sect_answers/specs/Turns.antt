@@ -3,35 +3,14 @@ use Rattle.std.specs.Prelude.{ℕ, List, [], ◌∷◌, ◌++◌, codes}
 use Rattle.std.specs.List.{flat_map}
 use Rattle.std.specs.Fmt.{decimal}
 use Rattle.sect_types.specs.Programs.{ProgramView}
-use Rattle.sect_types.specs.declared.store.ObjectName.TheVariants as object
 use Rattle.sect_store.specs.Outcomes.{OutcomeView}
-use Rattle.sect_store.specs.Printing.{by_place, object_name, outcome_text}
-use Rattle.sect_modes.specs.Mode.{mode_text}
-use Rattle.sect_modes.specs.declared.key.Key.{Key}
-use Rattle.sect_modes.specs.declared.key.Key.TheVariants as key
-use Rattle.sect_world.specs.declared.event.Deed.{Deed}
-use Rattle.sect_world.specs.declared.event.Deed.TheVariants.{Local, Enter, Take, Begin, Again, Act, Leave}
+use Rattle.sect_store.specs.Printing.{by_place, outcome_text}
 use Rattle.sect_world.specs.declared.event.Event.{Event}
+use Rattle.sect_draw.specs.Words.{deed_text}
 use Rattle.sect_json.specs.Values.{document_text}
 use Rattle.sect_json.specs.Turns.{turns_json}
 use Rattle.sect_answers.specs.declared.format.Format.{Format}
 use Rattle.sect_answers.specs.declared.format.Format.TheVariants.{Text, Json}
-
--- all, a class by its number, an object by its name
-abbrev pub key_text : ProgramView → Key → List ℕ
-key_text p key.All = codes "all"
-key_text p (key.Class c) = codes "class " ++ decimal c
-key_text p (key.Global g) = object_name p (object.Global g)
-key_text p (key.Made t n) = object_name p (object.Made t n)
-
-abbrev pub deed_text : ProgramView → Deed → List ℕ
-deed_text p Local = codes "local"
-deed_text p Enter = codes "enter"
-deed_text p (Take k m) = codes "take " ++ key_text p k ++ codes " " ++ mode_text m
-deed_text p Begin = codes "begin"
-deed_text p Again = codes "again"
-deed_text p Act = codes "act"
-deed_text p Leave = codes "leave"
 
 -- its thread, and what that does
 abbrev pub event_text : ProgramView → Event → List ℕ

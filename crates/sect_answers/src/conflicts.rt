@@ -16,8 +16,8 @@ ghost use Rattle.sect_conflicts.specs.Naming.{IsPairNamed, ArePairsNamed, IsConf
 
 use crate::format::Format;
 use crate::refusal::Refusal;
-use crate::turns::put_key;
 use sect_conflicts::{Conflict, KeyClash, PathPair, SectionPair, conflicts};
+use sect_draw::put_key;
 use sect_emit::{Compiled, compile};
 use sect_json::conflicts_document;
 use sect_names::put_path;

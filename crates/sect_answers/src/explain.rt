@@ -5,12 +5,15 @@ ghost use Rattle.sect_names.specs.Schemes.{SchemeView};
 ghost use Rattle.sect_names.specs.Sources.{IsAccepted};
 ghost use Rattle.sect_answers.specs.declared.refusal.Refusal.TheVariants.{Memory};
 ghost use Rattle.sect_answers.specs.Answers.{IsDue};
-ghost use Rattle.sect_answers.specs.Explaining.{IsProgramExplanation, IsExplanationPrinted};
+ghost use Rattle.sect_front.specs.Front.{IsSpelled};
+ghost use Rattle.sect_emit.specs.Compiled.{program_of};
+ghost use Rattle.sect_answers.specs.Explaining.{IsProgramExplanation, IsExplanationPrinted, IsPlacedExplanation};
 
 use crate::format::Format;
 use crate::refusal::Refusal;
 use sect_emit::{Compiled, compile, explanation};
 use sect_json::explanation_document;
+use sect_places::node_lines;
 use std::alloc::{AllocError, Global};
 
 /// Why each section of a source text takes each of its locks.
@@ -28,19 +31,34 @@ pub fn program_explanation(
     ensures refuses { IfErr result (IsDue source.now k) }
 {
     let compiled = compile(alloc, source, k)?;
-    Ok(explanation_printed(alloc, &compiled, format)?)
+    Ok(explanation_printed(alloc, source, &compiled, format)?)
 }
 
-/// Why each section of a compiled program takes its locks, as it is printed.
+/// Why each section of a compiled program takes its locks, with the lines of its text, which that is.
+fn placed_explanation(
+    alloc: Global,
+    source: &[u8],
+    compiled: &Compiled,
+) -> Result<Vec<u8>, AllocError>
+    requires { IsSpelled source.now (program_of compiled.now).source }
+    ensures { IfOk result (λ text. IsPlacedExplanation source.now compiled.now text.items) }
+{
+    let lines = node_lines(alloc, source, compiled.scheme().program())?;
+    explanation(alloc, compiled, lines.as_slice())
+}
+
+/// Why each section of a compiled program takes its locks, as it is printed of its text.
 fn explanation_printed(
     alloc: Global,
+    source: &[u8],
     compiled: &Compiled,
     format: Format,
 ) -> Result<Vec<u8>, AllocError>
-    ensures { IfOk result (λ text. IsExplanationPrinted compiled.now format text.items) }
+    requires { IsSpelled source.now (program_of compiled.now).source }
+    ensures { IfOk result (λ text. IsExplanationPrinted source.now compiled.now format text.items) }
 {
     match format {
-        Format::Text => explanation(alloc, compiled),
+        Format::Text => placed_explanation(alloc, source, compiled),
         Format::Json => Ok(explanation_document(alloc, compiled)?.into_bytes()),
     }
 }

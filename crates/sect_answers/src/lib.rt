@@ -1,11 +1,13 @@
 //! What each command of `sectc` answers to a source text.
 #![tactic(auto)]
 
+mod chart;
 mod check;
 mod compile;
 mod conflicts;
 mod explain;
 mod format;
+mod graph;
 mod lint;
 mod lock_sets;
 mod outcome;
@@ -18,11 +20,13 @@ mod serial;
 mod splitting;
 mod turns;
 
+pub use chart::schedule_chart;
 pub use check::verdict;
 pub use compile::{program_certificate, program_listing};
 pub use conflicts::program_conflicts;
 pub use explain::program_explanation;
 pub use format::Format;
+pub use graph::program_graph;
 pub use lint::findings;
 pub use lock_sets::locks;
 pub use outcomes::all_outcomes;

@@ -52,6 +52,7 @@ pub fn put_refusal(text: &mut String, why: &Refusal) -> Result<(), AllocError>
             text.push_str("refused ")?;
             put_world(text, why)
         }
+        Refusal::Section(section) => Ok(write!(text, "refused 71 NoSuchSection {section}")?),
     }
 }
 

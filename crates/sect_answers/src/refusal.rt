@@ -37,6 +37,8 @@ pub enum Refusal {
     Check(CheckFault),
     /// The schedule is refused.
     Schedule(WorldFault),
+    /// The program has no section of this number.
+    Section(u16),
 }
 
 impl From<AllocError> for Refusal {

@@ -20,3 +20,4 @@ mod unresolved;
 pub use checking::check;
 pub use fault::CheckFault;
 pub use laws::valid_entry_lists_are_least;
+pub use lists::generated_at;

@@ -3,10 +3,12 @@ use Rattle.std.specs.Prelude.{◌≡◌, ◌≢◌, ◌⊎◌, ◌++◌, ℕ, Op
 use Rattle.std.specs.Io.KnownBytes.{Appends}
 use Rattle.sect_infer.specs.Workers.{AreOffered}
 use Rattle.sect_answers.specs.Answers.{IsAnswer, IsDue}
+use Rattle.sect_answers.specs.Charting.{IsCharted}
 use Rattle.sect_answers.specs.Checking.{IsValidInput, IsCheckDue}
 use Rattle.sect_answers.specs.Compiling.{IsCertified, IsProgramListing, IsCompileDue}
 use Rattle.sect_answers.specs.Conflicting.{AreProgramConflicts}
 use Rattle.sect_answers.specs.Explaining.{IsProgramExplanation}
+use Rattle.sect_answers.specs.Graphing.{IsProgramGraph, IsGraphDue}
 use Rattle.sect_answers.specs.Linting.{IsUnblamed, IsLintDue}
 use Rattle.sect_answers.specs.Outcomes.{AreAllOutcomes, IsOutcomesDue}
 use Rattle.sect_answers.specs.Refusals.{refusal_text}
@@ -19,8 +21,9 @@ use Rattle.sect_command.specs.declared.dispatch.TheConstants.{DONE, REFUSED, WRO
 use Rattle.sect_command.specs.declared.dispatch.Answer.{Answer}
 use Rattle.sect_command.specs.declared.options.Form.TheVariants.{Listing, Certificate}
 use Rattle.sect_command.specs.declared.options.Request.{Request}
-use Rattle.sect_command.specs.declared.options.Request.TheVariants.{Locks, Compile, Explain, Conflicts, Lint, Check}
-use Rattle.sect_command.specs.declared.options.Request.TheVariants.{Serial, Outcomes, Schedule, Run}
+use Rattle.sect_command.specs.declared.options.Request.TheVariants.{Locks, Compile, Explain, Conflicts, Graph, Lint}
+use Rattle.sect_command.specs.declared.options.Request.TheVariants.{Check}
+use Rattle.sect_command.specs.declared.options.Request.TheVariants.{Serial, Outcomes, Schedule, Chart, Run}
 
 -- the bytes are what is requested of the source
 abbrev pub Answers : Request → List ℕ → List ℕ → Type 0
@@ -32,7 +35,9 @@ Answers (Conflicts k format) source bytes = AreProgramConflicts source k format 
 Answers (Serial fuel order format) source bytes = IsOutcome source fuel order.items format bytes
 Answers (Outcomes fuel most format) source bytes = AreAllOutcomes source fuel most format bytes
 Answers (Schedule k fuel schedule format) source bytes = IsScheduled source k fuel schedule.items format bytes
+Answers (Chart k fuel schedule) source bytes = IsCharted source k fuel schedule.items bytes
 Answers (Run k fuel format) source bytes = IsOutcomeOfRun source k fuel format bytes
+Answers (Graph k section) source bytes = IsProgramGraph source k section bytes
 Answers (Lint k format) source bytes = IsUnblamed source k format bytes
 Answers (Check k) source bytes = IsValidInput source k × (bytes ≡ codes "valid\n")
 
@@ -45,7 +50,9 @@ IsRefusalDue (Conflicts k format) source = IsDue source k
 IsRefusalDue (Serial fuel order format) source = IsSerialDue source fuel order.items
 IsRefusalDue (Outcomes fuel most format) source = IsOutcomesDue source fuel most
 IsRefusalDue (Schedule k fuel schedule format) source = IsScheduleDue source k schedule.items
+IsRefusalDue (Chart k fuel schedule) source = IsScheduleDue source k schedule.items
 IsRefusalDue (Run k fuel format) source = IsDue source k
+IsRefusalDue (Graph k section) source = IsGraphDue source k section
 IsRefusalDue (Lint k format) source = IsLintDue source k format
 IsRefusalDue (Check k) source = IsCheckDue source k
 

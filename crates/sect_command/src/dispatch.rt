@@ -10,8 +10,8 @@ ghost use Rattle.std.specs.String.{string_bytes};
 use crate::options::{Form, Request, UsageFault, request_of};
 use sect_answers::{
     Refusal, all_outcomes, findings, locks, program_certificate, program_conflicts,
-    program_explanation, program_listing, put_refusal, run_outcome, schedule_outcome,
-    serial_outcome, verdict,
+    program_explanation, program_graph, program_listing, put_refusal, run_outcome, schedule_chart,
+    schedule_outcome, serial_outcome, verdict,
 };
 use sect_run::OpenGate;
 use std::alloc::{AllocError, Global};
@@ -214,9 +214,13 @@ fn printed<R: Threads + Wait + Sync>(
             schedule,
             format,
         } => Ok(schedule_outcome(alloc, source, k, fuel, schedule, format)?.into_bytes()),
+        Request::Chart { k, fuel, schedule } => {
+            Ok(schedule_chart(alloc, source, k, fuel, schedule)?.into_bytes())
+        }
         Request::Run { k, fuel, format } => {
             Ok(run_outcome(rt, alloc, source, k, fuel, &OpenGate, format)?.into_bytes())
         }
+        Request::Graph { k, section } => program_graph(alloc, source, k, section),
         Request::Lint { k, format } => Ok(findings(alloc, source, k, format)?.into_bytes()),
         Request::Check { k } => Ok(verdict(alloc, source, k)?.into_bytes()),
     }

@@ -2,6 +2,7 @@
 #![tactic(auto)]
 
 mod dispatch;
+mod drawing;
 mod formats;
 mod linting;
 mod options;

@@ -3,6 +3,7 @@
 ghost use Rattle.std.specs.Prelude.{◌≡◌, ◌≤◌, true, false, IfOk, IfSome};
 ghost use Rattle.clap.specs.declared.builder.command.Command.TheViews.{out-Command as fields_of};
 
+use crate::drawing::{graph_command, section_of};
 use crate::formats::{format_of, format_option};
 use crate::linting::{lint_command, lint_format_of};
 use crate::running::{
@@ -16,7 +17,7 @@ use std::alloc::{AllocError, AllocFailed, Global};
 use thiserror::Error;
 
 /// The version of the program, and the kit that it is proved by.
-const VERSION: &str = "1.0.0 (rattle-kit-13f)";
+const VERSION: &str = "1.0.0 (rattle-kit-13b)";
 
 /// The greatest number that the command line takes.
 pub const MOST: u32 = 65535;
@@ -51,6 +52,11 @@ pub enum Request {
         k: u16,
         format: Format,
     },
+    /// The control-flow graphs of all sections, or of the one of this number, where paths have at most k fields.
+    Graph {
+        k: u16,
+        section: Option<u16>,
+    },
     /// What is wrong with the text, in this form, where paths have at most k fields.
     Lint {
         k: u16,
@@ -75,6 +81,12 @@ pub enum Request {
         fuel: u32,
         schedule: Vec<u16>,
         format: Format,
+    },
+    /// The same run, as a chart.
+    Chart {
+        k: u16,
+        fuel: u32,
+        schedule: Vec<u16>,
     },
     /// A run by threads, each with this much fuel, of the program that is compiled with paths of at most k fields.
     Run {
@@ -121,6 +133,9 @@ pub enum UsageFault {
     /// A value of `--format` that is no form of `lint`.
     #[error("error: invalid value '{0}' for '--format': text, json or sarif is wanted\n")]
     LintFormat(String),
+    /// A chart that is wanted as JSON.
+    #[error("error: invalid value 'json' for '--format': with '--chart' text is wanted\n")]
+    ChartFormat,
     /// A growth was refused.
     #[error("out of memory\n")]
     Memory,
@@ -250,7 +265,8 @@ fn with_inference<'a>(alloc: Global, grammar: Command<'a>) -> Result<Command<'a>
     let explain = "prints why each section of the source text takes each of its locks";
     let grammar = with(grammar, formatted_command(alloc, "explain", explain))?;
     let conflicts = "prints which sections of the source text exclude each other, and where";
-    with(grammar, formatted_command(alloc, "conflicts", conflicts))
+    let grammar = with(grammar, formatted_command(alloc, "conflicts", conflicts))?;
+    with(grammar, graph_command(alloc))
 }
 
 /// A grammar with the commands that run a program.
@@ -342,6 +358,10 @@ fn requested(alloc: Global, name: &str, options: &ArgMatches<'_>) -> Result<Requ
             k: k_of(alloc, options)?,
             format: format_of(alloc, options)?,
         }),
+        "graph" => Ok(Request::Graph {
+            k: k_of(alloc, options)?,
+            section: section_of(alloc, options)?,
+        }),
         "lint" => Ok(Request::Lint {
             k: k_of(alloc, options)?,
             format: lint_format_of(alloc, options)?,
@@ -386,13 +406,16 @@ fn schedule_request(alloc: Global, options: &ArgMatches<'_>) -> Result<Request, 
     let k = k_of(alloc, options)?;
     let fuel = FUEL.of(alloc, options)?;
     let schedule = threads_of(alloc, options)?;
-    let format = format_of(alloc, options)?;
-    Ok(Request::Schedule {
-        k,
-        fuel,
-        schedule,
-        format,
-    })
+    match (options.get_flag("chart"), format_of(alloc, options)?) {
+        (false, format) => Ok(Request::Schedule {
+            k,
+            fuel,
+            schedule,
+            format,
+        }),
+        (true, Format::Text) => Ok(Request::Chart { k, fuel, schedule }),
+        (true, Format::Json) => Err(UsageFault::ChartFormat),
+    }
 }
 
 /// What `run` asks for by its options.

@@ -110,13 +110,23 @@ fn compiled_command<'a>(
     command.arg(fuel_option(alloc))
 }
 
+/// The option `--chart`.
+fn chart_option<'a>(alloc: Global) -> Arg<'a>
+    ensures { result.global ≡ false }
+{
+    Arg::new(alloc, "chart")
+        .long("chart")
+        .help("prints a column for each thread and a row for each turn, with what waits for what")
+        .action(ArgAction::SetTrue)
+}
+
 /// The command `schedule` and what it takes.
 pub fn schedule_command<'a>(alloc: Global) -> Result<Command<'a>, AllocError>
     ensures { IfOk result (λ c. (fields_of c).has_globals ≡ false) }
 {
     let about =
         "runs the compiled program of the source text turn by turn, and prints the events and the outcome so far";
-    let command = compiled_command(alloc, "schedule", about)?;
+    let command = compiled_command(alloc, "schedule", about)?.arg(chart_option(alloc))?;
     let threads = "the threads whose turn it is, one turn after another";
     command.arg(thread_words(alloc, threads))
 }

@@ -40,7 +40,7 @@ use Rattle.sect_conflicts.specs.steps.Steady.{steady_at}
 use Rattle.sect_conflicts.proofs.shared.Stronger.{both_stronger}
 use Rattle.sect_conflicts.proofs.ModeTables.{join_apart}
 use Rattle.sect_conflicts.proofs.PathPairs.{between_locked, locked_between}
-use Rattle.sect_conflicts.proofs.Selecting.{selected, all_selected}
+use Rattle.sect_conflicts.proofs.shared.Selecting.{selected, all_selected}
 use Rattle.sect_conflicts.proofs.Steadying.{plan_at_the_start, none_clashes}
 
 -- sections that ask for a key in every state clash in whatever states

@@ -1,4 +1,3 @@
-mod Selecting
 mod PathPairs
 mod ModeTables
 mod Steadying

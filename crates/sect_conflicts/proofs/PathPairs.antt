@@ -18,8 +18,8 @@ use Rattle.sect_emit.specs.Plan.{object_mode}
 use Rattle.sect_conflicts.specs.declared.conflict.PathPair.{PathPair}
 use Rattle.sect_conflicts.specs.Conflicts.{MayBeOne, paths_of_two, paths_with, paths_between}
 use Rattle.sect_conflicts.specs.steps.Profiles.{AreSitesOfLock}
-use Rattle.sect_conflicts.specs.steps.Selecting.{Adds}
-use Rattle.sect_conflicts.proofs.Selecting.{adds_nothing, adds_one, adds_none, adds_both}
+use Rattle.sect_conflicts.specs.Selecting.{Adds}
+use Rattle.sect_conflicts.proofs.shared.Selecting.{adds_nothing, adds_one, adds_none, adds_both}
 
 -- one lock more on the second side
 paths_with_more : (l : Lock) (others : List Lock) (other : Lock)

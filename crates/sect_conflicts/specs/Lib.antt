@@ -2,4 +2,5 @@ pub mod Conflicts
 pub mod Comparing
 pub mod Laws
 pub mod Naming
+pub mod Selecting
 pub mod steps

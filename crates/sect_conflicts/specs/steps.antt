@@ -1,5 +1,4 @@
 -- What the contracts of private functions speak of.
 pub mod Steady
 pub mod Profiles
-pub mod Selecting
 pub mod Progress

@@ -7,6 +7,7 @@ use Rattle.sect_lemmas.proofs.Places.{pushed_at}
 use Rattle.sect_types.specs.Programs.{ProgramView}
 use Rattle.sect_types.specs.Sections.{SectionView, sections_of}
 use Rattle.sect_types.specs.Statements.{Stop}
+use Rattle.sect_places.specs.declared.lines.NodeLine.{NodeLine}
 use Rattle.sect_graph.specs.declared.flow.Node.{Node}
 use Rattle.sect_graph.specs.Layout.{flow_nodes}
 use Rattle.sect_names.specs.declared.link.Link.{Link}
@@ -51,36 +52,40 @@ module _ (v : CompiledView) (i : ℕ) (s : SectionView)
 -- a section with the chains that were found for its locks
 pub explained : (v : CompiledView) → IsCompiled v → (p : ProgramView) → p ≡ v.scheme.program
     → (i : ℕ) (s : SectionView) (g : List Node) → slice_get (sections_of v.scheme.program.texts) i ≡ Some s
-    → g ≡ flow_nodes s.body
+    → g ≡ flow_nodes s.body → (all : List (List NodeLine)) (lines : List NodeLine) → lines ≡ slice_index_or all i []
     → (old new : List ℕ) (given chains : List (List Link)) → given ≡ chains
-    → new ≡ old ++ explained_lines p.source i s.thread g given
+    → new ≡ old ++ explained_lines p.source i s.thread g lines given
     → ((set : List Lock) → slice_get v.sets i ≡ Some set
     → AreChains v.scheme s.thread (end_of v.scheme i) g set chains)
-    → (x : List (List Link)) × IsChained v i x × (new ≡ old ++ section_explained v i x)
-explained v compiled p program i s g at graph old new given chains same put found =
+    → (x : List (List Link)) × IsChained v i x × (new ≡ old ++ section_explained v all i x)
+explained v compiled p program i s g at graph all lines placed old new given chains same put found =
     let here = section_here v i s at in (
       chains,
       chained_here v i s at g chains graph (found (slice_index_or v.sets i []) (set_here v i s at compiled)),
-      put ∙ (ap (λ (q : ProgramView). old ++ explained_lines q.source i s.thread g given) program
-          ∙ (ap (λ cs. old ++ explained_lines v.scheme.program.source i s.thread g cs) same
-          ∙ (ap (λ h. old ++ explained_lines v.scheme.program.source i s.thread h chains) graph
+      put ∙ (ap (λ (q : ProgramView). old ++ explained_lines q.source i s.thread g lines given) program
+          ∙ (ap (λ cs. old ++ explained_lines v.scheme.program.source i s.thread g lines cs) same
+          ∙ (ap (λ ls. old ++ explained_lines v.scheme.program.source i s.thread g ls chains) placed
+          ∙ (ap (λ h. old
+          ++ explained_lines v.scheme.program.source i s.thread h (slice_index_or all i []) chains) graph
           ∙ ap (λ (x : SectionView). old
-          ++ explained_lines v.scheme.program.source i x.thread (flow_nodes x.body) chains) (sym here)))),
+          ++ explained_lines v.scheme.program.source i x.thread (flow_nodes x.body) (slice_index_or all i []) chains)
+          (sym here))))),
     )
 
 -- those of the first sections, and those of the next
-pub one_explained : (v : CompiledView) (n : ℕ) (old new : List ℕ) → IsExplained v n old → (x : List (List Link))
-    → IsChained v n x → new ≡ old ++ section_explained v n x → IsExplained v (n + 1) new
-one_explained v n old new had x chained put = record {
+pub one_explained : (v : CompiledView) (lines : List (List NodeLine)) (n : ℕ) (old new : List ℕ)
+    → IsExplained v lines n old → (x : List (List Link)) → IsChained v n x → new ≡ old ++ section_explained v lines n x
+    → IsExplained v lines (n + 1) new
+one_explained v lines n old new had x chained put = record {
   all = had.all ++ x ∷ [];
   chained = λ i chains at. elim (pushed_at had.all x chains i at) [
     | inl is ↦ subst (IsChained v i) is.1 (subst (λ m. IsChained v m x) (sym (is.0 ∙ had.counted)) chained)
     | inr before ↦ had.chained i chains before
   ];
   counted = omega (arith, length-append had.all (x ∷ []), had.counted);
-  lines = put ∙ (ap (λ o. o ++ section_explained v n x) had.lines
-      ∙ (ap (λ m. by_number (section_explained v) 0 had.all ++ section_explained v m x) count
-      ∙ sym (one_behind (section_explained v) 0 had.all x)));
+  printed = put ∙ (ap (λ o. o ++ section_explained v lines n x) had.printed
+      ∙ (ap (λ m. by_number (section_explained v lines) 0 had.all ++ section_explained v lines m x) count
+      ∙ sym (one_behind (section_explained v lines) 0 had.all x)));
 }
   where
     count : n ≡ 0 + length had.all

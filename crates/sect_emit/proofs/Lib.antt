@@ -15,6 +15,7 @@ mod Certifying
 mod Checked
 mod Working
 mod Labelled
+mod Noded
 mod Numbered
 mod Graphed
 mod Explained

@@ -9,6 +9,7 @@ ghost use Rattle.sect_names.specs.declared.lock.Lock.{Lock};
 ghost use Rattle.sect_names.specs.Needed.{end_of};
 ghost use Rattle.sect_chains.specs.Chains.{AreChains};
 ghost use Rattle.sect_check.specs.Valid.{IsValid};
+ghost use Rattle.sect_infer.specs.Sets.{AreInferredAt};
 ghost use Rattle.sect_emit.specs.Compiled.{IsCompiled, AreSetsLeast};
 ghost use Rattle.sect_cert.specs.declared.certificate.Cert.{Cert};
 ghost use Rattle.sect_emit.specs.Certificates.{IsCertificateOf};
@@ -105,6 +106,15 @@ impl Compiled {
         ensures { slice_get self.now.sets section ≡ Some result.now }
     {
         self.locks[section as usize].entry()
+    }
+
+    /// The locks of a section at each of its nodes.
+    pub fn locks(&self, section: u16) -> &Locks
+        requires { section < length (sections_of self.now.scheme.program.texts) }
+        ensures inferred { AreInferredAt self.now.scheme section result.now }
+        ensures set { slice_get self.now.sets section ≡ Some result.now.entry }
+    {
+        &self.locks[section as usize]
     }
 
     /// The part of a section's plan that is the same in all states.

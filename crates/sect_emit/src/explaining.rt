@@ -1,14 +1,15 @@
 //! Why the sections of a compiled program take their locks, as it is printed.
 
-ghost use Rattle.std.specs.Prelude.{◌≡◌, ◌<◌, ◌++◌, List, length, replicate, IfOk, OnOk};
-ghost use Rattle.std.specs.Prelude.{option_map, slice_get};
+ghost use Rattle.std.specs.Prelude.{◌≡◌, ◌<◌, ◌++◌, List, length, map, replicate, IfOk, OnOk};
+ghost use Rattle.std.specs.Prelude.{Some, option_map, slice_get};
+ghost use Rattle.std.specs.Option.{option_copied};
 ghost use Rattle.std.specs.String.{string_bytes};
 ghost use Rattle.sect_lemmas.specs.Lists.{Has};
 ghost use Rattle.sect_types.specs.Sections.{sections_of};
 ghost use Rattle.sect_names.specs.declared.link.Link.{Link};
 ghost use Rattle.sect_names.specs.Printing.{IsNamed};
 ghost use Rattle.sect_emit.specs.Words.{IsChainNamed};
-ghost use Rattle.sect_emit.specs.Explaining.{deed_text, node_text, widest, step_line, lock_line};
+ghost use Rattle.sect_emit.specs.Explaining.{deed_text, node_text, widest, line_end, step_line, lock_line};
 ghost use Rattle.sect_emit.specs.Explaining.{chain_lines, chains_lines};
 ghost use Rattle.sect_emit.specs.Explaining.{explained_lines, section_explained, IsChained};
 ghost use Rattle.sect_emit.specs.Explaining.{IsExplanation};
@@ -20,29 +21,37 @@ use crate::statements::put_label;
 use sect_chains::Chain;
 use sect_graph::Flow;
 use sect_names::{Link, put_lock};
+use sect_places::NodeLine;
 use sect_types::Program;
 use std::alloc::{AllocError, Global};
 use std::fmt::Write;
 
 /// Why each section takes its locks. For each lock of a section, in order, its chain, a line a step: the node and what
-/// it does, and the lock that is needed from there on, as it is called there.
-pub fn explanation(alloc: Global, compiled: &Compiled) -> Result<Vec<u8>, AllocError>
-    ensures { IfOk result (λ text. IsExplanation compiled.now text.items) }
+/// it does, the lock that is needed from there on, as it is called there, and the line from which the node comes:
+/// `lines` has those of the nodes of each section.
+pub fn explanation(
+    alloc: Global,
+    compiled: &Compiled,
+    lines: &[Vec<NodeLine>],
+) -> Result<Vec<u8>, AllocError>
+    requires { length lines.now ≡ length (sections_of compiled.now.scheme.program.texts) }
+    ensures { IfOk result (λ text. IsExplanation compiled.now (map (λ v. v.items) lines.now) text.items) }
 {
     let mut text = String::new(alloc);
     for section in 0..compiled.scheme().program().section_count() {
-        put_section(alloc, &mut text, compiled, section)?;
+        put_section(alloc, &mut text, compiled, lines, section)?;
     }
     Ok(text.into_bytes())
 }
 
-/// A section that is explained: its number, its thread and its graph.
+/// A section that is explained: its number, its thread, its graph and the lines of the nodes.
 #[derive(Clone, Copy)]
 struct Explained<'a> {
     program: &'a Program,
     number: u16,
     thread: u16,
     flow: &'a Flow,
+    lines: &'a [NodeLine],
 }
 
 /// Adds the lines of a section of a compiled program.
@@ -50,11 +59,14 @@ fn put_section(
     alloc: Global,
     text: &mut String,
     compiled: &Compiled,
+    lines: &[Vec<NodeLine>],
     section: u16,
 ) -> Result<(), AllocError>
-    requires { section < length (sections_of compiled.now.scheme.program.texts) }
+    requires section { section < length (sections_of compiled.now.scheme.program.texts) }
+    requires lines { section < length lines.now }
     ensures { OnOk result ((chains : List (List Link)) × IsChained compiled.now section chains
-        × (string_bytes text.new ≡ string_bytes text.old ++ section_explained compiled.now section chains)) }
+        × (string_bytes text.new ≡ string_bytes text.old
+        ++ section_explained compiled.now (map (λ v. v.items) lines.now) section chains)) }
 {
     compiled.facts();
     let program = compiled.scheme().program();
@@ -63,6 +75,7 @@ fn put_section(
         number: section,
         thread: program.section(section).thread,
         flow: compiled.scheme().graph().section(section),
+        lines: lines[section as usize].as_slice(),
     };
     let chains = compiled.chains(alloc, section)?;
     put_explained(alloc, text, explained, chains.as_slice())
@@ -79,7 +92,8 @@ fn put_explained(
     requires nodes { AreNodesOf section.program.now section.thread section.flow.now }
     requires named { (links : List Link) → Has chains.now links → IsChainNamed section.program.now links }
     ensures { OnOk result (string_bytes text.new ≡ string_bytes text.old ++ explained_lines
-        section.entry.program.now.source section.entry.number section.entry.thread section.entry.flow.now chains.now) }
+        section.entry.program.now.source section.entry.number section.entry.thread section.entry.flow.now
+        section.entry.lines.now chains.now) }
 {
     write!(text, "section {} in thread ", section.number)?;
     put_thread_name(text, section.program, section.thread)?;
@@ -97,7 +111,8 @@ fn put_chains(
     requires nodes { AreNodesOf section.program.now section.thread section.flow.now }
     requires named { (links : List Link) → Has chains.now links → IsChainNamed section.program.now links }
     ensures { OnOk result (string_bytes text.new ≡ string_bytes text.old
-        ++ chains_lines section.entry.program.now.source section.entry.thread section.entry.flow.now chains.now) }
+        ++ chains_lines section.entry.program.now.source section.entry.thread section.entry.flow.now
+        section.entry.lines.now chains.now) }
 {
     if chains.is_empty() {
         return text.push_str("no lock is needed\n");
@@ -118,7 +133,8 @@ fn put_chain(
     requires nodes { AreNodesOf section.program.now section.thread section.flow.now }
     requires named { IsChainNamed section.program.now chain.now }
     ensures { OnOk result (string_bytes text.new ≡ string_bytes text.old
-        ++ chain_lines section.entry.program.now.source section.entry.thread section.entry.flow.now chain.now) }
+        ++ chain_lines section.entry.program.now.source section.entry.thread section.entry.flow.now
+        section.entry.lines.now chain.now) }
 {
     put_first(text, section.program, chain)?;
     let width = greatest_width(alloc, section, chain)?;
@@ -199,18 +215,48 @@ fn put_step(
     requires nodes { AreNodesOf section.program.now section.thread section.flow.now }
     requires named { IsNamed section.program.now link.now.lock }
     ensures { OnOk result (string_bytes text.new ≡ string_bytes text.old
-        ++ step_line section.entry.program.now.source section.entry.thread section.entry.flow.now width link.now) }
+        ++ step_line section.entry.program.now.source section.entry.thread section.entry.flow.now
+        section.entry.lines.now width link.now) }
 {
     let node = node_text(alloc, section, link.node)?;
     write!(text, "  {node}")?;
     put_blanks(text, width.saturating_sub(node.len()))?;
     text.push_str("  ")?;
     put_lock(text, section.program, &link.lock)?;
-    text.push_str("\n")
+    put_end(text, section.lines, link.node)
+}
+
+/// The line of a node; the exit has none.
+fn line_at(lines: &[NodeLine], node: u32) -> Option<&NodeLine>
+    ensures { option_copied result ≡ slice_get lines.now node }
+{
+    lines.get(node as usize)
+}
+
+/// Ends the line of a step by where its node comes from.
+fn put_end(text: &mut String, lines: &[NodeLine], node: u32) -> Result<(), AllocError>
+    ensures { OnOk result (string_bytes text.new
+        ≡ string_bytes text.old ++ line_end (slice_get lines.now node)) }
+{
+    match line_at(lines, node) {
+        Some(line) => put_place(text, line),
+        None => text.push_str("\n"),
+    }
+}
+
+/// Ends the line of a step by the line of its statement, and that of the call if there is one.
+fn put_place(text: &mut String, line: &NodeLine) -> Result<(), AllocError>
+    ensures { OnOk result (string_bytes text.new ≡ string_bytes text.old ++ line_end (Some line.now)) }
+{
+    write!(text, " (line {}", line.line)?;
+    if let Some(call) = line.call {
+        write!(text, ", called in line {call}")?;
+    }
+    text.push_str(")\n")
 }
 
 /// Adds blanks.
-fn put_blanks(text: &mut String, count: usize) -> Result<(), AllocError>
+pub fn put_blanks(text: &mut String, count: usize) -> Result<(), AllocError>
     ensures { OnOk result (string_bytes text.new ≡ string_bytes text.old ++ replicate count 32) }
 {
     for _blank in 0..count {

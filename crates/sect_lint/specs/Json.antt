@@ -42,6 +42,7 @@ labels_json source d = told d.detail
     told detail.Nothing = list []
     told (detail.Bytes n) = list (label_json source (decimal n ++ codes " bytes") d.span ∷ [])
     told (detail.OpenBrace at) = list (label_json source (codes "this `{` is open") (span_from at 1) ∷ [])
+    told (detail.Earlier span) = list (label_json source (codes "first declared here") span ∷ [])
 
 abbrev pub diagnostic_json : List ℕ → Diagnostic → Data
 diagnostic_json source d =

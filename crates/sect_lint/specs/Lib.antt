@@ -1,5 +1,6 @@
 pub mod Mistakes
 pub mod Excerpts
+pub mod Naming
 pub mod Details
 pub mod Places
 pub mod Reports

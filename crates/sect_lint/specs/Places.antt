@@ -1,5 +1,6 @@
 -- Where a mistake stands.
-use Rattle.std.specs.Prelude.{◌≡◌, ℕ, zero, suc, ◌+◌, ◌-◌, ◌<◌, List, [], ◌∷◌, length, map, get_or, ⊤}
+use Rattle.std.specs.Prelude.{◌≡◌, ℕ, zero, suc, ◌+◌, ◌-◌, ◌<◌, List, [], ◌∷◌, length, map, get_or, ⊤, Option}
+use Rattle.std.specs.Prelude.{Some, None}
 use Rattle.sect_front.specs.TreeView.{TreeView}
 use Rattle.sect_front.specs.Front.{IsSpelled}
 use Rattle.sect_front.specs.FaultPlaces.{token_span, IsFaultSpan}
@@ -15,6 +16,9 @@ use Rattle.sect_names.specs.declared.refusal.Refusal.TheVariants as refusal
 use Rattle.sect_places.specs.declared.range.TokenRange.{TokenRange}
 use Rattle.sect_places.specs.Ranges.{range, item_tokens}
 use Rattle.sect_places.specs.Spans.{span_in}
+use Rattle.sect_places.specs.NameSpans.{AreNameSpans}
+use Rattle.sect_places.specs.declared.name_use.NameSpan.{NameSpan}
+use Rattle.sect_lint.specs.Naming.{unknown_name}
 use Rattle.sect_lint.specs.declared.culprit.Culprit.{Culprit}
 use Rattle.sect_lint.specs.declared.culprit.Culprit.TheVariants as culprit
 use Rattle.sect_lint.specs.declared.mistake.Mistake.{Mistake}
@@ -66,10 +70,22 @@ pub record IsItemSpan (source : List ℕ) (tree : TreeView) (m : Mistake) (who :
   pub is : span ≡ span_in (map token_span spelled.places)
       (marked m (get_or (item_tokens tree) (item_number tree who) no_range))
 
+-- the bytes of this name, or where none is given those of the item
+abbrev pub IsMarked : List ℕ → TreeView → Mistake → Culprit → Option NameSpan → Span → Type 0
+IsMarked source tree m who None span = IsItemSpan source tree m who span
+IsMarked source tree m who (Some n) span = span ≡ n.span
+
+-- the name that is marked: the first of the item that nothing has
+abbrev pub marked_name : List NameSpan → TypeFault → Option NameSpan
+marked_name names (types.Unknown item) = unknown_name names item
+marked_name names _ = None
+
 -- the mistake of a text that is refused so stands at these bytes
 abbrev pub IsPlaceOf : List ℕ → Refusal → Mistake → Span → Type 0
 IsPlaceOf source refusal.Memory m span = ⊤
 IsPlaceOf source (refusal.Front why) m span = IsFaultSpan source why span
-IsPlaceOf source (refusal.Types why) m span = (tree : TreeView) × IsItemSpan source tree m (of_types why) span
+IsPlaceOf source (refusal.Types why) m span =
+    (tree : TreeView) × (names : List NameSpan) × AreNameSpans source tree names
+    × IsMarked source tree m (of_types why) (marked_name names why) span
 IsPlaceOf source (refusal.Scheme why) m span =
     (tree : TreeView) × IsItemSpan source tree m (of_scheme why) span

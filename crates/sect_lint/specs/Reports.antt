@@ -3,7 +3,10 @@ use Rattle.std.specs.Prelude.{◌≡◌, ◌⊎◌, ◌<◌, ℕ, Option, Some, 
 use Rattle.std.specs.Fmt.{decimal}
 use Rattle.sect_front.specs.Front.{line_of}
 use Rattle.sect_front.specs.FaultPlaces.{IsWithin}
+use Rattle.sect_front.specs.TreeView.{TreeView}
 use Rattle.sect_front.specs.declared.span.Span.{Span}
+use Rattle.sect_places.specs.NameSpans.{AreNameSpans}
+use Rattle.sect_places.specs.declared.name_use.NameSpan.{NameSpan}
 use Rattle.sect_names.specs.Schemes.{SchemeView}
 use Rattle.sect_names.specs.Sources.{IsAccepted, IsDue}
 use Rattle.sect_names.specs.declared.fault.SchemeFault.TheVariants as scheme
@@ -15,11 +18,13 @@ use Rattle.sect_lint.specs.declared.diagnostic.Diagnostic.{Diagnostic}
 use Rattle.sect_lint.specs.declared.mistake.Mistake.{Mistake}
 use Rattle.sect_lint.specs.Mistakes.{mistake_of, number_of, title_of, note_of}
 use Rattle.sect_lint.specs.Places.{IsPlaceOf}
-use Rattle.sect_lint.specs.Details.{IsFrontDetail, IsDetailWithin, detail_text}
+use Rattle.sect_lint.specs.Details.{IsFrontDetail, IsDetailWithin, detail_by, detail_text}
 use Rattle.sect_lint.specs.Excerpts.{excerpt, margin}
 
 abbrev pub IsDetail : List ℕ → Refusal → Span → Detail → Type 0
 IsDetail source (refusal.Front why) span told = IsFrontDetail source why span told
+IsDetail source (refusal.Types why) span told =
+    (tree : TreeView) × (names : List NameSpan) × AreNameSpans source tree names × (told ≡ detail_by names why)
 IsDetail source _ span told = told ≡ detail.Nothing
 
 -- the diagnostic names the mistake of a text that is refused so, and its bytes. All places are the text's

@@ -1,10 +1,13 @@
 -- A diagnostic as a log of SARIF 2.1.0, which code hosts and editors read.
-use Rattle.std.specs.Prelude.{ℕ, ◌-◌, List, [], ◌∷◌, codes}
+use Rattle.std.specs.Prelude.{ℕ, ◌-◌, List, [], ◌∷◌, ◌++◌, codes}
 use Rattle.std.specs.Fmt.{decimal}
 use Rattle.serde_json.specs.Data.{Data, string, object, no_members, member}
 use Rattle.sect_front.specs.Front.{line_of}
 use Rattle.sect_front.specs.declared.span.Span.{Span}
 use Rattle.sect_places.specs.Positions.{column_of}
+use Rattle.sect_front.specs.FaultPlaces.{span_from}
+use Rattle.sect_lint.specs.declared.diagnostic.Detail.{Detail}
+use Rattle.sect_lint.specs.declared.diagnostic.Detail.TheVariants as detail
 use Rattle.sect_lint.specs.declared.diagnostic.Diagnostic.{Diagnostic}
 use Rattle.sect_lint.specs.declared.mistake.Mistake.{Mistake}
 use Rattle.sect_lint.specs.Mistakes.{number_of, title_of, note_of}
@@ -23,18 +26,41 @@ region_json source span =
     (member (codes "startLine") (count (line_of source span.start)) no_members))))))
 
 -- the text is read from standard input
+abbrev pub physical_json : List ℕ → Span → Data
+physical_json source span =
+    object (member (codes "artifactLocation") (object (member (codes "uri") (string (codes "stdin")) no_members))
+    (member (codes "region") (region_json source span) no_members))
+
 abbrev pub location_json : List ℕ → Span → Data
-location_json source span =
-    object (member (codes "physicalLocation") (object (member (codes "artifactLocation")
-    (object (member (codes "uri") (string (codes "stdin")) no_members)) (member (codes "region")
-    (region_json source span) no_members))) no_members)
+location_json source span = object (member (codes "physicalLocation") (physical_json source span) no_members)
+
+-- what is said of another place
+abbrev pub related_json : List ℕ → List ℕ → Span → Data
+related_json source message span =
+    object (member (codes "message") (text_json message) (member (codes "physicalLocation")
+    (physical_json source span) no_members))
+
+-- the places beside that of the mistake
+abbrev pub related_by : List ℕ → Detail → List Data
+related_by source detail.Nothing = []
+related_by source (detail.Bytes n) = []
+related_by source (detail.OpenBrace at) = related_json source (codes "this `{` is open") (span_from at 1) ∷ []
+related_by source (detail.Earlier span) = related_json source (codes "first declared here") span ∷ []
+
+-- what is wrong, and what is said beside the carets where it has no place of its own
+abbrev pub said_by : Diagnostic → Detail → List ℕ
+said_by d detail.Nothing = title_of d.mistake
+said_by d (detail.Bytes n) = title_of d.mistake ++ codes ": " ++ decimal n ++ codes " bytes"
+said_by d (detail.OpenBrace at) = title_of d.mistake
+said_by d (detail.Earlier span) = title_of d.mistake
 
 abbrev pub result_json : List ℕ → Diagnostic → Data
 result_json source d =
     object (member (codes "level") (string (codes "error"))
     (member (codes "locations") (list (location_json source d.span ∷ []))
-    (member (codes "message") (text_json (title_of d.mistake))
-    (member (codes "ruleId") (string (decimal (number_of d.mistake))) no_members))))
+    (member (codes "message") (text_json (said_by d d.detail))
+    (member (codes "relatedLocations") (list (related_by source d.detail))
+    (member (codes "ruleId") (string (decimal (number_of d.mistake))) no_members)))))
 
 abbrev pub rule_json : Mistake → Data
 rule_json m =

@@ -20,4 +20,6 @@ pub enum Detail {
     Bytes(usize),
     /// The brace at this place is the innermost that is open.
     OpenBrace(usize),
+    /// The name is first declared at these bytes.
+    Earlier(Span),
 }

@@ -28,7 +28,7 @@ pub enum Format {
 }
 
 /// A value without blanks.
-fn compact(alloc: Global, value: &Value) -> Result<String, AllocError>
+pub fn compact(alloc: Global, value: &Value) -> Result<String, AllocError>
     requires { has_float (view value.now) ≡ false }
     ensures { IfOk result (λ text. string_bytes text ≡ compact_text (view value.now)) }
 {

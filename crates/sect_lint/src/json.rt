@@ -23,7 +23,7 @@ fn place_value(alloc: Global, source: &[u8], at: usize) -> Result<Value, AllocEr
 }
 
 /// The places at which a span begins and ends.
-fn span_value(alloc: Global, source: &[u8], span: Span) -> Result<Value, AllocError>
+pub fn span_value(alloc: Global, source: &[u8], span: Span) -> Result<Value, AllocError>
     requires { IsWithin (length source.now) span }
     ensures { IfOk result (λ v. view v ≡ span_json source.now span) }
 {
@@ -60,6 +60,10 @@ fn labels_value(alloc: Global, source: &[u8], diagnostic: &Diagnostic) -> Result
                 end: at + 1,
             };
             let label = label_value(alloc, source, "this `{` is open", brace)?;
+            json!(in alloc; [label])
+        }
+        Detail::Earlier(span) => {
+            let label = label_value(alloc, source, "first declared here", span)?;
             json!(in alloc; [label])
         }
     }

@@ -1,6 +1,6 @@
 //! Whether a source text is refused, for which mistake, and where that stands.
 
-ghost use Rattle.std.specs.Prelude.{◌≡◌, ◌≢◌, ◌≤◌, ◌<◌, ℕ, Err, IfOk, IfErr, length};
+ghost use Rattle.std.specs.Prelude.{◌≡◌, ◌≢◌, ◌≤◌, ◌<◌, ℕ, Err, IfOk, IfErr, MatchOption, length};
 ghost use Rattle.sect_front.specs.TreeView.{TreeView};
 ghost use Rattle.sect_front.specs.Front.{IsSpelled, IsFault};
 ghost use Rattle.sect_front.specs.FaultPlaces.{IsFaultSpan, IsWithin};
@@ -10,16 +10,17 @@ ghost use Rattle.sect_types.specs.Programs.{ProgramView};
 ghost use Rattle.sect_names.specs.Sources.{IsTypedText};
 ghost use Rattle.sect_names.specs.Verdicts as schemes;
 ghost use Rattle.sect_names.specs.declared.refusal.Refusal.TheVariants as refusal;
-ghost use Rattle.sect_lint.specs.Places.{IsItemSpan, item_number};
-ghost use Rattle.sect_lint.specs.Details.{IsFrontDetail, IsDetailWithin};
+ghost use Rattle.sect_lint.specs.Places.{IsItemSpan, item_number, marked_name};
+ghost use Rattle.sect_lint.specs.Details.{IsFrontDetail, IsDetailWithin, detail_by};
 ghost use Rattle.sect_lint.specs.Reports.{IsDiagnosisOf, IsJudged, IsNotJudged};
 
 use crate::culprit::{Culprit, marked_range};
 use crate::diagnostic::{Detail, Diagnostic};
 use crate::mistake::Mistake;
+use crate::naming::{earlier_detail, unknown_name};
 use sect_front::{FrontFault, PlacedFault, Span, Tree, innermost_brace, parse, parse_placed};
 use sect_names::{Refusal, SchemeFault, check_k, scheme_of};
-use sect_places::{item_ranges, range_span, token_spans};
+use sect_places::{NameSpan, item_ranges, range_span, token_spans, tree_names};
 use sect_types::{Program, TypeFault, check_types};
 use std::alloc::{AllocError, Global};
 
@@ -98,6 +99,29 @@ fn tree_of(alloc: Global, source: &[u8]) -> Result<Tree, Refusal>
     }
 }
 
+/// The bytes that are marked in an item that breaks a rule on types.
+fn marked_span(names: &[NameSpan], fault: &TypeFault, item: Span) -> Span
+    ensures { MatchOption (marked_name names.now fault.now) (result ≡ item) (λ n. result ≡ n.span) }
+{
+    match fault {
+        TypeFault::Unknown { item: number } => match unknown_name(names, *number as usize) {
+            Some(named) => named.span,
+            None => item,
+        },
+        _ => item,
+    }
+}
+
+/// What is said beside the carets of a text whose tree breaks a rule on types.
+fn named_detail(names: &[NameSpan], fault: &TypeFault) -> Detail
+    ensures { result ≡ detail_by names.now fault.now }
+{
+    match fault {
+        TypeFault::Twice { item } => earlier_detail(names, *item as usize),
+        _ => Detail::Nothing,
+    }
+}
+
 /// What is told of a text whose tree breaks a rule on types.
 fn types_diagnostic(alloc: Global, source: &[u8], fault: &TypeFault) -> Result<Diagnostic, Refusal>
     requires { (tree : TreeView) × IsSpelled source.now tree × types.Judges {A = ℕ} tree (Err fault.now) }
@@ -109,11 +133,14 @@ fn types_diagnostic(alloc: Global, source: &[u8], fault: &TypeFault) -> Result<D
         return Err(Refusal::Memory);
     };
     let tree = tree_of(alloc, source)?;
-    let span = item_span(alloc, source, &tree, mistake, Culprit::of_types(fault))?;
+    let item = item_span(alloc, source, &tree, mistake, Culprit::of_types(fault))?;
+    let names = tree_names(alloc, source, &tree)?;
+    let span = marked_span(names.as_slice(), fault, item);
+    let detail = named_detail(names.as_slice(), fault);
     Ok(Diagnostic {
         mistake,
         span,
-        detail: Detail::Nothing,
+        detail,
     })
 }
 

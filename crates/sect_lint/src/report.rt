@@ -4,7 +4,7 @@ ghost use Rattle.std.specs.Prelude.{◌≡◌, ◌≤◌, ◌++◌, OnOk, length
 ghost use Rattle.std.specs.Fmt.{decimal};
 ghost use Rattle.std.specs.String.{string_bytes};
 ghost use Rattle.sect_front.specs.FaultPlaces.{IsWithin};
-ghost use Rattle.sect_lint.specs.Details.{place_text, detail_text, IsDetailWithin};
+ghost use Rattle.sect_lint.specs.Details.{place_text, detail_text, earlier_text, IsDetailWithin};
 ghost use Rattle.sect_lint.specs.Reports.{heading, note_line, report};
 
 use crate::diagnostic::{Detail, Diagnostic};
@@ -23,6 +23,16 @@ fn put_place(text: &mut String, source: &[u8], at: usize) -> Result<(), AllocErr
     Ok(write!(text, "{}:{}", position.line, position.column)?)
 }
 
+/// Adds where a name is first declared.
+fn put_earlier(text: &mut String, source: &[u8], at: usize) -> Result<(), AllocError>
+    requires { at ≤ length source.now }
+    ensures { OnOk result (string_bytes text.new ≡ string_bytes text.old ++ earlier_text source.now at) }
+{
+    text.push_str(" first declared at ")?;
+    put_place(text, source, at)?;
+    Ok(())
+}
+
 /// Adds what is said beside the carets.
 fn put_detail(text: &mut String, source: &[u8], detail: Detail) -> Result<(), AllocError>
     requires { IsDetailWithin (length source.now) detail }
@@ -36,6 +46,7 @@ fn put_detail(text: &mut String, source: &[u8], detail: Detail) -> Result<(), Al
             put_place(text, source, at)?;
             text.push_str(" is open")
         }
+        Detail::Earlier(span) => put_earlier(text, source, span.start),
     }
 }
 

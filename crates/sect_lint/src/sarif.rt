@@ -1,17 +1,22 @@
 //! A diagnostic as a log of SARIF 2.1.0.
 
 ghost use Rattle.std.specs.Prelude.{◌≡◌, IfOk, length};
+ghost use Rattle.std.specs.String.{string_bytes};
 ghost use Rattle.serde_json.specs.View.{view};
 ghost use Rattle.sect_front.specs.FaultPlaces.{IsWithin};
-ghost use Rattle.sect_lint.specs.Sarif.{region_json, location_json, result_json, rule_json, tool_json};
+ghost use Rattle.sect_lint.specs.Details.{IsDetailWithin};
+ghost use Rattle.sect_lint.specs.Json.{list};
+ghost use Rattle.sect_lint.specs.Sarif.{region_json, location_json, related_json, related_by, said_by, result_json};
+ghost use Rattle.sect_lint.specs.Sarif.{rule_json, tool_json};
 ghost use Rattle.sect_lint.specs.Sarif.{run_json, log_json, diagnostic_log as log_by, empty_log as empty_by};
 
-use crate::diagnostic::Diagnostic;
+use crate::diagnostic::{Detail, Diagnostic};
 use crate::mistake::Mistake;
 use sect_front::Span;
 use sect_places::position_of;
 use serde_json::{Value, json};
 use std::alloc::{AllocError, Global};
+use std::fmt::Write;
 
 /// The bytes, lines and columns of a span.
 fn region_value(alloc: Global, source: &[u8], span: Span) -> Result<Value, AllocError>
@@ -28,7 +33,7 @@ fn region_value(alloc: Global, source: &[u8], span: Span) -> Result<Value, Alloc
 }
 
 /// Where a span stands.
-fn location_value(alloc: Global, source: &[u8], span: Span) -> Result<Value, AllocError>
+pub fn location_value(alloc: Global, source: &[u8], span: Span) -> Result<Value, AllocError>
     requires { IsWithin (length source.now) span }
     ensures { IfOk result (λ v. view v ≡ location_json source.now span) }
 {
@@ -36,15 +41,72 @@ fn location_value(alloc: Global, source: &[u8], span: Span) -> Result<Value, All
     json!(in alloc; {"physicalLocation": {"artifactLocation": {"uri": "stdin"}, "region": region}})
 }
 
+/// What is said of another place.
+fn related_value(
+    alloc: Global,
+    source: &[u8],
+    message: &str,
+    span: Span,
+) -> Result<Value, AllocError>
+    requires { IsWithin (length source.now) span }
+    ensures { IfOk result (λ v. view v ≡ related_json source.now message.now span) }
+{
+    let region = region_value(alloc, source, span)?;
+    json!(in alloc; {"message": {"text": message},
+        "physicalLocation": {"artifactLocation": {"uri": "stdin"}, "region": region}})
+}
+
+/// The places beside that of the mistake.
+fn related_values(alloc: Global, source: &[u8], detail: Detail) -> Result<Value, AllocError>
+    requires { IsDetailWithin (length source.now) detail }
+    ensures { IfOk result (λ v. view v ≡ list (related_by source.now detail)) }
+{
+    match detail {
+        Detail::OpenBrace(at) => {
+            let brace = Span {
+                start: at,
+                end: at + 1,
+            };
+            let related = related_value(alloc, source, "this `{` is open", brace)?;
+            json!(in alloc; [related])
+        }
+        Detail::Earlier(span) => {
+            let related = related_value(alloc, source, "first declared here", span)?;
+            json!(in alloc; [related])
+        }
+        Detail::Nothing => json!(in alloc; []),
+        Detail::Bytes(_) => json!(in alloc; []),
+    }
+}
+
+/// What is wrong, and what is said beside the carets where it has no place of its own.
+fn message_of(alloc: Global, diagnostic: &Diagnostic) -> Result<String, AllocError>
+    ensures { IfOk result (λ text. string_bytes text ≡ said_by diagnostic.now diagnostic.now.detail) }
+{
+    let mut text = String::new(alloc);
+    text.push_str(diagnostic.mistake.title())?;
+    match diagnostic.detail {
+        Detail::Bytes(count) => write!(text, ": {count} bytes")?,
+        Detail::Nothing => {}
+        Detail::OpenBrace(_) => {}
+        Detail::Earlier(_) => {}
+    }
+    Ok(text)
+}
+
 /// A mistake, and where it stands.
 fn result_value(alloc: Global, source: &[u8], diagnostic: &Diagnostic) -> Result<Value, AllocError>
-    requires { IsWithin (length source.now) diagnostic.now.span }
+    requires span { IsWithin (length source.now) diagnostic.now.span }
+    requires detail { IsDetailWithin (length source.now) diagnostic.now.detail }
     ensures { IfOk result (λ v. view v ≡ result_json source.now diagnostic.now) }
 {
     let location = location_value(alloc, source, diagnostic.span)?;
-    let title = diagnostic.mistake.title();
+    let message = message_of(alloc, diagnostic)?;
+    let text = message.as_str();
+    let related = related_values(alloc, source, diagnostic.detail)?;
     let rule = format!(in alloc; "{}", diagnostic.mistake.number())?;
-    json!(in alloc; {"level": "error", "locations": [location], "message": {"text": title}, "ruleId": rule})
+    json!(in alloc; {"level": "error", "locations": [location], "message": {"text": text},
+        "relatedLocations": related, "ruleId": rule})
 }
 
 /// What a mistake is.
@@ -58,21 +120,21 @@ fn rule_value(alloc: Global, mistake: Mistake) -> Result<Value, AllocError>
 }
 
 /// The program that looked, with these rules.
-fn tool_value(alloc: Global, rules: Value) -> Result<Value, AllocError>
+pub fn tool_value(alloc: Global, rules: Value) -> Result<Value, AllocError>
     ensures { IfOk result (λ v. view v ≡ tool_json (view rules)) }
 {
     json!(in alloc; {"driver": {"name": "sectc", "rules": rules}})
 }
 
 /// A run that has these results.
-fn run_value(alloc: Global, results: Value, tool: Value) -> Result<Value, AllocError>
+pub fn run_value(alloc: Global, results: Value, tool: Value) -> Result<Value, AllocError>
     ensures { IfOk result (λ v. view v ≡ run_json (view results) (view tool)) }
 {
     json!(in alloc; {"columnKind": "unicodeCodePoints", "results": results, "tool": tool})
 }
 
 /// The log of one run.
-fn log_value(alloc: Global, run: Value) -> Result<Value, AllocError>
+pub fn log_value(alloc: Global, run: Value) -> Result<Value, AllocError>
     ensures { IfOk result (λ v. view v ≡ log_json (view run)) }
 {
     json!(in alloc; {"$schema": "https://json.schemastore.org/sarif-2.1.0.json", "runs": [run], "version": "2.1.0"})
@@ -84,7 +146,8 @@ pub fn diagnostic_log(
     source: &[u8],
     diagnostic: &Diagnostic,
 ) -> Result<Value, AllocError>
-    requires { IsWithin (length source.now) diagnostic.now.span }
+    requires span { IsWithin (length source.now) diagnostic.now.span }
+    requires detail { IsDetailWithin (length source.now) diagnostic.now.detail }
     ensures { IfOk result (λ v. view v ≡ log_by source.now diagnostic.now) }
 {
     let result = result_value(alloc, source, diagnostic)?;

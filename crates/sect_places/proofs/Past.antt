@@ -26,12 +26,12 @@ use Rattle.sect_places.specs.Counts.{primitive_count, operands_count, parameters
 use Rattle.sect_places.specs.Counts.{record_count, procedure_count, thread_count}
 use Rattle.sect_places.specs.Counts.{records_count, procedures_count, threads_count, tree_count}
 
--- behind k tokens of what stands at n
-pub ahead : (all : List Token) (n k : ℕ) (w : List Token) → drop n all ≡ w → drop (n + k) all ≡ drop k w
+-- behind the first k of what stands at n
+pub ahead : {A : Type 0} (all : List A) (n k : ℕ) (w : List A) → drop n all ≡ w → drop (n + k) all ≡ drop k w
 ahead all n k w h = sym (drop-drop k n all) ∙ ap (drop k) h
 
 -- the same place by another sum
-pub moved : (all : List Token) (n m : ℕ) (w : List Token) → n ≡ m → drop n all ≡ w → drop m all ≡ w
+pub moved : {A : Type 0} (all : List A) (n m : ℕ) (w : List A) → n ≡ m → drop n all ≡ w → drop m all ≡ w
 moved all n m w e h = ap (λ k. drop k all) (sym e) ∙ h
 
 past_primitive : (all : List Token) (n : ℕ) (p : leaf.Primitive) (w : List Token) → drop n all ≡ primitive_tokens p w

@@ -1,27 +1,26 @@
--- Loops that add the tokens of the items of a list.
+-- Loops that add what the parts of a list give, one part after another.
 use Rattle.std.proofs.Common.{◌≡◌, ℕ, zero, suc, ◌+◌, ◌<◌, ◌≤◌, List, [], ◌∷◌, ◌++◌, length, get_or, drop, refl, sym}
 use Rattle.std.proofs.Common.{◌∙◌, ap}
 use Rattle.std.proofs.Common.{arith}
 use Rattle.std.proofs.lemmas.List.{drop_more}
-use Rattle.sect_places.specs.declared.range.TokenRange.{TokenRange}
 use Rattle.sect_places.specs.steps.Adding.{Adds}
 
--- how the ranges of a list are made of those of its parts, and how many tokens it has
-pub record IsList {X : Type 0} (size : X → ℕ) (total : List X → ℕ) (each : ℕ → X → List TokenRange → List TokenRange)
-    (all : ℕ → List X → List TokenRange → List TokenRange) : Type 0 where
+-- how what a list gives is made of what its parts give, and how many numbers it takes
+pub record IsList {X A : Type 0} (size : X → ℕ) (total : List X → ℕ) (each : ℕ → X → List A → List A)
+    (all : ℕ → List X → List A → List A) : Type 0 where
   pub none : total [] ≡ 0
   pub more : (x : X) (xs : List X) → total (x ∷ xs) ≡ size x + total xs
-  pub nothing : (n : ℕ) (w : List TokenRange) → all n [] w ≡ w
-  pub step : (n : ℕ) (x : X) (xs : List X) (w : List TokenRange) → all n (x ∷ xs) w ≡ each n x (all (n + size x) xs w)
+  pub nothing : (n : ℕ) (w : List A) → all n [] w ≡ w
+  pub step : (n : ℕ) (x : X) (xs : List X) (w : List A) → all n (x ∷ xs) w ≡ each n x (all (n + size x) xs w)
 
--- the tokens of the first i parts have been added, and `at` is the number of the next token
-pub record Walked {X : Type 0} (total : List X → ℕ) (all : ℕ → List X → List TokenRange → List TokenRange)
-    (xs : List X) (i from at : ℕ) (old now : List TokenRange) : Type 0 where
+-- what the first i parts give has been added, and `at` is the next number
+pub record Walked {X A : Type 0} (total : List X → ℕ) (all : ℕ → List X → List A → List A)
+    (xs : List X) (i from at : ℕ) (old now : List A) : Type 0 where
   pub counted : at + total (drop i xs) ≡ from + total xs
-  pub added : (w : List TokenRange) → now ++ all at (drop i xs) w ≡ old ++ all from xs w
+  pub added : (w : List A) → now ++ all at (drop i xs) w ≡ old ++ all from xs w
 
-pub walked_none : {X : Type 0} (total : List X → ℕ) (all : ℕ → List X → List TokenRange → List TokenRange)
-    (xs : List X) (at : ℕ) (old : List TokenRange) → Walked total all xs 0 at at old old
+pub walked_none : {X A : Type 0} (total : List X → ℕ) (all : ℕ → List X → List A → List A)
+    (xs : List X) (at : ℕ) (old : List A) → Walked total all xs 0 at at old old
 walked_none total all xs at old = record { counted = refl; added = λ w. refl }
 
 -- what is left begins with the next part
@@ -29,17 +28,17 @@ left : {X : Type 0} (xs : List X) (i : ℕ) (x : X) → i < length xs → x ≡ 
     → drop i xs ≡ x ∷ drop (i + 1) xs
 left xs i x lt is = drop_more xs i x lt ∙ ap (λ y. y ∷ drop (i + 1) xs) (sym is)
 
-pub walked_room : {X : Type 0} (size : X → ℕ) (total : List X → ℕ) (each : ℕ → X → List TokenRange → List TokenRange)
-    (all : ℕ → List X → List TokenRange → List TokenRange) → IsList size total each all
-    → (xs : List X) (i from at : ℕ) (old now : List TokenRange) (x : X) (most : ℕ)
+pub walked_room : {X A : Type 0} (size : X → ℕ) (total : List X → ℕ) (each : ℕ → X → List A → List A)
+    (all : ℕ → List X → List A → List A) → IsList size total each all
+    → (xs : List X) (i from at : ℕ) (old now : List A) (x : X) (most : ℕ)
     → Walked total all xs i from at old now → i < length xs → x ≡ get_or xs i x → from + total xs < most
     → at + size x < most
 walked_room size total each all is xs i from at old now x most h lt e fits =
     omega (arith, h.counted, ap total (left xs i x lt e), is.more x (drop (i + 1) xs), fits)
 
-pub walked_more : {X : Type 0} (size : X → ℕ) (total : List X → ℕ) (each : ℕ → X → List TokenRange → List TokenRange)
-    (all : ℕ → List X → List TokenRange → List TokenRange) → IsList size total each all
-    → (xs : List X) (i from at next : ℕ) (old now new : List TokenRange) (x : X)
+pub walked_more : {X A : Type 0} (size : X → ℕ) (total : List X → ℕ) (each : ℕ → X → List A → List A)
+    (all : ℕ → List X → List A → List A) → IsList size total each all
+    → (xs : List X) (i from at next : ℕ) (old now new : List A) (x : X)
     → Walked total all xs i from at old now → i < length xs → x ≡ get_or xs i x
     → next ≡ at + size x → Adds now new (each at x) → Walked total all xs (i + 1) from next old new
 walked_more size total each all is xs i from at next old now new x h lt e sum adds = record {
@@ -56,16 +55,16 @@ drop_all [] (suc i) h = refl
 drop_all (x ∷ xs) zero h = absurd (omega arith)
 drop_all (x ∷ xs) (suc i) h = drop_all xs i (omega arith)
 
-pub walked_count : {X : Type 0} (size : X → ℕ) (total : List X → ℕ) (each : ℕ → X → List TokenRange → List TokenRange)
-    (all : ℕ → List X → List TokenRange → List TokenRange) → IsList size total each all
-    → (xs : List X) (i from at : ℕ) (old now : List TokenRange)
+pub walked_count : {X A : Type 0} (size : X → ℕ) (total : List X → ℕ) (each : ℕ → X → List A → List A)
+    (all : ℕ → List X → List A → List A) → IsList size total each all
+    → (xs : List X) (i from at : ℕ) (old now : List A)
     → Walked total all xs i from at old now → length xs ≤ i → at ≡ from + total xs
 walked_count size total each all is xs i from at old now h end =
     omega (arith, h.counted, ap total (drop_all xs i end), is.none)
 
-pub walked_all : {X : Type 0} (size : X → ℕ) (total : List X → ℕ) (each : ℕ → X → List TokenRange → List TokenRange)
-    (all : ℕ → List X → List TokenRange → List TokenRange) → IsList size total each all
-    → (xs : List X) (i from at : ℕ) (old now : List TokenRange)
+pub walked_all : {X A : Type 0} (size : X → ℕ) (total : List X → ℕ) (each : ℕ → X → List A → List A)
+    (all : ℕ → List X → List A → List A) → IsList size total each all
+    → (xs : List X) (i from at : ℕ) (old now : List A)
     → Walked total all xs i from at old now → length xs ≤ i → Adds old now (all from xs)
 walked_all size total each all is xs i from at old now h end = λ w.
     ap (λ r. now ++ r) (sym (is.nothing at w))

@@ -1,2 +1,3 @@
 -- What follows from the public words of this crate, for the proofs of the crates above.
 pub mod Ordered
+pub mod Names

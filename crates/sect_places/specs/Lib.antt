@@ -4,4 +4,12 @@ pub mod Ranges
 pub mod Spans
 pub mod Own
 pub mod Items
+pub mod ItemCounts
+pub mod Origins
+pub mod NodeOrigins
+pub mod SectionItems
+pub mod NameUses
+pub mod NameSpans
+pub mod Declarations
 pub mod steps
+pub mod NodeLines

@@ -1,3 +1,8 @@
 -- What the contracts of private functions speak of.
 pub mod Adding
 pub mod Placing
+pub mod Passing
+pub mod Ending
+pub mod Calls
+pub mod Placed
+pub mod Named

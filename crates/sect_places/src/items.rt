@@ -50,7 +50,7 @@ fn ranges_spans(
 }
 
 /// The spans of the items of a tree that the text spells.
-fn tree_spans(alloc: Global, source: &[u8], tree: &Tree) -> Result<Vec<Span>, AllocError>
+pub fn tree_spans(alloc: Global, source: &[u8], tree: &Tree) -> Result<Vec<Span>, AllocError>
     requires { IsSpelled source.now tree.now }
     ensures { IfOk result (λ spans. AreItemSpans source.now tree.now spans.items) }
 {

@@ -1,15 +1,37 @@
-//! Places in a source text: where each item and a fault stand, by bytes, and by lines and columns.
+//! Places in a source text: where each item and a fault stand, by bytes, and by lines and columns; and which items the
+//! nodes of a program come from.
 #![tactic(auto)]
 
+mod declarations;
 mod faults;
+mod inside;
+mod item_counts;
 mod items;
+mod lines;
+mod name_use;
+mod named;
+mod nodes;
+mod origin;
 mod position;
+mod positions;
 mod range;
+mod sections;
 mod spans;
+mod uses;
 mod walk;
 
+pub use declarations::{
+    base_in, field_of, global_of, procedure_of, record_of, type_in, variable_of,
+};
 pub use faults::fault_span;
-pub use items::{item_ranges, item_spans};
+pub use items::{item_ranges, item_spans, tree_spans};
+pub use lines::{NodeLine, node_lines};
+pub use name_use::{NameSpan, NameUse, Role, Thing};
+pub use named::{name_spans, tree_names};
+pub use nodes::node_origins;
+pub use origin::{NodeOrigins, Origin, Origins};
 pub use position::{Position, position_of};
+pub use positions::positions_of;
 pub use range::{TokenRange, range_span};
+pub use sections::section_items;
 pub use spans::token_spans;

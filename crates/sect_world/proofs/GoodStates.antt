@@ -36,7 +36,7 @@ use Rattle.sect_emit.specs.Compiled.{CompiledView, program_of, IsCompiled}
 use Rattle.sect_emit.specs.State.{Running, ThreadState, State, IsThread, plan_at}
 use Rattle.sect_world.specs.Events.{guard_at, fresh_grip, grips_of, entering, taking, beginning, giving_back}
 use Rattle.sect_world.specs.Events.{with_frame, acting, after_act, frame_out, step_in, MayDo, Happens, changed_by}
-use Rattle.sect_world.specs.Kept.{HoldsClassOf, HaveTheirClass, IsPlaced, IsAt, IsWellKept}
+use Rattle.sect_world.specs.Kept.{HoldsClassOf, HaveTheirClass, IsPlaced, IsAt, IsWellKept, AreGripsKept}
 use Rattle.sect_lemmas.proofs.Replaced.{at-put_at, put_same}
 use Rattle.sect_emit.proofs.shared.Plans.{mode_is_there, ascending_across}
 use Rattle.sect_world.specs.Secured.{AllSecured, Good}
@@ -141,11 +141,11 @@ module _ (c : CompiledView) (ok : IsCompiled c) where
   typed_of = typed_program c ok
 
   module _ (s : State) (good : Good c s) (t : ℕ) (th : ThreadState) (at : IsThread s t th) where
-    -- who begins a section has secured all that it needs
-    begins_secured : (i : ℕ) (body rest : TextView) → th.frame.text ≡ Section i body rest
-        → meets th.held (plan_at c i s.store th.frame.work.locals) ≡ true
-        → AllSecured c s.store t i th.frame.work.locals th.held body
-    begins_secured i body rest text met l needed =
+    -- with keys that meet its plan all is secured that a section needs
+    pub met_plan_secures_all : (held : List Grip) → AreGripsKept s.store held → (i : ℕ) (body rest : TextView)
+        → th.frame.text ≡ Section i body rest → meets held (plan_at c i s.store th.frame.work.locals) ≡ true
+        → AllSecured c s.store t i th.frame.work.locals held body
+    met_plan_secures_all held of i body rest text met l needed =
         let stands = its_section c s good.kept t th at i body rest text in
         let within = slice_get_within (sections_of (program_of c).texts) i _ stands in
         let locks = slice_index_or c.sets i [] in
@@ -158,9 +158,14 @@ module _ (c : CompiledView) (ok : IsCompiled c) where
         ((needed_walk c.scheme t (end_of c.scheme i) body l).1 needed) in
         let own = needed_needable c.scheme t ok.scheme typed_of (end_of c.scheme i) (end_needable c.scheme t i) body
         (section_stands c.scheme i _ stands) l needed in
-        a_met_plan_secures c ok.scheme typed_of t s.store th.frame.work (pointed_thread c s good.kept t th at) th.held
-        locks part (ok.planned i locks part locks_at part_at) met (held_kept c s good.kept t th at)
-        covered.0 l covered.1 own covered.2
+        a_met_plan_secures c ok.scheme typed_of t s.store th.frame.work (pointed_thread c s good.kept t th at) held
+        locks part (ok.planned i locks part locks_at part_at) met of covered.0 l covered.1 own covered.2
+
+    -- so who begins it has secured all
+    begins_secured : (i : ℕ) (body rest : TextView) → th.frame.text ≡ Section i body rest
+        → meets th.held (plan_at c i s.store th.frame.work.locals) ≡ true
+        → AllSecured c s.store t i th.frame.work.locals th.held body
+    begins_secured = met_plan_secures_all th.held (held_kept c s good.kept t th at)
 
     module _ (i : ℕ) (k : TextView) (running : th.position ≡ Running i k) (begins : begins_step k ≡ true)
         (k' : TextView) (v : WorkView) (change : Change) (goes : step_in c t k th.frame.work s.store ≡ On k' v change)

@@ -1,6 +1,6 @@
 -- A thread runs its local code and a whole section while all others stand outside.
-use Rattle.std.proofs.Common.{true≢false, ◌≡◌, ◌≢◌, ◌≤◌, ◌+◌, ◌++◌, ◌&&◌, ◌∙◌, refl, sym, ap, subst, arith, ℕ, zero, suc}
-use Rattle.std.proofs.Common.{inl, inr, Bool, true, false, List, [], ◌∷◌, map, length, Option, Some, None, if◌then◌else◌}
+use Rattle.std.proofs.Common.{true≢false, ◌≡◌, ◌≢◌, ◌≤◌, ◌++◌, ◌∙◌, refl, sym, ap, subst, arith, ℕ, zero, suc}
+use Rattle.std.proofs.Common.{inl, inr, Bool, true, false, List, [], ◌∷◌, map, Option, Some, None, if◌then◌else◌}
 use Rattle.std.specs.Prelude.{ℤ, slice_get}
 use Rattle.std.specs.List.{list_all}
 use Rattle.std.proofs.lemmas.Bool.{and_from}
@@ -10,27 +10,25 @@ use Rattle.sect_lemmas.proofs.Options.{some_injective, none_or_some}
 use Rattle.sect_lemmas.proofs.Replaced.{put_same}
 use Rattle.sect_types.specs.declared.store.End.{End}
 use Rattle.sect_types.specs.declared.store.Fault.{Fault}
-use Rattle.sect_types.specs.Programs.{ProgramView, environment_at}
-use Rattle.sect_types.specs.Sound.{IsSound}
+use Rattle.sect_types.specs.Programs.{ProgramView}
 use Rattle.sect_types.specs.Statements.{TextView, Stop, Do, Choose, Loop, Section, joined}
 use Rattle.sect_types.specs.Store.{ObjectView, StoreView}
 use Rattle.sect_types.specs.declared.action.Condition.{Condition}
 use Rattle.sect_types.specs.declared.store.Fault.TheVariants as fault
-use Rattle.sect_types.specs.Meaning.{WorkView, Came, Went, Fell, Change, Next, On, Off, after_change, going, paid, done, one}
-use Rattle.sect_types.specs.Meaning.{taken, next, looks, found_at, begins_step, is_true}
+use Rattle.sect_types.specs.Meaning.{WorkView, Came, Went, Fell, Change, Next, On, Off, after_change, going, paid, done}
+use Rattle.sect_types.specs.Meaning.{taken, next, looks, found_at, begins_step}
 use Rattle.sect_types.specs.Whole.{FrameView, RunView, Left, Through, Broken, body_of, ahead, up_to, local_step}
 use Rattle.sect_types.specs.Whole.{is_standing, has_ended, begins_section, frame_left, store_left, printed_left}
-use Rattle.sect_types.specs.Whole.{after_section, run_section, section_of_thread, section_in, section_by}
+use Rattle.sect_types.specs.Whole.{after_section, run_section, section_of_thread, section_by}
 use Rattle.sect_types.proofs.shared.BodySteps.{left_after, step_keeps}
 use Rattle.sect_types.proofs.shared.RunningAhead.{LeavesFuel, done_leaves}
 use Rattle.sect_modes.specs.declared.mode.Mode.{Mode}
 use Rattle.sect_modes.specs.declared.key.Key.{Key}
-use Rattle.sect_modes.specs.Mode.{is_at_least}
 use Rattle.sect_emit.specs.declared.plan.Grip.{Grip}
 use Rattle.sect_emit.specs.Plan.{Ascends, meets, is_met, held_mode}
 use Rattle.sect_emit.specs.Compiled.{CompiledView, IsCompiled, program_of}
-use Rattle.sect_emit.specs.State.{Position, Outside, Entered, Running, Faulted, ThreadState, State, IsThread, outside}
-use Rattle.sect_emit.specs.State.{start, plan_at}
+use Rattle.sect_emit.specs.State.{Position, Entered, Running, Faulted, ThreadState, State, IsThread, outside}
+use Rattle.sect_emit.specs.State.{plan_at}
 use Rattle.sect_emit.proofs.shared.Plans.{ascending_mode}
 use Rattle.sect_emit.proofs.shared.Modes.{at_least_itself}
 use Rattle.sect_world.specs.declared.event.Deed.{Deed}
@@ -88,7 +86,7 @@ all_met held (g ∷ gs) each =
     (all_met held gs (λ h there. each h (inr there)))
 
 -- a plan meets itself
-meets_itself : (plan : List Grip) → Ascends plan → meets plan plan ≡ true
+pub meets_itself : (plan : List Grip) → Ascends plan → meets plan plan ≡ true
 meets_itself plan ascends = all_met plan plan (ascending_mode plan ascends)
 
 -- a fault is no going on

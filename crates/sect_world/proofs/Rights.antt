@@ -60,7 +60,7 @@ locked-site c o None = refl
 locked-site c o (Some x) = refl
 
 -- what is locked for an object is the object of a global, or itself
-at_locked : (P : ObjectName → Type 0) (c : CompiledView) (o : ObjectName) (x : Option ObjectView) → P o
+pub at_locked : (P : ObjectName → Type 0) (c : CompiledView) (o : ObjectName) (x : Option ObjectView) → P o
     → ((g : ℕ) → P (Global g)) → P (locked_object_at c o x)
 at_locked P c o None own global = own
 at_locked P c o (Some x) own global = by (guard_at c x.site) where

@@ -1,7 +1,7 @@
 -- Turns one after another are the turns of a schedule.
-use Rattle.std.proofs.Common.{◌≡◌, inl, inr, ℕ, ◌<◌, ◌≤◌, ◌++◌, List, [], ◌∷◌, map, length, refl, sym, ◌∙◌, ap, subst}
-use Rattle.std.proofs.Common.{◌+◌, append_assoc, take, drop, get_or}
-use Rattle.std.proofs.lemmas.List.{append-nil, map-append, drop_more, take-append-drop}
+use Rattle.std.proofs.Common.{◌≡◌, inl, inr, ℕ, ◌<◌, ◌++◌, List, [], ◌∷◌, map, length, refl, sym, ◌∙◌, ap, subst}
+use Rattle.std.proofs.Common.{append_assoc}
+use Rattle.std.proofs.lemmas.List.{append-nil, map-append}
 use Rattle.sect_lemmas.specs.Lists.{Has}
 use Rattle.sect_lemmas.proofs.Membership.{Has-cases}
 use Rattle.sect_emit.specs.Compiled.{CompiledView, program_of}
@@ -9,13 +9,11 @@ use Rattle.sect_emit.specs.State.{State, start}
 use Rattle.sect_world.specs.declared.event.Event.{Event}
 use Rattle.sect_world.specs.declared.turned.Turned.{Turned}
 use Rattle.sect_world.specs.declared.schedule.Progress.{Progress}
-use Rattle.sect_world.specs.declared.turned.WorldFault.{WorldFault}
-use Rattle.sect_world.specs.declared.turned.WorldFault.TheVariants.{NoSuchThread, Memory}
 use Rattle.sect_types.specs.Whole.{SerialEndView, RunsWhole}
 use Rattle.sect_world.specs.Blocked.{IsStuck}
 use Rattle.sect_world.specs.Runs.{IsRun, IsComplete, order_of}
-use Rattle.sect_world.specs.Schedules.{TakeTurns, IsProgress, IsUnrun, all_events}
-use Rattle.sect_world.specs.Worlds.{WorldView, Does, AllEnded, IsRefused, outcome_at}
+use Rattle.sect_world.specs.Schedules.{TakeTurns, IsProgress, all_events}
+use Rattle.sect_world.specs.Worlds.{WorldView, Does, AllEnded, outcome_at}
 use Rattle.sect_world.specs.steps.Counting.{IsCounted}
 
 -- one turn more
@@ -68,19 +66,6 @@ so_far_more c fuel ts w v counts counts' t n so counted lt counts_is = record {
     ]
   ];
 }
-
--- a refused turn is why a schedule isn't run whose earlier entries are threads
-pub unrun : (fault : WorldFault) (ts : List ℕ) (i count : ℕ) → i < length ts
-    → ((t : ℕ) → Has (take i ts) t → t < count) → IsRefused fault (get_or ts i 0) count → IsUnrun fault ts count
-unrun (NoSuchThread u) ts i count lt there r = record {
-  before = take i ts;
-  after = drop (i + 1) ts;
-  split = subst (λ t. ts ≡ take i ts ++ t ∷ drop (i + 1) ts) (sym r.0)
-      (sym (take-append-drop i ts) ∙ ap (λ z. take i ts ++ z) (drop_more ts i 0 lt));
-  there = there;
-  missing = subst (λ n. count ≤ n) (sym r.0) r.1;
-}
-unrun Memory ts i count lt there r = tt
 
 -- what all turns have come to
 pub progress : (c : CompiledView) (fuel : ℕ) (schedule : List ℕ) (w : WorldView) (p : Progress)

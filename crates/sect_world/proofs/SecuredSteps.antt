@@ -124,7 +124,7 @@ exclusive_passes effect.Read = refl
 exclusive_passes effect.Write = refl
 
 -- the key of the next object isn't held yet
-next_not_held : (t : ℕ) (s : StoreView) → t < length s.made → (held : List Grip) → AreGripsKept s held
+pub next_not_held : (t : ℕ) (s : StoreView) → t < length s.made → (held : List Grip) → AreGripsKept s held
     → held_mode (key_of (object.Made t (count s t))) held ≡ None
 next_not_held t s room held of = by (held_mode (key_of (object.Made t (count s t))) held) refl
   where

@@ -1,7 +1,7 @@
 -- Sections of two threads at one time.
-use Rattle.std.proofs.Common.{◌≡◌, ◌≢◌, ◌⊎◌, ℕ, List, [], ◌∷◌, ◌++◌, Bool, true, false, Some, refl, sym, ap, ◌∙◌, subst}
+use Rattle.std.proofs.Common.{◌≡◌, ◌≢◌, ℕ, List, [], ◌∷◌, ◌++◌, Bool, true, false, Some, refl, sym, ap, ◌∙◌, subst}
 use Rattle.std.proofs.Common.{inl, inr, true≢false}
-use Rattle.std.specs.Prelude.{if◌then◌else◌, ℤ}
+use Rattle.std.specs.Prelude.{if◌then◌else◌, ℤ, slice_get}
 use Rattle.sect_lemmas.specs.Lists.{Has, put_at}
 use Rattle.sect_lemmas.specs.Numbers.{same_number}
 use Rattle.sect_lemmas.proofs.Membership.{Has-cases}
@@ -21,7 +21,7 @@ use Rattle.sect_emit.specs.State.{Outside, Entered, Running, ThreadState, State,
 use Rattle.sect_emit.proofs.shared.Modes.{at_least_along, sharing_turned}
 use Rattle.sect_emit.proofs.shared.PlanModes.{met}
 use Rattle.sect_emit.proofs.shared.Grips.{held_append}
-use Rattle.sect_conflicts.specs.Conflicts.{Clash, AlwaysAsks}
+use Rattle.sect_conflicts.specs.Conflicts.{AlwaysAsks}
 use Rattle.sect_conflicts.specs.Laws.{IsSectionOver, PlansNeverClash}
 use Rattle.sect_conflicts.proofs.shared.Stronger.{both_stronger}
 use Rattle.sect_world.specs.declared.event.Deed.{Deed}
@@ -31,14 +31,15 @@ use Rattle.sect_world.specs.Events.{entering, taking, beginning, giving_back, wi
 use Rattle.sect_world.specs.Events.{grips_of, step_in, changed_by, MayDo}
 use Rattle.sect_world.specs.Kept.{IsWellKept}
 use Rattle.sect_world.specs.Runs.{RunsTo, IsRun}
-use Rattle.sect_world.specs.Together.{IsIn, HasEntered, taken_by, taken_after, ClashingSectionsExclude, TogetherNeverWait}
+use Rattle.sect_world.specs.Together.{IsIn, HasEntered, taken_by, taken_after, ClashingSectionsExclude}
+use Rattle.sect_world.specs.Together.{TogetherNeverWait}
 use Rattle.sect_world.proofs.AllowedChanges.{sites_stay}
 use Rattle.sect_world.proofs.KeptPointed.{pointed_thread, its_section}
 use Rattle.sect_world.proofs.KeptStates.{runs_are_well_kept}
 use Rattle.sect_world.proofs.LongerRuns.{run_on}
 
 -- a state in which thread t is replaced and the store may have changed
-abbrev state_with : StoreView → List ℤ → ℕ → ThreadState → State → State
+abbrev pub state_with : StoreView → List ℤ → ℕ → ThreadState → State → State
 state_with store output t new s = record { store = store; output = output; threads = put_at t new s.threads }
 
 -- a thread that is outside is in no section
@@ -48,8 +49,23 @@ not_in i th out inside = subst (IsIn i) out inside
 not_yet_in : (i : ℕ) (th : ThreadState) → th.position ≡ Entered → IsIn i th.position → ⊥
 not_yet_in i th entered inside = subst (IsIn i) entered inside
 
+-- what the threads have taken after a deed of thread t
+abbrev pub taken_next : ℕ → Deed → (ℕ → List Grip) → ℕ → List Grip
+taken_next t d gs u = if same_number t u then taken_by d (gs u) else gs u
+
+-- it is so of each thread, where it is of the one that does the deed and of the others
+pub each_taken : (P : ℕ → ThreadState → List Grip → Type 0) (t : ℕ) (d : Deed) (gs : ℕ → List Grip)
+    (old new : ThreadState) (threads : List ThreadState) → slice_get threads t ≡ Some old → P t new (taken_by d (gs t))
+    → ((u : ℕ) (x : ThreadState) → t ≢ u → slice_get threads u ≡ Some x → P u x (gs u))
+    → (u : ℕ) (x : ThreadState) → slice_get (put_at t new threads) u ≡ Some x → P u x (taken_next t d gs u)
+each_taken P t d gs old new threads at own others =
+    each_put (λ u x. P u x (taken_next t d gs u)) t old new threads at
+    (subst (P t new) (sym (ap (λ b. if b then taken_by d (gs t) else gs t) (same_number-refl t))) own)
+    (λ u x other was. subst (P u x)
+    (sym (ap (λ b. if b then taken_by d (gs u) else gs u) (same_number-false t u other))) (others u x other was))
+
 -- at the start each thread is outside
-starts_outside : (c : CompiledView) (fuel t : ℕ) (th : ThreadState) → IsThread (start c fuel) t th
+pub starts_outside : (c : CompiledView) (fuel t : ℕ) (th : ThreadState) → IsThread (start c fuel) t th
     → th.position ≡ Outside
 starts_outside c fuel t th at =
     let f = slice_get-map outside (first_frames fuel (program_of c).texts (program_of c).locals) t th at in
@@ -131,21 +147,21 @@ module _ (c : CompiledView) where
 
   -- what the thread has taken for section i, and what it still wants, is of a plan of the section that was made in an
   -- earlier state
-  record IsAsked (now : StoreView) (th : ThreadState) (gs : List Grip) (i : ℕ) : Type 0 where
-    before : StoreView
-    work : WorkView
-    over : IsSectionOver c i before work
-    stay : ObjectsStay before now
-    had : (g : Grip) → Has gs g → Has (plan_at c i before work.locals) g
-    wants : (g : Grip) → Has th.wanted g → Has (plan_at c i before work.locals) g
+  pub record IsAsked (now : StoreView) (th : ThreadState) (gs : List Grip) (i : ℕ) : Type 0 where
+    pub before : StoreView
+    pub work : WorkView
+    pub over : IsSectionOver c i before work
+    pub stay : ObjectsStay before now
+    pub had : (g : Grip) → Has gs g → Has (plan_at c i before work.locals) g
+    pub wants : (g : Grip) → Has th.wanted g → Has (plan_at c i before work.locals) g
 
   -- for the section that it has entered or that is in progress; outside it has taken nothing
-  record Follows (now : StoreView) (th : ThreadState) (gs : List Grip) : Type 0 where
-    nothing : th.position ≡ Outside → gs ≡ []
-    entered : (i : ℕ) → HasEntered i th → IsAsked now th gs i
-    inside : (i : ℕ) → IsIn i th.position → IsAsked now th gs i
+  pub record Follows (now : StoreView) (th : ThreadState) (gs : List Grip) : Type 0 where
+    pub nothing : th.position ≡ Outside → gs ≡ []
+    pub entered : (i : ℕ) → HasEntered i th → IsAsked now th gs i
+    pub inside : (i : ℕ) → IsIn i th.position → IsAsked now th gs i
 
-  abbrev AllFollow : State → (ℕ → List Grip) → Type 0
+  abbrev pub AllFollow : State → (ℕ → List Grip) → Type 0
   AllFollow s gs = (t : ℕ) (th : ThreadState) → IsThread s t th → Follows s.store th (gs t)
 
   stays_on : (a b d : StoreView) → ObjectsStay a b → ObjectsStay b d → ObjectsStay a d
@@ -170,7 +186,7 @@ module _ (c : CompiledView) where
     inside = λ i h. asked_on now later th th gs i stay refl (f.inside i h);
   }
 
-  same_stays : (now : StoreView) → ObjectsStay now now
+  pub same_stays : (now : StoreView) → ObjectsStay now now
   same_stays now o x at = (x, at, refl)
 
   -- outside with nothing
@@ -183,18 +199,10 @@ module _ (c : CompiledView) where
 
   module _ (s : State) (kept : IsWellKept c s) (gs : ℕ → List Grip) (all : AllFollow s gs) (t : ℕ) (th : ThreadState)
       (at : IsThread s t th) where
-    -- what the threads have taken after the deed
-    abbrev taken_next : Deed → ℕ → List Grip
-    taken_next d u = if same_number t u then taken_by d (gs u) else gs u
-
     follow_with : (d : Deed) (store : StoreView) (output : List ℤ) (new : ThreadState) → ObjectsStay s.store store
-        → Follows store new (taken_by d (gs t)) → AllFollow (state_with store output t new s) (taken_next d)
-    follow_with d store output new stay own =
-        each_put (λ v y. Follows store y (taken_next d v)) t th new s.threads at
-        (subst (Follows store new) (sym (ap (λ b. if b then taken_by d (gs t) else gs t) (same_number-refl t))) own)
-        (λ v y other was. subst (Follows store y)
-        (sym (ap (λ b. if b then taken_by d (gs v) else gs v) (same_number-false t v other)))
-        (follows_on s.store store y (gs v) stay (all v y was)))
+        → Follows store new (taken_by d (gs t)) → AllFollow (state_with store output t new s) (taken_next t d gs)
+    follow_with d store output new stay own = each_taken (λ v y ks. Follows store y ks) t d gs th new s.threads at own
+        (λ v y other was. follows_on s.store store y (gs v) stay (all v y was))
 
     mine : Follows s.store th (gs t)
     mine = all t th at
@@ -273,34 +281,34 @@ module _ (c : CompiledView) where
     stay_by (On rest w change) = sites_stay t s.store (pointed_thread c s kept t th at).row change
     stay_by (Off why w) = same_stays s.store
 
-    deed_follows : (d : Deed) (after : State) → MayDo c s t th d after → AllFollow after (taken_next d)
+    pub deed_follows : (d : Deed) (after : State) → MayDo c s t th d after → AllFollow after (taken_next t d gs)
     deed_follows Local after (free, begins, is) =
         let new = with_frame (local_step (program_of c) t th.frame) th in
-        subst (λ x. AllFollow x (taken_next Local)) (sym is)
+        subst (λ x. AllFollow x (taken_next t Local gs)) (sym is)
         (follow_with Local s.store s.output new (same_stays s.store) (still_outside new free.0 free.0))
     deed_follows Enter after (i, body, rest, free, text, is) =
-        subst (λ x. AllFollow x (taken_next Enter)) (sym is)
+        subst (λ x. AllFollow x (taken_next t Enter gs)) (sym is)
         (follow_with Enter s.store s.output (entering (plan_at c i s.store th.frame.work.locals) th)
         (same_stays s.store) (enters i body rest free.0 text))
     deed_follows (Take k m) after (rest, entered, wanted, lets, is) =
-        subst (λ x. AllFollow x (taken_next (Take k m))) (sym is)
+        subst (λ x. AllFollow x (taken_next t (Take k m) gs)) (sym is)
         (follow_with (Take k m) s.store s.output (taking k m rest th) (same_stays s.store)
         (takes k m rest entered wanted))
     deed_follows Begin after (i, body, rest, ready, meets, is) =
-        subst (λ x. AllFollow x (taken_next Begin)) (sym is)
+        subst (λ x. AllFollow x (taken_next t Begin gs)) (sym is)
         (follow_with Begin s.store s.output (beginning i body rest th) (same_stays s.store)
         (begins i body rest ready.entered ready.text))
     deed_follows Again after (i, body, rest, ready, meets, is) =
-        subst (λ x. AllFollow x (taken_next Again)) (sym is)
+        subst (λ x. AllFollow x (taken_next t Again gs)) (sym is)
         (follow_with Again s.store s.output (giving_back th) (same_stays s.store)
         (follows_outside s.store (giving_back th) refl))
     deed_follows Act after (i, k, running, begins, is) =
         let n = step_in c t k th.frame.work s.store in
-        subst (λ x. AllFollow x (taken_next Act)) (sym is)
+        subst (λ x. AllFollow x (taken_next t Act gs)) (sym is)
         (follow_with Act (changed_by t n s.store) s.output (acting c t i n th) (stay_by n) (acts i k running n))
     deed_follows Leave after (how, over, is) =
         let new = with_frame (frame_out how th.frame) (giving_back th) in
-        subst (λ x. AllFollow x (taken_next Leave)) (sym is)
+        subst (λ x. AllFollow x (taken_next t Leave gs)) (sym is)
         (follow_with Leave s.store (s.output ++ th.frame.work.printed) new (same_stays s.store)
         (follows_outside s.store new refl))
 
@@ -311,11 +319,11 @@ module _ (c : CompiledView) where
     events_follow before s run gs all (e ∷ es) after (between, (th, at, does), more) =
         let longer = run_on c fuel before s between e run (th, at, does) in
         events_follow (before ++ e ∷ []) between longer
-        (λ t. if same_number e.thread t then taken_by e.deed (gs t) else gs t)
+        (taken_next e.thread e.deed gs)
         (deed_follows s (runs_are_well_kept c ok fuel before s run) gs all e.thread th at e.deed between does) es after
         more
 
-    all_follow : (trace : List Event) (s : State) → IsRun c fuel trace s → AllFollow s (λ t. taken_after t trace [])
+    pub all_follow : (trace : List Event) (s : State) → IsRun c fuel trace s → AllFollow s (λ t. taken_after t trace [])
     all_follow trace s run = events_follow [] (start c fuel) refl (λ t. [])
         (λ t th at. follows_outside (start c fuel).store th (starts_outside c fuel t th at)) trace s run
 

@@ -67,3 +67,10 @@ TogetherNeverWait c =
     (fuel : ℕ) (trace : List Event) (s : State) → IsRun c fuel trace s → (t u : ℕ) (th other : ThreadState)
     → IsThread s t th → IsThread s u other → (i j : ℕ) → GoTogether c i j → IsIn i th.position → HasEntered j other
     → (k : Key) (m n : Mode) → Has (taken t trace) (grip k m) → WantsFirst other k n → are_compatible m n ≡ true
+
+-- the same of all that the first holds, whether it has taken the key or made the object
+abbrev pub TogetherNeverWaitForHeld : CompiledView → Type 0
+TogetherNeverWaitForHeld c =
+    (fuel : ℕ) (trace : List Event) (s : State) → IsRun c fuel trace s → (t u : ℕ) (th other : ThreadState)
+    → IsThread s t th → IsThread s u other → (i j : ℕ) → GoTogether c i j → IsIn i th.position → HasEntered j other
+    → (k : Key) (m n : Mode) → Has th.held (grip k m) → WantsFirst other k n → are_compatible m n ≡ true

@@ -24,6 +24,17 @@ fn wish(runner: &Runner) -> Grip
     runner.wanted[runner.taken]
 }
 
+/// The first key that a thread wants, if it wants one.
+pub fn first_wish(runner: &Runner) -> Option<Grip>
+    ensures { result ≡ slice_get runner.now.wanted.items runner.now.taken }
+{
+    if runner.taken < runner.wanted.len() {
+        Some(runner.wanted[runner.taken])
+    } else {
+        None
+    }
+}
+
 /// A thread comes to hold the first key that it wants: one event.
 pub fn take(trace: &mut Vec<Event>, runners: &mut Vec<Runner>, grant: Grant)
     requires room { vec_len trace.old < vec_capacity trace.old }

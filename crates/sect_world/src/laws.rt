@@ -1,7 +1,7 @@
 //! Laws of the machine. The functions have empty bodies; the clauses say the laws.
 
 ghost use Rattle.std.specs.Prelude.{ℕ, List};
-ghost use Rattle.sect_emit.specs.Compiled.{CompiledView, IsCompiled};
+ghost use Rattle.sect_emit.specs.Compiled.{CompiledView, IsCompiled, AreSetsLeast};
 ghost use Rattle.sect_emit.specs.State.{State};
 ghost use Rattle.sect_world.specs.declared.event.Event.{Event};
 ghost use Rattle.sect_world.specs.Events.{Happens};
@@ -14,7 +14,7 @@ ghost use Rattle.sect_world.specs.Laws.{EveryRunIsSerial, EveryOrderIsRun};
 ghost use Rattle.sect_world.specs.Excluding.{ReadersAndWritersExclude};
 ghost use Rattle.sect_world.specs.HeldPaths.{HoldersHoldTheClass, BeginningsAreHeld, NeededPathsStay};
 ghost use Rattle.sect_world.specs.Secured.{Good};
-ghost use Rattle.sect_world.specs.Together.{ClashingSectionsExclude, TogetherNeverWait};
+ghost use Rattle.sect_world.specs.Together.{ClashingSectionsExclude, TogetherNeverWait, TogetherNeverWaitForHeld};
 ghost use Rattle.sect_world.specs.SerialFacts.{OnlySectionsDiffer, SectionsAreReplayed};
 
 use sect_conflicts::sections_that_go_together_never_clash;
@@ -64,9 +64,11 @@ pub fn clashing_sections_exclude_each_other()
 {}
 
 /// While one of two sections that go together is in progress, no `take` of the other waits for a key that the first has
-/// taken.
+/// taken. With the least sets it waits for none that the first holds: the key of an object that the section has made
+/// itself, which it holds without a `take`, is one that the other never asks for.
 pub fn sections_that_go_together_never_wait()
-    ensures { (c : CompiledView) → IsCompiled c → TogetherNeverWait c }
+    ensures taken { (c : CompiledView) → IsCompiled c → TogetherNeverWait c }
+    ensures held { (c : CompiledView) → IsCompiled c → AreSetsLeast c → TogetherNeverWaitForHeld c }
 {
     sections_that_go_together_never_clash();
 }

@@ -6,8 +6,8 @@ ghost use Rattle.sect_types.specs.Sections.{sections_of};
 ghost use Rattle.sect_types.specs.Meaning.{begins_step};
 ghost use Rattle.sect_graph.specs.Rests.{rest_at};
 ghost use Rattle.sect_types.specs.Whole.{SerialEndView, RunsWhole, has_ended};
-ghost use Rattle.sect_modes.specs.declared.key.Key.{Key};
-ghost use Rattle.sect_modes.specs.declared.mode.Mode.{Mode};
+ghost use Rattle.sect_modes.specs.declared.key.Key.{Key as AKey};
+ghost use Rattle.sect_modes.specs.declared.mode.Mode.{Mode as AMode};
 ghost use Rattle.sect_emit.specs.Compiled.{IsCompiled, program_of};
 ghost use Rattle.sect_emit.specs.Plan.{meets};
 ghost use Rattle.sect_emit.specs.State.{State, Outside, Entered, Running, ThreadState, IsThread, plan_at};
@@ -18,10 +18,11 @@ ghost use Rattle.sect_world.specs.declared.event.Deed.TheVariants.{Again};
 ghost use Rattle.sect_world.specs.Moments.{IsMoment, world_at};
 ghost use Rattle.sect_world.specs.Worlds.{IsTurned, IsRefused, IsRunOf, AllEnded, first_world, outcome_at};
 ghost use Rattle.sect_world.specs.Waiting.{Asks};
+ghost use Rattle.sect_world.specs.Sights.{first_wish as wish_of, mode_of, end_of as ended_as};
 ghost use Rattle.sect_world.specs.steps.Moves.{IsNext};
 ghost use Rattle.sect_world.specs.Viewing.{body_at, position_of, IsSited};
 
-use crate::asking::{ask, turned_by};
+use crate::asking::{ask, first_wish, turned_by};
 use crate::event::{Deed, Event};
 use crate::giving::{come_out, give_back};
 use crate::inside::step_inside;
@@ -29,10 +30,11 @@ use crate::labels::next_label;
 use crate::outside::{begin, enter, is_met, step_outside};
 use crate::runner::{Runner, Stage, first_runners, have_ended, put_ends};
 use crate::turned::{Kind, Turned, WorldFault};
-use sect_emit::Compiled;
+use sect_emit::{Compiled, Grip};
+use sect_modes::{Key, Mode};
 use sect_store::{Outcome, Store};
 use sect_table::{Grants, Table};
-use sect_types::{End, Fault, Label};
+use sect_types::{End, Fault, Label, Program};
 use std::alloc::{AllocError, Global};
 use std::marker::Model;
 
@@ -171,6 +173,48 @@ impl<'a> World<'a> {
         ensures { result ≡ length self.now.state.threads }
     {
         self.moment.runners.len()
+    }
+
+    /// The number of threads, at most 64.
+    pub fn thread_count(&self) -> u16
+        ensures count { result ≡ length self.now.state.threads }
+        ensures texts { result ≡ length (program_of self.now.compiled).texts }
+    {
+        self.facts();
+        self.program().thread_count()
+    }
+
+    /// The program that runs.
+    pub fn program(&self) -> &Program
+        ensures { result.now ≡ program_of self.now.compiled }
+    {
+        self.compiled.scheme().program()
+    }
+
+    /// The key that a thread wants first, and its mode.
+    pub fn first_wish(&self, thread: u16) -> Option<Grip>
+        ensures { result ≡ wish_of self.now.state thread }
+    {
+        match self.moment.runners.get(thread as usize) {
+            None => None,
+            Some(runner) => first_wish(runner),
+        }
+    }
+
+    /// The mode in which a thread holds a key.
+    pub fn held(&self, thread: u16, key: Key) -> Option<Mode>
+        requires { thread < length self.now.state.threads }
+        ensures { result ≡ mode_of self.now.state thread key }
+    {
+        self.moment.table.held(thread, key)
+    }
+
+    /// How a thread has ended, if it has.
+    pub fn end_of(&self, thread: u16) -> Option<End>
+        requires { thread < length self.now.state.threads }
+        ensures { result ≡ ended_as self.now.state thread }
+    {
+        self.moment.runners[thread as usize].ended
     }
 
     /// Whether all threads have ended.
@@ -315,7 +359,7 @@ impl<'a> World<'a> {
 
     /// The turn of a thread that wants a key: it comes to hold the key, or waits for it.
     fn ask(&mut self, thread: u16) -> Result<Turned, AllocError>
-        requires { (k : Key) × (m : Mode) × Asks self.old.state thread k m }
+        requires { (k : AKey) × (m : AMode) × Asks self.old.state thread k m }
         ensures ok { IfOk result (λ turned. IsTurned thread turned self.old self.new) }
         ensures err { OnErr result (self.new ≡ self.old) }
     {
@@ -451,15 +495,15 @@ impl<'a> World<'a> {
     /// Whether a thread that has entered a section wants a key more.
     fn wants_more(&self, thread: u16) -> bool
         requires { (th : ThreadState) × IsThread self.now.state thread th × (th.position ≡ Entered) }
-        ensures asks { result ≡ true → (k : Key) × (m : Mode) × Asks self.now.state thread k m }
+        ensures asks { result ≡ true → (k : AKey) × (m : AMode) × Asks self.now.state thread k m }
         ensures none { result ≡ false → (th : ThreadState) → IsThread self.now.state thread th → th.wanted ≡ [] }
     {
         let runner = &self.moment.runners[thread as usize];
         runner.taken < runner.wanted.len()
     }
 
-    /// The section that a thread has entered.
-    fn section_of(&self, thread: u16) -> u16
+    /// The section that a thread has entered, which asks for its keys.
+    pub fn section_of(&self, thread: u16) -> u16
         requires { (th : ThreadState) × IsThread self.now.state thread th × (th.position ≡ Entered) }
         ensures { (th : ThreadState) → IsThread self.now.state thread th
             → (body : TextView) × (rest : TextView) × (th.frame.text ≡ Section result body rest) }

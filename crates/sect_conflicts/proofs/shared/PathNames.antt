@@ -16,7 +16,7 @@ use Rattle.sect_conflicts.specs.Comparing.{AreConflicts}
 use Rattle.sect_conflicts.specs.Conflicts.{IsConflict, MayBeOne, MayGoTogether, paths_between, set_at}
 use Rattle.sect_conflicts.specs.Naming.{IsConflictNamed, AreConflictsNamed}
 use Rattle.sect_conflicts.proofs.PathPairs.{between_locked}
-use Rattle.sect_conflicts.proofs.Selecting.{selected}
+use Rattle.sect_conflicts.proofs.shared.Selecting.{selected}
 
 -- a list that has something stands at its place
 stands_there : {X : Type 0} (xs : List (List X)) (i : ℕ) (x : X) → Has (slice_index_or xs i []) x

@@ -1,7 +1,6 @@
--- What is added to a list of ranges.
+-- What is added to a list.
 use Rattle.std.specs.Prelude.{◌≡◌, List, ◌++◌}
-use Rattle.sect_places.specs.declared.range.TokenRange.{TokenRange}
 
--- the list has gained these ranges, which are given before those of what follows
-abbrev pub Adds : List TokenRange → List TokenRange → (List TokenRange → List TokenRange) → Type 0
-Adds old new ranges = (w : List TokenRange) → new ++ w ≡ old ++ ranges w
+-- the list has gained what is given before that of what follows
+abbrev pub Adds : {A : Type 0} → List A → List A → (List A → List A) → Type 0
+Adds {A} old new more = (w : List A) → new ++ w ≡ old ++ more w

@@ -8,7 +8,7 @@ use Rattle.sect_modes.specs.Mode.{are_compatible}
 use Rattle.sect_emit.specs.declared.plan.Grip.{Grip}
 use Rattle.sect_emit.specs.Plan.{grip}
 use Rattle.sect_conflicts.proofs.Firsts.{none_below}
-use Rattle.sect_conflicts.proofs.Selecting.{more_at}
+use Rattle.sect_conflicts.proofs.shared.Selecting.{more_at}
 use Rattle.sect_conflicts.proofs.always.first_clash.Goals as goal
 
 pub returns-in-Some-clause-some : goal.returns-in-Some-clause-some

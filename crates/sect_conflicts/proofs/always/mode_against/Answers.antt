@@ -7,7 +7,7 @@ use Rattle.sect_modes.specs.Mode.{are_compatible}
 use Rattle.sect_emit.specs.declared.plan.Grip.{Grip}
 use Rattle.sect_emit.specs.Plan.{grip}
 use Rattle.sect_conflicts.proofs.Firsts.{clash_tells, tells_clash}
-use Rattle.sect_conflicts.proofs.Selecting.{more_at}
+use Rattle.sect_conflicts.proofs.shared.Selecting.{more_at}
 use Rattle.sect_conflicts.proofs.always.mode_against.Goals as goal
 
 pub returns-then-clashes-clause-some : goal.returns-then-clashes-clause-some

@@ -4,7 +4,7 @@ use Rattle.sect_conflicts.specs.Conflicts.{MayGoTogether}
 use Rattle.sect_conflicts.specs.steps.Profiles.{AreSitesOfLock, IsProfile}
 use Rattle.sect_conflicts.proofs.PathPairs.{zipped_many}
 use Rattle.sect_conflicts.proofs.Profiling.{profile_here, sites_of_set, told_always, told_together}
-use Rattle.sect_conflicts.proofs.Selecting.{some_item}
+use Rattle.sect_conflicts.proofs.shared.Selecting.{some_item}
 use Rattle.sect_conflicts.proofs.comparing.conflict_of.Goals as goal
 
 pub returns-in-Some : goal.returns-in-Some

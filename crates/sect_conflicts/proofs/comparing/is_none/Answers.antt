@@ -1,6 +1,6 @@
 use Rattle.std.proofs.Common.{◌∙◌, length, ap, sym, eqb-true}
 use Rattle.std.specs.Prelude.{◌==◌}
-use Rattle.sect_conflicts.proofs.Selecting.{no_items}
+use Rattle.sect_conflicts.proofs.shared.Selecting.{no_items}
 use Rattle.sect_conflicts.proofs.comparing.is_none.Goals as goal
 
 pub returns : goal.returns

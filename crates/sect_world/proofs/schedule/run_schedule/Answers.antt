@@ -4,7 +4,8 @@ use Rattle.std.proofs.Common.{length-append}
 use Rattle.std.proofs.lemmas.List.{take_all, take_more}
 use Rattle.sect_emit.specs.Compiled.{program_of}
 use Rattle.sect_world.specs.Worlds.{IsRefused}
-use Rattle.sect_world.proofs.Scheduling.{SoFar, so_far_more, unrun, progress}
+use Rattle.sect_world.proofs.Scheduling.{SoFar, so_far_more, progress}
+use Rattle.sect_world.proofs.shared.Unrun.{unrun}
 use Rattle.sect_world.proofs.schedule.run_schedule.Goals as goal
 
 pub returns-in-Err-clause-refused : goal.returns-in-Err-clause-refused

@@ -5,7 +5,7 @@ use Rattle.std.proofs.lemmas.List.{append_assoc, append-nil, get_or_default}
 use Rattle.sect_lemmas.proofs.Making.{last_of}
 use Rattle.sect_lemmas.specs.Lists.{Has}
 use Rattle.sect_conflicts.specs.Conflicts.{Selects}
-use Rattle.sect_conflicts.specs.steps.Selecting.{Adds}
+use Rattle.sect_conflicts.specs.Selecting.{Adds}
 
 module _ {X : Type 0} (P : X → Type 0) where
   -- what is chosen stands in the list and has the property

@@ -1,0 +1,9 @@
+mod RowCells
+mod Charted
+mod Columns
+mod Drawn
+mod Events
+mod Labels
+mod Pieces
+mod Turns
+mod Wishing

@@ -1,0 +1,6 @@
+pub mod Words
+pub mod Waits
+pub mod Table
+pub mod Chart
+pub mod Graphs
+pub mod steps

@@ -1,0 +1,76 @@
+-- The bytes of names that are told lie in the text.
+use Rattle.std.proofs.Common.{◌≡◌, ℕ, List, [], ◌∷◌, Option, Some, None, map, slice_get, refl, sym, subst, arith}
+use Rattle.std.specs.Prelude.{MatchOption}
+use Rattle.sect_front.specs.TreeView.{TreeView}
+use Rattle.sect_front.specs.FaultPlaces.{IsWithin}
+use Rattle.sect_front.specs.declared.span.Span.{Span}
+use Rattle.sect_types.specs.declared.rule.TypeFault.{TypeFault}
+use Rattle.sect_types.specs.declared.rule.TypeFault.TheVariants as types
+use Rattle.sect_places.specs.declared.name_use.NameSpan.{NameSpan}
+use Rattle.sect_places.specs.Spans.{AreProper}
+use Rattle.sect_lemmas.proofs.Options.{none_or_some}
+use Rattle.sect_places.proofs.shared.Names.{name_proper}
+use Rattle.sect_lint.specs.declared.culprit.Culprit.{Culprit}
+use Rattle.sect_lint.specs.declared.mistake.Mistake.{Mistake}
+use Rattle.sect_lint.specs.Naming.{found, unknown_at, declared_at, earlier_at, earlier_of, earlier_detail}
+use Rattle.sect_lint.specs.Details.{IsDetailWithin, detail_by}
+use Rattle.sect_lint.specs.Places.{IsItemSpan, IsMarked, marked_name}
+
+-- the bytes of a name lie in the text
+name_within : (total : ℕ) (names : List NameSpan) (k : ℕ) (n : NameSpan)
+    → AreProper total (map (λ (x : NameSpan). x.span) names) → slice_get names k ≡ Some n → IsWithin total n.span
+name_within total names k n h e =
+    let p = name_proper total names k n h e in
+    (omega (arith, p.0), p.1)
+
+module _ (total : ℕ) (names : List NameSpan) (proper : AreProper total (map (λ (x : NameSpan). x.span) names)) where
+  by_found : (item span : Span) (o : Option ℕ) (r : Option NameSpan) → found names o ≡ r → IsWithin total item
+      → MatchOption r (span ≡ item) (λ n. span ≡ n.span) → IsWithin total span
+  by_found item span None r e within h = by_none r e h
+    where
+      by_none : (r : Option NameSpan) → None ≡ r → MatchOption r (span ≡ item) (λ n. span ≡ n.span)
+          → IsWithin total span
+      by_none None e h = subst (IsWithin total) (sym h) within
+      by_none (Some n) e h = absurd (none_or_some n e)
+  by_found item span (Some k) None e within h = subst (IsWithin total) (sym h) within
+  by_found item span (Some k) (Some n) e within h =
+      subst (IsWithin total) (sym h) (name_within total names k n proper e)
+
+  pub marked_within : (fault : TypeFault) (item span : Span) → IsWithin total item
+      → MatchOption (marked_name names fault) (span ≡ item) (λ n. span ≡ n.span) → IsWithin total span
+  marked_within types.Memory item span within h = subst (IsWithin total) (sym h) within
+  marked_within (types.Unknown i) item span within h =
+      by_found item span (unknown_at names i) (found names (unknown_at names i)) refl within h
+  marked_within (types.Twice i) item span within h = subst (IsWithin total) (sym h) within
+  marked_within (types.WrongType i) item span within h = subst (IsWithin total) (sym h) within
+  marked_within (types.SharedOutside i) item span within h = subst (IsWithin total) (sym h) within
+  marked_within (types.Nested i) item span within h = subst (IsWithin total) (sym h) within
+  marked_within (types.TooMany i) item span within h = subst (IsWithin total) (sym h) within
+  marked_within (types.Recursion i) item span within h = subst (IsWithin total) (sym h) within
+  marked_within (types.Arguments i) item span within h = subst (IsWithin total) (sym h) within
+
+  earlier_within : (o : Option ℕ) (r : Option NameSpan) → found names o ≡ r → IsDetailWithin total (earlier_detail r)
+  earlier_within o None e = tt
+  earlier_within None (Some n) e = absurd (none_or_some n e)
+  earlier_within (Some k) (Some n) e = name_within total names k n proper e
+
+  first_within : (r : Option NameSpan) → IsDetailWithin total (earlier_detail (earlier_of names r))
+  first_within None = tt
+  first_within (Some d) = earlier_within (earlier_at names d) (found names (earlier_at names d)) refl
+
+  pub detail_within : (fault : TypeFault) → IsDetailWithin total (detail_by names fault)
+  detail_within types.Memory = tt
+  detail_within (types.Unknown i) = tt
+  detail_within (types.Twice i) = first_within (found names (declared_at names i))
+  detail_within (types.WrongType i) = tt
+  detail_within (types.SharedOutside i) = tt
+  detail_within (types.Nested i) = tt
+  detail_within (types.TooMany i) = tt
+  detail_within (types.Recursion i) = tt
+  detail_within (types.Arguments i) = tt
+
+pub is_marked : (source : List ℕ) (tree : TreeView) (m : Mistake) (who : Culprit) (o : Option NameSpan)
+    (item span : Span) → IsItemSpan source tree m who item
+    → MatchOption o (span ≡ item) (λ n. span ≡ n.span) → IsMarked source tree m who o span
+is_marked source tree m who None item span h e = subst (IsItemSpan source tree m who) (sym e) h
+is_marked source tree m who (Some n) item span h e = e

@@ -1,0 +1,54 @@
+-- Items begin in their text, and nodes come from items that are there.
+use Rattle.std.proofs.Common.{◌≡◌, ◌≤◌, ◌<◌, ℕ, zero, suc, List, [], ◌∷◌, length, map, get_or, Option, Some, None, sym, ap, subst}
+use Rattle.std.proofs.Common.{◌∙◌, arith, refl}
+use Rattle.std.specs.Prelude.{slice_get, All}
+use Rattle.std.proofs.lemmas.Option.{slice_get_within, slice_get-get_or}
+use Rattle.sect_front.specs.TreeView.{TreeView}
+use Rattle.sect_front.specs.declared.span.Span.{Span}
+use Rattle.sect_types.specs.Items.{items}
+use Rattle.sect_types.specs.Statements.{Stop}
+use Rattle.sect_types.specs.Sections.{SectionView, sections_of}
+use Rattle.sect_types.specs.Programs.{ProgramView}
+use Rattle.sect_types.specs.declared.action.Label.{Label}
+use Rattle.sect_places.specs.Spans.{AreProper}
+use Rattle.sect_places.specs.NodeOrigins.{IsCall, AreFrom, AreOriginsOf, OriginsView, AreOrigins}
+use Rattle.sect_places.specs.declared.origin.Origin.{Origin}
+use Rattle.sect_places.specs.steps.Placed.{IsAmong, IsPlaced}
+
+-- each of these begins in the text
+pub begins_within : (total : ℕ) (spans : List Span) → AreProper total spans → (k d : ℕ)
+    → k < length (map (λ (s : Span). s.start) spans) → get_or (map (λ (s : Span). s.start) spans) k d ≤ total
+begins_within total [] h k d within = absurd (omega (arith, within))
+begins_within total (s ∷ ss) h zero d within = let a = h.0.0 in let b = h.0.1 in omega (arith, a, b)
+begins_within total (s ∷ ss) h (suc k) d within = begins_within total ss h.1 k d (omega (arith, within))
+
+-- the call that a node is of is an item
+call_within : (t : TreeView) (call : Option ℕ) → IsCall t call → IsAmong (length (items t)) call
+call_within t None h = tt
+call_within t (Some n) h = slice_get_within (items t) n _ h.4
+
+calls_within : (t : TreeView) (labels : List Label) (os : List Origin) → AreFrom t labels os → (k : ℕ) (d : Origin)
+    → k < length os → IsAmong (length (items t)) (get_or os k d).call
+calls_within t [] [] h k d within = absurd (omega (arith, within))
+calls_within t [] (o ∷ os) h k d within = absurd h
+calls_within t (l ∷ ls) [] h k d within = absurd h
+calls_within t (l ∷ ls) (o ∷ os) h zero d within = call_within t o.call h.0.called
+calls_within t (l ∷ ls) (o ∷ os) h (suc k) d within = calls_within t ls os h.1 k d (omega (arith, within))
+
+-- the nodes of each section come from items that are there
+pub all_placed : (p : ProgramView) (o : OriginsView) → AreOrigins p o → (count : ℕ) → count ≡ length (items p.source)
+    → (sections : List (List Origin)) → sections ≡ o.sections → All (All (IsPlaced count)) sections
+all_placed p o origins count same sections are k d within i e inside =
+    let there : k < length o.sections = subst (λ (xs : List (List Origin)). k < length xs) are within in
+    let of : slice_get o.sections k ≡ Some (get_or sections k d) =
+    subst (λ (xs : List (List Origin)). slice_get xs k ≡ Some (get_or sections k d)) are
+    (slice_get-get_or sections k d within) in
+    let no_section : SectionView = record { thread = 0; body = Stop } in
+    let section = get_or (sections_of p.texts) k no_section in
+    let found = origins.sections k section (get_or sections k d)
+    (slice_get-get_or (sections_of p.texts) k no_section (omega (arith, there, origins.section_count))) of in
+    record {
+      item = subst (λ n. (get_or (get_or sections k d) i e).item < n) (sym same) (found.within i e inside);
+      call = subst (λ n. IsAmong n (get_or (get_or sections k d) i e).call) (sym same)
+          (calls_within p.source _ (get_or sections k d) found.from i e inside);
+    }

@@ -1,0 +1,331 @@
+-- The tokens of a text that are names, and the names of its tree.
+use Rattle.std.proofs.Common.{◌≡◌, ℕ, ◌+◌, ◌<◌, Bool, true, false, List, [], ◌∷◌, ◌++◌, length, drop, map, get_or, refl}
+use Rattle.std.proofs.Common.{subst, sym, ap, ◌∙◌, arith, append-nil, append_assoc, if◌then◌else◌}
+use Rattle.std.specs.Prelude.{filter}
+use Rattle.std.proofs.lemmas.List.{drop_more, length-map}
+use Rattle.sect_front.specs.TreeView.{TreeView}
+use Rattle.sect_front.specs.TokenAt.{TokenAt}
+use Rattle.sect_front.specs.Front.{IsSpelled}
+use Rattle.sect_front.specs.FaultPlaces.{token_span}
+use Rattle.sect_front.specs.Faults.{tokens_in}
+use Rattle.sect_front.specs.Syntax.{StatementView, BlockView, Primitive, If, IfElse, While, Atomic, Call, End, Then}
+use Rattle.sect_front.specs.Grammar.{tokens_of, operand_token, operator_token, comparison_token, kind_token}
+use Rattle.sect_front.specs.Tokens.{primitive_tokens, test_tokens, locking_tokens, more_operands, operands_tokens}
+use Rattle.sect_front.specs.Tokens.{statement_tokens, block_tokens, declarations_tokens, hints_tokens, records_tokens}
+use Rattle.sect_front.specs.Tokens.{globals_tokens, more_parameters, parameters_tokens, procedures_tokens}
+use Rattle.sect_front.specs.Tokens.{threads_tokens}
+use Rattle.sect_front.specs.declared.span.Span.{Span}
+use Rattle.sect_front.specs.declared.token.Token.{Token}
+use Rattle.sect_front.specs.declared.token.Token.TheVariants as token
+use Rattle.sect_front.specs.declared.tree.Operand.{Operand}
+use Rattle.sect_front.specs.declared.tree.Operand.TheVariants as operand
+use Rattle.sect_front.specs.declared.tree.Operator.{Operator}
+use Rattle.sect_front.specs.declared.tree.Operator.TheVariants as operator
+use Rattle.sect_front.specs.declared.tree.Comparison.{Comparison}
+use Rattle.sect_front.specs.declared.tree.Comparison.TheVariants as comparison
+use Rattle.sect_front.specs.declared.tree.Primitive as leaf
+use Rattle.sect_front.specs.declared.tree.Primitive.TheVariants as primitive
+use Rattle.sect_front.specs.declared.tree.Test.{Test}
+use Rattle.sect_front.specs.declared.tree.Locking.{Locking}
+use Rattle.sect_front.specs.declared.tree.Locking.TheVariants as locking
+use Rattle.sect_front.specs.declared.tree.Kind.{Kind}
+use Rattle.sect_front.specs.declared.tree.Kind.TheVariants as kind
+use Rattle.sect_front.specs.declared.tree.Declaration.{Declaration}
+use Rattle.sect_front.specs.declared.tree.Record.{Record}
+use Rattle.sect_front.specs.declared.tree.GlobalObject.{GlobalObject}
+use Rattle.sect_front.specs.declared.tree.Procedure.{Procedure}
+use Rattle.sect_front.specs.declared.tree.Thread.{Thread}
+use Rattle.sect_front.proofs.shared.Listed.{tokens_before}
+use Rattle.sect_places.specs.declared.name_use.NameUse.{NameUse}
+use Rattle.sect_places.specs.declared.name_use.NameSpan.{NameSpan}
+use Rattle.sect_places.specs.declared.name_use.Thing.{Thing}
+use Rattle.sect_places.specs.declared.name_use.Thing.TheVariants as thing
+use Rattle.sect_places.specs.declared.name_use.Role.{Role}
+use Rattle.sect_places.specs.declared.name_use.Role.TheVariants as role
+use Rattle.sect_places.specs.ItemCounts.{items_in_block, items_in_statement, items_in_records, items_in_procedure}
+use Rattle.sect_places.specs.ItemCounts.{items_in_thread}
+use Rattle.sect_places.specs.Origins.{first_procedure, first_thread}
+use Rattle.sect_places.specs.NameUses.{kind_uses, operand_uses, primitive_uses, test_uses, argument_uses}
+use Rattle.sect_places.specs.NameUses.{statement_uses}
+use Rattle.sect_places.specs.NameUses.{block_uses, declarations_uses, hints_uses, records_uses, globals_uses}
+use Rattle.sect_places.specs.NameUses.{procedures_uses, threads_uses, name_uses}
+use Rattle.sect_places.specs.NameSpans.{is_name_token, names_among, AreNameSpans}
+use Rattle.sect_places.specs.Spans.{AreInOrder, IsProper, AreProper}
+use Rattle.sect_places.specs.steps.Named.{spans_named}
+
+-- the token of a name
+abbrev token_of : NameUse → Token
+token_of u = token.Name u.name
+
+-- the names among these tokens are these
+abbrev AreNames : List Token → List NameUse → Type 0
+AreNames ts us = filter is_name_token ts ≡ map token_of us
+
+operand_named : (m n : ℕ) (r : Role) (v : Operand) (ts : List Token) (us : List NameUse) → AreNames ts us
+    → AreNames (operand_token v ∷ ts) (operand_uses m n r v us)
+operand_named m n r (operand.Number x) ts us h = h
+operand_named m n r operand.Null ts us h = h
+operand_named m n r (operand.Name x) ts us h = ap (λ l. token.Name x ∷ l) h
+
+operator_named : (o : Operator) (ts : List Token) (us : List NameUse) → AreNames ts us
+    → AreNames (operator_token o ∷ ts) us
+operator_named operator.Add ts us h = h
+operator_named operator.Subtract ts us h = h
+operator_named operator.Multiply ts us h = h
+
+comparison_named : (c : Comparison) (ts : List Token) (us : List NameUse) → AreNames ts us
+    → AreNames (comparison_token c ∷ ts) us
+comparison_named comparison.Equal ts us h = h
+comparison_named comparison.NotEqual ts us h = h
+comparison_named comparison.Less ts us h = h
+comparison_named comparison.LessOrEqual ts us h = h
+
+kind_named : (m n : ℕ) (k : Kind) (ts : List Token) (us : List NameUse) → AreNames ts us
+    → AreNames (kind_token k ∷ ts) (kind_uses m n k us)
+kind_named m n kind.Int ts us h = h
+kind_named m n (kind.Record x) ts us h = ap (λ l. token.Name x ∷ l) h
+
+primitive_named : (m n : ℕ) (p : leaf.Primitive) (ts : List Token) (us : List NameUse) → AreNames ts us
+    → AreNames (primitive_tokens p ts) (primitive_uses m n p us)
+primitive_named m n (primitive.Assign x v) ts us h =
+    ap (λ l. token.Name x ∷ l) (operand_named m n (role.Operand 0) v (token.Semicolon ∷ ts) us h)
+primitive_named m n (primitive.Compute x v o u) ts us h =
+    let rest : List Token = operand_token u ∷ token.Semicolon ∷ ts in
+    ap (λ l. token.Name x ∷ l) (operand_named m n (role.Operand 0) v (operator_token o ∷ rest) _
+    (operator_named o rest _ (operand_named m n (role.Operand 1) u (token.Semicolon ∷ ts) us h)))
+primitive_named m n (primitive.New x r) ts us h = ap (λ l. token.Name x ∷ token.Name r ∷ l) h
+primitive_named m n (primitive.Load x y f) ts us h = ap (λ l. token.Name x ∷ token.Name y ∷ token.Name f ∷ l) h
+primitive_named m n (primitive.Store y f v) ts us h =
+    ap (λ l. token.Name y ∷ token.Name f ∷ l) (operand_named m n (role.Operand 0) v (token.Semicolon ∷ ts) us h)
+primitive_named m n (primitive.Print v) ts us h = operand_named m n (role.Operand 0) v (token.Semicolon ∷ ts) us h
+
+test_named : (m n : ℕ) (t : Test) (ts : List Token) (us : List NameUse) → AreNames ts us
+    → AreNames (test_tokens t ts) (test_uses m n t us)
+test_named m n t ts us h =
+    let rest : List Token = operand_token t.right ∷ token.CloseParen ∷ ts in
+    operand_named m n (role.Operand 0) t.left (comparison_token t.comparison ∷ rest) _
+    (comparison_named t.comparison rest _ (operand_named m n (role.Operand 1) t.right (token.CloseParen ∷ ts) us h))
+
+more_named : (m n i : ℕ) (vs : List Operand) (ts : List Token) (us : List NameUse) → AreNames ts us
+    → AreNames (more_operands vs ts) (argument_uses m n i vs us)
+more_named m n i [] ts us h = h
+more_named m n i (v ∷ vs) ts us h =
+    operand_named m n (role.Operand i) v (more_operands vs ts) _ (more_named m n (i + 1) vs ts us h)
+
+arguments_named : (m n : ℕ) (vs : List Operand) (ts : List Token) (us : List NameUse) → AreNames ts us
+    → AreNames (operands_tokens vs ts) (argument_uses m n 0 vs us)
+arguments_named m n [] ts us h = h
+arguments_named m n (v ∷ vs) ts us h =
+    operand_named m n (role.Operand 0) v (more_operands vs ts) _ (more_named m n (0 + 1) vs ts us h)
+
+locking_named : (l : Locking) (ts : List Token) (us : List NameUse) → AreNames ts us
+    → AreNames (locking_tokens l ts) us
+locking_named locking.Inferred ts us h = h
+locking_named locking.All ts us h = h
+
+mutual
+  statement_named : (m n : ℕ) (s : StatementView) (ts : List Token) (us : List NameUse) → AreNames ts us
+      → AreNames (statement_tokens s ts) (statement_uses m n s us)
+  statement_named m n (Primitive p) ts us h = primitive_named m n p ts us h
+  statement_named m n (If t a) ts us h =
+      test_named m n t (token.OpenBrace ∷ block_tokens a (token.CloseBrace ∷ ts)) _
+      (block_named m (n + 1) a (token.CloseBrace ∷ ts) us h)
+  statement_named m n (IfElse t a b) ts us h =
+      let other : List Token = token.CloseBrace ∷ token.Else ∷ token.OpenBrace
+      ∷ block_tokens b (token.CloseBrace ∷ ts) in
+      test_named m n t (token.OpenBrace ∷ block_tokens a other) _ (block_named m (n + 1) a other _
+      (block_named m (n + 1 + items_in_block a) b (token.CloseBrace ∷ ts) us h))
+  statement_named m n (While t a) ts us h =
+      test_named m n t (token.OpenBrace ∷ block_tokens a (token.CloseBrace ∷ ts)) _
+      (block_named m (n + 1) a (token.CloseBrace ∷ ts) us h)
+  statement_named m n (Atomic l a) ts us h =
+      locking_named l (token.OpenBrace ∷ block_tokens a (token.CloseBrace ∷ ts)) _
+      (block_named m (n + 1) a (token.CloseBrace ∷ ts) us h)
+  statement_named m n (Call f vs) ts us h =
+      ap (λ l. token.Name f ∷ l) (arguments_named m n vs (token.CloseParen ∷ token.Semicolon ∷ ts) us h)
+
+  block_named : (m n : ℕ) (b : BlockView) (ts : List Token) (us : List NameUse) → AreNames ts us
+      → AreNames (block_tokens b ts) (block_uses m n b us)
+  block_named m n End ts us h = h
+  block_named m n (Then s b) ts us h =
+      statement_named m n s (block_tokens b ts) _ (block_named m (n + items_in_statement s) b ts us h)
+
+declarations_named : (m n : ℕ) (what : Thing) (ds : List Declaration) (ts : List Token) (us : List NameUse)
+    → AreNames ts us → AreNames (declarations_tokens ds ts) (declarations_uses m n what ds us)
+declarations_named m n what [] ts us h = h
+declarations_named m n what (d ∷ ds) ts us h =
+    kind_named m n d.kind (token.Name d.name ∷ token.Semicolon ∷ declarations_tokens ds ts) _
+    (ap (λ l. token.Name d.name ∷ l) (declarations_named m (n + 1) what ds ts us h))
+
+others_named : (m n : ℕ) (what : Thing) (ds : List Declaration) (ts : List Token) (us : List NameUse) → AreNames ts us
+    → AreNames (more_parameters ds ts) (declarations_uses m n what ds us)
+others_named m n what [] ts us h = h
+others_named m n what (d ∷ ds) ts us h =
+    kind_named m n d.kind (token.Name d.name ∷ more_parameters ds ts) _
+    (ap (λ l. token.Name d.name ∷ l) (others_named m (n + 1) what ds ts us h))
+
+parameters_named : (m n : ℕ) (what : Thing) (ds : List Declaration) (ts : List Token) (us : List NameUse)
+    → AreNames ts us → AreNames (parameters_tokens ds ts) (declarations_uses m n what ds us)
+parameters_named m n what [] ts us h = h
+parameters_named m n what (d ∷ ds) ts us h =
+    kind_named m n d.kind (token.Name d.name ∷ more_parameters ds ts) _
+    (ap (λ l. token.Name d.name ∷ l) (others_named m (n + 1) what ds ts us h))
+
+hints_named : (n : ℕ) (xs : List (List ℕ)) (ts : List Token) (us : List NameUse) → AreNames ts us
+    → AreNames (hints_tokens xs ts) (hints_uses n xs us)
+hints_named n [] ts us h = h
+hints_named n (x ∷ xs) ts us h = ap (λ l. token.Name x ∷ l) (hints_named n xs ts us h)
+
+records_named : (n : ℕ) (rs : List Record) (ts : List Token) (us : List NameUse) → AreNames ts us
+    → AreNames (records_tokens rs ts) (records_uses n rs us)
+records_named n [] ts us h = h
+records_named n (r ∷ rs) ts us h =
+    let rest : List Token = token.CloseBrace ∷ records_tokens rs ts in
+    ap (λ l. token.Name r.name ∷ l)
+    (hints_named n r.hints (token.OpenBrace ∷ declarations_tokens r.fields rest) _
+    (declarations_named n (n + 1) thing.Field r.fields rest _ (records_named (n + (1 + length r.fields)) rs ts us h)))
+
+globals_named : (n : ℕ) (gs : List GlobalObject) (ts : List Token) (us : List NameUse) → AreNames ts us
+    → AreNames (globals_tokens gs ts) (globals_uses n gs us)
+globals_named n [] ts us h = h
+globals_named n (g ∷ gs) ts us h = ap (λ l. token.Name g.of ∷ token.Name g.name ∷ l) (globals_named (n + 1) gs ts us h)
+
+procedures_named : (n : ℕ) (ps : List Procedure) (ts : List Token) (us : List NameUse) → AreNames ts us
+    → AreNames (procedures_tokens ps ts) (procedures_uses n ps us)
+procedures_named n [] ts us h = h
+procedures_named n (p ∷ ps) ts us h =
+    let rest : List Token = token.CloseBrace ∷ procedures_tokens ps ts in
+    let locals : List Token = declarations_tokens p.locals (block_tokens p.body rest) in
+    ap (λ l. token.Name p.name ∷ l)
+    (parameters_named n (n + 1) thing.Local p.parameters (token.CloseParen ∷ token.OpenBrace ∷ locals) _
+    (declarations_named n (n + 1 + length p.parameters) thing.Local p.locals (block_tokens p.body rest) _
+    (block_named n (n + 1 + length p.parameters + length p.locals) p.body rest _
+    (procedures_named (n + items_in_procedure p) ps ts us h))))
+
+threads_named : (n : ℕ) (hs : List Thread) (ts : List Token) (us : List NameUse) → AreNames ts us
+    → AreNames (threads_tokens hs ts) (threads_uses n hs us)
+threads_named n [] ts us h = h
+threads_named n (x ∷ hs) ts us h =
+    let rest : List Token = token.CloseBrace ∷ threads_tokens hs ts in
+    ap (λ l. token.Name x.name ∷ l) (declarations_named n (n + 1) thing.Local x.locals (block_tokens x.body rest) _
+    (block_named n (n + 1 + length x.locals) x.body rest _ (threads_named (n + items_in_thread x) hs ts us h)))
+
+-- the names among the tokens of a tree are the names of the tree
+tree_named : (t : TreeView) → AreNames (tokens_of t) (name_uses t)
+tree_named t =
+    let bodies : List Token = procedures_tokens t.procedures (threads_tokens t.threads []) in
+    ap (filter is_name_token) (sym (append-nil (tokens_of t)) ∙ tokens_before t [])
+    ∙ records_named 0 t.records (globals_tokens t.globals bodies) _
+    (globals_named (items_in_records t.records) t.globals bodies _
+    (procedures_named (first_procedure t) t.procedures (threads_tokens t.threads []) _
+    (threads_named (first_thread t) t.threads [] [] refl)))
+
+-- one more token of a list, whose span is kept where it is a name
+next_named : (ts : List Token) (ss : List Span) (i : ℕ) (t : Token) (d : Span) → i < length ts
+    → length ss ≡ length ts → t ≡ get_or ts i t
+    → spans_named (drop i ts) (drop i ss) ≡ (if is_name_token t
+    then get_or ss i d ∷ spans_named (drop (i + 1) ts) (drop (i + 1) ss)
+    else spans_named (drop (i + 1) ts) (drop (i + 1) ss))
+next_named ts ss i t d lt e is =
+    let ts_is = drop_more ts i t lt ∙ ap (λ x. x ∷ drop (i + 1) ts) (sym is) in
+    let ss_is = drop_more ss i d (omega (arith, lt, e)) in
+    λ j. spans_named (ts_is j) (ss_is j)
+
+pub span_kept : (ts : List Token) (ss : List Span) (i : ℕ) (t : Token) (d : Span) (old new total : List Span)
+    → i < length ts → length ss ≡ length ts → t ≡ get_or ts i t → is_name_token t ≡ true
+    → new ≡ old ++ get_or ss i d ∷ [] → old ++ spans_named (drop i ts) (drop i ss) ≡ total
+    → new ++ spans_named (drop (i + 1) ts) (drop (i + 1) ss) ≡ total
+span_kept ts ss i t d old new total lt e is named more h =
+    let rest : List Span = spans_named (drop (i + 1) ts) (drop (i + 1) ss) in
+    ap (λ l. l ++ rest) more
+    ∙ append_assoc old (get_or ss i d ∷ []) rest
+    ∙ ap (λ l. old ++ l) (sym (next_named ts ss i t d lt e is
+    ∙ ap (λ b. if b then get_or ss i d ∷ rest else rest) named)) ∙ h
+
+pub span_left : (ts : List Token) (ss : List Span) (i : ℕ) (t : Token) (d : Span) (old total : List Span)
+    → i < length ts → length ss ≡ length ts → t ≡ get_or ts i t → is_name_token t ≡ false
+    → old ++ spans_named (drop i ts) (drop i ss) ≡ total
+    → old ++ spans_named (drop (i + 1) ts) (drop (i + 1) ss) ≡ total
+span_left ts ss i t d old total lt e is other h =
+    let rest : List Span = spans_named (drop (i + 1) ts) (drop (i + 1) ss) in
+    ap (λ l. old ++ l) (sym (next_named ts ss i t d lt e is
+    ∙ ap (λ b. if b then get_or ss i d ∷ rest else rest) other)) ∙ h
+
+-- the spans of the names among tokens with their places
+spans_among : (ps : List TokenAt) → spans_named (tokens_in ps) (map token_span ps) ≡ map token_span (names_among ps)
+spans_among [] = refl
+spans_among (p ∷ ps) = by_test p ps (is_name_token p.token) (spans_among ps)
+  where
+    by_test : (q : TokenAt) (qs : List TokenAt) (b : Bool)
+        → spans_named (tokens_in qs) (map token_span qs) ≡ map token_span (names_among qs)
+        → (if b then token_span q ∷ spans_named (tokens_in qs) (map token_span qs)
+        else spans_named (tokens_in qs) (map token_span qs))
+        ≡ map token_span (if b then q ∷ names_among qs else names_among qs)
+    by_test q qs true h = ap (λ l. token_span q ∷ l) h
+    by_test q qs false h = h
+
+tokens_among : (ps : List TokenAt)
+    → filter is_name_token (tokens_in ps) ≡ map (λ (p : TokenAt). p.token) (names_among ps)
+tokens_among [] = refl
+tokens_among (p ∷ ps) = by_test p ps (is_name_token p.token) (tokens_among ps)
+  where
+    by_test : (q : TokenAt) (qs : List TokenAt) (b : Bool)
+        → filter is_name_token (tokens_in qs) ≡ map (λ (x : TokenAt). x.token) (names_among qs)
+        → (if b then q.token ∷ filter is_name_token (tokens_in qs) else filter is_name_token (tokens_in qs))
+        ≡ map (λ (x : TokenAt). x.token) (if b then q ∷ names_among qs else names_among qs)
+    by_test q qs true h = ap (λ l. q.token ∷ l) h
+    by_test q qs false h = h
+
+-- spans in order have bytes, and lie in the text
+in_order_proper : (from total : ℕ) (ss : List Span) → AreInOrder from total ss → AreProper total ss
+in_order_proper from total [] h = tt
+in_order_proper from total (x ∷ ss) h = ((h.1, h.2), in_order_proper x.end total ss h.3)
+
+-- and so have those of the names
+named_proper : (total : ℕ) (ts : List Token) (ss : List Span) → AreProper total ss
+    → AreProper total (spans_named ts ss)
+named_proper total [] ss h = tt
+named_proper total (x ∷ ts) [] h = tt
+named_proper total (x ∷ ts) (y ∷ ss) h = by_test total (is_name_token x) y (spans_named ts ss) h.0
+    (named_proper total ts ss h.1)
+  where
+    by_test : (m : ℕ) (b : Bool) (z : Span) (zs : List Span) → IsProper m z → AreProper m zs
+        → AreProper m (if b then z ∷ zs else zs)
+    by_test m true z zs h k = (h, k)
+    by_test m false z zs h k = k
+
+map_map : {A B C : Type 0} (f : B → C) (g : A → B) (xs : List A) → map f (map g xs) ≡ map (λ x. f (g x)) xs
+map_map f g [] = refl
+map_map f g (x ∷ xs) = ap (λ l. f (g x) ∷ l) (map_map f g xs)
+
+module _ (bytes : List ℕ) (t : TreeView) (s : IsSpelled bytes t) (tokens : List Token) (all spans : List Span)
+    (uses : List NameUse) (et : tokens ≡ tokens_of t) (ea : all ≡ map token_span s.places)
+    (order : AreInOrder 0 (length bytes) all)
+    (es : spans ≡ spans_named tokens all) (eu : uses ≡ name_uses t) where
+  spans_are : spans ≡ map token_span (names_among s.places)
+  spans_are = es ∙ (λ j. spans_named ((et ∙ s.parses.tokens) j) (ea j)) ∙ spans_among s.places
+
+  names_are : map token_of uses ≡ map (λ (p : TokenAt). p.token) (names_among s.places)
+  names_are = ap (map token_of) eu ∙ sym (tree_named t) ∙ ap (filter is_name_token) s.parses.tokens
+      ∙ tokens_among s.places
+
+  pub as_many_names : length spans ≡ length uses
+  as_many_names = omega (
+    arith,
+    ap length spans_are,
+    length-map (names_among s.places) token_span,
+    ap length names_are,
+    length-map (names_among s.places) (λ (p : TokenAt). p.token),
+    length-map uses token_of,
+  )
+
+  pub are_name_spans : (names : List NameSpan) → map (λ (n : NameSpan). n.used) names ≡ uses
+      → map (λ (n : NameSpan). n.span) names ≡ spans → AreNameSpans bytes t names
+  are_name_spans names e f = record {
+    spelled = s;
+    spans = f ∙ spans_are;
+    named = sym (map_map token_of (λ (n : NameSpan). n.used) names) ∙ ap (map token_of) e ∙ names_are;
+    uses = e ∙ eu;
+    proper = subst (AreProper (length bytes)) (sym (f ∙ es))
+        (named_proper (length bytes) tokens all (in_order_proper 0 (length bytes) all order));
+  }

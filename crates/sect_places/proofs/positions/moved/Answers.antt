@@ -1,0 +1,13 @@
+use Rattle.std.proofs.Common.{◌-◌, ◌∙◌, take, drop, fold, refl, ap}
+use Rattle.sect_places.specs.steps.Passing.{next_position}
+use Rattle.sect_places.proofs.Passing.{position_on, stands_at}
+use Rattle.sect_places.proofs.positions.moved.Goals as goal
+
+pub returns-clause-is : goal.returns-clause-is
+returns-clause-is c =
+    let source = c.args.source.now in
+    let from = c.nearest-from.result in
+    stands_at source c.args.at _ c.requires.within refl
+    (c.passed.ensures
+    ∙ ap (λ p. fold next_position p (take (c.args.at - from.at) (drop from.at source))) c.nearest-from.ensures.is.is
+    ∙ position_on source from.at c.args.at c.nearest-from.ensures.before)

@@ -1,0 +1,3 @@
+mod Judging
+mod Placing
+mod Plain

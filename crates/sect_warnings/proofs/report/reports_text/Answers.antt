@@ -1,0 +1,10 @@
+use Rattle.std.proofs.Common.{suc, length, get_or, subst, arith}
+use Rattle.sect_front.specs.FaultPlaces.{IsWithin}
+use Rattle.sect_warnings.proofs.report.reports_text.Goals as goal
+
+pub put_others-requires : goal.put_others-requires
+put_others-requires c = λ k d lt.
+    let total = length c.args.source.now in
+    let many = c.in-Some.ensures.cases.1 in
+    subst (λ l. IsWithin total (get_or l (suc k) d).span) c.in-Some.ensures.cases.0
+    (c.requires (suc k) d (omega (arith, lt, many)))

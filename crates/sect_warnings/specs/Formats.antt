@@ -1,0 +1,35 @@
+-- What is printed of warnings, in each form.
+use Rattle.std.specs.Prelude.{◌≡◌, ℕ, List, [], ◌∷◌, ◌++◌, codes}
+use Rattle.std.specs.List.{flat_map}
+use Rattle.serde_json.specs.Written.{compact_text}
+use Rattle.sect_lint.specs.declared.format.Format.{Format}
+use Rattle.sect_lint.specs.declared.format.Format.TheVariants.{Text, Json, Sarif}
+use Rattle.sect_lint.specs.Formats.{clean}
+use Rattle.sect_emit.specs.Compiled.{CompiledView}
+use Rattle.sect_warnings.specs.declared.warning.Warning.{Warning}
+use Rattle.sect_warnings.specs.declared.warning.Placed.{Placed}
+use Rattle.sect_warnings.specs.Warnings.{AreWarnings}
+use Rattle.sect_warnings.specs.Reports.{ArePlaced, reports}
+use Rattle.sect_warnings.specs.Json.{warning_json}
+use Rattle.sect_warnings.specs.Sarif.{warnings_log}
+
+-- a warning as an object of JSON in a line
+unfoldable pub json_line : List ℕ → Placed → List ℕ
+json_line source p = compact_text (warning_json source p) ++ codes "\n"
+
+-- some warnings, one after another: their reports, an object a line, or one log
+abbrev pub told : Format → List ℕ → List Placed → List ℕ
+told Text source ps = reports source ps
+told Json source ps = flat_map (json_line source) ps
+told Sarif source ps = compact_text (warnings_log source ps) ++ codes "\n"
+
+-- where there is none, nothing is told
+abbrev pub printed : Format → List ℕ → List Placed → List ℕ
+printed format source [] = clean format
+printed format source (p ∷ ps) = told format source (p ∷ ps)
+
+-- the bytes are what is printed of the warnings of the program of that text
+abbrev pub AreWarningsPrinted : List ℕ → CompiledView → Format → List ℕ → Type 0
+AreWarningsPrinted source c format bytes =
+    (ws : List Warning) × (ps : List Placed) × AreWarnings c ws × ArePlaced source c.scheme.program.source ws ps
+    × (bytes ≡ printed format source ps)

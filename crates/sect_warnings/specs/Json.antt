@@ -1,0 +1,14 @@
+-- A warning as a value of JSON.
+use Rattle.std.specs.Prelude.{ℕ, List, [], ◌∷◌, codes}
+use Rattle.serde_json.specs.Data.{Data, string, object, no_members, member}
+use Rattle.sect_lint.specs.Json.{list, span_json}
+use Rattle.sect_warnings.specs.declared.warning.Placed.{Placed}
+use Rattle.sect_warnings.specs.Titles.{name_of, title_of, note_of}
+
+abbrev pub warning_json : List ℕ → Placed → Data
+warning_json source p =
+    object (member (codes "code") (string (name_of p.warning.finding)) (member (codes "labels") (list [])
+    (member (codes "message") (string (title_of p.warning))
+    (member (codes "notes") (list (string (note_of p.warning.finding) ∷ []))
+    (member (codes "severity") (string (codes "warning")) (member (codes "span") (span_json source p.span)
+    no_members))))))

@@ -1,0 +1,7 @@
+pub mod Warnings
+pub mod Titles
+pub mod Reports
+pub mod Json
+pub mod Sarif
+pub mod Formats
+pub mod Laws

@@ -1,0 +1,102 @@
+-- Which warnings are due of a compiled program.
+use Rattle.std.specs.Prelude.{◌≡◌, ◌<◌, ℕ, zero, suc, All, List, [], ◌∷◌, ◌++◌, length, Option, Some, None, slice_get}
+use Rattle.std.specs.Prelude.{slice_index_or}
+use Rattle.std.specs.List.{flat_map}
+use Rattle.sect_lemmas.specs.Lists.{Has}
+use Rattle.sect_front.specs.TreeView.{TreeView}
+use Rattle.sect_types.specs.Items.{items}
+use Rattle.sect_types.specs.Sections.{sections_of}
+use Rattle.sect_types.specs.declared.action.Action.TheVariants as action
+use Rattle.sect_types.specs.declared.action.Base.{Base}
+use Rattle.sect_types.specs.declared.action.Base.TheVariants as base
+use Rattle.sect_types.specs.declared.action.Label.{Label}
+use Rattle.sect_types.specs.declared.action.Label.TheVariants as label
+use Rattle.sect_graph.specs.declared.flow.Node.{Node}
+use Rattle.sect_graph.specs.Layout.{flow_nodes}
+use Rattle.sect_points.specs.declared.holders.Holder.TheVariants as holder
+use Rattle.sect_points.specs.Sets.{PointsToView, InSets}
+use Rattle.sect_places.specs.declared.origin.Origin.{Origin}
+use Rattle.sect_places.specs.Origins.{section_origins_of}
+use Rattle.sect_places.specs.SectionItems.{section_items_of}
+use Rattle.sect_names.specs.Carrying.{right_for}
+use Rattle.sect_names.specs.declared.lock.Effect.TheVariants as effect
+use Rattle.sect_names.specs.declared.lock.Lock.{Lock}
+use Rattle.sect_names.specs.declared.lock.Lock.TheVariants as lock
+use Rattle.sect_names.specs.declared.lock.Right.TheVariants as right
+use Rattle.sect_emit.specs.Compiled.{CompiledView}
+use Rattle.sect_emit.specs.Explaining.{section_at}
+use Rattle.sect_conflicts.specs.Conflicts.{set_at, Selects}
+use Rattle.sect_warnings.specs.declared.warning.Finding.{Finding}
+use Rattle.sect_warnings.specs.declared.warning.Finding.TheVariants as finding
+use Rattle.sect_warnings.specs.declared.warning.Warning.{Warning}
+
+-- no reference to an object comes to local x of thread t: its points-to set is empty
+abbrev pub IsNeverFilled : PointsToView → ℕ → ℕ → Type 0
+IsNeverFilled sets t x = (site : ℕ) → InSets sets (holder.Local t x) site → ⊥
+
+-- the finding is due of section i
+abbrev pub IsDueOf : CompiledView → ℕ → Finding → Type 0
+IsDueOf c i finding.NoLock = set_at c i ≡ []
+IsDueOf c i (finding.ClassLock n e) = Has (set_at c i) (lock.Class n (right_for e))
+IsDueOf c i (finding.NeverFilled j x) = IsNeverFilled c.scheme.classes.sets (section_at c i).thread x
+
+abbrev pub IsDue : CompiledView → Warning → Type 0
+IsDue c w = IsDueOf c w.section w.finding
+
+abbrev pub warning : ℕ → ℕ → Finding → Warning
+warning i item f = record { section = i; finding = f; item = item }
+
+-- of section i, which is that item and takes this lock: that it locks a whole class, if it is for more than to make
+-- objects
+abbrev pub class_at : ℕ → ℕ → Lock → List Warning
+class_at i item (lock.Class n right.Read) = warning i item (finding.ClassLock n effect.Read) ∷ []
+class_at i item (lock.Class n right.Write) = warning i item (finding.ClassLock n effect.Write) ∷ []
+class_at i item _ = []
+
+-- the local whose object a node loads from or stores to, if there is one
+abbrev pub local_of : Base → Option ℕ
+local_of (base.Local x) = Some x
+local_of (base.Global g) = None
+
+abbrev pub through : Label → Option ℕ
+through (label.Act (action.Load x b f)) = local_of b
+through (label.Act (action.Store b f v)) = local_of b
+through _ = None
+
+-- of node j of section i, which is that item and goes through that local: that the local is never filled
+abbrev pub unfilled_at : ℕ → ℕ → ℕ → Option ℕ → List Warning
+unfilled_at i j item None = []
+unfilled_at i j item (Some x) = warning i item (finding.NeverFilled j x) ∷ []
+
+abbrev pub at_node : ℕ → ℕ → Option Node → Option Origin → List Warning
+at_node i j (Some n) (Some o) = unfilled_at i j o.item (through n.label)
+at_node i j _ _ = []
+
+-- of its first nodes, so many of these, which come from there
+abbrev pub to_node : ℕ → List Node → List Origin → ℕ → List Warning
+to_node i nodes origins zero = []
+to_node i nodes origins (suc j) =
+    to_node i nodes origins j ++ at_node i j (slice_get nodes j) (slice_get origins j)
+
+-- what may be told of section i, which is that item, and whose nodes come from there: that it takes no lock, then the
+-- classes that it locks, and what may be told of its nodes
+abbrev pub at_section : CompiledView → ℕ → ℕ → List Origin → List Warning
+at_section c i item origins =
+    warning i item finding.NoLock ∷ flat_map (class_at i item) (set_at c i)
+    ++ to_node i (flow_nodes (section_at c i).body) origins (length origins)
+
+-- of the first sections, so many
+abbrev pub to_section : CompiledView → ℕ → List Warning
+to_section c zero = []
+to_section c (suc i) =
+    to_section c i
+    ++ at_section c i (slice_index_or (section_items_of c.scheme.program.source) i 0)
+    (slice_index_or (section_origins_of c.scheme.program.source) i [])
+
+-- these are the warnings of the program: of all that may be told of its sections exactly what is due, in this order
+abbrev pub AreWarnings : CompiledView → List Warning → Type 0
+AreWarnings c ws = Selects (IsDue c) (to_section c (length (sections_of c.scheme.program.texts))) ws
+
+-- each stands at an item of the tree
+abbrev pub AreAtItems : TreeView → List Warning → Type 0
+AreAtItems t ws = All (λ (w : Warning). w.item < length (items t)) ws

@@ -1,0 +1,124 @@
+//! The forms in which warnings are printed.
+
+ghost use Rattle.std.specs.Prelude.{◌≡◌, ◌++◌, IfOk, OnOk, length};
+ghost use Rattle.std.specs.List.{flat_map};
+ghost use Rattle.std.specs.String.{string_bytes};
+ghost use Rattle.sect_front.specs.Front.{IsSpelled};
+ghost use Rattle.sect_front.specs.FaultPlaces.{IsWithin};
+ghost use Rattle.sect_warnings.specs.Reports.{AreWithin};
+ghost use Rattle.sect_warnings.specs.Formats.{json_line, told as told_by, printed as printed_by};
+ghost use Rattle.sect_warnings.specs.Formats.{AreWarningsPrinted};
+
+use crate::json::warning_value;
+use crate::judge::warnings;
+use crate::place::places_of;
+use crate::report::reports_text;
+use crate::sarif::warnings_log;
+use crate::warning::Placed;
+use sect_emit::Compiled;
+use sect_lint::{Format, clean_text, compact};
+use std::alloc::{AllocError, Global};
+
+/// Adds a warning as an object of JSON, and a line feed.
+#[tactic(auto, unfolding(crate::specs::Formats::json_line))]
+fn put_json(
+    alloc: Global,
+    text: &mut String,
+    source: &[u8],
+    placed: &Placed,
+) -> Result<(), AllocError>
+    requires { IsWithin (length source.now) placed.now.span }
+    ensures { OnOk result (string_bytes text.new ≡ string_bytes text.old ++ json_line source.now placed.now) }
+{
+    let value = warning_value(alloc, source, placed)?;
+    let line = compact(alloc, &value)?;
+    text.push_str(line.as_str())?;
+    text.push_str("\n")
+}
+
+/// Adds warnings as objects of JSON, one a line.
+fn put_lines(
+    alloc: Global,
+    text: &mut String,
+    source: &[u8],
+    placed: &[Placed],
+) -> Result<(), AllocError>
+    requires { AreWithin (length source.now) placed.now }
+    ensures { OnOk result (string_bytes text.new
+        ≡ string_bytes text.old ++ flat_map (json_line source.now) placed.now) }
+{
+    for warning in placed {
+        put_json(alloc, text, source, warning)?;
+    }
+    Ok(())
+}
+
+/// Warnings as objects of JSON, one a line.
+fn json_lines(alloc: Global, source: &[u8], placed: &[Placed]) -> Result<String, AllocError>
+    requires { AreWithin (length source.now) placed.now }
+    ensures { IfOk result (λ text. string_bytes text ≡ flat_map (json_line source.now) placed.now) }
+{
+    let mut text = String::new(alloc);
+    put_lines(alloc, &mut text, source, placed)?;
+    Ok(text)
+}
+
+/// Warnings as a log of SARIF.
+fn log_text(alloc: Global, source: &[u8], placed: &[Placed]) -> Result<String, AllocError>
+    requires { AreWithin (length source.now) placed.now }
+    ensures { IfOk result (λ text. string_bytes text ≡ told_by Format.Sarif source.now placed.now) }
+{
+    let log = warnings_log(alloc, source, placed)?;
+    let mut text = compact(alloc, &log)?;
+    text.push_str("\n")?;
+    Ok(text)
+}
+
+/// Some warnings in this form.
+fn told(
+    alloc: Global,
+    source: &[u8],
+    placed: &[Placed],
+    format: Format,
+) -> Result<String, AllocError>
+    requires { AreWithin (length source.now) placed.now }
+    ensures { IfOk result (λ text. string_bytes text ≡ told_by format source.now placed.now) }
+{
+    match format {
+        Format::Text => reports_text(alloc, source, placed),
+        Format::Json => json_lines(alloc, source, placed),
+        Format::Sarif => log_text(alloc, source, placed),
+    }
+}
+
+/// Warnings as they are printed.
+fn printed(
+    alloc: Global,
+    source: &[u8],
+    placed: &[Placed],
+    format: Format,
+) -> Result<String, AllocError>
+    requires { AreWithin (length source.now) placed.now }
+    ensures { IfOk result (λ text. string_bytes text ≡ printed_by format source.now placed.now) }
+{
+    match placed {
+        [] => clean_text(alloc, format),
+        _ => told(alloc, source, placed, format),
+    }
+}
+
+/// What is worth a second look in the compiled program of a source text, as it is printed.
+pub fn warnings_as(
+    alloc: Global,
+    source: &[u8],
+    compiled: &Compiled,
+    format: Format,
+) -> Result<String, AllocError>
+    requires { IsSpelled source.now compiled.now.scheme.program.source }
+    ensures { IfOk result (λ text. AreWarningsPrinted source.now compiled.now format (string_bytes text)) }
+{
+    let found = warnings(alloc, compiled)?;
+    let tree = compiled.scheme().program().tree();
+    let placed = places_of(alloc, source, tree, found.as_slice())?;
+    printed(alloc, source, placed.as_slice(), format)
+}

@@ -1,0 +1,133 @@
+//! What is reported of warnings, for a reader.
+
+ghost use Rattle.std.specs.Prelude.{◌≡◌, ◌++◌, OnOk, IfOk, length, codes};
+ghost use Rattle.std.specs.List.{flat_map};
+ghost use Rattle.std.specs.Fmt.{decimal};
+ghost use Rattle.std.specs.String.{string_bytes};
+ghost use Rattle.sect_front.specs.FaultPlaces.{IsWithin};
+ghost use Rattle.sect_warnings.specs.Titles.{title_of, told_of, doing as doing_by};
+ghost use Rattle.sect_warnings.specs.Reports.{heading, note_line, report, reports, AreWithin};
+
+use crate::warning::{Finding, Placed, Warning};
+use sect_lint::{put_excerpt, put_margin};
+use sect_names::Effect;
+use sect_places::position_of;
+use std::alloc::{AllocError, Global};
+use std::fmt::Write;
+
+/// What a class is locked for.
+fn doing(effect: Effect) -> &'static str
+    ensures { result.now ≡ doing_by effect }
+{
+    match effect {
+        Effect::Read => "reading",
+        Effect::Write => "writing",
+    }
+}
+
+/// Adds what is told of a section, in a few words.
+fn put_told(text: &mut String, finding: Finding) -> Result<(), AllocError>
+    ensures { OnOk result (string_bytes text.new ≡ string_bytes text.old ++ told_of finding) }
+{
+    match finding {
+        Finding::NoLock => text.push_str(" takes no lock"),
+        Finding::ClassLock { class, effect } => {
+            let doing = doing(effect);
+            Ok(write!(text, " locks all of class {class} for {doing}")?)
+        }
+        Finding::NeverFilled { .. } => text.push_str(" goes through null in every run"),
+    }
+}
+
+/// Adds what is told, in a few words.
+fn put_title(text: &mut String, warning: Warning) -> Result<(), AllocError>
+    ensures { OnOk result (string_bytes text.new ≡ string_bytes text.old ++ title_of warning) }
+{
+    write!(text, "section {}", warning.section)?;
+    put_told(text, warning.finding)
+}
+
+/// What is told, in a few words.
+pub fn title(alloc: Global, warning: Warning) -> Result<String, AllocError>
+    ensures { IfOk result (λ text. string_bytes text ≡ title_of warning) }
+{
+    let mut text = String::new(alloc);
+    put_title(&mut text, warning)?;
+    Ok(text)
+}
+
+/// Adds the name of a warning and what is told.
+#[tactic(auto, unfolding(crate::specs::Reports::heading))]
+fn put_heading(text: &mut String, warning: Warning) -> Result<(), AllocError>
+    ensures { OnOk result (string_bytes text.new ≡ string_bytes text.old ++ heading warning) }
+{
+    let name = warning.finding.name();
+    write!(text, "warning[{name}]: ")?;
+    put_title(text, warning)?;
+    text.push_str("\n")
+}
+
+/// Adds what it means, below a line of this number.
+#[tactic(auto, unfolding(crate::specs::Reports::note_line))]
+fn put_note(
+    text: &mut String,
+    warning: Warning,
+    number: &str,
+    line: usize,
+) -> Result<(), AllocError>
+    requires { number.now ≡ decimal line }
+    ensures { OnOk result (string_bytes text.new ≡ string_bytes text.old ++ note_line line warning) }
+{
+    text.push_str("\n")?;
+    put_margin(text, number)?;
+    Ok(write!(text, "= {}\n", warning.finding.note())?)
+}
+
+/// Adds the report of a warning.
+fn put_report(
+    alloc: Global,
+    text: &mut String,
+    source: &[u8],
+    placed: &Placed,
+) -> Result<(), AllocError>
+    requires { IsWithin (length source.now) placed.now.span }
+    ensures { OnOk result (string_bytes text.new ≡ string_bytes text.old ++ report source.now placed.now) }
+{
+    let line = position_of(source, placed.span.start).line;
+    let number = format!(in alloc; "{line}")?;
+    put_heading(text, placed.warning)?;
+    put_excerpt(text, source, placed.span, number.as_str())?;
+    put_note(text, placed.warning, number.as_str(), line)
+}
+
+/// Adds the reports of warnings, each behind an empty line.
+fn put_others(
+    alloc: Global,
+    text: &mut String,
+    source: &[u8],
+    others: &[Placed],
+) -> Result<(), AllocError>
+    requires { AreWithin (length source.now) others.now }
+    ensures { OnOk result (string_bytes text.new
+        ≡ string_bytes text.old ++ flat_map (λ q. codes "\n" ++ report source.now q) others.now) }
+{
+    for other in others {
+        text.push_str("\n")?;
+        put_report(alloc, text, source, other)?;
+    }
+    Ok(())
+}
+
+/// The reports of warnings, with an empty line between them.
+pub fn reports_text(alloc: Global, source: &[u8], placed: &[Placed]) -> Result<String, AllocError>
+    requires { AreWithin (length source.now) placed.now }
+    ensures { IfOk result (λ text. string_bytes text ≡ reports source.now placed.now) }
+{
+    let mut text = String::new(alloc);
+    let Some((first, others)) = placed.split_first() else {
+        return Ok(text);
+    };
+    put_report(alloc, &mut text, source, first)?;
+    put_others(alloc, &mut text, source, others)?;
+    Ok(text)
+}

@@ -1,0 +1,32 @@
+-- What is told of a thread of a state. The methods of `World` cite it.
+use Rattle.std.specs.Prelude.{ℕ, Option, Some, None, slice_get}
+use Rattle.sect_types.specs.declared.store.End.{End}
+use Rattle.sect_modes.specs.declared.mode.Mode.{Mode}
+use Rattle.sect_modes.specs.declared.key.Key.{Key}
+use Rattle.sect_emit.specs.declared.plan.Grip.{Grip}
+use Rattle.sect_emit.specs.Plan.{held_mode}
+use Rattle.sect_emit.specs.State.{ThreadState, State}
+
+abbrev pub wish_in : Option ThreadState → Option Grip
+wish_in None = None
+wish_in (Some th) = slice_get th.wanted 0
+
+-- the key that a thread wants first, and its mode
+abbrev pub first_wish : State → ℕ → Option Grip
+first_wish s t = wish_in (slice_get s.threads t)
+
+abbrev pub mode_in : Key → Option ThreadState → Option Mode
+mode_in k None = None
+mode_in k (Some th) = held_mode k th.held
+
+-- the mode in which a thread holds a key
+abbrev pub mode_of : State → ℕ → Key → Option Mode
+mode_of s t k = mode_in k (slice_get s.threads t)
+
+abbrev pub end_in : Option ThreadState → Option End
+end_in None = None
+end_in (Some th) = th.frame.ended
+
+-- how a thread has ended, if it has
+abbrev pub end_of : State → ℕ → Option End
+end_of s t = end_in (slice_get s.threads t)

@@ -9,6 +9,8 @@ use Rattle.sect_emit.specs.Certificates.{IsCertificateOf}
 use Rattle.sect_emit.specs.Listing.{listing_text}
 use Rattle.sect_emit.specs.declared.fault.CompileFault.{CompileFault}
 use Rattle.sect_emit.specs.declared.fault.CompileFault.TheVariants as fault
+use Rattle.sect_json.specs.Compiling.{compiled_json}
+use Rattle.sect_json.specs.Values.{document_text}
 use Rattle.sect_answers.specs.declared.refusal.Refusal.{Refusal}
 use Rattle.sect_answers.specs.declared.refusal.Refusal.TheVariants as refusal
 use Rattle.sect_answers.specs.Answers.{IsDue, of_source}
@@ -26,6 +28,12 @@ pub record IsProgramListing (source : List ℕ) (k : ℕ) (bytes : List ℕ) : T
   pub compiled : CompiledView
   pub from : IsCompiledFrom source k compiled
   pub spelled : bytes ≡ listing_text compiled
+
+-- the source is accepted, and the bytes are the document of its compiled program
+pub record IsProgramDocument (source : List ℕ) (k : ℕ) (bytes : List ℕ) : Type 0 where
+  pub compiled : CompiledView
+  pub from : IsCompiledFrom source k compiled
+  pub spelled : bytes ≡ document_text (compiled_json compiled)
 
 -- a fault of compiling is the program's refusal; want of memory is never inside another
 abbrev pub of_compile : CompileFault → Refusal

@@ -1,4 +1,4 @@
--- What the command `lint` answers to a source text. `findings` cites it.
+-- What the commands `lint` and `inspect` answer to a source text. `findings` and `inspection` cite it.
 use Rattle.std.specs.Prelude.{◌≡◌, ◌<◌, ℕ, Some, List, ⊤}
 use Rattle.std.specs.String.{string_bytes}
 use Rattle.sect_names.specs.declared.fault.SchemeFault.TheVariants as scheme
@@ -8,6 +8,7 @@ use Rattle.sect_lint.specs.declared.format.Format.{Format}
 use Rattle.sect_lint.specs.Formats.{report_as}
 use Rattle.sect_lint.specs.Reports.{IsJudged}
 use Rattle.sect_emit.specs.Compiled.{CompiledView, IsCompiledFrom}
+use Rattle.sect_json.specs.Inspecting.{IsInspectionDocument}
 use Rattle.sect_warnings.specs.Formats.{AreWarningsPrinted}
 use Rattle.sect_answers.specs.declared.refusal.Refusal.{Refusal}
 use Rattle.sect_answers.specs.declared.refusal.Refusal.TheVariants as refusal
@@ -17,6 +18,12 @@ pub record IsUnblamed (source : List ℕ) (k : ℕ) (format : Format) (bytes : L
   pub compiled : CompiledView
   pub from : IsCompiledFrom source k compiled
   pub warned : AreWarningsPrinted source compiled format bytes
+
+-- the text is accepted, and the bytes are the document of its compiled program
+pub record IsInspection (source : List ℕ) (k : ℕ) (bytes : List ℕ) : Type 0 where
+  pub compiled : CompiledView
+  pub from : IsCompiledFrom source k compiled
+  pub told : IsInspectionDocument source compiled bytes
 
 -- the bytes are the report of the mistake for which the text is refused
 abbrev pub IsReported : List ℕ → ℕ → Format → List ℕ → Type 0

@@ -10,11 +10,12 @@ ghost use Rattle.sect_check.specs.Verdicts.{IsRead};
 ghost use Rattle.sect_emit.specs.Certificates.{IsCertificateOf};
 ghost use Rattle.sect_answers.specs.declared.refusal.Refusal.TheVariants.{Memory};
 ghost use Rattle.sect_infer.specs.Workers.{AreOffered};
-ghost use Rattle.sect_answers.specs.Compiling.{IsCertified, IsProgramListing, IsCompileDue};
+ghost use Rattle.sect_answers.specs.Compiling.{IsCertified, IsProgramListing, IsProgramDocument, IsCompileDue};
 
 use crate::refusal::Refusal;
 use sect_cert::write_cert;
 use sect_emit::{Compiled, compile_with, listing};
+use sect_json::compiled_document;
 use std::alloc::{AllocError, Global};
 use std::sync::Wait;
 use std::thread::Threads;
@@ -38,6 +39,27 @@ pub fn program_listing<R: Threads + Wait + Sync>(
 {
     let compiled = compile_with(rt, alloc, source, k, workers)?;
     Ok(listing(alloc, &compiled)?)
+}
+
+/// The compiled program of a source text as a document, where so many workers infer the locks.
+pub fn program_document<R: Threads + Wait + Sync>(
+    rt: &R,
+    alloc: Global,
+    source: &[u8],
+    k: u16,
+    workers: u16,
+) -> Result<Vec<u8>, Refusal>
+    // The text is accepted, and this is the document of its compiled program.
+    ensures answers { IfOk result (λ text. IsProgramDocument source.now k text.items) }
+    // What is answered is by so many workers as are offered.
+    ensures offered { OnOk result (AreOffered workers) }
+    // A text that is accepted is answered by them, unless memory runs out.
+    ensures only { (s : SchemeView) → AreOffered workers → IsAccepted source.now k s → IsOkUnless result Memory }
+    // A refusal is due, and it is the first that is.
+    ensures refuses { IfErr result (IsCompileDue source.now k workers) }
+{
+    let compiled = compile_with(rt, alloc, source, k, workers)?;
+    Ok(compiled_document(alloc, &compiled)?.into_bytes())
 }
 
 /// The text of the certificate of a source text's compiled program, where so many workers infer the locks.

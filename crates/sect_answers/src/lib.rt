@@ -22,12 +22,12 @@ mod turns;
 
 pub use chart::schedule_chart;
 pub use check::verdict;
-pub use compile::{program_certificate, program_listing};
+pub use compile::{program_certificate, program_document, program_listing};
 pub use conflicts::program_conflicts;
 pub use explain::program_explanation;
 pub use format::Format;
 pub use graph::program_graph;
-pub use lint::findings;
+pub use lint::{findings, inspection};
 pub use lock_sets::locks;
 pub use outcomes::all_outcomes;
 pub use printing::put_refusal;

@@ -1,11 +1,14 @@
-//! The command `lint`.
+//! The commands `lint` and `inspect`.
 
 ghost use Rattle.std.specs.Prelude.{IfOk, IfErr};
 ghost use Rattle.std.specs.String.{string_bytes};
-ghost use Rattle.sect_answers.specs.Linting.{IsUnblamed, IsLintDue};
+ghost use Rattle.sect_emit.specs.Compiled.{IsCompiledFrom};
+ghost use Rattle.sect_lint.specs.declared.format.Format.TheVariants.{Json};
+ghost use Rattle.sect_answers.specs.Linting.{IsUnblamed, IsInspection, IsLintDue};
 
 use crate::refusal::Refusal;
-use sect_emit::compile;
+use sect_emit::{Compiled, compile};
+use sect_json::inspection_document;
 use sect_lint::{Format, lint, report_as};
 use sect_warnings::warnings_as;
 use std::alloc::Global;
@@ -18,14 +21,37 @@ pub fn findings(alloc: Global, source: &[u8], k: u16, format: Format) -> Result<
     // The report is of the mistake for which the text is refused.
     ensures refuses { IfErr result (IsLintDue source.now k format) }
 {
+    let compiled = compiled_or_report(alloc, source, k, format)?;
+    Ok(warnings_as(alloc, source, &compiled, format)?)
+}
+
+/// What is known of a source text that is accepted, as a document. A text that is refused is reported on as by
+/// `findings`.
+pub fn inspection(alloc: Global, source: &[u8], k: u16) -> Result<String, Refusal>
+    // The text is accepted, and this is the document of its compiled program.
+    ensures answers { IfOk result (λ text. IsInspection source.now k (string_bytes text)) }
+    // The report is of the mistake for which the text is refused.
+    ensures refuses { IfErr result (IsLintDue source.now k Json) }
+{
+    let compiled = compiled_or_report(alloc, source, k, Format::Json)?;
+    Ok(inspection_document(alloc, source, &compiled)?)
+}
+
+/// The compiled program of a source text, or the report on the mistake for which it is refused.
+fn compiled_or_report(
+    alloc: Global,
+    source: &[u8],
+    k: u16,
+    format: Format,
+) -> Result<Compiled, Refusal>
+    ensures answers { IfOk result (IsCompiledFrom source.now k) }
+    ensures refuses { IfErr result (IsLintDue source.now k format) }
+{
     match lint(alloc, source, k)? {
-        None => {
-            let Ok(compiled) = compile(alloc, source, k) else {
-                return Err(Refusal::Memory);
-            };
-            let text = warnings_as(alloc, source, &compiled, format)?;
-            Ok(text)
-        }
+        None => match compile(alloc, source, k) {
+            Ok(compiled) => Ok(compiled),
+            Err(_) => Err(Refusal::Memory),
+        },
         Some(diagnostic) => {
             let report = report_as(alloc, source, &diagnostic, format)?;
             Err(Refusal::Report(report))

@@ -5,30 +5,32 @@ use Rattle.sect_infer.specs.Workers.{AreOffered}
 use Rattle.sect_answers.specs.Answers.{IsAnswer, IsDue}
 use Rattle.sect_answers.specs.Charting.{IsCharted}
 use Rattle.sect_answers.specs.Checking.{IsValidInput, IsCheckDue}
-use Rattle.sect_answers.specs.Compiling.{IsCertified, IsProgramListing, IsCompileDue}
+use Rattle.sect_answers.specs.Compiling.{IsCertified, IsProgramListing, IsProgramDocument, IsCompileDue}
 use Rattle.sect_answers.specs.Conflicting.{AreProgramConflicts}
 use Rattle.sect_answers.specs.Explaining.{IsProgramExplanation}
 use Rattle.sect_answers.specs.Graphing.{IsProgramGraph, IsGraphDue}
-use Rattle.sect_answers.specs.Linting.{IsUnblamed, IsLintDue}
+use Rattle.sect_answers.specs.Linting.{IsUnblamed, IsInspection, IsLintDue}
 use Rattle.sect_answers.specs.Outcomes.{AreAllOutcomes, IsOutcomesDue}
 use Rattle.sect_answers.specs.Refusals.{refusal_text}
 use Rattle.sect_answers.specs.Running.{IsOutcomeOfRun}
 use Rattle.sect_answers.specs.Scheduling.{IsScheduled, IsScheduleDue}
 use Rattle.sect_answers.specs.Serial.{IsOutcome, IsSerialDue}
+use Rattle.sect_lint.specs.declared.format.Format.TheVariants.{Json}
 use Rattle.sect_answers.specs.declared.refusal.Refusal.{Refusal}
 use Rattle.sect_answers.specs.declared.refusal.Refusal.TheVariants as refusal
 use Rattle.sect_command.specs.declared.dispatch.TheConstants.{DONE, REFUSED, WRONG_WORDS, FAILED}
 use Rattle.sect_command.specs.declared.dispatch.Answer.{Answer}
-use Rattle.sect_command.specs.declared.options.Form.TheVariants.{Listing, Certificate}
+use Rattle.sect_command.specs.declared.options.Form.TheVariants.{Listing, Document, Certificate}
 use Rattle.sect_command.specs.declared.options.Request.{Request}
 use Rattle.sect_command.specs.declared.options.Request.TheVariants.{Locks, Compile, Explain, Conflicts, Graph, Lint}
-use Rattle.sect_command.specs.declared.options.Request.TheVariants.{Check}
+use Rattle.sect_command.specs.declared.options.Request.TheVariants.{Inspect, Check}
 use Rattle.sect_command.specs.declared.options.Request.TheVariants.{Serial, Outcomes, Schedule, Chart, Run}
 
 -- the bytes are what is requested of the source
 abbrev pub Answers : Request → List ℕ → List ℕ → Type 0
 Answers (Locks k format) source bytes = IsAnswer source k format bytes
 Answers (Compile k workers Listing) source bytes = AreOffered workers × IsProgramListing source k bytes
+Answers (Compile k workers Document) source bytes = AreOffered workers × IsProgramDocument source k bytes
 Answers (Compile k workers Certificate) source bytes = AreOffered workers × IsCertified source k bytes
 Answers (Explain k format) source bytes = IsProgramExplanation source k format bytes
 Answers (Conflicts k format) source bytes = AreProgramConflicts source k format bytes
@@ -39,6 +41,7 @@ Answers (Chart k fuel schedule) source bytes = IsCharted source k fuel schedule.
 Answers (Run k fuel format) source bytes = IsOutcomeOfRun source k fuel format bytes
 Answers (Graph k section) source bytes = IsProgramGraph source k section bytes
 Answers (Lint k format) source bytes = IsUnblamed source k format bytes
+Answers (Inspect k) source bytes = IsInspection source k bytes
 Answers (Check k) source bytes = IsValidInput source k × (bytes ≡ codes "valid\n")
 
 -- the refusal is due where this is requested of the source
@@ -54,6 +57,7 @@ IsRefusalDue (Chart k fuel schedule) source = IsScheduleDue source k schedule.it
 IsRefusalDue (Run k fuel format) source = IsDue source k
 IsRefusalDue (Graph k section) source = IsGraphDue source k section
 IsRefusalDue (Lint k format) source = IsLintDue source k format
+IsRefusalDue (Inspect k) source = IsLintDue source k Json
 IsRefusalDue (Check k) source = IsCheckDue source k
 
 -- what is written for a refusal

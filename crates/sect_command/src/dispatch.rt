@@ -9,9 +9,9 @@ ghost use Rattle.std.specs.String.{string_bytes};
 
 use crate::options::{Form, Request, UsageFault, request_of};
 use sect_answers::{
-    Refusal, all_outcomes, findings, locks, program_certificate, program_conflicts,
-    program_explanation, program_graph, program_listing, put_refusal, run_outcome, schedule_chart,
-    schedule_outcome, serial_outcome, verdict,
+    Refusal, all_outcomes, findings, inspection, locks, program_certificate, program_conflicts,
+    program_document, program_explanation, program_graph, program_listing, put_refusal,
+    run_outcome, schedule_chart, schedule_outcome, serial_outcome, verdict,
 };
 use sect_run::OpenGate;
 use std::alloc::{AllocError, Global};
@@ -194,6 +194,11 @@ fn printed<R: Threads + Wait + Sync>(
         Request::Compile {
             k,
             workers,
+            form: Form::Document,
+        } => program_document(rt, alloc, source, k, workers),
+        Request::Compile {
+            k,
+            workers,
             form: Form::Certificate,
         } => program_certificate(rt, alloc, source, k, workers),
         Request::Explain { k, format } => program_explanation(alloc, source, k, format),
@@ -222,6 +227,7 @@ fn printed<R: Threads + Wait + Sync>(
         }
         Request::Graph { k, section } => program_graph(alloc, source, k, section),
         Request::Lint { k, format } => Ok(findings(alloc, source, k, format)?.into_bytes()),
+        Request::Inspect { k } => Ok(inspection(alloc, source, k)?.into_bytes()),
         Request::Check { k } => Ok(verdict(alloc, source, k)?.into_bytes()),
     }
 }

@@ -17,7 +17,7 @@ use std::alloc::{AllocError, AllocFailed, Global};
 use thiserror::Error;
 
 /// The version of the program, and the kit that it is proved by.
-const VERSION: &str = "1.0.0 (rattle-kit-13b)";
+const VERSION: &str = "1.0.0 (rattle-kit-13f)";
 
 /// The greatest number that the command line takes.
 pub const MOST: u32 = 65535;
@@ -62,6 +62,10 @@ pub enum Request {
         k: u16,
         format: LintFormat,
     },
+    /// What is known of the program, as a document, where paths have at most k fields.
+    Inspect {
+        k: u16,
+    },
     /// The outcome of a run by whole sections of these threads, each thread with this much fuel.
     Serial {
         fuel: u32,
@@ -104,6 +108,7 @@ pub enum Request {
 #[derive(Clone, Copy, Debug)]
 pub enum Form {
     Listing,
+    Document,
     Certificate,
 }
 
@@ -133,9 +138,9 @@ pub enum UsageFault {
     /// A value of `--format` that is no form of `lint`.
     #[error("error: invalid value '{0}' for '--format': text, json or sarif is wanted\n")]
     LintFormat(String),
-    /// A chart that is wanted as JSON.
-    #[error("error: invalid value 'json' for '--format': with '--chart' text is wanted\n")]
-    ChartFormat,
+    /// JSON where the named option makes a text.
+    #[error("error: invalid value 'json' for '--format': with '--{0}' text is wanted\n")]
+    TextOnly(&'static str),
     /// A growth was refused.
     #[error("out of memory\n")]
     Memory,
@@ -211,7 +216,7 @@ fn compile_command<'a>(alloc: Global) -> Result<Command<'a>, AllocError>
     ensures { IfOk result (λ c. (fields_of c).has_globals ≡ false) }
 {
     let about = "prints the compiled program of the source text";
-    let command = k_command(alloc, "compile", about)?.arg(workers_option(alloc))?;
+    let command = formatted_command(alloc, "compile", about)?.arg(workers_option(alloc))?;
     command.arg(cert_option(alloc))
 }
 
@@ -266,6 +271,8 @@ fn with_inference<'a>(alloc: Global, grammar: Command<'a>) -> Result<Command<'a>
     let grammar = with(grammar, formatted_command(alloc, "explain", explain))?;
     let conflicts = "prints which sections of the source text exclude each other, and where";
     let grammar = with(grammar, formatted_command(alloc, "conflicts", conflicts))?;
+    let inspect = "prints all that is known of the source text, as one JSON document";
+    let grammar = with(grammar, k_command(alloc, "inspect", inspect))?;
     with(grammar, graph_command(alloc))
 }
 
@@ -325,11 +332,12 @@ fn number_of(
 }
 
 /// How the words of `compile` want the program printed.
-fn form_of(options: &ArgMatches<'_>) -> Form {
-    if options.get_flag("cert") {
-        Form::Certificate
-    } else {
-        Form::Listing
+fn form_of(alloc: Global, options: &ArgMatches<'_>) -> Result<Form, UsageFault> {
+    match (options.get_flag("cert"), format_of(alloc, options)?) {
+        (false, Format::Text) => Ok(Form::Listing),
+        (false, Format::Json) => Ok(Form::Document),
+        (true, Format::Text) => Ok(Form::Certificate),
+        (true, Format::Json) => Err(UsageFault::TextOnly("cert")),
     }
 }
 
@@ -365,6 +373,9 @@ fn requested(alloc: Global, name: &str, options: &ArgMatches<'_>) -> Result<Requ
         "lint" => Ok(Request::Lint {
             k: k_of(alloc, options)?,
             format: lint_format_of(alloc, options)?,
+        }),
+        "inspect" => Ok(Request::Inspect {
+            k: k_of(alloc, options)?,
         }),
         "check" => Ok(Request::Check {
             k: k_of(alloc, options)?,
@@ -414,7 +425,7 @@ fn schedule_request(alloc: Global, options: &ArgMatches<'_>) -> Result<Request, 
             format,
         }),
         (true, Format::Text) => Ok(Request::Chart { k, fuel, schedule }),
-        (true, Format::Json) => Err(UsageFault::ChartFormat),
+        (true, Format::Json) => Err(UsageFault::TextOnly("chart")),
     }
 }
 
@@ -430,9 +441,6 @@ fn run_request(alloc: Global, options: &ArgMatches<'_>) -> Result<Request, Usage
 fn compile_request(alloc: Global, options: &ArgMatches<'_>) -> Result<Request, UsageFault> {
     let k = k_of(alloc, options)?;
     let workers = number_of(alloc, options, "workers", DEFAULT_WORKERS)?;
-    Ok(Request::Compile {
-        k,
-        workers,
-        form: form_of(options),
-    })
+    let form = form_of(alloc, options)?;
+    Ok(Request::Compile { k, workers, form })
 }

@@ -4,6 +4,7 @@ pub mod Compiled
 pub mod Explaining
 pub mod Faults
 pub mod GoesOn
+pub mod Graphed
 pub mod Labels
 pub mod Listing
 pub mod ModeTests

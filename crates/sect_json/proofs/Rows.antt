@@ -4,7 +4,9 @@ use Rattle.std.proofs.Common.{◌≤◌, length}
 use Rattle.std.specs.Prelude.{slice_get, Vec}
 use Rattle.std.specs.declared.alloc.Global.{Global}
 use Rattle.std.proofs.lemmas.List.{map-append, take_all, take_more, append_assoc}
+use Rattle.std.proofs.lemmas.List.FromFn.{map-range_with_len_more}
 use Rattle.std.proofs.lemmas.Option.{slice_get_within, get_or_from_slice_get}
+use Rattle.core.specs.List.{range_with_len}
 use Rattle.sect_lemmas.proofs.Elements.{drop_next}
 use Rattle.serde_json.specs.Data.{Data}
 use Rattle.serde_json.specs.View.{view}
@@ -47,3 +49,18 @@ module _ {A : Type 0} (xs : List A) (n : ℕ) (x : A) (at : slice_get xs n ≡ S
 pub map_all : {A : Type 0} (of : A → Data) (xs : List A) (n : ℕ) (values : Vec Value Global) → length xs ≤ n
     → map view values.items ≡ map of (take n xs) → view (Array values) ≡ list (map of xs)
 map_all of xs n values past had = view-Array values ∙ ap list (had ∙ ap (map of) (take_all n xs past))
+
+module _ (of : ℕ → Data) where
+  -- the values of the first numbers, and that of the next
+  pub range_more : (n : ℕ) (values more : List Value) (v : Value) → map view values ≡ map of (range_with_len 0 n)
+      → more ≡ values ++ v ∷ [] → view v ≡ of n → map view more ≡ map of (range_with_len 0 (n + 1))
+  range_more n values more v had pushed is =
+      view_more values more v (of n) pushed is
+      ∙ (ap (λ ds. ds ++ of n ∷ []) had ∙ sym (map-range_with_len_more of 0 n n (omega arith)))
+
+  -- the values of the first numbers are those of all, where there are no more
+  pub range_all : (n count : ℕ) (values : Vec Value Global) → n ≡ count
+      → map view values.items ≡ map of (range_with_len 0 n)
+      → view (Array values) ≡ list (map of (range_with_len 0 count))
+  range_all n count values all had =
+      view-Array values ∙ ap list (had ∙ ap (λ m. map of (range_with_len 0 m)) all)

@@ -1,8 +1,11 @@
 pub mod Values
 pub mod Keys
+pub mod Nodes
 pub mod Objects
+pub mod Compiling
 pub mod Conflicts
 pub mod Outcomes
+pub mod Inspecting
 pub mod Locks
 pub mod Explaining
 pub mod steps

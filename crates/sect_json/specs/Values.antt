@@ -1,5 +1,5 @@
 -- Values of JSON, and the text of a document. Every document is defined by these words.
-use Rattle.std.specs.Prelude.{ℕ, ℤ, ◌+◌, List, [], ◌∷◌, ◌++◌, codes}
+use Rattle.std.specs.Prelude.{◌≡◌, ℕ, ℤ, ◌+◌, List, [], ◌∷◌, ◌++◌, Some, codes, length, slice_get}
 use Rattle.serde_json.specs.Data.{Data, number, array, object, unsigned, Members, no_members, member}
 use Rattle.serde_json.specs.Find.{of_integer}
 use Rattle.serde_json.specs.View.{items_of}
@@ -38,3 +38,8 @@ record_of ms = object (members ms)
 -- a document is its value without blanks, and a line feed
 abbrev pub document_text : Data → List ℕ
 document_text value = compact_text value ++ codes "\n"
+
+-- these are so many values, each told so by its number
+pub record AreTold (IsSo : ℕ → Data → Type 0) (n : ℕ) (values : List Data) : Type 0 where
+  pub many : length values ≡ n
+  pub each : (i : ℕ) (value : Data) → slice_get values i ≡ Some value → IsSo i value

@@ -66,7 +66,7 @@ fn told_section(
 }
 
 /// The chains of a section.
-fn chains_value(
+pub fn chains_value(
     alloc: Global,
     compiled: &Compiled,
     section: u16,

@@ -1,17 +1,22 @@
 //! What commands answer, as JSON: each document is defined as a value, and what is written is that value's text.
 #![tactic(auto)]
 
+mod compiling;
 mod conflicts;
 mod explaining;
+mod inspecting;
 mod keys;
 mod locks;
+mod nodes;
 mod objects;
 mod outcomes;
 mod turns;
 mod writing;
 
+pub use compiling::compiled_document;
 pub use conflicts::conflicts_document;
 pub use explaining::explanation_document;
+pub use inspecting::inspection_document;
 pub use locks::locks_document;
 pub use outcomes::{outcome_document, outcomes_document};
 pub use turns::turns_document;

@@ -60,7 +60,7 @@ fn section_value(alloc: Global, compiled: &Compiled, section: u16) -> Result<Val
 }
 
 /// Locks, in their order.
-fn locks_value(alloc: Global, program: &Program, locks: &[Lock]) -> Result<Value, AllocError>
+pub fn locks_value(alloc: Global, program: &Program, locks: &[Lock]) -> Result<Value, AllocError>
     requires { AreNamed program.now locks.now }
     ensures { IfOk result (λ v. view v ≡ list (map (lock_json program.now.source) locks.now)) }
 {

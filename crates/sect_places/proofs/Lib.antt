@@ -6,6 +6,7 @@ mod Walked
 mod Lists
 mod Expanding
 mod ItemPast
+mod Spanning
 mod Using
 mod NameTokens
 mod Parts

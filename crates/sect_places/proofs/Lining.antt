@@ -6,7 +6,7 @@ use Rattle.std.proofs.lemmas.Option.{slice_get_within, slice_get-get_or}
 use Rattle.sect_front.specs.TreeView.{TreeView}
 use Rattle.sect_front.specs.declared.span.Span.{Span}
 use Rattle.sect_types.specs.Items.{items}
-use Rattle.sect_types.specs.Statements.{Stop}
+use Rattle.sect_types.specs.Statements.{TextView, Stop}
 use Rattle.sect_types.specs.Sections.{SectionView, sections_of}
 use Rattle.sect_types.specs.Programs.{ProgramView}
 use Rattle.sect_types.specs.declared.action.Label.{Label}
@@ -35,20 +35,38 @@ calls_within t (l ∷ ls) [] h k d within = absurd h
 calls_within t (l ∷ ls) (o ∷ os) h zero d within = call_within t o.call h.0.called
 calls_within t (l ∷ ls) (o ∷ os) h (suc k) d within = calls_within t ls os h.1 k d (omega (arith, within))
 
--- the nodes of each section come from items that are there
-pub all_placed : (p : ProgramView) (o : OriginsView) → AreOrigins p o → (count : ℕ) → count ≡ length (items p.source)
-    → (sections : List (List Origin)) → sections ≡ o.sections → All (All (IsPlaced count)) sections
-all_placed p o origins count same sections are k d within i e inside =
-    let there : k < length o.sections = subst (λ (xs : List (List Origin)). k < length xs) are within in
-    let of : slice_get o.sections k ≡ Some (get_or sections k d) =
-    subst (λ (xs : List (List Origin)). slice_get xs k ≡ Some (get_or sections k d)) are
-    (slice_get-get_or sections k d within) in
-    let no_section : SectionView = record { thread = 0; body = Stop } in
-    let section = get_or (sections_of p.texts) k no_section in
-    let found = origins.sections k section (get_or sections k d)
-    (slice_get-get_or (sections_of p.texts) k no_section (omega (arith, there, origins.section_count))) of in
-    record {
-      item = subst (λ n. (get_or (get_or sections k d) i e).item < n) (sym same) (found.within i e inside);
-      call = subst (λ n. IsAmong n (get_or (get_or sections k d) i e).call) (sym same)
-          (calls_within p.source _ (get_or sections k d) found.from i e inside);
-    }
+module _ (p : ProgramView) (count : ℕ) (same : count ≡ length (items p.source)) where
+  -- the nodes of a text come from items that are there
+  text_placed : (text : TextView) (list : List Origin) → AreOriginsOf p.source text list → All (IsPlaced count) list
+  text_placed text list found i e inside = record {
+    item = subst (λ n. (get_or list i e).item < n) (sym same) (found.within i e inside);
+    call = subst (λ n. IsAmong n (get_or list i e).call) (sym same)
+        (calls_within p.source _ list found.from i e inside);
+  }
+
+  -- so do those of each thread
+  pub threads_placed : (o : OriginsView) → AreOrigins p o → (threads : List (List Origin)) → threads ≡ o.threads
+      → All (All (IsPlaced count)) threads
+  threads_placed o origins threads are k d within =
+      let there : k < length o.threads = subst (λ (xs : List (List Origin)). k < length xs) are within in
+      let of : slice_get o.threads k ≡ Some (get_or threads k d) =
+      subst (λ (xs : List (List Origin)). slice_get xs k ≡ Some (get_or threads k d)) are
+      (slice_get-get_or threads k d within) in
+      let text = get_or p.texts k Stop in
+      text_placed text (get_or threads k d) (origins.threads k text (get_or threads k d)
+      (slice_get-get_or p.texts k Stop (omega (arith, there, origins.thread_count))) of)
+
+  -- and those of each section
+  pub sections_placed : (o : OriginsView) → AreOrigins p o → (sections : List (List Origin)) → sections ≡ o.sections
+      → All (All (IsPlaced count)) sections
+  sections_placed o origins sections are k d within =
+      let there : k < length o.sections = subst (λ (xs : List (List Origin)). k < length xs) are within in
+      let of : slice_get o.sections k ≡ Some (get_or sections k d) =
+      subst (λ (xs : List (List Origin)). slice_get xs k ≡ Some (get_or sections k d)) are
+      (slice_get-get_or sections k d within) in
+      let section = get_or (sections_of p.texts) k no_section in
+      text_placed section.body (get_or sections k d) (origins.sections k section (get_or sections k d)
+      (slice_get-get_or (sections_of p.texts) k no_section (omega (arith, there, origins.section_count))) of)
+    where
+      no_section : SectionView
+      no_section = record { thread = 0; body = Stop }

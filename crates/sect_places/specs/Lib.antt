@@ -13,3 +13,4 @@ pub mod NameSpans
 pub mod Declarations
 pub mod steps
 pub mod NodeLines
+pub mod NodeSpans

@@ -76,6 +76,13 @@ impl NodeOrigins {
         self.threads[number as usize].as_slice()
     }
 
+    /// Where the nodes of each thread come from, a section being one node.
+    pub fn threads(&self) -> &[Origins]
+        ensures { result.now ≡ self.now.threads }
+    {
+        self.threads.as_slice()
+    }
+
     /// Where the nodes of each section come from.
     pub fn sections(&self) -> &[Origins]
         ensures { result.now ≡ self.now.sections }

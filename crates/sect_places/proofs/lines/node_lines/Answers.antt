@@ -7,7 +7,7 @@ use Rattle.sect_types.specs.Items.{items}
 use Rattle.sect_places.specs.Positions.{position}
 use Rattle.sect_places.specs.Items.{AreItemSpans}
 use Rattle.sect_places.specs.NodeLines.{node_line, beginnings}
-use Rattle.sect_places.proofs.Lining.{all_placed}
+use Rattle.sect_places.proofs.Lining.{sections_placed}
 use Rattle.sect_places.proofs.lines.node_lines.Goals as goal
 
 pub section_lines-requires : goal.section_lines-requires
@@ -20,8 +20,8 @@ section_lines-requires c =
     ap length (c.as_slice-2.ensures.value ∙ c.in_ok-places.ensures)
     ∙ length-map c.as_slice.result.now (λ (s : Span). position source s.start)
     ∙ ap length c.as_slice.ensures.value in
-    all_placed c.args.program.now c.in_ok-origins.origins c.in_ok-origins.ensures
-    (length c.as_slice-2.result.now) (places ∙ many) c.sections.result.now c.sections.ensures
+    sections_placed c.args.program.now (length c.as_slice-2.result.now) (places ∙ many) c.in_ok-origins.origins
+    c.in_ok-origins.ensures c.sections.result.now c.sections.ensures
 
 pub returns-clause-are : goal.returns-clause-are
 returns-clause-are c =

@@ -1,0 +1,60 @@
+-- Compiled programs as JSON. `compiled_document` cites it.
+use Rattle.std.specs.Prelude.{ℕ, List, [], ◌∷◌, codes, length, map, slice_index_or}
+use Rattle.core.specs.List.{range_with_len}
+use Rattle.serde_json.specs.Data.{Data, string}
+use Rattle.sect_types.specs.Programs.{ProgramView}
+use Rattle.sect_types.specs.Sections.{sections_of}
+use Rattle.sect_emit.specs.Compiled.{CompiledView, program_of}
+use Rattle.sect_emit.specs.Explaining.{section_at}
+use Rattle.sect_emit.specs.Labels.{thread_name}
+use Rattle.sect_emit.specs.declared.plan.Grip.{Grip}
+use Rattle.sect_emit.specs.declared.graphs.Graphed.TheVariants as graphed
+use Rattle.sect_json.specs.Values.{count, list, record_of}
+use Rattle.sect_json.specs.Keys.{key_json, mode_json}
+use Rattle.sect_json.specs.Locks.{lock_json}
+use Rattle.sect_json.specs.Nodes.{nodes_json}
+
+-- a key that is taken, and the mode
+abbrev pub grip_with : Data → Data → Data
+grip_with key mode = record_of ((codes "key", key) ∷ (codes "mode", mode) ∷ [])
+
+abbrev pub grip_json : ProgramView → Grip → Data
+grip_json p g = grip_with (key_json p g.key) (mode_json g.mode)
+
+-- the locks that section i takes
+abbrev pub set_json : CompiledView → ℕ → Data
+set_json c i = list (map (lock_json (program_of c).source) (slice_index_or c.sets i []))
+
+-- the keys that section i takes in every state
+abbrev pub plan_json : CompiledView → ℕ → Data
+plan_json c i = list (map (grip_json (program_of c)) (slice_index_or c.parts i []))
+
+-- a section: its locks, its nodes, the keys that it takes in every state, its number and its thread
+abbrev pub section_with : Data → Data → Data → ℕ → ℕ → Data
+section_with locks nodes plan i t = record_of (
+    (codes "locks", locks)
+    ∷ (codes "nodes", nodes)
+    ∷ (codes "plan", plan)
+    ∷ (codes "section", count i)
+    ∷ (codes "thread", count t) ∷ [])
+
+abbrev pub section_json : CompiledView → ℕ → Data
+section_json c i =
+    section_with (set_json c i) (nodes_json c (graphed.Section i)) (plan_json c i) i (section_at c i).thread
+
+-- a thread: its name, its nodes and its number
+abbrev pub thread_with : List ℕ → Data → ℕ → Data
+thread_with name nodes u =
+    record_of ((codes "name", string name) ∷ (codes "nodes", nodes) ∷ (codes "thread", count u) ∷ [])
+
+abbrev pub thread_json : CompiledView → ℕ → Data
+thread_json c u = thread_with (thread_name (program_of c).source u) (nodes_json c (graphed.Thread u)) u
+
+-- sections and threads, by number
+abbrev pub compiled_with : List Data → List Data → Data
+compiled_with sections threads = record_of ((codes "sections", list sections) ∷ (codes "threads", list threads) ∷ [])
+
+abbrev pub compiled_json : CompiledView → Data
+compiled_json c = compiled_with
+    (map (section_json c) (range_with_len 0 (length (sections_of (program_of c).texts))))
+    (map (thread_json c) (range_with_len 0 (length (program_of c).texts)))

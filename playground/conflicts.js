@@ -26,7 +26,7 @@ export class Conflicts {
         element("button", { type: "button", title: line, onclick: tell }, `${WORDS[pair.meet]} ${meetingText(pair)}`.trim()));
     };
     const numbers = this.page.sections.map((_, number) => number);
-    const heads = numbers.map((number) => `section ${number} (${this.page.sections[number].thread})`);
+    const heads = numbers.map((number) => `section ${number} (${this.page.threads[this.page.sections[number].thread]})`);
     const rows = numbers.map((one) => [element("th", { scope: "row" }, heads[one]), ...numbers.map((other) => cell(one, other))]);
     return into.replaceChildren(said, table("May two sections be in progress at the same time?", [["", ...heads], ...rows]));
   }

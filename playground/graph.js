@@ -1,36 +1,11 @@
 // The control-flow graph of a section: layers by longest path, with the locks that are needed from each step on.
-import { drawn, element, refusal } from "./view.js";
+import { lockText } from "./answers.js";
+import { drawn, element } from "./view.js";
 
 const WIDTH = 230;
 const HEIGHT = 46;
 const ACROSS = 40;
 const DOWN = 34;
-
-/** What `compile` prints of sections: for each the steps with their texts and where they lead. */
-export function graphsOf(lines) {
-  const graphs = [];
-  for (const line of lines) {
-    const section = /^section (\d+) thread (\d+)$/.exec(line);
-    const node = /^node (\d+): (?:(exit)|(.*) -> (\d+)(?:, (\d+))?)$/.exec(line);
-    if (section) graphs.push([]);
-    else if (node) {
-      const [, , exit, text, next, fails] = node;
-      graphs.at(-1).push({ text: exit ?? text, next: exit ? [] : [Number(next), ...(fails ? [Number(fails)] : [])] });
-    }
-  }
-  return graphs;
-}
-
-/** What a certificate says of each step's locks, by section. */
-export function neededAt(lines) {
-  const sections = [];
-  for (const line of lines) {
-    const node = /^node (\d+): ?(.*)$/.exec(line);
-    if (/^section /.test(line)) sections.push([]);
-    else if (node && sections.length) sections.at(-1)[Number(node[1])] = node[2];
-  }
-  return sections;
-}
 
 /** For each step its layer: one more than the lowest of those that lead to it, edges back left out. */
 export function layersOf(graph) {
@@ -61,23 +36,20 @@ export class Graph {
     this.section = 0;
   }
 
-  async show(into) {
-    const listing = await this.page.ask("compile", "--k", this.page.k);
-    if (listing.status) return into.replaceChildren(refusal(listing));
-    const certificate = await this.page.ask("compile", "--cert", "--k", this.page.k);
-    this.graphs = graphsOf(listing.lines);
-    this.needed = neededAt(certificate.lines);
+  show(into) {
+    if (this.page.isRefused(into)) return undefined;
     this.into = into;
-    if (!this.graphs.length) return into.replaceChildren(element("p", {}, "There is no section in this program."));
-    this.section = Math.min(this.section, this.graphs.length - 1);
+    const count = this.page.sections.length;
+    if (!count) return into.replaceChildren(element("p", {}, "There is no section in this program."));
+    this.section = Math.min(this.section, count - 1);
     return this.draw();
   }
 
   draw() {
     const choose = (event) => { this.section = Number(event.target.value); this.draw(); };
-    const options = this.graphs.map((_, number) => element("option", {
+    const options = this.page.sections.map((_, number) => element("option", {
       value: number, ...(number === this.section ? { selected: "" } : {}),
-    }, `section ${number} in thread ${this.page.sections[number].thread}`));
+    }, this.page.titleOf(number)));
     this.into.replaceChildren(element("div", { class: "controls" },
       element("label", {}, "of ", element("select", { id: "section", onchange: choose }, ...options)),
       element("span", {}, "A full line goes on, or the test holds; a broken one where it doesn't. Below each step: the locks needed from there on.")),
@@ -85,7 +57,7 @@ export class Graph {
   }
 
   picture() {
-    const graph = this.graphs[this.section];
+    const graph = this.page.sections[this.section].nodes;
     const places = placesOf(graph);
     const width = Math.max(...places.map(({ x }) => x)) + WIDTH + 70;
     const height = Math.max(...places.map(({ y }) => y)) + HEIGHT + 20;
@@ -109,10 +81,9 @@ export class Graph {
     return drawn("g", {}, line, ...(label ? [label] : []));
   }
 
-  box({ text }, node, { x, y }) {
-    const { steps } = this.page.sections[this.section];
-    const light = () => this.page.editor.light([steps[node]].filter(Boolean));
-    const needed = this.needed[this.section]?.[node] ?? "";
+  box({ text, needs }, node, { x, y }) {
+    const light = () => this.page.lightNodes(this.section, [node]);
+    const needed = needs.map(lockText).join(", ") || "none";
     const key = (event) => { if (event.key === "Enter" || event.key === " ") { event.preventDefault(); light(); } };
     return drawn("g", { tabindex: 0, role: "button", onclick: light, onkeydown: key, "aria-label": `step ${node}: ${text}, needs ${needed}` },
       drawn("title", {}, `${text}\n${needed}`),

@@ -1,16 +1,16 @@
 // The locks of each section, and for each the chain of steps from the section's entry to where it is needed.
 import { lockText } from "./answers.js";
-import { element, refusal } from "./view.js";
+import { element } from "./view.js";
 
-/** What a document of `explain` says: of each section its locks, and of each lock its steps. */
-export function explained({ sections }) {
-  return sections.map(({ section, chains }) => ({
+/** The locks of a section, and the steps of each. */
+export function explained({ section, chains }) {
+  return {
     number: section,
     locks: chains.map(({ steps }) => ({
       name: lockText(steps[0].lock),
       steps: steps.map(({ node, text, lock }) => ({ node, text, lock: lockText(lock) })),
     })),
-  }));
+  };
 }
 
 export class Locks {
@@ -20,10 +20,9 @@ export class Locks {
     this.chosen = null;
   }
 
-  async show(into) {
-    const answer = await this.page.askDocument("explain", "--k", this.page.k);
-    if (answer.status) return into.replaceChildren(refusal(answer));
-    this.sections = explained(answer.document);
+  show(into) {
+    if (this.page.isRefused(into)) return undefined;
+    this.sections = this.page.sections.map(explained);
     this.into = into;
     if (this.chosen && !this.lock(this.chosen)) this.chosen = null;
     return this.draw();
@@ -37,14 +36,12 @@ export class Locks {
   choose(section, lock) {
     this.chosen = { section, lock };
     this.draw();
-    const { steps } = this.page.sections[section];
-    const pieces = this.lock(this.chosen).steps.map(({ node }) => steps[node]).filter(Boolean);
-    this.page.editor.light(pieces);
+    this.page.lightNodes(section, this.lock(this.chosen).steps.map(({ node }) => node));
   }
 
   draw() {
     const parts = this.sections.map((section) => element("div", {},
-      element("h2", {}, `section ${section.number} in thread ${this.page.sections[section.number].thread}`),
+      element("h2", {}, this.page.titleOf(section.number)),
       section.locks.length ? this.chips(section) : element("p", {}, "no lock is needed")));
     if (!parts.length) parts.push(element("p", {}, "There is no section in this program."));
     if (this.chosen) parts.push(this.chain());
@@ -62,11 +59,10 @@ export class Locks {
   chain() {
     const { section } = this.chosen;
     const lock = this.lock(this.chosen);
-    const { steps } = this.page.sections[section];
     return element("div", { class: "chain" }, element("h2", {}, `why section ${section} needs ${lock.name}`),
       element("p", {}, "From the entry to the step that needs it, with what the lock is called there:"),
       element("ol", { start: 0 }, ...lock.steps.map(({ node, text, lock: name }) => element("li", {},
-        element("button", { type: "button", onclick: () => this.page.editor.light([steps[node]].filter(Boolean)) }, text),
+        element("button", { type: "button", onclick: () => this.page.lightNodes(section, [node]) }, text),
         ` needs ${name}`))));
   }
 }

@@ -1,5 +1,5 @@
 // The page: the program's text on the left, what sectc says of it on the right.
-import { documentOf } from "./answers.js";
+import { documentOf, lockText } from "./answers.js";
 import { Conflicts } from "./conflicts.js";
 import { Editor } from "./editor.js";
 import { Graph } from "./graph.js";
@@ -7,8 +7,7 @@ import { Locks } from "./locks.js";
 import { Outcomes } from "./outcomes.js";
 import { Schedule } from "./schedule.js";
 import { Sectc, Stopped } from "./sectc.js";
-import { sectionsOf } from "./syntax.js";
-import { element } from "./view.js";
+import { element, refusal } from "./view.js";
 
 const WAIT = 10;
 
@@ -19,6 +18,7 @@ class Page {
     this.views = [Locks, Graph, Conflicts, Schedule, Outcomes].map((View) => new View(this));
     this.view = this.views[0];
     this.sections = [];
+    this.threads = [];
     this.version = 0;
   }
 
@@ -50,7 +50,7 @@ class Page {
     const begun = performance.now();
     this.tell("at work");
     try {
-      const answer = await this.ask("locks", "--k", this.k);
+      const answer = await this.ask("inspect", "--k", this.k);
       if (version !== this.version) return;
       await this.judge(answer);
       this.tell(`answered in ${Math.round(performance.now() - begun)} ms`);
@@ -71,33 +71,50 @@ class Page {
     const faults = document.getElementById("faults");
     faults.classList.toggle("bad", answer.status !== 0);
     this.editor.clearMarks();
-    this.sections = [];
-    faults.textContent = answer.status ? answer.text.trim() : "";
     this.editor.underline([]);
-    if (answer.status) {
-      await this.showReport(faults);
-      return;
-    }
-    this.sections = sectionsOf(this.editor.text);
-    answer.lines.forEach((line, number) => {
+    this.answer = answer;
+    const { sections, threads, span } = this.documentOf(answer);
+    this.sections = sections ?? [];
+    this.threads = (threads ?? []).map(({ name }) => name);
+    const report = await this.ask("lint", "--k", this.k);
+    faults.textContent = report.text.trimEnd();
+    if (span) this.editor.underline([this.piece(span)]);
+    this.sections.forEach(({ locks, place }, number) => {
+      const set = locks.map(lockText).join(", ") || "none";
       const click = () => this.open(this.views[0], () => this.views[0].choose(number, 0));
-      this.editor.mark(this.sections[number].start, line.replace(/^section /, ""), line, click);
+      this.editor.mark(this.piece(place).start, `${number}: ${set}`, `section ${number}: ${set}`, click);
     });
   }
 
-  /** Shows what `lint` says of the mistake, and underlines what it marks. */
-  async showReport(faults) {
-    const report = await this.ask("lint", "--k", this.k);
-    const place = / --> (\d+):(\d+)\n/.exec(report.text);
-    if (!place) return;
-    faults.textContent = report.text.trimEnd();
-    const start = this.editor.placeOf(Number(place[1]), Number(place[2]));
-    const [, carets] = /\n *\|[ \t]*(\^+)/.exec(report.text);
-    this.editor.underline([{ start, end: Math.min(start + carets.length, this.editor.text.length) }]);
+  /** What is known of the text, or the mistake for which it is refused, or nothing where the options are refused. */
+  documentOf({ text }) {
+    return text.startsWith("{") ? documentOf(text) : {};
+  }
+
+  /** Whether the text is refused, which is then shown. */
+  isRefused(into) {
+    if (this.answer.status) into.replaceChildren(refusal({ text: document.getElementById("faults").textContent }));
+    return this.answer.status !== 0;
+  }
+
+  /** A section as it is called above what is told of it. */
+  titleOf(number) {
+    return `section ${number} in thread ${this.threads[this.sections[number].thread]}`;
+  }
+
+  /** The piece of the text between two places. */
+  piece({ start, end }) {
+    return { start: this.editor.placeOf(start.line, start.column), end: this.editor.placeOf(end.line, end.column) };
+  }
+
+  /** Lights up the statements that nodes of a section come from; of a procedure's, the call. */
+  lightNodes(section, numbers) {
+    const places = numbers.map((number) => this.sections[section].nodes[number].place);
+    this.editor.light(places.map(({ call, statement }) => call ?? statement).filter(Boolean).map((span) => this.piece(span)));
   }
 
   lightSections(numbers) {
-    this.editor.light(numbers.map((number) => this.sections[number]));
+    this.editor.light(numbers.map((number) => this.piece(this.sections[number].place)));
   }
 
   async open(view, then) {

@@ -2,7 +2,6 @@
 import { keyText, outcomeLines } from "./answers.js";
 import { element, refusal, table } from "./view.js";
 import { picture } from "./store.js";
-import { threadsOf } from "./syntax.js";
 
 const MOST = 2000;
 
@@ -39,7 +38,9 @@ export class Schedule {
     const answer = await this.page.askDocument(...this.words(this.turns.slice(0, this.at)));
     if (answer.status) return into.replaceChildren(refusal(answer));
     this.run = answer.document;
-    this.threads = threadsOf(this.page.editor.text);
+    this.threads = this.page.threads;
+    const [command, ...words] = this.words(this.turns.slice(0, this.at));
+    this.chart = (await this.page.ask(command, "--chart", ...words)).text;
     return this.draw();
   }
 
@@ -98,7 +99,8 @@ export class Schedule {
       : `${this.threads[this.turns[this.at - 1]]} waits, or has ended`;
     this.into.replaceChildren(this.turnControls(), this.timeControls(),
       element("p", { class: "events", "aria-live": "polite", id: "told" }, `turn ${this.at - 1}: ${told}`),
-      this.keys(made), element("pre", {}, outcomeLines(this.run.outcome).join("\n")), picture(this.run.outcome.objects));
+      this.keys(made), element("pre", { class: "chart", tabindex: 0, "aria-label": "Who waits for whom" }, this.chart),
+      element("pre", {}, outcomeLines(this.run.outcome).join("\n")), picture(this.run.outcome.objects));
   }
 
   turnControls() {

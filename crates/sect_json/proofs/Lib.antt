@@ -1,6 +1,8 @@
 mod Plain
+mod PlainCompiling
 mod PlainConflicts
 mod PlainExplaining
+mod PlainInspecting
 mod PlainKeys
 mod PlainLocks
 mod PlainObjects

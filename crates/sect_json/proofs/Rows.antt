@@ -1,6 +1,6 @@
 -- Lists of values that are made one by one.
 use Rattle.std.proofs.Common.{◌≡◌, ℕ, ◌+◌, List, [], ◌∷◌, ◌++◌, map, take, drop, Some, sym, ap, ◌∙◌}
-use Rattle.std.proofs.Common.{◌≤◌, length}
+use Rattle.std.proofs.Common.{◌≤◌, length, length-append, refl, subst, arith, inl, inr}
 use Rattle.std.specs.Prelude.{slice_get, Vec}
 use Rattle.std.specs.declared.alloc.Global.{Global}
 use Rattle.std.proofs.lemmas.List.{map-append, take_all, take_more, append_assoc}
@@ -12,7 +12,8 @@ use Rattle.serde_json.specs.Data.{Data}
 use Rattle.serde_json.specs.View.{view}
 use Rattle.serde_json.specs.declared.value.Value.{Value, Array}
 use Rattle.serde_json.proofs.Views.{view-Array}
-use Rattle.sect_json.specs.Values.{list, by_place}
+use Rattle.sect_lemmas.proofs.Places.{pushed_at}
+use Rattle.sect_json.specs.Values.{list, by_place, AreTold}
 
 -- one value more
 pub view_more : (values more : List Value) (v : Value) (d : Data) → more ≡ values ++ v ∷ [] → view v ≡ d
@@ -64,3 +65,22 @@ module _ (of : ℕ → Data) where
       → view (Array values) ≡ list (map of (range_with_len 0 count))
   range_all n count values all had =
       view-Array values ∙ ap list (had ∙ ap (λ m. map of (range_with_len 0 m)) all)
+
+module _ (IsSo : ℕ → Data → Type 0) where
+  -- no value
+  pub told_none : AreTold IsSo 0 []
+  told_none = record {
+    many = refl;
+    each = λ i value at. absurd (let w = slice_get_within [] i value at in omega (arith, w));
+  }
+
+  -- one value more, told so by the next number
+  pub told_more : (n : ℕ) (values more : List Data) (v : Data) → AreTold IsSo n values → IsSo n v
+      → more ≡ values ++ v ∷ [] → AreTold IsSo (n + 1) more
+  told_more n values more v had next pushed = subst (AreTold IsSo (n + 1)) (sym pushed) (record {
+    many = omega (arith, length-append values (v ∷ []), had.many);
+    each = λ i value at. elim (pushed_at values v value i at) [
+      | inl is ↦ subst (IsSo i) is.1 (subst (λ (m : ℕ). IsSo m v) (sym (is.0 ∙ had.many)) next)
+      | inr before ↦ had.each i value before
+    ];
+  })

@@ -1,5 +1,5 @@
 -- What is known of a program, as JSON. `inspection_document` cites it.
-use Rattle.std.specs.Prelude.{◌≡◌, ℕ, ◌+◌, List, [], ◌∷◌, Option, Some, None, codes, length, map, option_map, slice_get}
+use Rattle.std.specs.Prelude.{◌≡◌, ℕ, ◌+◌, List, [], ◌∷◌, Option, Some, None, codes, length, map, slice_get}
 use Rattle.std.specs.Prelude.{slice_index_or}
 use Rattle.core.specs.List.{range_with_len}
 use Rattle.serde_json.specs.Data.{Data, null, boolean, string}
@@ -26,7 +26,7 @@ use Rattle.sect_json.specs.Values.{count, list, by_place, record_of, document_te
 use Rattle.sect_json.specs.Compiling.{set_json, plan_json, thread_with}
 use Rattle.sect_json.specs.Explaining.{chain_json}
 use Rattle.sect_json.specs.Locks.{lock_json}
-use Rattle.sect_json.specs.Nodes.{next_json}
+use Rattle.sect_json.specs.Nodes.{next_at}
 
 -- bytes of the text, where there are some
 abbrev pub bytes_json : List ℕ → Option Span → Data
@@ -50,7 +50,12 @@ abbrev pub origin_json : List ℕ → List NodeSpan → ℕ → Data
 origin_json source spans n =
     origin_with (bytes_json source (call_of (slice_get spans n))) (bytes_json source (place_of (slice_get spans n)))
 
--- a node of a thread: where control goes on, what it does, and where it comes from
+-- where the nodes of a graph come from
+abbrev pub spans_at : NodeSpansView → Graphed → List NodeSpan
+spans_at v (graphed.Thread u) = slice_index_or v.threads u []
+spans_at v (graphed.Section i) = slice_index_or v.sections i []
+
+-- a node of a thread: where control goes on, where it comes from, and what it does
 abbrev pub thread_node_with : Data → ℕ → Data → List ℕ → Data
 thread_node_with next n origin text = record_of (
     (codes "next", next)
@@ -58,11 +63,10 @@ thread_node_with next n origin text = record_of (
     ∷ (codes "place", origin)
     ∷ (codes "text", string text) ∷ [])
 
-abbrev pub thread_node_json : CompiledView → List ℕ → List NodeSpan → ℕ → ℕ → Data
-thread_node_json c source spans u n =
+abbrev pub thread_node_json : CompiledView → List ℕ → NodeSpansView → ℕ → ℕ → Data
+thread_node_json c source v u n =
     let of = graphed.Thread u in
-    thread_node_with (next_json (option_map (λ x. x.next) (slice_get (graphed_nodes c of) n))) n
-    (origin_json source spans n) (graphed_deed c of n)
+    thread_node_with (next_at c of n) n (origin_json source (spans_at v of) n) (graphed_deed c of n)
 
 -- a node of a section: beside these the locks that are needed from there on
 abbrev pub section_node_with : Data → Data → ℕ → Data → List ℕ → Data
@@ -73,12 +77,11 @@ section_node_with needs next n origin text = record_of (
     ∷ (codes "place", origin)
     ∷ (codes "text", string text) ∷ [])
 
-abbrev pub section_node_json : CompiledView → List ℕ → List NodeSpan → ℕ → ℕ → List Lock → Data
-section_node_json c source spans i n needed =
+abbrev pub section_node_json : CompiledView → List ℕ → NodeSpansView → ℕ → ℕ → List Lock → Data
+section_node_json c source v i n needed =
     let of = graphed.Section i in
-    section_node_with (list (map (lock_json (program_of c).source) needed))
-    (next_json (option_map (λ x. x.next) (slice_get (graphed_nodes c of) n))) n
-    (origin_json source spans n) (graphed_deed c of n)
+    section_node_with (list (map (lock_json (program_of c).source) needed)) (next_at c of n) n
+    (origin_json source (spans_at v of) n) (graphed_deed c of n)
 
 -- whether a section is marked
 abbrev pub is_all : Locking → Data
@@ -113,7 +116,7 @@ section_json c source v i needed chains = section_with
       all = is_all (slice_index_or (program_of c).lockings i locking.Inferred);
       chains = list (map (chain_json c i) chains);
       locks = set_json c i;
-      nodes = list (by_place (section_node_json c source (slice_index_or v.sections i []) i) 0 needed);
+      nodes = list (by_place (section_node_json c source v i) 0 needed);
       place = span_json source (slice_index_or v.heads i no_span);
       plan = plan_json c i;
     })
@@ -132,7 +135,7 @@ pub record IsSectionInspected (c : CompiledView) (source : List ℕ) (v : NodeSp
 -- a thread: its name, its nodes and its number
 abbrev pub thread_json : CompiledView → List ℕ → NodeSpansView → ℕ → Data
 thread_json c source v u = thread_with (thread_name (program_of c).source u)
-    (list (map (thread_node_json c source (slice_index_or v.threads u []) u)
+    (list (map (thread_node_json c source v u)
     (range_with_len 0 (length (graphed_nodes c (graphed.Thread u)) + 1))))
     u
 

@@ -21,9 +21,11 @@ abbrev pub node_with : Data → ℕ → List ℕ → Data
 node_with next n text =
     record_of ((codes "next", next) ∷ (codes "node", count n) ∷ (codes "text", string text) ∷ [])
 
+abbrev pub next_at : CompiledView → Graphed → ℕ → Data
+next_at c of n = next_json (option_map (λ x. x.next) (slice_get (graphed_nodes c of) n))
+
 abbrev pub node_json : CompiledView → Graphed → ℕ → Data
-node_json c of n = node_with (next_json (option_map (λ x. x.next) (slice_get (graphed_nodes c of) n))) n
-    (graphed_deed c of n)
+node_json c of n = node_with (next_at c of n) n (graphed_deed c of n)
 
 -- all nodes of a graph, by number, the exit last
 abbrev pub nodes_json : CompiledView → Graphed → Data

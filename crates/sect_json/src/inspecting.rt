@@ -1,34 +1,31 @@
 //! What is known of a program, as JSON.
 
-ghost use Rattle.std.specs.Prelude.{◌≡◌, ◌<◌, ◌+◌, ℕ, List, Some, [], IfOk, length, map, slice_get, slice_index_or};
+ghost use Rattle.std.specs.Prelude.{◌≡◌, ◌<◌, ◌+◌, ℕ, List, Some, All, IfOk, length, map, slice_get, slice_index_or};
 ghost use Rattle.std.specs.String.{string_bytes};
 ghost use Rattle.core.specs.List.{range_with_len};
 ghost use Rattle.serde_json.specs.View.{view};
-ghost use Rattle.sect_front.specs.FaultPlaces.{IsWithin};
 ghost use Rattle.sect_front.specs.Front.{IsSpelled};
-ghost use Rattle.sect_front.specs.declared.span.Span.{Span as ASpan};
-ghost use Rattle.sect_infer.specs.Sets.{AreNeeded};
+ghost use Rattle.sect_front.specs.declared.tree.Locking.TheVariants.{Inferred};
 ghost use Rattle.sect_types.specs.Sections.{sections_of};
-ghost use Rattle.sect_graph.specs.Layout.{flow_nodes};
-ghost use Rattle.sect_names.specs.Needed.{end_of};
 ghost use Rattle.sect_names.specs.Printing.{AreNamed};
 ghost use Rattle.sect_names.specs.declared.lock.Lock.{Lock as ALock};
-ghost use Rattle.sect_places.specs.declared.origin_spans.NodeSpan.{NodeSpan as ANodeSpan};
-ghost use Rattle.sect_places.specs.NodeSpans.{IsNodeWithin};
+ghost use Rattle.sect_places.specs.NodeSpans.{IsCallWithin, IsNodeWithin};
+ghost use Rattle.sect_lint.specs.Json.{span_json};
 ghost use Rattle.sect_emit.specs.Compiled.{program_of};
-ghost use Rattle.sect_emit.specs.Explaining.{section_at};
-ghost use Rattle.sect_emit.specs.Graphed.{graphed_nodes};
+ghost use Rattle.sect_emit.specs.Graphed.{IsThere, graphed_nodes, graphed_deed};
 ghost use Rattle.sect_emit.specs.declared.graphs.Graphed.TheVariants as graphed;
+ghost use Rattle.sect_json.specs.Nodes.{next_at};
 ghost use Rattle.sect_json.specs.Values.{list, by_place, AreTold};
-ghost use Rattle.sect_json.specs.Inspecting.{bytes_json, origin_with, origin_json, thread_node_with, thread_node_json};
-ghost use Rattle.sect_json.specs.Inspecting.{section_node_with, section_node_json, is_all, section_with};
-ghost use Rattle.sect_json.specs.Inspecting.{IsSectionInspected, thread_json, inspection_with, IsInspectionDocument};
+ghost use Rattle.sect_json.specs.Inspecting.{bytes_json, origin_with, origin_json, spans_at, thread_node_with};
+ghost use Rattle.sect_json.specs.Inspecting.{thread_node_json, section_node_with, section_node_json, is_all};
+ghost use Rattle.sect_json.specs.Inspecting.{section_with, IsSectionInspected, thread_json, inspection_with};
+ghost use Rattle.sect_json.specs.Inspecting.{IsInspectionDocument};
 ghost use Rattle.sect_json.specs.steps.Inspected.{IsInspected, section_told};
 
 use crate::compiling::{plan_value, set_value, told_thread};
 use crate::explaining::chains_value;
 use crate::locks::locks_value;
-use crate::nodes::{next_value, successors};
+use crate::nodes::next_value;
 use crate::writing::document;
 use sect_emit::{
     Compiled, Graphed, graphed_flow, put_graphed_node, put_thread_name, section_chains,
@@ -37,6 +34,7 @@ use sect_emit::{
 use sect_front::{Locking, Span};
 use sect_infer::Locks;
 use sect_lint::span_value;
+use sect_names::Lock;
 use sect_places::{NodeSpan, NodeSpans, node_spans};
 use serde_json::{Value, json};
 use std::alloc::{AllocError, Global};
@@ -166,39 +164,92 @@ fn section_nodes(
     requires many { length locks.now.at ≡ length (graphed_nodes of.compiled.now (graphed.Section section)) + 1 }
     requires named { (node : ℕ) (needed : List ALock) → slice_get locks.now.at node ≡ Some needed
         → AreNamed (program_of of.compiled.now) needed }
-    ensures { IfOk result (λ v. view v ≡ list (by_place (section_node_json of.compiled.now of.source.now
-        (slice_index_or of.spans.now.sections section []) section) 0 locks.now.at)) }
+    ensures { IfOk result (λ v. view v ≡ list (by_place
+        (section_node_json of.compiled.now of.source.now of.spans.now section) 0 locks.now.at)) }
 {
     let mut values = Vec::new(alloc);
     for node in 0..graphed_flow(of.compiled, Graphed::Section(section)).exit() + 1 {
         let needed = locks.at(alloc, node)?;
-        let needs = locks_value(alloc, of.compiled.scheme().program(), needed.as_slice())?;
-        values.push(section_node(alloc, of, section, node, needs)?)?;
+        values.push(section_node(alloc, of, section, node, needed.as_slice())?)?;
     }
     Ok(Value::Array(values))
 }
 
-/// A node of a section, where this tells of the locks that are needed from there on.
+/// A node of a section, where these locks are needed from there on.
 fn section_node(
     alloc: Global,
     of: Inspected<'_>,
     section: u16,
     node: u16,
-    needs: Value,
+    needed: &[Lock],
 ) -> Result<Value, AllocError>
     requires inspected { IsInspected of }
     requires section { section < length (sections_of (program_of of.compiled.now).texts) }
-    ensures { IfOk result (λ v. (needed : List ALock)
-        → view needs ≡ list (map (lock_json (program_of of.compiled.now).source) needed)
-        → view v ≡ section_node_json of.compiled.now of.source.now
-        (slice_index_or of.spans.now.sections section []) section node needed) }
+    requires named { AreNamed (program_of of.compiled.now) needed.now }
+    ensures { IfOk result (λ v. view v
+        ≡ section_node_json of.compiled.now of.source.now of.spans.now section node needed.now) }
 {
-    let graph = Graphed::Section(section);
-    let place = origin_value(alloc, of.source, of.spans.section(section), node)?;
-    let next = next_value(alloc, successors(of.compiled, graph, node))?;
+    let needs = locks_value(alloc, of.compiled.scheme().program(), needed)?;
+    let told = node_told(alloc, of, Graphed::Section(section), node)?;
+    told_section_node(alloc, needs, told, node)
+}
+
+/// A node of a section with what is told of it.
+fn told_section_node(
+    alloc: Global,
+    needs: Value,
+    told: NodeTold,
+    node: u16,
+) -> Result<Value, AllocError>
+    ensures { IfOk result (λ v. view v
+        ≡ section_node_with (view needs) (view told.next) node (view told.place) (string_bytes told.text)) }
+{
+    let NodeTold { next, place, text } = told;
+    json!(in alloc; {"needs": needs, "next": next, "node": node, "place": place, "text": text})
+}
+
+/// What is told of a node: where control goes on, where it comes from, and what it does.
+#[derive(Drop)]
+struct NodeTold {
+    next: Value,
+    place: Value,
+    text: String,
+}
+
+/// What is told of a node of a graph.
+fn node_told(
+    alloc: Global,
+    of: Inspected<'_>,
+    graph: Graphed,
+    node: u16,
+) -> Result<NodeTold, AllocError>
+    requires inspected { IsInspected of }
+    requires there { IsThere of.compiled.now graph }
+    ensures next { IfOk result (λ told. view told.next ≡ next_at of.compiled.now graph node) }
+    ensures place { IfOk result (λ told. view told.place
+        ≡ origin_json of.source.now (spans_at of.spans.now graph) node) }
+    ensures text { IfOk result (λ told. string_bytes told.text ≡ graphed_deed of.compiled.now graph node) }
+{
     let mut text = String::new(alloc);
     put_graphed_node(&mut text, of.compiled, graph, node)?;
-    json!(in alloc; {"needs": needs, "next": next, "node": node, "place": place, "text": text})
+    Ok(NodeTold {
+        next: next_value(alloc, of.compiled, graph, node)?,
+        place: origin_value(alloc, of.source, spans_of(of, graph), node)?,
+        text,
+    })
+}
+
+/// Where the nodes of a graph come from.
+fn spans_of<'a>(of: Inspected<'a>, graph: Graphed) -> &'a [NodeSpan]
+    requires inspected { IsInspected of }
+    requires there { IsThere of.compiled.now graph }
+    ensures spans { result.now ≡ spans_at of.spans.now graph }
+    ensures within { All (IsNodeWithin (length of.source.now)) result.now }
+{
+    match graph {
+        Graphed::Thread(thread) => of.spans.thread(thread),
+        Graphed::Section(section) => of.spans.section(section),
+    }
 }
 
 /// All threads, by number.
@@ -231,8 +282,8 @@ fn thread_value(alloc: Global, of: Inspected<'_>, thread: u16) -> Result<Value, 
 fn thread_nodes(alloc: Global, of: Inspected<'_>, thread: u16) -> Result<Value, AllocError>
     requires inspected { IsInspected of }
     requires thread { thread < length (program_of of.compiled.now).texts }
-    ensures { IfOk result (λ v. view v ≡ list (map (thread_node_json of.compiled.now of.source.now
-        (slice_index_or of.spans.now.threads thread []) thread)
+    ensures { IfOk result (λ v. view v ≡ list (map
+        (thread_node_json of.compiled.now of.source.now of.spans.now thread)
         (range_with_len 0 (length (graphed_nodes of.compiled.now (graphed.Thread thread)) + 1)))) }
 {
     let mut values = Vec::new(alloc);
@@ -251,14 +302,19 @@ fn thread_node(
 ) -> Result<Value, AllocError>
     requires inspected { IsInspected of }
     requires thread { thread < length (program_of of.compiled.now).texts }
-    ensures { IfOk result (λ v. view v ≡ thread_node_json of.compiled.now of.source.now
-        (slice_index_or of.spans.now.threads thread []) thread node) }
+    ensures { IfOk result (λ v. view v
+        ≡ thread_node_json of.compiled.now of.source.now of.spans.now thread node) }
 {
-    let graph = Graphed::Thread(thread);
-    let place = origin_value(alloc, of.source, of.spans.thread(thread), node)?;
-    let next = next_value(alloc, successors(of.compiled, graph, node))?;
-    let mut text = String::new(alloc);
-    put_graphed_node(&mut text, of.compiled, graph, node)?;
+    let told = node_told(alloc, of, Graphed::Thread(thread), node)?;
+    told_thread_node(alloc, told, node)
+}
+
+/// A node of a thread with what is told of it.
+fn told_thread_node(alloc: Global, told: NodeTold, node: u16) -> Result<Value, AllocError>
+    ensures { IfOk result (λ v. view v
+        ≡ thread_node_with (view told.next) node (view told.place) (string_bytes told.text)) }
+{
+    let NodeTold { next, place, text } = told;
     json!(in alloc; {"next": next, "node": node, "place": place, "text": text})
 }
 
@@ -272,18 +328,33 @@ fn origin_value(
     requires { All (IsNodeWithin (length source.now)) spans.now }
     ensures { IfOk result (λ v. view v ≡ origin_json source.now spans.now node) }
 {
-    let (call, statement) = match spans.get(node as usize) {
-        None => (None, None),
-        Some(span) => (span.call, Some(span.item)),
-    };
-    let call = bytes_value(alloc, source, call)?;
-    let statement = bytes_value(alloc, source, statement)?;
+    match spans.get(node as usize) {
+        None => told_origin(alloc, Value::Null, Value::Null),
+        Some(span) => span_origin(alloc, source, *span),
+    }
+}
+
+/// Where a node comes from that comes from there.
+fn span_origin(alloc: Global, source: &[u8], span: NodeSpan) -> Result<Value, AllocError>
+    requires { IsNodeWithin (length source.now) span }
+    ensures { IfOk result (λ v. view v ≡ origin_with (bytes_json source.now span.call)
+        (span_json source.now span.item)) }
+{
+    let call = bytes_value(alloc, source, span.call)?;
+    let statement = span_value(alloc, source, span.item)?;
+    told_origin(alloc, call, statement)
+}
+
+/// A call and a statement.
+fn told_origin(alloc: Global, call: Value, statement: Value) -> Result<Value, AllocError>
+    ensures { IfOk result (λ v. view v ≡ origin_with (view call) (view statement)) }
+{
     json!(in alloc; {"call": call, "statement": statement})
 }
 
 /// Bytes of the text, where there are some.
 fn bytes_value(alloc: Global, source: &[u8], span: Option<Span>) -> Result<Value, AllocError>
-    requires { (s : ASpan) → span ≡ Some s → IsWithin (length source.now) s }
+    requires { IsCallWithin (length source.now) span }
     ensures { IfOk result (λ v. view v ≡ bytes_json source.now span) }
 {
     match span {

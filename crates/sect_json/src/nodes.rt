@@ -4,7 +4,7 @@ ghost use Rattle.std.specs.Prelude.{◌≡◌, ◌≤◌, Some, IfOk, length, op
 ghost use Rattle.std.specs.String.{string_bytes};
 ghost use Rattle.serde_json.specs.View.{view};
 ghost use Rattle.sect_emit.specs.Graphed.{IsThere, graphed_nodes};
-ghost use Rattle.sect_json.specs.Nodes.{next_json, node_with, node_json, nodes_json};
+ghost use Rattle.sect_json.specs.Nodes.{next_json, next_at, node_with, node_json, nodes_json};
 
 use sect_emit::{Compiled, Graphed, graphed_flow, put_graphed_node};
 use sect_graph::Successors;
@@ -35,12 +35,25 @@ fn node_value(
 {
     let mut text = String::new(alloc);
     put_graphed_node(&mut text, compiled, of, node)?;
-    let next = next_value(alloc, successors(compiled, of, node))?;
+    let next = next_value(alloc, compiled, of, node)?;
     told_node(alloc, next, node, text)
 }
 
+/// The nodes to which control may go on from a node.
+pub fn next_value(
+    alloc: Global,
+    compiled: &Compiled,
+    of: Graphed,
+    node: u16,
+) -> Result<Value, AllocError>
+    requires { IsThere compiled.now of }
+    ensures { IfOk result (λ v. view v ≡ next_at compiled.now of node) }
+{
+    successors_value(alloc, successors(compiled, of, node))
+}
+
 /// Where control goes on from a node, none from the exit.
-pub fn successors(compiled: &Compiled, of: Graphed, node: u16) -> Option<Successors>
+fn successors(compiled: &Compiled, of: Graphed, node: u16) -> Option<Successors>
     requires { IsThere compiled.now of }
     ensures { result ≡ option_map (λ x. x.next) (slice_get (graphed_nodes compiled.now of) node) }
 {
@@ -60,7 +73,7 @@ fn told_node(alloc: Global, next: Value, node: u16, text: String) -> Result<Valu
 }
 
 /// Where control goes on.
-pub fn next_value(alloc: Global, next: Option<Successors>) -> Result<Value, AllocError>
+fn successors_value(alloc: Global, next: Option<Successors>) -> Result<Value, AllocError>
     ensures { IfOk result (λ v. view v ≡ next_json next) }
 {
     match next {

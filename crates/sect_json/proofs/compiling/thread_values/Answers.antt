@@ -1,0 +1,22 @@
+use Rattle.std.proofs.Common.{◌≡◌, length, map, ap, ◌∙◌, arith}
+use Rattle.core.specs.List.{range_with_len}
+use Rattle.sect_types.specs.Programs.{ProgramView}
+use Rattle.sect_names.specs.Schemes.{SchemeView}
+use Rattle.sect_json.specs.Compiling.{thread_json}
+use Rattle.sect_json.proofs.Rows.{range_more}
+use Rattle.sect_json.proofs.compiling.thread_values.Goals as goal
+
+pub loop-thread-preserved : goal.loop-thread-preserved
+loop-thread-preserved c =
+    range_more (thread_json c.args.compiled.now) c.loop-thread.thread c.loop-thread.values.items
+    c.push.new.self.items c.in_ok-thread_value.field-0 c.loop-thread.invariant c.in_ok-push.ensures.items
+    c.in_ok-thread_value.ensures
+
+pub returns : goal.returns
+returns c =
+    let v = c.args.compiled.now in
+    let program = c.program.ensures ∙ ap (λ (s : SchemeView). s.program) c.scheme.ensures in
+    let count = c.thread_count-thread-end.ensures.count ∙ ap (λ (p : ProgramView). length p.texts) program in
+    let all : c.loop-thread.thread ≡ length v.scheme.program.texts =
+    omega (arith, c.loop-thread-test.false, c.loop-thread.auto.thread-end, count) in
+    c.loop-thread.invariant ∙ ap (λ n. map (thread_json v) (range_with_len 0 n)) all

@@ -5,7 +5,7 @@ ghost use Rattle.std.specs.String.{string_bytes};
 ghost use Rattle.sect_graph.specs.Layout.{flow_nodes};
 ghost use Rattle.sect_emit.specs.Compiled.{program_of};
 ghost use Rattle.sect_emit.specs.Graphed.{IsThere, graphed_nodes, graphed_deed, text_at};
-ghost use Rattle.sect_emit.specs.declared.graphs.Graphed.TheVariants.{Thread};
+ghost use Rattle.sect_emit.specs.declared.graphs.GraphOf.TheVariants.{Thread};
 
 use crate::compiled::Compiled;
 use crate::explaining::put_deed;
@@ -17,7 +17,7 @@ use std::alloc::AllocError;
 /// A graph of a compiled program, by the number of its thread or of its section. In that of a thread a section is one
 /// node.
 #[derive(Clone, Copy)]
-pub enum Graphed {
+pub enum GraphOf {
     Thread(u16),
     Section(u16),
 }
@@ -33,13 +33,13 @@ fn thread_flow(compiled: &Compiled, thread: u16) -> &Flow
 }
 
 /// The nodes of a graph, and where control goes on from each.
-pub fn graphed_flow(compiled: &Compiled, of: Graphed) -> &Flow
+pub fn graphed_flow(compiled: &Compiled, of: GraphOf) -> &Flow
     requires { IsThere compiled.now of }
     ensures { result.now ≡ graphed_nodes compiled.now of }
 {
     match of {
-        Graphed::Thread(thread) => thread_flow(compiled, thread),
-        Graphed::Section(section) => section_flow(compiled, section),
+        GraphOf::Thread(thread) => thread_flow(compiled, thread),
+        GraphOf::Section(section) => section_flow(compiled, section),
     }
 }
 
@@ -48,7 +48,7 @@ pub fn graphed_flow(compiled: &Compiled, of: Graphed) -> &Flow
 pub fn put_graphed_node(
     text: &mut String,
     compiled: &Compiled,
-    of: Graphed,
+    of: GraphOf,
     node: u16,
 ) -> Result<(), AllocError>
     requires { IsThere compiled.now of }
@@ -56,8 +56,8 @@ pub fn put_graphed_node(
         ≡ string_bytes text.old ++ graphed_deed compiled.now of node) }
 {
     match of {
-        Graphed::Thread(thread) => put_thread_node(text, compiled, thread, node),
-        Graphed::Section(section) => put_section_node(text, compiled, section, node as u32),
+        GraphOf::Thread(thread) => put_thread_node(text, compiled, thread, node),
+        GraphOf::Section(section) => put_section_node(text, compiled, section, node as u32),
     }
 }
 

@@ -8,8 +8,8 @@ use Rattle.sect_graph.specs.declared.flow.Successors.{Successors}
 use Rattle.sect_graph.specs.declared.flow.Successors.TheVariants.{Next, Branch}
 use Rattle.sect_emit.specs.Compiled.{CompiledView, program_of}
 use Rattle.sect_emit.specs.Graphed.{graphed_nodes}
-use Rattle.sect_emit.specs.declared.graphs.Graphed.{Graphed}
-use Rattle.sect_emit.specs.declared.graphs.Graphed.TheVariants as graphed
+use Rattle.sect_emit.specs.declared.graphs.GraphOf.{GraphOf}
+use Rattle.sect_emit.specs.declared.graphs.GraphOf.TheVariants as graphed
 use Rattle.sect_emit.specs.declared.plan.Grip.{Grip}
 use Rattle.sect_json.specs.Nodes.{next_json, next_at, node_json, nodes_json}
 use Rattle.sect_json.specs.Compiling.{grip_json, set_json, plan_json, section_json, thread_json, compiled_json}
@@ -24,13 +24,13 @@ plain_next (Some (Next n)) = refl
 plain_next (Some (Branch holds fails)) = refl
 
 module _ (c : CompiledView) where
-  pub plain_next_at : (of : Graphed) (n : ℕ) → IsPlain (next_at c of n)
+  pub plain_next_at : (of : GraphOf) (n : ℕ) → IsPlain (next_at c of n)
   plain_next_at of n = plain_next (option_map (λ x. x.next) (slice_get (graphed_nodes c of) n))
 
-  plain_node : (of : Graphed) (n : ℕ) → IsPlain (node_json c of n)
+  plain_node : (of : GraphOf) (n : ℕ) → IsPlain (node_json c of n)
   plain_node of n = or_from _ _ (plain_next_at of n) refl
 
-  plain_nodes : (of : Graphed) → IsPlain (nodes_json c of)
+  plain_nodes : (of : GraphOf) → IsPlain (nodes_json c of)
   plain_nodes of = plain_map (node_json c of) (plain_node of) (range_with_len 0 (length (graphed_nodes c of) + 1))
 
   plain_grip : (g : Grip) → IsPlain (grip_json (program_of c) g)

@@ -13,7 +13,7 @@ use Rattle.sect_places.specs.declared.origin_spans.NodeSpan.{NodeSpan}
 use Rattle.sect_places.specs.NodeSpans.{NodeSpansView}
 use Rattle.sect_emit.specs.Compiled.{CompiledView, program_of}
 use Rattle.sect_emit.specs.Graphed.{graphed_nodes}
-use Rattle.sect_emit.specs.declared.graphs.Graphed.TheVariants as graphed
+use Rattle.sect_emit.specs.declared.graphs.GraphOf.TheVariants as graphed
 use Rattle.sect_json.specs.Values.{AreTold}
 use Rattle.sect_json.specs.Locks.{lock_json}
 use Rattle.sect_json.specs.Inspecting.{bytes_json, place_of, call_of, origin_json, spans_at, thread_node_json}

@@ -8,7 +8,7 @@ use Rattle.sect_emit.specs.Compiled.{CompiledView, program_of}
 use Rattle.sect_emit.specs.Explaining.{section_at}
 use Rattle.sect_emit.specs.Labels.{thread_name}
 use Rattle.sect_emit.specs.declared.plan.Grip.{Grip}
-use Rattle.sect_emit.specs.declared.graphs.Graphed.TheVariants as graphed
+use Rattle.sect_emit.specs.declared.graphs.GraphOf.TheVariants as graphed
 use Rattle.sect_json.specs.Values.{count, list, record_of}
 use Rattle.sect_json.specs.Keys.{key_json, mode_json}
 use Rattle.sect_json.specs.Locks.{lock_json}

@@ -20,8 +20,8 @@ use Rattle.sect_emit.specs.Compiled.{CompiledView, program_of}
 use Rattle.sect_emit.specs.Explaining.{IsChained, section_at}
 use Rattle.sect_emit.specs.Graphed.{graphed_nodes, graphed_deed}
 use Rattle.sect_emit.specs.Labels.{thread_name}
-use Rattle.sect_emit.specs.declared.graphs.Graphed.{Graphed}
-use Rattle.sect_emit.specs.declared.graphs.Graphed.TheVariants as graphed
+use Rattle.sect_emit.specs.declared.graphs.GraphOf.{GraphOf}
+use Rattle.sect_emit.specs.declared.graphs.GraphOf.TheVariants as graphed
 use Rattle.sect_json.specs.Values.{count, list, by_place, record_of, document_text, AreTold}
 use Rattle.sect_json.specs.Compiling.{set_json, plan_json, thread_with}
 use Rattle.sect_json.specs.Explaining.{chain_json}
@@ -51,7 +51,7 @@ origin_json source spans n =
     origin_with (bytes_json source (call_of (slice_get spans n))) (bytes_json source (place_of (slice_get spans n)))
 
 -- where the nodes of a graph come from
-abbrev pub spans_at : NodeSpansView → Graphed → List NodeSpan
+abbrev pub spans_at : NodeSpansView → GraphOf → List NodeSpan
 spans_at v (graphed.Thread u) = slice_index_or v.threads u []
 spans_at v (graphed.Section i) = slice_index_or v.sections i []
 

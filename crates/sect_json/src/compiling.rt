@@ -14,7 +14,7 @@ use crate::keys::{key_value, mode_value};
 use crate::locks::locks_value;
 use crate::nodes::nodes_value;
 use crate::writing::document;
-use sect_emit::{Compiled, Graphed, Grip, put_thread_name, section_thread};
+use sect_emit::{Compiled, GraphOf, Grip, put_thread_name, section_thread};
 use sect_types::Program;
 use serde_json::{Value, json};
 use std::alloc::{AllocError, Global};
@@ -58,7 +58,7 @@ fn section_value(alloc: Global, compiled: &Compiled, section: u16) -> Result<Val
     ensures { IfOk result (λ v. view v ≡ section_json compiled.now section) }
 {
     let locks = set_value(alloc, compiled, section)?;
-    let nodes = nodes_value(alloc, compiled, Graphed::Section(section))?;
+    let nodes = nodes_value(alloc, compiled, GraphOf::Section(section))?;
     let plan = plan_value(alloc, compiled, section)?;
     let thread = section_thread(compiled, section);
     let told = Told { locks, nodes, plan };
@@ -137,7 +137,7 @@ fn thread_value(alloc: Global, compiled: &Compiled, thread: u16) -> Result<Value
     requires { thread < length (program_of compiled.now).texts }
     ensures { IfOk result (λ v. view v ≡ thread_json compiled.now thread) }
 {
-    let nodes = nodes_value(alloc, compiled, Graphed::Thread(thread))?;
+    let nodes = nodes_value(alloc, compiled, GraphOf::Thread(thread))?;
     let mut name = String::new(alloc);
     put_thread_name(&mut name, compiled.scheme().program(), thread)?;
     told_thread(alloc, name, nodes, thread)

@@ -13,7 +13,7 @@ ghost use Rattle.sect_places.specs.NodeSpans.{IsCallWithin, IsNodeWithin};
 ghost use Rattle.sect_lint.specs.Json.{span_json};
 ghost use Rattle.sect_emit.specs.Compiled.{program_of};
 ghost use Rattle.sect_emit.specs.Graphed.{IsThere, graphed_nodes, graphed_deed};
-ghost use Rattle.sect_emit.specs.declared.graphs.Graphed.TheVariants as graphed;
+ghost use Rattle.sect_emit.specs.declared.graphs.GraphOf.TheVariants as graphed;
 ghost use Rattle.sect_json.specs.Nodes.{next_at};
 ghost use Rattle.sect_json.specs.Values.{list, by_place, AreTold};
 ghost use Rattle.sect_json.specs.Inspecting.{bytes_json, origin_with, origin_json, spans_at, thread_node_with};
@@ -28,7 +28,7 @@ use crate::locks::locks_value;
 use crate::nodes::next_value;
 use crate::writing::document;
 use sect_emit::{
-    Compiled, Graphed, graphed_flow, put_graphed_node, put_thread_name, section_chains,
+    Compiled, GraphOf, graphed_flow, put_graphed_node, put_thread_name, section_chains,
     section_locks, section_thread,
 };
 use sect_front::{Locking, Span};
@@ -168,7 +168,7 @@ fn section_nodes(
         (section_node_json of.compiled.now of.source.now of.spans.now section) 0 locks.now.at)) }
 {
     let mut values = Vec::new(alloc);
-    for node in 0..graphed_flow(of.compiled, Graphed::Section(section)).exit() + 1 {
+    for node in 0..graphed_flow(of.compiled, GraphOf::Section(section)).exit() + 1 {
         let needed = locks.at(alloc, node)?;
         values.push(section_node(alloc, of, section, node, needed.as_slice())?)?;
     }
@@ -190,7 +190,7 @@ fn section_node(
         ≡ section_node_json of.compiled.now of.source.now of.spans.now section node needed.now) }
 {
     let needs = locks_value(alloc, of.compiled.scheme().program(), needed)?;
-    let told = node_told(alloc, of, Graphed::Section(section), node)?;
+    let told = node_told(alloc, of, GraphOf::Section(section), node)?;
     told_section_node(alloc, needs, told, node)
 }
 
@@ -220,7 +220,7 @@ struct NodeTold {
 fn node_told(
     alloc: Global,
     of: Inspected<'_>,
-    graph: Graphed,
+    graph: GraphOf,
     node: u16,
 ) -> Result<NodeTold, AllocError>
     requires inspected { IsInspected of }
@@ -240,15 +240,15 @@ fn node_told(
 }
 
 /// Where the nodes of a graph come from.
-fn spans_of<'a>(of: Inspected<'a>, graph: Graphed) -> &'a [NodeSpan]
+fn spans_of<'a>(of: Inspected<'a>, graph: GraphOf) -> &'a [NodeSpan]
     requires inspected { IsInspected of }
     requires there { IsThere of.compiled.now graph }
     ensures spans { result.now ≡ spans_at of.spans.now graph }
     ensures within { All (IsNodeWithin (length of.source.now)) result.now }
 {
     match graph {
-        Graphed::Thread(thread) => of.spans.thread(thread),
-        Graphed::Section(section) => of.spans.section(section),
+        GraphOf::Thread(thread) => of.spans.thread(thread),
+        GraphOf::Section(section) => of.spans.section(section),
     }
 }
 
@@ -287,7 +287,7 @@ fn thread_nodes(alloc: Global, of: Inspected<'_>, thread: u16) -> Result<Value, 
         (range_with_len 0 (length (graphed_nodes of.compiled.now (graphed.Thread thread)) + 1)))) }
 {
     let mut values = Vec::new(alloc);
-    for node in 0..graphed_flow(of.compiled, Graphed::Thread(thread)).exit() + 1 {
+    for node in 0..graphed_flow(of.compiled, GraphOf::Thread(thread)).exit() + 1 {
         values.push(thread_node(alloc, of, thread, node)?)?;
     }
     Ok(Value::Array(values))
@@ -305,7 +305,7 @@ fn thread_node(
     ensures { IfOk result (λ v. view v
         ≡ thread_node_json of.compiled.now of.source.now of.spans.now thread node) }
 {
-    let told = node_told(alloc, of, Graphed::Thread(thread), node)?;
+    let told = node_told(alloc, of, GraphOf::Thread(thread), node)?;
     told_thread_node(alloc, told, node)
 }
 

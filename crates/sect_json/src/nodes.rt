@@ -6,13 +6,13 @@ ghost use Rattle.serde_json.specs.View.{view};
 ghost use Rattle.sect_emit.specs.Graphed.{IsThere, graphed_nodes};
 ghost use Rattle.sect_json.specs.Nodes.{next_json, next_at, node_with, node_json, nodes_json};
 
-use sect_emit::{Compiled, Graphed, graphed_flow, put_graphed_node};
+use sect_emit::{Compiled, GraphOf, graphed_flow, put_graphed_node};
 use sect_graph::Successors;
 use serde_json::{Value, json};
 use std::alloc::{AllocError, Global};
 
 /// The nodes of a graph, by number, the exit last.
-pub fn nodes_value(alloc: Global, compiled: &Compiled, of: Graphed) -> Result<Value, AllocError>
+pub fn nodes_value(alloc: Global, compiled: &Compiled, of: GraphOf) -> Result<Value, AllocError>
     requires { IsThere compiled.now of }
     ensures { IfOk result (λ v. view v ≡ nodes_json compiled.now of) }
 {
@@ -27,7 +27,7 @@ pub fn nodes_value(alloc: Global, compiled: &Compiled, of: Graphed) -> Result<Va
 fn node_value(
     alloc: Global,
     compiled: &Compiled,
-    of: Graphed,
+    of: GraphOf,
     node: u16,
 ) -> Result<Value, AllocError>
     requires { IsThere compiled.now of }
@@ -43,7 +43,7 @@ fn node_value(
 pub fn next_value(
     alloc: Global,
     compiled: &Compiled,
-    of: Graphed,
+    of: GraphOf,
     node: u16,
 ) -> Result<Value, AllocError>
     requires { IsThere compiled.now of }
@@ -53,7 +53,7 @@ pub fn next_value(
 }
 
 /// Where control goes on from a node, none from the exit.
-fn successors(compiled: &Compiled, of: Graphed, node: u16) -> Option<Successors>
+fn successors(compiled: &Compiled, of: GraphOf, node: u16) -> Option<Successors>
     requires { IsThere compiled.now of }
     ensures { result ≡ option_map (λ x. x.next) (slice_get (graphed_nodes compiled.now of) node) }
 {

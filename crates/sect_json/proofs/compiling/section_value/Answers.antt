@@ -1,6 +1,6 @@
 use Rattle.std.proofs.Common.{ap, ◌∙◌}
 use Rattle.std.proofs.lemmas.Result.{IfOk-weaker}
-use Rattle.sect_emit.specs.declared.graphs.Graphed.TheVariants as graphed
+use Rattle.sect_emit.specs.declared.graphs.GraphOf.TheVariants as graphed
 use Rattle.serde_json.specs.View.{view}
 use Rattle.sect_json.specs.Compiling.{section_with, set_json, plan_json}
 use Rattle.sect_json.specs.Nodes.{nodes_json}

@@ -94,7 +94,7 @@ fn list(
 {
     let mut found = Numbers::new(alloc);
     found.insert_all(numbers)?;
-    let mut locks = Vec::new(alloc);
+    let mut locks = Vec::with_capacity(alloc, numbers.len())?;
     for number in order {
         if is_kept(numbering, &found, *number) {
             locks.push(numbering.lock(*number).try_clone()?)?;

@@ -19,6 +19,7 @@ use crate::fault::CertFault;
 use crate::items::Items;
 use crate::lock::{CertBase, CertLock, CertPath};
 use crate::runs::Runs;
+use itoa::Buffer;
 use sect_front::Name;
 use std::alloc::{AllocError, Global};
 
@@ -31,23 +32,23 @@ fn put_word(out: &mut Vec<u8>, word: &[u8]) -> Result<(), AllocError>
 }
 
 /// Writes a number.
-fn put_digits(alloc: Global, out: &mut Vec<u8>, number: usize) -> Result<(), AllocError>
+fn put_digits(out: &mut Vec<u8>, number: usize) -> Result<(), AllocError>
     ensures { OnOk result (out.new.items ≡ out.old.items ++ decimal number) }
 {
-    let digits = format!(in alloc; "{number}")?;
-    out.extend_from_slice(digits.as_bytes())
+    let mut buffer = Buffer::new();
+    out.extend_from_slice(buffer.format(number).as_bytes())
 }
 
 /// Writes a number behind a blank.
-fn put_number(alloc: Global, out: &mut Vec<u8>, number: usize) -> Result<(), AllocError>
+fn put_number(out: &mut Vec<u8>, number: usize) -> Result<(), AllocError>
     ensures { OnOk result (out.new.items ≡ out.old.items ++ 32 ∷ decimal number) }
 {
     out.push(b' ')?;
-    put_digits(alloc, out, number)
+    put_digits(out, number)
 }
 
 /// Writes the base of a path behind a blank.
-fn put_base(alloc: Global, out: &mut Vec<u8>, base: &CertBase) -> Result<(), AllocError>
+fn put_base(out: &mut Vec<u8>, base: &CertBase) -> Result<(), AllocError>
     ensures { OnOk result (out.new.items ≡ out.old.items ++ 32 ∷ base_text base.now) }
 {
     match base {
@@ -55,7 +56,7 @@ fn put_base(alloc: Global, out: &mut Vec<u8>, base: &CertBase) -> Result<(), All
         CertBase::InCall(name, call) => {
             put_word(out, name.as_bytes())?;
             out.push(b'#')?;
-            put_digits(alloc, out, *call as usize)
+            put_digits(out, *call as usize)
         }
     }
 }
@@ -69,10 +70,10 @@ fn put_field(out: &mut Vec<u8>, field: &Name) -> Result<(), AllocError>
 }
 
 /// Writes a path behind a blank.
-fn put_path(alloc: Global, out: &mut Vec<u8>, path: &CertPath) -> Result<(), AllocError>
+fn put_path(out: &mut Vec<u8>, path: &CertPath) -> Result<(), AllocError>
     ensures { OnOk result (out.new.items ≡ out.old.items ++ 32 ∷ path_text path.now) }
 {
-    put_base(alloc, out, &path.base)?;
+    put_base(out, &path.base)?;
     for field in path.fields.as_slice() {
         put_field(out, field)?;
     }
@@ -80,30 +81,20 @@ fn put_path(alloc: Global, out: &mut Vec<u8>, path: &CertPath) -> Result<(), All
 }
 
 /// Writes the words of a lock of a path, each behind a blank.
-fn put_path_lock(
-    alloc: Global,
-    out: &mut Vec<u8>,
-    mode: &[u8],
-    path: &CertPath,
-) -> Result<(), AllocError>
+fn put_path_lock(out: &mut Vec<u8>, mode: &[u8], path: &CertPath) -> Result<(), AllocError>
     ensures { OnOk result (out.new.items ≡ out.old.items ++ spaced (mode.now ∷ path_text path.now ∷ [])) }
 {
     put_word(out, mode)?;
-    put_path(alloc, out, path)
+    put_path(out, path)
 }
 
 /// Writes the words of a lock of a class, each behind a blank.
-fn put_class_lock(
-    alloc: Global,
-    out: &mut Vec<u8>,
-    mode: &[u8],
-    class: u32,
-) -> Result<(), AllocError>
+fn put_class_lock(out: &mut Vec<u8>, mode: &[u8], class: u32) -> Result<(), AllocError>
     ensures { OnOk result (out.new.items ≡ out.old.items ++ spaced (mode.now ∷ codes "class" ∷ decimal class ∷ [])) }
 {
     put_word(out, mode)?;
     put_word(out, b"class")?;
-    put_number(alloc, out, class as usize)
+    put_number(out, class as usize)
 }
 
 /// Writes the words of the lock of everything, each behind a blank.
@@ -115,48 +106,43 @@ fn put_all_lock(out: &mut Vec<u8>) -> Result<(), AllocError>
 }
 
 /// Writes the words of a lock, each behind a blank.
-fn put_lock(alloc: Global, out: &mut Vec<u8>, lock: &CertLock) -> Result<(), AllocError>
+fn put_lock(out: &mut Vec<u8>, lock: &CertLock) -> Result<(), AllocError>
     ensures { OnOk result (out.new.items ≡ out.old.items ++ lock_text lock.now) }
 {
     match lock {
         CertLock::WriteAll => put_all_lock(out),
-        CertLock::ReadPath(path) => put_path_lock(alloc, out, b"R", path),
-        CertLock::WritePath(path) => put_path_lock(alloc, out, b"W", path),
-        CertLock::ReadClass(class) => put_class_lock(alloc, out, b"R", *class),
-        CertLock::WriteClass(class) => put_class_lock(alloc, out, b"W", *class),
-        CertLock::MakeClass(class) => put_class_lock(alloc, out, b"M", *class),
+        CertLock::ReadPath(path) => put_path_lock(out, b"R", path),
+        CertLock::WritePath(path) => put_path_lock(out, b"W", path),
+        CertLock::ReadClass(class) => put_class_lock(out, b"R", *class),
+        CertLock::WriteClass(class) => put_class_lock(out, b"W", *class),
+        CertLock::MakeClass(class) => put_class_lock(out, b"M", *class),
     }
 }
 
 /// Writes a comma and the words of a lock.
-fn put_next_lock(alloc: Global, out: &mut Vec<u8>, lock: &CertLock) -> Result<(), AllocError>
+fn put_next_lock(out: &mut Vec<u8>, lock: &CertLock) -> Result<(), AllocError>
     ensures { OnOk result (out.new.items ≡ out.old.items ++ next_lock lock.now) }
 {
     out.push(b',')?;
-    put_lock(alloc, out, lock)
+    put_lock(out, lock)
 }
 
 /// Writes a list of locks, behind a blank.
-fn put_list(alloc: Global, out: &mut Vec<u8>, locks: &[CertLock]) -> Result<(), AllocError>
+fn put_list(out: &mut Vec<u8>, locks: &[CertLock]) -> Result<(), AllocError>
     ensures { OnOk result (out.new.items ≡ out.old.items ++ spaced (list_words locks.now)) }
 {
     let Some((first, others)) = locks.split_first() else {
         return put_word(out, b"none");
     };
-    put_lock(alloc, out, first)?;
+    put_lock(out, first)?;
     for lock in others {
-        put_next_lock(alloc, out, lock)?;
+        put_next_lock(out, lock)?;
     }
     Ok(())
 }
 
 /// Makes the text of a step's lock of that of the step before, which is mostly the same.
-fn next_lock_text(
-    alloc: Global,
-    text: &mut Vec<u8>,
-    steps: &ChainSteps,
-    index: usize,
-) -> Result<(), AllocError>
+fn next_lock_text(text: &mut Vec<u8>, steps: &ChainSteps, index: usize) -> Result<(), AllocError>
     requires there { index < length steps.now }
     requires before { IsLockBefore steps.now index text.old.items }
     ensures { OnOk result (IsLockBefore steps.now (index + 1) text.new.items) }
@@ -165,7 +151,7 @@ fn next_lock_text(
         return Ok(());
     }
     text.clear();
-    put_lock(alloc, text, steps.lock(index))
+    put_lock(text, steps.lock(index))
 }
 
 /// Writes an arrow behind a blank, but not before the first step.
@@ -179,17 +165,11 @@ fn put_arrow(out: &mut Vec<u8>, index: usize) -> Result<(), AllocError>
 }
 
 /// Writes a step, each word behind a blank, by the text of its lock.
-fn put_step(
-    alloc: Global,
-    out: &mut Vec<u8>,
-    index: usize,
-    node: u32,
-    lock: &[u8],
-) -> Result<(), AllocError>
+fn put_step(out: &mut Vec<u8>, index: usize, node: u32, lock: &[u8]) -> Result<(), AllocError>
     ensures { OnOk result (out.new.items ≡ out.old.items ++ (arrow_before index ++ 32 ∷ (decimal node ++ lock.now))) }
 {
     put_arrow(out, index)?;
-    put_number(alloc, out, node as usize)?;
+    put_number(out, node as usize)?;
     out.extend_from_slice(lock)
 }
 
@@ -199,19 +179,19 @@ fn put_steps(alloc: Global, out: &mut Vec<u8>, steps: &ChainSteps) -> Result<(),
 {
     let mut lock = Vec::new(alloc);
     for index in 0..steps.len() {
-        next_lock_text(alloc, &mut lock, steps, index)?;
-        put_step(alloc, out, index, steps.node(index), lock.as_slice())?;
+        next_lock_text(&mut lock, steps, index)?;
+        put_step(out, index, steps.node(index), lock.as_slice())?;
     }
     Ok(())
 }
 
 /// Writes the line of a node, by the text of its list.
-fn put_node(alloc: Global, out: &mut Vec<u8>, node: usize, list: &[u8]) -> Result<(), AllocError>
+fn put_node(out: &mut Vec<u8>, node: usize, list: &[u8]) -> Result<(), AllocError>
     ensures { OnOk result ((locks : List CertLock) → list.now ≡ spaced (list_words locks)
         → out.new.items ≡ out.old.items ++ fed_line (line.Node node locks)) }
 {
     out.extend_from_slice(b"node")?;
-    put_number(alloc, out, node)?;
+    put_number(out, node)?;
     out.push(b':')?;
     out.extend_from_slice(list)?;
     Ok(out.push(b'\n')?)
@@ -219,7 +199,6 @@ fn put_node(alloc: Global, out: &mut Vec<u8>, node: usize, list: &[u8]) -> Resul
 
 /// Makes the text of a node's list of that of the node before, which is mostly the same.
 fn next_list(
-    alloc: Global,
     text: &mut Vec<u8>,
     nodes: &Runs<Items<CertLock>>,
     node: usize,
@@ -232,7 +211,7 @@ fn next_list(
         return Ok(());
     }
     text.clear();
-    put_list(alloc, text, nodes.at(node).as_slice())
+    put_list(text, nodes.at(node).as_slice())
 }
 
 /// Writes the lines of a section's nodes.
@@ -245,18 +224,18 @@ fn put_nodes(
 {
     let mut list = Vec::new(alloc);
     for node in 0..nodes.len() {
-        next_list(alloc, &mut list, nodes, node)?;
-        put_node(alloc, out, node, list.as_slice())?;
+        next_list(&mut list, nodes, node)?;
+        put_node(out, node, list.as_slice())?;
     }
     Ok(())
 }
 
 /// Writes the line of an entry list.
-fn put_entry(alloc: Global, out: &mut Vec<u8>, locks: &[CertLock]) -> Result<(), AllocError>
+fn put_entry(out: &mut Vec<u8>, locks: &[CertLock]) -> Result<(), AllocError>
     ensures { OnOk result (out.new.items ≡ out.old.items ++ fed_line (line.Entry locks.now)) }
 {
     out.extend_from_slice(b"entry:")?;
-    put_list(alloc, out, locks)?;
+    put_list(out, locks)?;
     Ok(out.push(b'\n')?)
 }
 
@@ -265,7 +244,7 @@ fn put_chain(alloc: Global, out: &mut Vec<u8>, chain: &Chain) -> Result<(), Allo
     ensures { OnOk result (out.new.items ≡ out.old.items ++ chain_text chain.now) }
 {
     out.extend_from_slice(b"chain")?;
-    put_number(alloc, out, chain.lock as usize)?;
+    put_number(out, chain.lock as usize)?;
     out.push(b':')?;
     put_steps(alloc, out, &chain.steps)?;
     Ok(out.push(b'\n')?)
@@ -282,18 +261,13 @@ fn put_chains(alloc: Global, out: &mut Vec<u8>, chains: &[Chain]) -> Result<(), 
 }
 
 /// Writes the first line of a section.
-fn put_head(
-    alloc: Global,
-    out: &mut Vec<u8>,
-    section: usize,
-    nodes: usize,
-) -> Result<(), AllocError>
+fn put_head(out: &mut Vec<u8>, section: usize, nodes: usize) -> Result<(), AllocError>
     ensures { OnOk result (out.new.items ≡ out.old.items ++ fed_line (line.Section section nodes)) }
 {
     out.extend_from_slice(b"section")?;
-    put_number(alloc, out, section)?;
+    put_number(out, section)?;
     out.extend_from_slice(b" nodes")?;
-    put_number(alloc, out, nodes)?;
+    put_number(out, nodes)?;
     Ok(out.push(b'\n')?)
 }
 
@@ -306,9 +280,9 @@ fn put_section(
 ) -> Result<(), AllocError>
     ensures { OnOk result (out.new.items ≡ out.old.items ++ section_text number section.now) }
 {
-    put_head(alloc, out, number, section.nodes.len())?;
+    put_head(out, number, section.nodes.len())?;
     put_nodes(alloc, out, &section.nodes)?;
-    put_entry(alloc, out, section.entry.as_slice())?;
+    put_entry(out, section.entry.as_slice())?;
     put_chains(alloc, out, section.chains.as_slice())
 }
 
@@ -327,14 +301,14 @@ fn put_sections(
 }
 
 /// Writes the lines before the first section.
-fn put_front(alloc: Global, out: &mut Vec<u8>, k: u32, sections: usize) -> Result<(), AllocError>
+fn put_front(out: &mut Vec<u8>, k: u32, sections: usize) -> Result<(), AllocError>
     ensures { OnOk result (out.new.items ≡
         out.old.items ++ (header_text ++ 10 ∷ (fed_line (line.K k) ++ fed_line (line.Sections sections)))) }
 {
     out.extend_from_slice(b"sect-cert 2\nk")?;
-    put_number(alloc, out, k as usize)?;
+    put_number(out, k as usize)?;
     out.extend_from_slice(b"\nsections")?;
-    put_number(alloc, out, sections)?;
+    put_number(out, sections)?;
     Ok(out.push(b'\n')?)
 }
 
@@ -346,7 +320,7 @@ pub fn write_cert(alloc: Global, cert: &Cert) -> Result<Vec<u8>, AllocError>
         (answer : Result Cert CertFault) → Judges text.items answer → Gives cert.now answer) }
 {
     let mut text = Vec::new(alloc);
-    put_front(alloc, &mut text, cert.k, cert.sections.len())?;
+    put_front(&mut text, cert.k, cert.sections.len())?;
     put_sections(alloc, &mut text, cert.sections.as_slice())?;
     text.extend_from_slice(b"end\n")?;
     Ok(text)

@@ -16,13 +16,13 @@ use Rattle.sect_names.specs.Schemes.{SchemeView}
 use Rattle.sect_names.specs.Order.{AreInOrder}
 use Rattle.sect_names.specs.Carrying.{CarriedBack}
 use Rattle.sect_names.specs.Chains.{link, IsGeneratedAt}
-use Rattle.sect_infer.specs.Numberings.{NumberingView, AreNumbers, IsNumbered, Finds, lock_at}
+use Rattle.sect_infer.specs.Numberings.{NumberingView, AreNumbers, IsNumbered, Finds, IsOrderOf, lock_at}
 use Rattle.sect_infer.proofs.shared.Bounding.{named}
 use Rattle.sect_chains.specs.declared.keep.KeptLink.{KeptLink}
 use Rattle.sect_chains.specs.Chains.{StepBefore}
 use Rattle.sect_chains.specs.steps.Keeping.{KeptView, step_of, is_new, keep_one, keep_each}
 use Rattle.sect_chains.specs.steps.Working.{link_of, links_of, nexts_of, IsKept, IsReason}
-use Rattle.sect_chains.specs.steps.Ordering.{CameBefore, AreSorted, AllCameBefore, IsInTime, Adds, IsBelow, IsOrderOf}
+use Rattle.sect_chains.specs.steps.Ordering.{CameBefore, AreSorted, AllCameBefore, IsInTime, Adds, IsBelow}
 use Rattle.sect_chains.proofs.Carrying.{carried_lock}
 use Rattle.sect_chains.proofs.Growing.{grows_one, grows_at, grows_extended, reason_more, links_same, kept_numbers}
 use Rattle.sect_chains.proofs.Growing.{same_link}

@@ -17,11 +17,10 @@ use Rattle.sect_names.specs.Carrying.{Generated, CarriedBack}
 use Rattle.sect_names.specs.Chains.{link, IsGeneratedAt, LinksTo}
 use Rattle.sect_lemmas.proofs.Making.{last_of}
 use Rattle.sect_infer.specs.Numberings.{NumberingView, HasLock, IsNumbered, Finds}
-use Rattle.sect_infer.specs.Numberings.{lock_at}
+use Rattle.sect_infer.specs.Numberings.{lock_at, IsOrderOf}
 use Rattle.sect_infer.proofs.shared.Bounding.{named}
 use Rattle.sect_chains.specs.steps.Keeping.{KeptView, step_of, keep_one, keep_each}
 use Rattle.sect_graph.specs.Predecessors.{AreBefore}
-use Rattle.sect_chains.specs.steps.Ordering.{IsOrderOf}
 use Rattle.sect_chains.specs.steps.Working.{links_of, IsFoundAt, IsKept, Grows, IsGeneratedBy, IsGeneratedBelow}
 use Rattle.sect_chains.proofs.Growing.{grows_none, grows_as, grows_then, grows_at, grows_extended, grows_one}
 use Rattle.sect_chains.proofs.Growing.{grows_each, same_link}

@@ -1,11 +1,13 @@
 //! Steps that are kept, one after another.
 
-ghost use Rattle.std.specs.Prelude.{◌≡◌, ◌<◌, ℕ, length, OnOk};
+ghost use Rattle.std.specs.Prelude.{◌≡◌, ◌<◌, ℕ, List, length, OnOk};
 ghost use Rattle.sect_lemmas.specs.Lists.{Has};
+ghost use Rattle.sect_infer.specs.Numbers.{AreApart};
+ghost use Rattle.sect_infer.specs.Numberings.{AreNumbers, IsOrderOf};
 ghost use Rattle.sect_chains.specs.steps.Keeping.{kept, is_new, keep_one, keep_each};
 
-use sect_infer::{Numbering, Numbers};
-use std::alloc::AllocError;
+use sect_infer::{Numbering, Numbers, in_order};
+use std::alloc::{AllocError, Global};
 
 /// A node, the exit as the number behind the last node's; by its number a lock that is needed from there on; and the
 /// index of the step to which this one links, none where the lock is generated.
@@ -44,7 +46,7 @@ pub fn keep(
 }
 
 /// Finds the locks with these numbers at a node. Their steps are kept in the same way, each with this index.
-pub fn keep_all(
+fn keep_all(
     numbering: &Numbering,
     found: &mut Vec<Numbers>,
     steps: &mut Vec<KeptLink>,
@@ -66,4 +68,34 @@ pub fn keep_all(
         keep(numbering, found, steps, step)?;
     }
     Ok(())
+}
+
+/// Finds the locks with these numbers at a node, in their canonical order. Their steps are kept in the same way, each
+/// with this index.
+#[tactic(auto, using(crate::proofs::Listing::few_in_order))]
+pub fn keep_found(
+    alloc: Global,
+    numbering: &Numbering,
+    found: &mut Vec<Numbers>,
+    steps: &mut Vec<KeptLink>,
+    node: u16,
+    next: Option<usize>,
+    numbers: &Numbers,
+) -> Result<(), AllocError>
+    requires node { node < length found.old.items }
+    requires count { length numbering.now.above ≡ length numbering.now.keys }
+    requires apart { AreApart numbering.now.keys }
+    requires once { AreApart numbers.now }
+    requires numbers { AreNumbers numbering.now.keys numbers.now }
+    ensures { OnOk result ((order : List ℕ) × IsOrderOf numbering.now.keys numbers.now order
+        × (kept found.new.items steps.new.items
+        ≡ keep_each numbering.now.above (kept found.old.items steps.old.items) node next order)) }
+{
+    let members = numbers.members();
+    // Mostly there is one.
+    if members.len() <= 1 {
+        return keep_all(numbering, found, steps, node, next, members);
+    }
+    let order = in_order(alloc, numbering, members)?;
+    keep_all(numbering, found, steps, node, next, order.as_slice())
 }

@@ -3,7 +3,6 @@
 
 mod chain;
 mod keep;
-mod order;
 mod section;
 mod starts;
 mod trail;

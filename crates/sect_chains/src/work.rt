@@ -17,8 +17,7 @@ ghost use Rattle.sect_chains.specs.steps.Working.{IsGeneratedBelow, HasAllGenera
 ghost use Rattle.sect_chains.specs.steps.Ordering.{IsInOrder, AllBefore, AddsTo, LinkBelow, BeginsInOrder};
 ghost use Rattle.sect_graph.specs.Predecessors.{IsAscending};
 
-use crate::keep::{KeptLink, keep, keep_all};
-use crate::order::in_order;
+use crate::keep::{KeptLink, keep, keep_found};
 use sect_graph::Flow;
 use sect_infer::{Numbering, Numbers, carry_one};
 use sect_names::{Link, Lock, Scheme};
@@ -204,14 +203,14 @@ fn carry_to(
         fresh,
         number,
     )?;
-    let numbers = in_order(alloc, &trail.numbering, fresh.members())?;
-    keep_all(
+    keep_found(
+        alloc,
         &trail.numbering,
         &mut trail.found,
         &mut trail.steps,
         node,
         Some(index),
-        numbers.as_slice(),
+        fresh,
     )
 }
 

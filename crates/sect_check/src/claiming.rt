@@ -20,7 +20,7 @@ use std::alloc::Global;
 fn locks_of(alloc: Global, naming: &Naming, list: &[CertLock]) -> Result<Items<Lock>, Unresolved>
     ensures { Resolves result (AllZip (Denotes naming.now.scheme naming.now.thread) list.now) }
 {
-    let mut locks = Vec::new(alloc);
+    let mut locks = Vec::with_capacity(alloc, list.len())?;
     for named in list {
         locks.push(lock_of(alloc, naming, named)?)?;
     }
@@ -90,7 +90,7 @@ fn next_link(
 fn links_of(alloc: Global, naming: &Naming, steps: &ChainSteps) -> Result<Items<Link>, Unresolved>
     ensures { Resolves result (AllZip (DenotesStep naming.now.scheme naming.now.thread) steps.now) }
 {
-    let mut links = Vec::new(alloc);
+    let mut links = Vec::with_capacity(alloc, steps.len())?;
     for index in 0..steps.len() {
         next_link(alloc, naming, steps, index, &mut links)?;
     }

@@ -51,7 +51,7 @@ fn path_of(alloc: Global, program: &Program, path: &Path) -> Result<CertPath, Al
     ensures words { IfOk result (λ words. words ≡ path_words program.now.source path.now) }
     ensures good { IfOk result IsPath }
 {
-    let mut fields = Vec::new(alloc);
+    let mut fields = Vec::with_capacity(alloc, path.fields().len())?;
     for field in path.fields() {
         let name = field_name(program, *field);
         let _facts = name.as_bytes();
@@ -89,7 +89,7 @@ pub fn list_of(
     ensures words { IfOk result (λ list. list ≡ list_words program.now.source locks.now) }
     ensures good { IfOk result (λ list. AllByRecursion IsLock list) }
 {
-    let mut list = Vec::new(alloc);
+    let mut list = Vec::with_capacity(alloc, locks.len())?;
     for lock in locks {
         list.push(lock_of(alloc, program, lock)?)?;
     }
@@ -188,7 +188,7 @@ pub fn chains_of(
     ensures words { IfOk result (λ list. list ≡ chains_words program.now.source 0 chains.now) }
     ensures good { IfOk result (λ list. AllByRecursion IsChain list) }
 {
-    let mut list = Vec::new(alloc);
+    let mut list = Vec::with_capacity(alloc, chains.len())?;
     for lock in 0..chains.len() {
         list.push(chain_of(alloc, program, lock as u32, &chains[lock])?)?;
     }

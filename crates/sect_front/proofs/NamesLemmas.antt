@@ -1,20 +1,22 @@
 -- Lemmas on names.
 use Rattle.std.proofs.Common.{◌≡◌, ℕ, suc, ◌+◌, ◌<◌, ◌≤◌, get_or, eqb, Bool, true, false, not, ◌||◌, ◌&&◌, cond, List}
 use Rattle.std.proofs.Common.{[], ◌∷◌, ◌++◌, map, Option, Some, None, length, replicate, refl, sym, ◌∙◌, ap, arith}
-use Rattle.std.proofs.Common.{length-append, length-drop}
+use Rattle.std.proofs.Common.{length-append, length-drop, true≢false}
 use Rattle.std.proofs.Math.Seq.{take-append_seam}
 use Rattle.std.proofs.lemmas.Bool.{leb-true, le-leb, eq-eqb, and_parts, not-true}
 use Rattle.std.proofs.lemmas.Bool.Decides.{nat_tests}
 use Rattle.std.proofs.lemmas.List.Folds.{length-prefix_len, list_all_at}
 use Rattle.std.proofs.Math.Dec.{leb}
 use Rattle.std.proofs.Math.Bool.{and-false}
-use Rattle.std.specs.List.{list_all, list_any, take_while, prefix_len}
+use Rattle.std.specs.Cmp.{unsigned_Decides}
+use Rattle.std.specs.List.{list_all, list_any, take_while, prefix_len, filter}
 use Rattle.sect_front.specs.declared.token.Token.{Token}
+use Rattle.sect_front.specs.declared.token.Token.TheVariants as token
 use Rattle.std.specs.Str.{bytes_eq}
-use Rattle.std.specs.Prelude.{is_some, is_none, nat_lt, nat_eq}
+use Rattle.std.specs.Prelude.{is_some, is_none, nat_eq, codes}
 use Rattle.sect_front.specs.Names.{IsPadded, zeros_from}
 use Rattle.sect_front.specs.Words.{is_name, is_letter, is_name_byte, is_keyword, begins}
-use Rattle.sect_front.specs.steps.Recognition.{keyword_of, keyword_table, token_beside}
+use Rattle.sect_front.specs.steps.Recognition.{keyword_of, keyword_table, keywords_of, token_beside}
 use Rattle.sect_front.specs.Limits.{most_name_bytes}
 
 -- what a name is
@@ -79,22 +81,51 @@ keyword_free w = go (keyword_of w) (is_keyword w) (keyword_known w)
     go None k h = rw (← h) refl
     go (Some t) k h = rw (← h) refl
 
--- a key of more than one byte is no byte alone
-one_other : (b : ℕ) (key : List ℕ) → nat_lt 1 (length key) ≡ true → bytes_eq (b ∷ []) key ≡ false
-one_other b [] h = cc
-one_other b (c ∷ []) h = cc
-one_other b (c ∷ d ∷ key) h = and-false (nat_eq b c)
+-- bytes of different length differ
+differ : (w key : List ℕ) → (length w ≡ length key → ⊥) → bytes_eq w key ≡ false
+differ [] [] h = absurd (h refl)
+differ [] (k ∷ key) h = refl
+differ (b ∷ w) [] h = refl
+differ (b ∷ w) (k ∷ key) h = rw (differ w key (λ e. h (ap (λ n. suc n) e))) (and-false (nat_eq b k))
 
-one_beside : (b : ℕ) (rows : List (List ℕ × Token)) → list_all (λ r. nat_lt 1 (length r.0)) rows ≡ true
-    → token_beside (b ∷ []) rows ≡ None
-one_beside b [] h = refl
-one_beside b (row ∷ rows) h = let each = and_parts _ _ h in rw (one_other b row.0 each.0) (one_beside b rows each.1)
+-- a word is looked for among the rows whose spellings are as long
+beside_length : (w : List ℕ) (n : ℕ) → length w ≡ n → (rows : List (List ℕ × Token))
+    → token_beside w rows ≡ token_beside w (filter (λ row. nat_eq (length row.0) n) rows)
+beside_length w n e [] = refl
+beside_length w n e (row ∷ rows) =
+    go (nat_eq (length row.0) n) refl (filter (λ r. nat_eq (length r.0) n) rows) (beside_length w n e rows)
+  where
+    go : (b : Bool) → nat_eq (length row.0) n ≡ b → (kept : List (List ℕ × Token))
+        → token_beside w rows ≡ token_beside w kept
+        → cond (bytes_eq w row.0) (Some row.1) (token_beside w rows) ≡ token_beside w (cond b (row ∷ kept) kept)
+    go true long kept h = ap (cond (bytes_eq w row.0) (Some row.1)) h
+    go false long kept h =
+        rw (differ w row.0
+        (λ same. true≢false (sym ((unsigned_Decides (length row.0) n).1 (sym same ∙ e)) ∙ long))) h
 
--- no keyword is one byte
-pub one_byte : (w : List ℕ) → length w ≡ 1 → keyword_of w ≡ None
-one_byte [] h = absurd (omega arith)
-one_byte (b ∷ []) h = one_beside b keyword_table refl
-one_byte (b ∷ c ∷ w) h = absurd (omega arith)
+pub by_length : (w : List ℕ) (n : ℕ) → length w ≡ n → keyword_of w ≡ token_beside w (keywords_of n)
+by_length w n e = beside_length w n e keyword_table
+
+-- one keyword has more than six bytes
+pub long_keyword : (w : List ℕ) → 6 < length w
+    → keyword_of w ≡ cond (bytes_eq w (codes "protected_by")) (Some token.ProtectedBy) None
+long_keyword w long = rw (
+  differ w (codes "record") (λ e. omega (arith, e, long)),
+  differ w (codes "global") (λ e. omega (arith, e, long)),
+  differ w (codes "proc") (λ e. omega (arith, e, long)),
+  differ w (codes "thread") (λ e. omega (arith, e, long)),
+  differ w (codes "int") (λ e. omega (arith, e, long)),
+  differ w (codes "null") (λ e. omega (arith, e, long)),
+  differ w (codes "new") (λ e. omega (arith, e, long)),
+  differ w (codes "print") (λ e. omega (arith, e, long)),
+  differ w (codes "if") (λ e. omega (arith, e, long)),
+  differ w (codes "else") (λ e. omega (arith, e, long)),
+  differ w (codes "while") (λ e. omega (arith, e, long)),
+  differ w (codes "atomic") (λ e. omega (arith, e, long)),
+  differ w (codes "all") (λ e. omega (arith, e, long)),
+  differ w (codes "call") (λ e. omega (arith, e, long)),
+  differ w (codes "class") (λ e. omega (arith, e, long)),
+) refl
 
 -- a short word that is no keyword is a name
 pub short_name : (w : List ℕ) → (begins is_letter w && list_all is_name_byte w) ≡ true → length w ≤ most_name_bytes

@@ -133,6 +133,10 @@ impl Within {
             // What has been read stays where it is until a token is taken.
             Partial::Inside(line) => match advance(line, token) {
                 None => Err(StepError::Unexpected),
+                Some(Move::To(next)) => {
+                    *line = next;
+                    Ok(None)
+                }
                 Some(to) => self.go(alloc, to),
             },
             Partial::InCall(call) => {

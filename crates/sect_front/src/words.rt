@@ -1,11 +1,11 @@
 //! Names, keywords and the bytes that they are made of.
 
-ghost use Rattle.std.specs.Prelude.{◌≡◌, ◌&&◌, drop, length, take_while};
+ghost use Rattle.std.specs.Prelude.{◌≡◌, ◌<◌, ◌&&◌, length, take_while};
 ghost use Rattle.std.specs.List.{list_all};
 ghost use Rattle.std.specs.Str.{bytes_eq};
 ghost use Rattle.sect_front.specs.Words.{is_letter as letter_of, is_digit as digit_of, is_name_byte as name_byte};
 ghost use Rattle.sect_front.specs.Words.{is_name as name_of, begins};
-ghost use Rattle.sect_front.specs.steps.Recognition.{keyword_of, keyword_table, token_beside};
+ghost use Rattle.sect_front.specs.steps.Recognition.{keyword_of, keywords_of, token_beside};
 
 use crate::limits::MOST_NAME_BYTES;
 use crate::token::Token;
@@ -45,57 +45,107 @@ fn is_text(bytes: &[u8], text: &[u8]) -> bool
     bytes == text
 }
 
-/// The keyword that these bytes are.
-#[tactic(auto, using(crate::proofs::NamesLemmas::one_byte))]
-pub fn keyword(word: &[u8]) -> Option<Token>
-    ensures { result ≡ keyword_of word.now }
+/// The keyword of two bytes that these are.
+fn two_bytes(word: &[u8]) -> Option<Token>
+    ensures { result ≡ token_beside word.now (keywords_of 2) }
 {
-    // Many names are one letter, and no keyword is.
-    if word.len() == 1 {
-        None
-    } else if is_text(word, b"record") {
-        Some(Token::Record)
-    } else if is_text(word, b"protected_by") {
-        Some(Token::ProtectedBy)
-    } else if is_text(word, b"global") {
-        Some(Token::Global)
-    } else if is_text(word, b"proc") {
-        Some(Token::Proc)
-    } else if is_text(word, b"thread") {
-        Some(Token::Thread)
-    } else if is_text(word, b"int") {
-        Some(Token::Int)
+    if is_text(word, b"if") {
+        Some(Token::If)
     } else {
-        statement_keyword(word)
+        None
     }
 }
 
-/// The keyword that these bytes are, if it is one of a statement, or `class`.
-fn statement_keyword(word: &[u8]) -> Option<Token>
-    ensures { result ≡ token_beside word.now (drop 6 keyword_table) }
+/// The keyword of three bytes that these are.
+fn three_bytes(word: &[u8]) -> Option<Token>
+    ensures { result ≡ token_beside word.now (keywords_of 3) }
 {
-    if is_text(word, b"null") {
-        Some(Token::Null)
+    if is_text(word, b"int") {
+        Some(Token::Int)
     } else if is_text(word, b"new") {
         Some(Token::New)
-    } else if is_text(word, b"print") {
-        Some(Token::Print)
-    } else if is_text(word, b"if") {
-        Some(Token::If)
-    } else if is_text(word, b"else") {
-        Some(Token::Else)
-    } else if is_text(word, b"while") {
-        Some(Token::While)
-    } else if is_text(word, b"atomic") {
-        Some(Token::Atomic)
     } else if is_text(word, b"all") {
         Some(Token::All)
+    } else {
+        None
+    }
+}
+
+/// The keyword of four bytes that these are.
+fn four_bytes(word: &[u8]) -> Option<Token>
+    ensures { result ≡ token_beside word.now (keywords_of 4) }
+{
+    if is_text(word, b"proc") {
+        Some(Token::Proc)
+    } else if is_text(word, b"null") {
+        Some(Token::Null)
+    } else if is_text(word, b"else") {
+        Some(Token::Else)
     } else if is_text(word, b"call") {
         Some(Token::Call)
+    } else {
+        None
+    }
+}
+
+/// The keyword of five bytes that these are.
+fn five_bytes(word: &[u8]) -> Option<Token>
+    ensures { result ≡ token_beside word.now (keywords_of 5) }
+{
+    if is_text(word, b"print") {
+        Some(Token::Print)
+    } else if is_text(word, b"while") {
+        Some(Token::While)
     } else if is_text(word, b"class") {
         Some(Token::Class)
     } else {
         None
+    }
+}
+
+/// The keyword of six bytes that these are.
+fn six_bytes(word: &[u8]) -> Option<Token>
+    ensures { result ≡ token_beside word.now (keywords_of 6) }
+{
+    if is_text(word, b"record") {
+        Some(Token::Record)
+    } else if is_text(word, b"global") {
+        Some(Token::Global)
+    } else if is_text(word, b"thread") {
+        Some(Token::Thread)
+    } else if is_text(word, b"atomic") {
+        Some(Token::Atomic)
+    } else {
+        None
+    }
+}
+
+/// The keyword of more than six bytes that these are: there is one.
+#[tactic(auto, using(crate::proofs::NamesLemmas::long_keyword))]
+fn many_bytes(word: &[u8]) -> Option<Token>
+    requires { 6 < length word.now }
+    ensures { result ≡ keyword_of word.now }
+{
+    if is_text(word, b"protected_by") {
+        Some(Token::ProtectedBy)
+    } else {
+        None
+    }
+}
+
+/// The keyword that these bytes are.
+#[tactic(auto, using(crate::proofs::NamesLemmas::by_length))]
+pub fn keyword(word: &[u8]) -> Option<Token>
+    ensures { result ≡ keyword_of word.now }
+{
+    match word.len() {
+        0 | 1 => None,
+        2 => two_bytes(word),
+        3 => three_bytes(word),
+        4 => four_bytes(word),
+        5 => five_bytes(word),
+        6 => six_bytes(word),
+        _ => many_bytes(word),
     }
 }
 

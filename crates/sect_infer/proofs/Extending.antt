@@ -1,7 +1,7 @@
 -- Numberings that are extended.
 use Rattle.std.proofs.Common.{◌≡◌, ◌↔◌, inl, inr, ℕ, zero, suc, ◌+◌, ◌<◌, List, [], ◌∷◌, ◌++◌, Some, Bool, true, false}
 use Rattle.std.proofs.Common.{length, get_or, take, refl, sym, ap, ◌∙◌, subst, length-append, arith}
-use Rattle.std.specs.Prelude.{slice_get, slice_index_or, if◌then◌else◌}
+use Rattle.std.specs.Prelude.{slice_get, slice_index_or, if◌then◌else◌, Result, Ok, Err, OnOk, IfOk}
 use Rattle.std.specs.List.{list_any}
 use Rattle.std.proofs.lemmas.Option.{slice_get_within}
 use Rattle.sect_lemmas.specs.Lists.{Has}
@@ -16,7 +16,7 @@ use Rattle.sect_lemmas.proofs.Inserting.{behind}
 use Rattle.sect_names.proofs.shared.Telling.{lock_tells}
 use Rattle.sect_lemmas.proofs.Finding.{any_tells}
 use Rattle.sect_infer.specs.Numbers.{AreApart}
-use Rattle.sect_infer.specs.Numberings.{NumberingView, HasLock, AreOf, AreAbove, IsNumbering, Extends, IsNumbered}
+use Rattle.sect_infer.specs.Numberings.{NumberingView, HasLock, AreOf, AreAbove, IsNumbering, Extends, IsNumbered, IsPut}
 use Rattle.sect_infer.specs.Numberings.{AreAllPut}
 use Rattle.sect_infer.proofs.shared.Apart.{apart_push}
 use Rattle.sect_infer.proofs.shared.Extending.{get_left, extends_none, extends_then, extends_at}
@@ -121,11 +121,29 @@ module _ (s : SchemeView) where
         all = λ big h. of.each big ((are.all big).1 h) (there big h);
       }
 
-  -- a lock that is there has its number; one that is put after other locks has it too
+  -- a lock that is there has its number
   pub numbered_there : (t : NumberingView) (l : Lock) (n : ℕ) → IsNumbering s t → slice_get t.keys n ≡ Some l
       → IsNumbered s t t l n
   numbered_there t l n is at = record { numbering = is; longer = extends_none t; there = at }
 
+  pub put_there : (t : NumberingView) (l : Lock) (n : ℕ) → IsNumbering s t → slice_get t.keys n ≡ Some l → IsPut s t t l n
+  put_there t l n is at = record { numbered = numbered_there t l n is at; only = λ k h. inl h }
+
+  -- a lock that comes last has the next number
+  pub numbered_last : (t new : NumberingView) (l : Lock) (coverers : List Lock) (ns : List ℕ) (n : ℕ)
+      → new.keys ≡ t.keys ++ l ∷ [] → new.above ≡ t.above ++ ns ∷ [] → n ≡ length t.keys → IsNumbering s t
+      → (Has t.keys l → ⊥) → AreCoverers s l coverers → ((big : Lock) → IsAbove s big l → Has t.keys big)
+      → AreOf t.keys coverers ns → IsPut s t new l n
+  numbered_last t new l coverers ns n keys above number is absent are there of = record {
+    numbered = record {
+      numbering = numbering_put t new l coverers ns keys above is absent are there of;
+      longer = (l ∷ [], keys);
+      there = subst (λ ks. slice_get ks n ≡ Some l) (sym keys) (get_end t.keys l n number);
+    };
+    only = λ k h. (behind t.keys l k).0 (subst (λ ks. Has ks k) keys h);
+  }
+
+  -- a lock that is put after others
   pub numbered_after : (a b c : NumberingView) (l : Lock) (n : ℕ) → Extends a b → IsNumbered s b c l n
       → IsNumbered s a c l n
   numbered_after a b c l n e k = record {
@@ -135,18 +153,56 @@ module _ (s : SchemeView) where
   }
 
   -- no lock has been put
-  pub put_none : (t : NumberingView) → IsNumbering s t → AreAllPut s t t []
-  put_none t is = record { numbering = is; longer = extends_none t; there = λ l h. absurd h }
+  pub put_none : (t : NumberingView) → IsNumbering s t → AreAllPut s t t [] []
+  put_none t is = record {
+    numbering = is;
+    longer = extends_none t;
+    there = λ l h. absurd h;
+    numbers = record { only = λ n h. absurd h; each = λ l h. absurd h };
+    only = λ l h. inl h;
+  }
 
   -- the next lock of a list is put
-  pub put_next : (a b c : NumberingView) (locks : List Lock) (i : ℕ) (l : Lock) (n : ℕ) → i < length locks
-      → l ≡ get_or locks i l → AreAllPut s a b (take i locks) → IsNumbered s b c l n
-      → AreAllPut s a c (take (i + 1) locks)
-  put_next a b c locks i l n within is before k = record {
-    numbering = k.numbering;
-    longer = extends_then a b c before.longer k.longer;
-    there = λ x h. elim (last_of locks i l x within is h) [
-      | inl old ↦ extends_has b c k.longer x (before.there x old)
-      | inr e ↦ subst (Has c.keys) (sym e) (Has-slice_get c.keys n l k.there)
-    ];
-  }
+  pub put_next : (a b c : NumberingView) (locks : List Lock) (ns : List ℕ) (i : ℕ) (l : Lock) (n : ℕ)
+      → i < length locks → l ≡ get_or locks i l → AreAllPut s a b (take i locks) ns → IsPut s b c l n
+      → AreAllPut s a c (take (i + 1) locks) (ns ++ n ∷ [])
+  put_next a b c locks ns i l n within is before put =
+      let k = put.numbered in
+      record {
+        numbering = k.numbering;
+        longer = extends_then a b c before.longer k.longer;
+        there = λ x h. elim (last_of locks i l x within is h) [
+          | inl old ↦ extends_has b c k.longer x (before.there x old)
+          | inr e ↦ subst (Has c.keys) (sym e) (Has-slice_get c.keys n l k.there)
+        ];
+        numbers = of_next c.keys locks i l ns within is (record {
+          only = λ m h. (let r = before.numbers.only m h in (r.0, r.1, extends_at b c k.longer m r.0 r.2));
+          each = λ x h there. extends_lock b c k.longer ns x (before.numbers.each x h (before.there x h));
+        }) n k.there;
+        only = λ x h. elim (put.only x h) [
+          | inl old ↦ elim (before.only x old) [
+            | inl first ↦ inl first
+            | inr has ↦ inr (so_far locks i l x within is (inl has))
+          ]
+          | inr e ↦ inr (so_far locks i l x within is (inr e))
+        ];
+      }
+
+  -- a lock that comes after the locks above it
+  module _ (old mid : NumberingView) (l : Lock) (coverers : List Lock) (ns : List ℕ) (are : AreCoverers s l coverers)
+      (put : AreAllPut s old mid coverers ns) (absent : Has old.keys l → ⊥) where
+    -- it isn't one of them
+    pub absent_still : Has mid.keys l → ⊥
+    absent_still h = elim (put.only l h) [ inl k ↦ absent k | inr c ↦ ((are.all l).0 c).1 refl ]
+
+    pub numbered_over : (new : NumberingView) (n : ℕ) → new.keys ≡ mid.keys ++ l ∷ [] → new.above ≡ mid.above ++ ns ∷ []
+        → n ≡ length mid.keys → IsNumbered s old new l n
+    numbered_over new n keys above number = numbered_after old mid new l n put.longer
+        (numbered_last mid new l coverers ns n keys above number put.numbering absent_still are
+        (λ big h. put.there big ((are.all big).1 h)) put.numbers).numbered
+
+-- what three clauses say of one result
+pub from_three : {T E : Type 0} {A B : Type 0} {Q P : T → Type 0} (r : Result T E) → OnOk r A → OnOk r B → IfOk r Q
+    → ((x : T) → A → B → Q x → P x) → IfOk r P
+from_three (Ok x) a b q f = f x a b q
+from_three (Err e) a b q f = tt

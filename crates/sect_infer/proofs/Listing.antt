@@ -19,7 +19,7 @@ use Rattle.sect_names.proofs.shared.Maximals.{covered}
 use Rattle.sect_names.proofs.shared.Telling.{lock_cases}
 use Rattle.sect_infer.specs.Numbers.{AreApart, has_number, with_numbers}
 use Rattle.sect_infer.specs.Numberings.{NumberingView, HasLock, AreNumbers, IsNumbering, is_under}
-use Rattle.sect_infer.specs.Numberings.{lock_at}
+use Rattle.sect_infer.specs.Numberings.{lock_at, IsOrderOf}
 use Rattle.sect_infer.specs.steps.Listing.{IsOrder, is_kept, listed}
 use Rattle.sect_infer.proofs.Apart.{Has-filter, with_all_has}
 use Rattle.sect_infer.proofs.shared.Apart.{number_tells, apart_one}
@@ -158,29 +158,11 @@ module _ (keys : List Lock) (p : ℕ → Bool) (order : List ℕ) (i n : ℕ) (w
       ∙ ap (map (lock_at keys)) (sym
       (picked ∙ ap (λ b. filter p (take i order) ++ cond b (n ∷ []) []) off ∙ append-nil (filter p (take i order))))
 
--- the next lock of a sorted list has a number in the order
-pub order_next : (keys locks : List Lock) (order : List ℕ) (i n : ℕ) (l : Lock) → i < length locks
-    → l ≡ get_or locks i l → slice_get keys n ≡ Some l → map (lock_at keys) order ≡ take i locks
-    → map (lock_at keys) (order ++ n ∷ []) ≡ take (i + 1) locks
-order_next keys locks order i n l within is at same =
-    map-append (lock_at keys) order (n ∷ [])
-    ∙ ap (λ k. map (lock_at keys) order ++ k ∷ []) (get_or_from_slice_get keys n l lock.All at)
-    ∙ ap (λ ls. ls ++ l ∷ []) same
-    ∙ ap (λ k. take i locks ++ k ∷ []) is ∙ sym (take_more locks i l within)
-
--- numbers whose locks are all the keys, in order
-pub order_is : (keys locks : List Lock) (order : List ℕ) → AreApart keys → ((l : Lock) → Has locks l ↔ Has keys l)
-    → AreInOrder locks → map (lock_at keys) order ≡ locks → ((n : ℕ) → Has order n → n < length keys)
-    → IsOrder keys order
-order_is keys locks order apart all sorted same numbers = record {
-  sorted = subst AreInOrder (sym same) sorted;
-  numbers = numbers;
-  all = λ n within.
-      let at = named keys n within in
-      let m = Has-unmap (lock_at keys) order (lock_at keys n)
-      (subst (λ ls. Has ls (lock_at keys n)) (sym same)
-      ((all (lock_at keys n)).1 (Has-slice_get keys n (lock_at keys n) at))) in
-      let one = apart_one keys m.0 n (lock_at keys n) apart (named keys m.0 (numbers m.0 m.1) ∙ ap (λ x. Some x) m.2)
-      at in
-      subst (Has order) one m.1;
+-- all numbers, in the order of their locks
+pub order_of_all : (keys : List Lock) (numbers order : List ℕ) → ((n : ℕ) → Has numbers n ↔ (n < length keys))
+    → IsOrderOf keys numbers order → IsOrder keys order
+order_of_all keys numbers order all of = record {
+  sorted = of.sorted;
+  numbers = λ n h. (all n).0 (of.same n h);
+  all = λ n within. of.all n ((all n).1 within);
 }

@@ -1,11 +1,12 @@
 -- Locks by their numbers in a numbering.
-use Rattle.std.specs.Prelude.{◌≡◌, ◌<◌, ◌⊎◌, ℕ, Bool, not, List, [], filter, ◌++◌, Some, length, slice_get}
+use Rattle.std.specs.Prelude.{◌≡◌, ◌<◌, ◌⊎◌, ℕ, Bool, not, List, [], filter, ◌++◌, Some, length, map, slice_get}
 use Rattle.std.specs.Prelude.{slice_index_or}
 use Rattle.std.specs.List.{list_any}
 use Rattle.sect_lemmas.specs.Lists.{Has}
 use Rattle.sect_names.specs.declared.lock.Lock.{Lock}
 use Rattle.sect_names.specs.Schemes.{SchemeView}
 use Rattle.sect_names.specs.Climbing.{IsAbove}
+use Rattle.sect_names.specs.Order.{AreInOrder}
 use Rattle.sect_infer.specs.Numbers.{has_number, AreApart}
 use Rattle.sect_names.specs.declared.lock.Lock.TheVariants as lock
 
@@ -52,11 +53,18 @@ pub record IsNumbered (s : SchemeView) (old new : NumberingView) (l : Lock) (n :
   pub longer : Extends old new
   pub there : slice_get new.keys n ≡ Some l
 
--- the numbering has been extended so that it has these locks
-pub record AreAllPut (s : SchemeView) (old new : NumberingView) (locks : List Lock) : Type 0 where
+-- the numbering has been extended so that the lock has the number, and by nothing else
+pub record IsPut (s : SchemeView) (old new : NumberingView) (l : Lock) (n : ℕ) : Type 0 where
+  pub numbered : IsNumbered s old new l n
+  pub only : (k : Lock) → Has new.keys k → Has old.keys k ⊎ (k ≡ l)
+
+-- the numbering has been extended so that it has these locks, which have these numbers, and by nothing else
+pub record AreAllPut (s : SchemeView) (old new : NumberingView) (locks : List Lock) (ns : List ℕ) : Type 0 where
   pub numbering : IsNumbering s new
   pub longer : Extends old new
   pub there : (l : Lock) → Has locks l → Has new.keys l
+  pub numbers : AreOf new.keys locks ns
+  pub only : (l : Lock) → Has new.keys l → Has old.keys l ⊎ Has locks l
 
 -- numbers of locks that were found: the numbering tells of each, and none is there twice
 pub record IsFinding (s : SchemeView) (t : NumberingView) (ns : List ℕ) : Type 0 where
@@ -80,3 +88,9 @@ fresh_from above found = filter (λ n. not (is_under above found n))
 -- the lock with a number
 abbrev pub lock_at : List Lock → ℕ → Lock
 lock_at keys n = slice_index_or keys n lock.All
+
+-- the numbers are these, in the canonical order of their locks
+pub record IsOrderOf (keys : List Lock) (numbers order : List ℕ) : Type 0 where
+  pub sorted : AreInOrder (map (lock_at keys) order)
+  pub same : (n : ℕ) → Has order n → Has numbers n
+  pub all : (n : ℕ) → Has numbers n → Has order n

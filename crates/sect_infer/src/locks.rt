@@ -3,16 +3,15 @@
 ghost use Rattle.std.specs.Prelude.{◌≡◌, ◌↔◌, ◌<◌, ℕ, List, map, length, slice_get, Some, IfOk, IsTrue};
 ghost use Rattle.sect_lemmas.specs.Lists.{Has};
 ghost use Rattle.sect_names.specs.declared.lock.Lock.{Lock};
-ghost use Rattle.sect_names.specs.Order.{AreInOrder};
 ghost use Rattle.sect_infer.specs.Numbers.{AreApart};
 ghost use Rattle.sect_infer.specs.steps.Listing.{IsOrder, IsListable, is_kept, listed};
 
 use crate::lists::Lists;
 use crate::numbering::Numbering;
 use crate::numbers::Numbers;
+use crate::order::in_order;
 use sect_names::Lock;
 use std::alloc::{AllocError, Global};
-use std::collections::BTreeSet;
 use std::marker::Model;
 
 /// The locks of a section: for each node of its graph, the exit too, the maximal ones of those that are needed from
@@ -54,31 +53,25 @@ impl Model for Locks {
     ghost invariant = { λ l. IsListable l.numbering l.order.items };
 }
 
-/// The locks of a numbering, in canonical order.
-fn sorted(alloc: Global, numbering: &Numbering) -> Result<Vec<Lock>, AllocError>
-    ensures all { IfOk result (λ locks. (l : Lock) → Has locks.items l ↔ Has numbering.now.keys l) }
-    ensures in_order { IfOk result (λ locks. AreInOrder locks.items) }
+/// All numbers below this one, each once.
+fn all_below(alloc: Global, count: usize) -> Result<Vec<usize>, AllocError>
+    ensures once { IfOk result (λ numbers. AreApart numbers.items) }
+    ensures all { IfOk result (λ numbers. (n : ℕ) → Has numbers.items n ↔ (n < count)) }
 {
-    let mut locks = BTreeSet::new(alloc);
-    for number in 0..numbering.len() {
-        locks.insert(numbering.lock(number).try_clone()?)?;
+    let mut numbers = Vec::with_capacity(alloc, count)?;
+    for number in 0..count {
+        numbers.push(number)?;
     }
-    Ok(locks.into_iter().collect(alloc)?)
+    Ok(numbers)
 }
 
 /// The numbers of the locks of a numbering, in the canonical order of these.
-fn in_order(alloc: Global, numbering: &Numbering) -> Result<Vec<usize>, AllocError>
+fn order_of(alloc: Global, numbering: &Numbering) -> Result<Vec<usize>, AllocError>
     requires { AreApart numbering.now.keys }
     ensures { IfOk result (λ order. IsOrder numbering.now.keys order.items) }
 {
-    let locks = sorted(alloc, numbering)?;
-    let mut order = Vec::new(alloc);
-    for lock in locks.as_slice() {
-        if let Some(number) = numbering.find(lock) {
-            order.push(number)?;
-        }
-    }
-    Ok(order)
+    let numbers = all_below(alloc, numbering.len())?;
+    in_order(alloc, numbering, numbers.as_slice())
 }
 
 /// Whether a number is among these, and none of them is that of another lock that covers its lock.
@@ -101,7 +94,7 @@ fn list(
 {
     let mut found = Numbers::new(alloc);
     found.insert_all(numbers)?;
-    let mut locks = Vec::new(alloc);
+    let mut locks = Vec::with_capacity(alloc, numbers.len())?;
     for number in order {
         if is_kept(numbering, &found, *number) {
             locks.push(numbering.lock(*number).try_clone()?)?;
@@ -119,7 +112,7 @@ impl Locks {
         ensures { IfOk result (λ locks. (order : List ℕ) × IsOrder numbering.keys order
             × (locks.at ≡ map (listed numbering order) lists) × (slice_get locks.at 0 ≡ Some locks.entry)) }
     {
-        let order = in_order(alloc, &numbering)?;
+        let order = order_of(alloc, &numbering)?;
         let entry = list(alloc, &numbering, order.as_slice(), lists.of(0))?;
         Ok(Locks {
             numbering,

@@ -1,10 +1,10 @@
 //! Locks by their numbers.
 
-ghost use Rattle.std.specs.Prelude.{◌≡◌, ◌<◌, length, slice_get, [], Some, IfOk, OnOk, MatchOption};
+ghost use Rattle.std.specs.Prelude.{◌≡◌, ◌<◌, ◌++◌, ◌∷◌, length, slice_get, [], Some, IfOk, OnOk, MatchOption};
 ghost use Rattle.sect_lemmas.specs.Lists.{Has};
 ghost use Rattle.sect_names.specs.declared.lock.Lock.{Lock};
 ghost use Rattle.sect_names.specs.Climbing.{IsAbove, AreBehind};
-ghost use Rattle.sect_infer.specs.Numberings.{AreOf, AreAllPut, IsNumbering, IsNumbered, is_under};
+ghost use Rattle.sect_infer.specs.Numberings.{AreOf, AreAllPut, IsNumbering, IsNumbered, IsPut, is_under};
 
 use crate::numbers::Numbers;
 use indexmap::IndexSet;
@@ -93,7 +93,7 @@ impl Numbering {
     fn find_all(&self, alloc: Global, locks: &[Lock]) -> Result<Vec<usize>, AllocError>
         ensures { IfOk result (λ numbers. AreOf self.now.keys locks.now numbers.items) }
     {
-        let mut numbers = Vec::new(alloc);
+        let mut numbers = Vec::with_capacity(alloc, locks.len())?;
         for lock in locks {
             if let Some(number) = self.find(lock) {
                 numbers.push(number)?;
@@ -116,33 +116,51 @@ impl Numbering {
             return Ok(number);
         }
         let coverers = scheme.coverers(alloc, lock)?;
-        self.put_all(alloc, scheme, coverers.as_slice())?;
-        self.put(alloc, scheme, lock)
+        let above = self.put_all(alloc, scheme, coverers.as_slice())?;
+        self.push(lock, above)
     }
 
-    /// Puts locks, each unless it is there: those above each are there or stand before it.
-    fn put_all(&mut self, alloc: Global, scheme: &Scheme, locks: &[Lock]) -> Result<(), AllocError>
+    /// The numbers of these locks, each of which comes now unless it is there: those above each are there or stand
+    /// before it.
+    fn put_all(
+        &mut self,
+        alloc: Global,
+        scheme: &Scheme,
+        locks: &[Lock],
+    ) -> Result<Vec<usize>, AllocError>
         requires numbering { IsNumbering scheme.now self.old }
         requires behind { AreBehind scheme.now locks.now }
-        ensures { OnOk result (AreAllPut scheme.now self.old self.new locks.now) }
+        ensures { IfOk result (λ numbers. AreAllPut scheme.now self.old self.new locks.now numbers.items) }
     {
+        let mut numbers = Vec::with_capacity(alloc, locks.len())?;
         for lock in locks {
-            self.put(alloc, scheme, lock)?;
+            let number = self.put(alloc, scheme, lock)?;
+            numbers.push(number)?;
         }
-        Ok(())
+        Ok(numbers)
     }
 
     /// The number of a lock, which comes now unless it is there. Those above it are there.
     fn put(&mut self, alloc: Global, scheme: &Scheme, lock: &Lock) -> Result<usize, AllocError>
         requires numbering { IsNumbering scheme.now self.old }
         requires above { (big : Lock) → IsAbove scheme.now big lock.now → Has self.old.keys big }
-        ensures { IfOk result (IsNumbered scheme.now self.old self.new lock.now) }
+        ensures { IfOk result (IsPut scheme.now self.old self.new lock.now) }
     {
         if let Some(number) = self.find(lock) {
             return Ok(number);
         }
         let coverers = scheme.coverers(alloc, lock)?;
         let above = self.find_all(alloc, coverers.as_slice())?;
+        self.push(lock, above)
+    }
+
+    /// The number of a lock that isn't there, which comes now. The numbers of those above it are these.
+    fn push(&mut self, lock: &Lock, above: Vec<usize>) -> Result<usize, AllocError>
+        requires { Has self.old.keys lock.now → ⊥ }
+        ensures keys { OnOk result (self.new.keys ≡ self.old.keys ++ lock.now ∷ []) }
+        ensures above { OnOk result (self.new.above ≡ self.old.above ++ above.items ∷ []) }
+        ensures number { IfOk result (λ number. number ≡ length self.old.keys) }
+    {
         let number = self.locks.len();
         self.locks.insert(lock.try_clone()?)?;
         self.above.push(above)?;

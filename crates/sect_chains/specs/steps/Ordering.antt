@@ -1,14 +1,12 @@
 -- The order in which steps are kept: each stands behind those that lead on from an earlier step.
-use Rattle.std.specs.Prelude.{◌≡◌, ◌<◌, ◌⊎◌, ⊤, ℕ, List, map, Option, Some, None, slice_get}
+use Rattle.std.specs.Prelude.{◌≡◌, ◌<◌, ◌⊎◌, ⊤, ℕ, List, Option, Some, None, slice_get}
 use Rattle.sect_lemmas.specs.Lists.{Has}
 use Rattle.sect_graph.specs.declared.flow.Node.{Node}
 use Rattle.sect_names.specs.declared.link.Link.{Link}
 use Rattle.sect_names.specs.declared.lock.Lock.{Lock}
 use Rattle.sect_names.specs.Schemes.{SchemeView}
 use Rattle.sect_names.specs.Locks.{Covers}
-use Rattle.sect_names.specs.Order.{AreInOrder}
 use Rattle.sect_names.specs.Chains.{IsGeneratedAt, LinksTo}
-use Rattle.sect_infer.specs.Numberings.{lock_at}
 use Rattle.sect_chains.specs.declared.work.Trail.{Trail}
 use Rattle.sect_chains.specs.Chains.{StepBefore}
 use Rattle.sect_chains.specs.steps.Trails.{HasTrail}
@@ -79,12 +77,6 @@ pub record BeginsInOrder (s : SchemeView) (t : ℕ) (last : List Lock) (g : List
   pub sorted : IsInOrder r
   pub only : (i : ℕ) (p : Option ℕ) → slice_get (nexts_in r) i ≡ Some p → p ≡ None
   pub in_time : (x : Link) → IsGeneratedAt s t last g x → IsInTime s (links_in r) (nexts_in r) None x
-
--- the numbers are these, in the canonical order of their locks
-pub record IsOrderOf (keys : List Lock) (numbers order : List ℕ) : Type 0 where
-  pub sorted : AreInOrder (map (lock_at keys) order)
-  pub same : (n : ℕ) → Has order n → Has numbers n
-  pub all : (n : ℕ) → Has numbers n → Has order n
 
 -- steps that lead on are kept, and at each node from which steps lead on from a lock one that covers it; each that is
 -- generated or that links to a kept one is kept in time

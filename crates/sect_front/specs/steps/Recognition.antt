@@ -1,7 +1,7 @@
 -- The token that bytes spell, as it is looked for.
 use Rattle.std.specs.Prelude.{ℕ, ◌+◌, ◌-◌, ◌*◌, ◌&&◌, ◌==◌, nat_lt, if◌then◌else◌, List, [], ◌∷◌, Option, Some, None}
-use Rattle.std.specs.Prelude.{length, codes}
-use Rattle.std.specs.List.{list_all}
+use Rattle.std.specs.Prelude.{length, codes, nat_eq}
+use Rattle.std.specs.List.{list_all, filter}
 use Rattle.std.specs.Str.{bytes_eq}
 use Rattle.sect_front.specs.Limits.{most_name_bytes}
 use Rattle.sect_front.specs.Spelling.{spelling_of}
@@ -33,6 +33,10 @@ keyword_table =
 abbrev pub token_beside : List ℕ → List (List ℕ × Token) → Option Token
 token_beside w [] = None
 token_beside w (row ∷ rows) = if bytes_eq w row.0 then Some row.1 else token_beside w rows
+
+-- the keywords of so many bytes
+abbrev pub keywords_of : ℕ → List (List ℕ × Token)
+keywords_of n = filter (λ row. nat_eq (length row.0) n) keyword_table
 
 -- the keyword that a word is
 abbrev pub keyword_of : List ℕ → Option Token

@@ -42,7 +42,7 @@ module _ {X : Type 0} {eq : X → X → Bool} (laws : IsEquivalence eq) (tells :
       go false e = refl
 
   -- such a list in the words of the library
-  distinct : (xs : List X) → AreApart xs → IsDistinct eq xs
+  pub distinct : (xs : List X) → AreApart xs → IsDistinct eq xs
   unfolding IsDistinct
   distinct [] a = tt
   distinct (x ∷ xs) a = (unlike x xs a.0, distinct xs a.1)

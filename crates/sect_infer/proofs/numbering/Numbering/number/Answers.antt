@@ -1,20 +1,19 @@
-use Rattle.std.proofs.Common.{sym, subst}
-use Rattle.std.proofs.lemmas.Result.{IfOk-weaker}
-use Rattle.sect_lemmas.specs.Lists.{Has}
-use Rattle.sect_infer.specs.Numberings.{IsNumbered}
-use Rattle.sect_infer.proofs.Extending.{numbered_after}
+use Rattle.std.proofs.Common.{subst}
+use Rattle.sect_infer.specs.Numberings.{AreAllPut}
+use Rattle.sect_infer.proofs.Extending.{absent_still, numbered_over, from_three}
 use Rattle.sect_infer.proofs.numbering.Numbering.number.Goals as goal
 
-pub put-requires-clause-above : goal.put-requires-clause-above
-put-requires-clause-above c = λ big h.
-    c.in_ok-put_all.ensures.there big
-    (subst (λ ls. Has ls big) (sym c.as_slice.ensures.value) ((c.in_ok-coverers.ensures.all big).1 h))
+pub push-requires : goal.push-requires
+push-requires c =
+    let put = subst (λ ls. AreAllPut c.args.scheme.now c.args.self.now c.put_all.new.self ls c.in_ok-above.above.items)
+    c.as_slice.ensures.value c.in_ok-above.ensures in
+    absent_still c.args.scheme.now c.args.self.now c.put_all.new.self c.args.lock.now c.in_ok-coverers.coverers.items
+    c.in_ok-above.above.items c.in_ok-coverers.ensures put c.in_default.ensures
 
 pub returns : goal.returns
 returns c =
-    let s = c.args.scheme.now in
-    let l = c.args.lock.now in
-    IfOk-weaker c.put.result (IsNumbered s c.put_all.new.self c.put.new.self l)
-    (IsNumbered s c.args.self.now c.put.new.self l)
-    (λ n. numbered_after s c.args.self.now c.put_all.new.self c.put.new.self l n c.in_ok-put_all.ensures.longer)
-    c.put.ensures
+    let put = subst (λ ls. AreAllPut c.args.scheme.now c.args.self.now c.put_all.new.self ls c.in_ok-above.above.items)
+    c.as_slice.ensures.value c.in_ok-above.ensures in
+    from_three c.push.result c.push.ensures.keys c.push.ensures.above c.push.ensures.number
+    (numbered_over c.args.scheme.now c.args.self.now c.put_all.new.self c.args.lock.now c.in_ok-coverers.coverers.items
+    c.in_ok-above.above.items c.in_ok-coverers.ensures put c.in_default.ensures c.push.new.self)

@@ -19,5 +19,6 @@ loop-lock-preserved c =
     let i = c.loop-lock.lock-index in
     let l = c.lock-item.result in
     let within : i < length locks = omega (arith, c.loop-lock-test.true) in
-    put_next c.args.scheme.now c.args.self.now c.loop-lock.self c.put.new.self locks i l c.in_ok-put.field-0 within
-    c.lock-item.is c.loop-lock.invariant c.in_ok-put.ensures
+    rw c.in_ok-push.ensures.items
+    (put_next c.args.scheme.now c.args.self.now c.loop-lock.self c.put.new.self locks c.loop-lock.numbers.items i l
+    c.in_ok-number.number within c.lock-item.is c.loop-lock.invariant c.in_ok-number.ensures)

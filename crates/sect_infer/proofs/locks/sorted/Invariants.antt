@@ -1,7 +1,0 @@
-use Rattle.std.proofs.Common.{◌↔◌, take}
-use Rattle.sect_lemmas.specs.Lists.{Has}
-use Rattle.sect_names.specs.declared.lock.Lock.{Lock}
-use Rattle.sect_infer.proofs.locks.sorted.Given as goal
-
-abbrev pub invariant-loop-number : goal.invariant-loop-number
-invariant-loop-number l = (x : Lock) → Has l.locks.keys x ↔ Has (take l.number l.numbering.keys) x

@@ -1,3 +1,6 @@
 mod Counting
 mod Faulty
 mod Marked
+mod Parts
+mod Referring
+mod Touching

@@ -1,20 +1,22 @@
 -- The bytes of names that are told lie in the text.
-use Rattle.std.proofs.Common.{◌≡◌, ℕ, List, [], ◌∷◌, Option, Some, None, map, slice_get, refl, sym, subst, arith}
+use Rattle.std.proofs.Common.{◌≡◌, ℕ, List, Option, Some, None, map, slice_get, refl, sym, subst, arith}
 use Rattle.std.specs.Prelude.{MatchOption}
 use Rattle.sect_front.specs.TreeView.{TreeView}
 use Rattle.sect_front.specs.FaultPlaces.{IsWithin}
 use Rattle.sect_front.specs.declared.span.Span.{Span}
+use Rattle.sect_front.specs.declared.token.Token.{Token}
 use Rattle.sect_types.specs.declared.rule.TypeFault.{TypeFault}
 use Rattle.sect_types.specs.declared.rule.TypeFault.TheVariants as types
 use Rattle.sect_places.specs.declared.name_use.NameSpan.{NameSpan}
-use Rattle.sect_places.specs.Spans.{AreProper}
+use Rattle.sect_places.specs.Spans.{AreInOrder, AreProper}
 use Rattle.sect_lemmas.proofs.Options.{none_or_some}
 use Rattle.sect_places.proofs.shared.Names.{name_proper}
 use Rattle.sect_lint.specs.declared.culprit.Culprit.{Culprit}
 use Rattle.sect_lint.specs.declared.mistake.Mistake.{Mistake}
 use Rattle.sect_lint.specs.Naming.{found, unknown_at, declared_at, earlier_at, earlier_of, earlier_detail}
-use Rattle.sect_lint.specs.Details.{IsDetailWithin, detail_by}
+use Rattle.sect_lint.specs.Details.{IsDetailWithin, item_detail}
 use Rattle.sect_lint.specs.Places.{IsItemSpan, IsMarked, marked_name}
+use Rattle.sect_lint.proofs.Parts.{mistyped_within, counts_within}
 
 -- the bytes of a name lie in the text
 name_within : (total : ℕ) (names : List NameSpan) (k : ℕ) (n : NameSpan)
@@ -58,16 +60,17 @@ module _ (total : ℕ) (names : List NameSpan) (proper : AreProper total (map (�
   first_within None = tt
   first_within (Some d) = earlier_within (earlier_at names d) (found names (earlier_at names d)) refl
 
-  pub detail_within : (fault : TypeFault) → IsDetailWithin total (detail_by names fault)
-  detail_within types.Memory = tt
-  detail_within (types.Unknown i) = tt
-  detail_within (types.Twice i) = first_within (found names (declared_at names i))
-  detail_within (types.WrongType i) = tt
-  detail_within (types.SharedOutside i) = tt
-  detail_within (types.Nested i) = tt
-  detail_within (types.TooMany i) = tt
-  detail_within (types.Recursion i) = tt
-  detail_within (types.Arguments i) = tt
+  pub detail_within : (tree : TreeView) (ts : List Token) (ss : List Span) → AreInOrder 0 total ss
+      → (fault : TypeFault) → IsDetailWithin total (item_detail tree names ts ss fault)
+  detail_within tree ts ss order types.Memory = tt
+  detail_within tree ts ss order (types.Unknown i) = tt
+  detail_within tree ts ss order (types.Twice i) = first_within (found names (declared_at names i))
+  detail_within tree ts ss order (types.WrongType i) = mistyped_within total names proper i ss order tree.procedures ts
+  detail_within tree ts ss order (types.SharedOutside i) = tt
+  detail_within tree ts ss order (types.Nested i) = tt
+  detail_within tree ts ss order (types.TooMany i) = tt
+  detail_within tree ts ss order (types.Recursion i) = tt
+  detail_within tree ts ss order (types.Arguments i) = counts_within total 0 tree.procedures ts ss order
 
 pub is_marked : (source : List ℕ) (tree : TreeView) (m : Mistake) (who : Culprit) (o : Option NameSpan)
     (item span : Span) → IsItemSpan source tree m who item

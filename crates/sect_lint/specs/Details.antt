@@ -1,10 +1,14 @@
 -- What is said beside the carets.
 use Rattle.std.specs.Prelude.{◌≡◌, ◌<◌, ⊤, ℕ, ◌-◌, List, [], ◌++◌, Option, Some, None, length, slice_get, codes}
+use Rattle.std.specs.Prelude.{take, drop, get_or}
 use Rattle.std.specs.Fmt.{decimal}
 use Rattle.sect_front.specs.Front.{line_of}
 use Rattle.sect_front.specs.FaultPlaces.{open_braces, IsWithin}
 use Rattle.sect_front.specs.Lexing.{Spells}
 use Rattle.sect_front.specs.TokenAt.{TokenAt}
+use Rattle.sect_front.specs.TreeView.{TreeView}
+use Rattle.sect_front.specs.Grammar.{tokens_of}
+use Rattle.sect_front.specs.declared.token.Token.{Token}
 use Rattle.sect_front.specs.declared.parsing.FrontFault.{FrontFault}
 use Rattle.sect_front.specs.declared.parsing.FrontFault.TheVariants as front
 use Rattle.sect_front.specs.declared.span.Span.{Span}
@@ -12,7 +16,14 @@ use Rattle.sect_places.specs.Positions.{column_of}
 use Rattle.sect_types.specs.declared.rule.TypeFault.{TypeFault}
 use Rattle.sect_types.specs.declared.rule.TypeFault.TheVariants as types
 use Rattle.sect_places.specs.declared.name_use.NameSpan.{NameSpan}
-use Rattle.sect_lint.specs.Naming.{earlier_name, earlier_detail}
+use Rattle.sect_places.specs.declared.range.TokenRange.{TokenRange}
+use Rattle.sect_places.specs.Ranges.{item_tokens}
+use Rattle.sect_lint.specs.Naming.{found, declared_at, earlier_name, earlier_detail}
+use Rattle.sect_lint.specs.Places.{no_range, of_types, item_number}
+use Rattle.sect_lint.specs.Arguments.{mistyped_detail}
+use Rattle.sect_lint.specs.Limits.{words_of, item_limit}
+use Rattle.sect_lint.specs.Counting.{counts_detail}
+use Rattle.sect_lint.specs.Labels.{typed_text, types_text, counts_text, IsTypedWithin}
 use Rattle.sect_lint.specs.declared.diagnostic.Detail.{Detail}
 use Rattle.sect_lint.specs.declared.diagnostic.Detail.TheVariants as detail
 
@@ -30,10 +41,33 @@ IsFrontDetail source (front.UnexpectedEnd line) span told = (places : List Token
     → told ≡ of_brace (slice_get (open_braces places) (length (open_braces places) - 1))
 IsFrontDetail source _ span told = told ≡ detail.Nothing
 
--- of a name that is declared twice it is said where it is first declared
-abbrev pub detail_by : List NameSpan → TypeFault → Detail
-detail_by names (types.Twice item) = earlier_detail (earlier_name names item)
-detail_by names _ = detail.Nothing
+-- which tokens an item has
+abbrev pub own_range : TreeView → ℕ → TokenRange
+own_range tree item = get_or (item_tokens tree) item no_range
+
+abbrev pub own_tokens : TreeView → ℕ → List Token
+own_tokens tree item = take (own_range tree item).count (drop (own_range tree item).first (tokens_of tree))
+
+-- of the bytes of all tokens those of its tokens and of what stands behind
+abbrev pub own_spans : TreeView → List Span → ℕ → List Span
+own_spans tree spans item = drop (own_range tree item).first spans
+
+-- of a name that is declared twice it is said where it is first declared, of types that don't agree which they are, of
+-- a limit that is passed which that is, and of a call how many arguments and parameters there are. These are the tokens
+-- of the item at fault, and their bytes
+abbrev pub item_detail : TreeView → List NameSpan → List Token → List Span → TypeFault → Detail
+item_detail tree names tokens spans (types.Twice item) = earlier_detail (earlier_name names item)
+item_detail tree names tokens spans (types.WrongType item) = mistyped_detail tree.procedures names item tokens spans
+item_detail tree names tokens spans (types.TooMany item) =
+    detail.Limit (item_limit (found names (declared_at names item)) tokens)
+item_detail tree names tokens spans (types.Arguments item) = counts_detail tree.procedures tokens spans
+item_detail tree names tokens spans _ = detail.Nothing
+
+-- what is said of a tree that breaks a rule, where these are the bytes of its tokens
+abbrev pub detail_by : TreeView → List NameSpan → List Span → TypeFault → Detail
+detail_by tree names spans why =
+    let item : ℕ = item_number tree (of_types why) in
+    item_detail tree names (own_tokens tree item) (own_spans tree spans item) why
 
 -- the line and the column of a place
 abbrev pub place_text : List ℕ → ℕ → List ℕ
@@ -47,9 +81,16 @@ detail_text source detail.Nothing = []
 detail_text source (detail.Bytes count) = codes " " ++ decimal count ++ codes " bytes"
 detail_text source (detail.OpenBrace at) = codes " the `{` at " ++ place_text source at ++ codes " is open"
 detail_text source (detail.Earlier span) = earlier_text source span.start
+detail_text source (detail.Type t) = codes " " ++ typed_text source t
+detail_text source (detail.Types a b) = codes " " ++ types_text source a b
+detail_text source (detail.Limit l) = codes " " ++ words_of l
+detail_text source (detail.Counts c) = codes " " ++ counts_text source c
 
 -- a place that is told is one of a text of so many bytes
 abbrev pub IsDetailWithin : ℕ → Detail → Type 0
 IsDetailWithin total (detail.OpenBrace at) = at < total
 IsDetailWithin total (detail.Earlier span) = IsWithin total span
+IsDetailWithin total (detail.Type t) = IsTypedWithin total t
+IsDetailWithin total (detail.Types a b) = IsTypedWithin total a × IsTypedWithin total b
+IsDetailWithin total (detail.Counts c) = IsWithin total c.procedure
 IsDetailWithin total _ = ⊤

@@ -10,6 +10,8 @@ use Rattle.sect_places.specs.Positions.{column_of}
 use Rattle.sect_lint.specs.declared.diagnostic.Detail.{Detail}
 use Rattle.sect_lint.specs.declared.diagnostic.Detail.TheVariants as detail
 use Rattle.sect_lint.specs.declared.diagnostic.Diagnostic.{Diagnostic}
+use Rattle.sect_lint.specs.Limits.{words_of}
+use Rattle.sect_lint.specs.Labels.{typed_text, counts_text}
 use Rattle.sect_lint.specs.Mistakes.{number_of, title_of, note_of}
 
 abbrev pub count : ℕ → Data
@@ -43,6 +45,11 @@ labels_json source d = told d.detail
     told (detail.Bytes n) = list (label_json source (decimal n ++ codes " bytes") d.span ∷ [])
     told (detail.OpenBrace at) = list (label_json source (codes "this `{` is open") (span_from at 1) ∷ [])
     told (detail.Earlier span) = list (label_json source (codes "first declared here") span ∷ [])
+    told (detail.Type t) = list (label_json source (typed_text source t) t.span ∷ [])
+    told (detail.Types a b) =
+        list (label_json source (typed_text source a) a.span ∷ label_json source (typed_text source b) b.span ∷ [])
+    told (detail.Limit l) = list (label_json source (words_of l) d.span ∷ [])
+    told (detail.Counts c) = list (label_json source (counts_text source c) c.procedure ∷ [])
 
 abbrev pub diagnostic_json : List ℕ → Diagnostic → Data
 diagnostic_json source d =

@@ -1,8 +1,8 @@
 -- What is reported of a text that is refused.
-use Rattle.std.specs.Prelude.{◌≡◌, ◌⊎◌, ◌<◌, ℕ, Option, Some, None, List, ◌++◌, length, codes}
+use Rattle.std.specs.Prelude.{◌≡◌, ◌⊎◌, ◌<◌, ℕ, Option, Some, None, List, ◌++◌, length, map, codes}
 use Rattle.std.specs.Fmt.{decimal}
 use Rattle.sect_front.specs.Front.{line_of}
-use Rattle.sect_front.specs.FaultPlaces.{IsWithin}
+use Rattle.sect_front.specs.FaultPlaces.{IsWithin, token_span}
 use Rattle.sect_front.specs.TreeView.{TreeView}
 use Rattle.sect_front.specs.declared.span.Span.{Span}
 use Rattle.sect_places.specs.NameSpans.{AreNameSpans}
@@ -24,7 +24,8 @@ use Rattle.sect_lint.specs.Excerpts.{excerpt, margin}
 abbrev pub IsDetail : List ℕ → Refusal → Span → Detail → Type 0
 IsDetail source (refusal.Front why) span told = IsFrontDetail source why span told
 IsDetail source (refusal.Types why) span told =
-    (tree : TreeView) × (names : List NameSpan) × AreNameSpans source tree names × (told ≡ detail_by names why)
+    (tree : TreeView) × (names : List NameSpan) × (are : AreNameSpans source tree names)
+    × (told ≡ detail_by tree names (map token_span are.spelled.places) why)
 IsDetail source _ span told = told ≡ detail.Nothing
 
 -- the diagnostic names the mistake of a text that is refused so, and its bytes. All places are the text's

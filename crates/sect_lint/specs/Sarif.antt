@@ -11,6 +11,8 @@ use Rattle.sect_lint.specs.declared.diagnostic.Detail.TheVariants as detail
 use Rattle.sect_lint.specs.declared.diagnostic.Diagnostic.{Diagnostic}
 use Rattle.sect_lint.specs.declared.mistake.Mistake.{Mistake}
 use Rattle.sect_lint.specs.Mistakes.{number_of, title_of, note_of}
+use Rattle.sect_lint.specs.Limits.{words_of}
+use Rattle.sect_lint.specs.Labels.{typed_text, types_text, counts_text}
 use Rattle.sect_lint.specs.Json.{count, list}
 
 abbrev pub text_json : List ℕ → Data
@@ -42,23 +44,30 @@ related_json source message span =
 
 -- the places beside that of the mistake
 abbrev pub related_by : List ℕ → Detail → List Data
-related_by source detail.Nothing = []
-related_by source (detail.Bytes n) = []
 related_by source (detail.OpenBrace at) = related_json source (codes "this `{` is open") (span_from at 1) ∷ []
 related_by source (detail.Earlier span) = related_json source (codes "first declared here") span ∷ []
+related_by source _ = []
 
--- what is wrong, and what is said beside the carets where it has no place of its own
-abbrev pub said_by : Diagnostic → Detail → List ℕ
-said_by d detail.Nothing = title_of d.mistake
-said_by d (detail.Bytes n) = title_of d.mistake ++ codes ": " ++ decimal n ++ codes " bytes"
-said_by d (detail.OpenBrace at) = title_of d.mistake
-said_by d (detail.Earlier span) = title_of d.mistake
+-- what is said beside the carets, where it has no place of its own
+abbrev pub aside_by : List ℕ → Detail → List ℕ
+aside_by source detail.Nothing = []
+aside_by source (detail.Bytes n) = codes ": " ++ decimal n ++ codes " bytes"
+aside_by source (detail.OpenBrace at) = []
+aside_by source (detail.Earlier span) = []
+aside_by source (detail.Type t) = codes ": " ++ typed_text source t
+aside_by source (detail.Types a b) = codes ": " ++ types_text source a b
+aside_by source (detail.Limit l) = codes ": " ++ words_of l
+aside_by source (detail.Counts c) = codes ": " ++ counts_text source c
+
+-- what is wrong, and what is said beside it
+abbrev pub said_by : List ℕ → Diagnostic → List ℕ
+said_by source d = title_of d.mistake ++ aside_by source d.detail
 
 abbrev pub result_json : List ℕ → Diagnostic → Data
 result_json source d =
     object (member (codes "level") (string (codes "error"))
     (member (codes "locations") (list (location_json source d.span ∷ []))
-    (member (codes "message") (text_json (said_by d d.detail))
+    (member (codes "message") (text_json (said_by source d))
     (member (codes "relatedLocations") (list (related_by source d.detail))
     (member (codes "ruleId") (string (decimal (number_of d.mistake))) no_members)))))
 

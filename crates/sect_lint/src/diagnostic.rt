@@ -1,5 +1,6 @@
 //! What is told of a mistake.
 
+use crate::limit::Limit;
 use crate::mistake::Mistake;
 use sect_front::Span;
 
@@ -22,4 +23,40 @@ pub enum Detail {
     OpenBrace(usize),
     /// The name is first declared at these bytes.
     Earlier(Span),
+    /// This is what it shouldn't be.
+    Type(Typed),
+    /// The types of these two don't agree.
+    Types(Typed, Typed),
+    /// The limit that is passed.
+    Limit(Limit),
+    /// How many arguments and how many parameters there are.
+    Counts(Counts),
+}
+
+/// What a part of a text is, by its type.
+#[derive(Clone, Copy, Debug)]
+pub enum Shape {
+    Int,
+    /// The reference to no object.
+    Null,
+    /// A reference to objects of the record whose name stands at these bytes.
+    Reference(Span),
+    /// A global, which isn't assigned to.
+    Global,
+}
+
+/// A part of a text, by its bytes, and what it is.
+#[derive(Clone, Copy, Debug)]
+pub struct Typed {
+    pub span: Span,
+    pub shape: Shape,
+}
+
+/// A call with another number of arguments than the procedure has parameters.
+#[derive(Clone, Copy, Debug)]
+pub struct Counts {
+    /// The name of the procedure.
+    pub procedure: Span,
+    pub arguments: usize,
+    pub parameters: usize,
 }

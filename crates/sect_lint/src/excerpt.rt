@@ -62,7 +62,7 @@ fn put_byte(text: &mut String, byte: u8) -> Result<(), AllocError>
 }
 
 /// Adds bytes as they are shown.
-fn put_bytes(text: &mut String, bytes: &[u8]) -> Result<(), AllocError>
+pub fn put_bytes(text: &mut String, bytes: &[u8]) -> Result<(), AllocError>
     ensures { OnOk result (string_bytes text.new ≡ string_bytes text.old ++ flat_map shown bytes.now) }
 {
     for byte in bytes {

@@ -1,12 +1,14 @@
 //! A diagnostic as JSON.
 
-ghost use Rattle.std.specs.Prelude.{◌≡◌, ◌≤◌, IfOk, length};
+ghost use Rattle.std.specs.Prelude.{◌≡◌, ◌≤◌, ◌∷◌, [], IfOk, length};
 ghost use Rattle.serde_json.specs.View.{view};
 ghost use Rattle.sect_front.specs.FaultPlaces.{IsWithin};
 ghost use Rattle.sect_lint.specs.Details.{IsDetailWithin};
-ghost use Rattle.sect_lint.specs.Json.{place_json, span_json, label_json, labels_json, diagnostic_json};
+ghost use Rattle.sect_lint.specs.Labels.{typed_text, counts_text, IsTypedWithin};
+ghost use Rattle.sect_lint.specs.Json.{list, place_json, span_json, label_json, labels_json, diagnostic_json};
 
-use crate::diagnostic::{Detail, Diagnostic};
+use crate::diagnostic::{Counts, Detail, Diagnostic, Typed};
+use crate::label::{put_counts, put_typed};
 use sect_front::Span;
 use sect_places::position_of;
 use serde_json::{Value, json};
@@ -41,6 +43,38 @@ fn label_value(alloc: Global, source: &[u8], message: &str, span: Span) -> Resul
     json!(in alloc; {"message": message, "span": span})
 }
 
+/// What a part of a text is.
+fn typed_value(alloc: Global, source: &[u8], typed: Typed) -> Result<Value, AllocError>
+    requires { IsTypedWithin (length source.now) typed }
+    ensures { IfOk result (λ v. view v ≡ label_json source.now (typed_text source.now typed) typed.span) }
+{
+    let mut text = String::new(alloc);
+    put_typed(&mut text, source, typed)?;
+    label_value(alloc, source, text.as_str(), typed.span)
+}
+
+/// How many arguments a call gives, and how many the procedure takes.
+fn counts_value(alloc: Global, source: &[u8], counts: Counts) -> Result<Value, AllocError>
+    requires { IsWithin (length source.now) counts.procedure }
+    ensures { IfOk result (λ v. view v ≡ label_json source.now (counts_text source.now counts) counts.procedure) }
+{
+    let mut text = String::new(alloc);
+    put_counts(&mut text, source, counts)?;
+    label_value(alloc, source, text.as_str(), counts.procedure)
+}
+
+/// What two parts of a text are.
+fn types_value(alloc: Global, source: &[u8], left: Typed, right: Typed) -> Result<Value, AllocError>
+    requires left { IsTypedWithin (length source.now) left }
+    requires right { IsTypedWithin (length source.now) right }
+    ensures { IfOk result (λ v. view v ≡ list (label_json source.now (typed_text source.now left) left.span
+        ∷ label_json source.now (typed_text source.now right) right.span ∷ [])) }
+{
+    let left = typed_value(alloc, source, left)?;
+    let right = typed_value(alloc, source, right)?;
+    json!(in alloc; [left, right])
+}
+
 /// What is said beside the carets.
 fn labels_value(alloc: Global, source: &[u8], diagnostic: &Diagnostic) -> Result<Value, AllocError>
     requires span { IsWithin (length source.now) diagnostic.now.span }
@@ -64,6 +98,19 @@ fn labels_value(alloc: Global, source: &[u8], diagnostic: &Diagnostic) -> Result
         }
         Detail::Earlier(span) => {
             let label = label_value(alloc, source, "first declared here", span)?;
+            json!(in alloc; [label])
+        }
+        Detail::Type(part) => {
+            let label = typed_value(alloc, source, part)?;
+            json!(in alloc; [label])
+        }
+        Detail::Types(left, right) => types_value(alloc, source, left, right),
+        Detail::Limit(limit) => {
+            let label = label_value(alloc, source, limit.words(), diagnostic.span)?;
+            json!(in alloc; [label])
+        }
+        Detail::Counts(counts) => {
+            let label = counts_value(alloc, source, counts)?;
             json!(in alloc; [label])
         }
     }

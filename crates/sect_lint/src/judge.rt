@@ -1,26 +1,31 @@
 //! Whether a source text is refused, for which mistake, and where that stands.
 
-ghost use Rattle.std.specs.Prelude.{◌≡◌, ◌≢◌, ◌≤◌, ◌<◌, ℕ, Err, IfOk, IfErr, MatchOption, length};
+ghost use Rattle.std.specs.Prelude.{◌≡◌, ◌≢◌, ◌≤◌, ℕ, Err, IfOk, IfErr, MatchOption, length};
 ghost use Rattle.sect_front.specs.TreeView.{TreeView};
 ghost use Rattle.sect_front.specs.Front.{IsSpelled, IsFault};
 ghost use Rattle.sect_front.specs.FaultPlaces.{IsFaultSpan, IsWithin};
 ghost use Rattle.sect_types.specs.First as types;
-ghost use Rattle.sect_types.specs.Items.{items};
 ghost use Rattle.sect_types.specs.Programs.{ProgramView};
 ghost use Rattle.sect_names.specs.Sources.{IsTypedText};
 ghost use Rattle.sect_names.specs.Verdicts as schemes;
 ghost use Rattle.sect_names.specs.declared.refusal.Refusal.TheVariants as refusal;
-ghost use Rattle.sect_lint.specs.Places.{IsItemSpan, item_number, marked_name};
-ghost use Rattle.sect_lint.specs.Details.{IsFrontDetail, IsDetailWithin, detail_by};
+ghost use Rattle.sect_lint.specs.Places.{marked_name};
+ghost use Rattle.sect_lint.specs.Details.{IsFrontDetail, IsDetailWithin, item_detail as item_detail_by};
 ghost use Rattle.sect_lint.specs.Reports.{IsDiagnosisOf, IsJudged, IsNotJudged};
 
-use crate::culprit::{Culprit, marked_range};
+use crate::arguments::mistyped_detail;
+use crate::call_counts::counts_detail;
+use crate::culprit::Culprit;
 use crate::diagnostic::{Detail, Diagnostic};
+use crate::layout::{item_span, layout_of, own_words};
+use crate::limit::Limit;
 use crate::mistake::Mistake;
-use crate::naming::{earlier_detail, unknown_name};
-use sect_front::{FrontFault, PlacedFault, Span, Tree, innermost_brace, parse, parse_placed};
+use crate::naming::{declared_at, earlier_detail, found, unknown_name};
+use sect_front::{
+    FrontFault, PlacedFault, Span, Token, Tree, innermost_brace, parse, parse_placed,
+};
 use sect_names::{Refusal, SchemeFault, check_k, scheme_of};
-use sect_places::{NameSpan, item_ranges, range_span, token_spans, tree_names};
+use sect_places::{NameSpan, tree_names};
 use sect_types::{Program, TypeFault, check_types};
 use std::alloc::{AllocError, Global};
 
@@ -67,25 +72,6 @@ fn front_diagnostic(
     }
 }
 
-/// The bytes of the item at fault in a tree that the text spells, as far as they are marked for this mistake.
-fn item_span(
-    alloc: Global,
-    source: &[u8],
-    tree: &Tree,
-    mistake: Mistake,
-    culprit: Culprit,
-) -> Result<Span, AllocError>
-    requires spelled { IsSpelled source.now tree.now }
-    requires there { item_number tree.now culprit < length (items tree.now) }
-    ensures item { IfOk result (IsItemSpan source.now tree.now mistake culprit) }
-    ensures within { IfOk result (IsWithin (length source.now)) }
-{
-    let tokens = token_spans(alloc, source, tree)?;
-    let ranges = item_ranges(alloc, tree)?;
-    let range = marked_range(mistake, culprit.range(tree, ranges.as_slice()));
-    Ok(range_span(tokens.as_slice(), range))
-}
-
 /// The tree of a text that spells one.
 fn tree_of(alloc: Global, source: &[u8]) -> Result<Tree, Refusal>
     requires { (tree : TreeView) × IsSpelled source.now tree }
@@ -112,12 +98,27 @@ fn marked_span(names: &[NameSpan], fault: &TypeFault, item: Span) -> Span
     }
 }
 
-/// What is said beside the carets of a text whose tree breaks a rule on types.
-fn named_detail(names: &[NameSpan], fault: &TypeFault) -> Detail
-    ensures { result ≡ detail_by names.now fault.now }
+/// What is said beside the carets of a text whose tree breaks a rule on types. `item` is the item at fault, `tokens` and
+/// `spans` have its tokens and their bytes.
+fn item_detail(
+    tree: &Tree,
+    names: &[NameSpan],
+    tokens: &[Token],
+    spans: &[Span],
+    fault: &TypeFault,
+) -> Detail
+    ensures { result ≡ item_detail_by tree.now names.now tokens.now spans.now fault.now }
 {
     match fault {
         TypeFault::Twice { item } => earlier_detail(names, *item as usize),
+        TypeFault::WrongType { item } => {
+            mistyped_detail(tree.procedures(), names, *item as usize, tokens, spans)
+        }
+        TypeFault::TooMany { item } => {
+            let declared = found(names, declared_at(names, *item as usize));
+            Detail::Limit(Limit::of_item(declared, tokens))
+        }
+        TypeFault::Arguments { .. } => counts_detail(tree.procedures(), tokens, spans),
         _ => Detail::Nothing,
     }
 }
@@ -133,10 +134,13 @@ fn types_diagnostic(alloc: Global, source: &[u8], fault: &TypeFault) -> Result<D
         return Err(Refusal::Memory);
     };
     let tree = tree_of(alloc, source)?;
-    let item = item_span(alloc, source, &tree, mistake, Culprit::of_types(fault))?;
+    let layout = layout_of(alloc, source, &tree)?;
     let names = tree_names(alloc, source, &tree)?;
+    let culprit = Culprit::of_types(fault);
+    let item = item_span(source, &tree, &layout, mistake, culprit);
     let span = marked_span(names.as_slice(), fault, item);
-    let detail = named_detail(names.as_slice(), fault);
+    let (tokens, spans) = own_words(source, &tree, &layout, culprit);
+    let detail = item_detail(&tree, names.as_slice(), tokens, spans, fault);
     Ok(Diagnostic {
         mistake,
         span,
@@ -160,7 +164,8 @@ fn hints_diagnostic(
         return Err(Refusal::Memory);
     };
     let tree = tree_of(alloc, source)?;
-    let span = item_span(alloc, source, &tree, mistake, Culprit::of_scheme(fault))?;
+    let layout = layout_of(alloc, source, &tree)?;
+    let span = item_span(source, &tree, &layout, mistake, Culprit::of_scheme(fault));
     Ok(Diagnostic {
         mistake,
         span,

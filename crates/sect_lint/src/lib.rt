@@ -1,21 +1,33 @@
 //! What is wrong with a source text, and where, as it is told to a reader.
 #![tactic(auto)]
 
+mod arguments;
+mod call_counts;
 mod culprit;
 mod diagnostic;
 mod excerpt;
+mod form;
 mod format;
+mod idle;
 mod json;
 mod judge;
+mod label;
+mod layout;
+mod limit;
 mod mistake;
 mod naming;
 mod report;
 mod sarif;
+mod typing;
+mod unused;
 
-pub use diagnostic::{Detail, Diagnostic};
+pub use diagnostic::{Counts, Detail, Diagnostic, Shape, Typed};
 pub use excerpt::{put_excerpt, put_margin};
 pub use format::{Format, clean_text, compact, report_as};
+pub use idle::idle_hints;
 pub use json::span_value;
 pub use judge::lint;
+pub use limit::Limit;
 pub use mistake::Mistake;
 pub use sarif::{location_value, log_value, run_value, tool_value};
+pub use unused::unused_names;

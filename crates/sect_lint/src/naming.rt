@@ -20,7 +20,7 @@ use sect_places::{
 };
 
 /// The name of a number.
-fn found(names: &[NameSpan], number: Option<usize>) -> Option<NameSpan>
+pub fn found(names: &[NameSpan], number: Option<usize>) -> Option<NameSpan>
     requires { IfSome number (λ k. k < length names.now) }
     ensures { result ≡ found_by names.now number }
 {
@@ -31,7 +31,7 @@ fn found(names: &[NameSpan], number: Option<usize>) -> Option<NameSpan>
 }
 
 /// The record that what is declared refers to, unless it is an `int`.
-fn type_of(names: &[NameSpan], declared: &NameSpan) -> Option<Name>
+pub fn type_of(names: &[NameSpan], declared: &NameSpan) -> Option<Name>
     ensures { result ≡ type_by names.now declared.now }
 {
     match found(names, type_in(names, declared.used.item)) {
@@ -41,7 +41,7 @@ fn type_of(names: &[NameSpan], declared: &NameSpan) -> Option<Name>
 }
 
 /// The declaration of a variable.
-fn variable(names: &[NameSpan], scope: usize, name: &Name) -> Option<NameSpan>
+pub fn variable(names: &[NameSpan], scope: usize, name: &Name) -> Option<NameSpan>
     ensures { result ≡ variable_by names.now scope name.now }
 {
     found(names, variable_of(names, scope, name))
@@ -78,7 +78,7 @@ fn field_in(names: &[NameSpan], field: &Name, declared: &Name) -> Option<NameSpa
 }
 
 /// The field behind the dot of an item.
-fn member_of(names: &[NameSpan], item: usize, field: &Name) -> Option<NameSpan>
+pub fn member_of(names: &[NameSpan], item: usize, field: &Name) -> Option<NameSpan>
     ensures { result ≡ member_by names.now item field.now }
 {
     match base_type(names, item) {
@@ -174,7 +174,7 @@ fn declares(named: &NameSpan, item: usize) -> bool
     named.used.item == item && matches!(named.used.role, Role::Declared(_))
 }
 
-fn declared_at(names: &[NameSpan], item: usize) -> Option<usize>
+pub fn declared_at(names: &[NameSpan], item: usize) -> Option<usize>
     ensures is { result ≡ declared_at_by names.now item }
     ensures within { IfSome result (λ k. k < length names.now) }
 {

@@ -9,6 +9,7 @@ ghost use Rattle.sect_lint.specs.Reports.{heading, note_line, report};
 
 use crate::diagnostic::{Detail, Diagnostic};
 use crate::excerpt::{put_excerpt, put_margin};
+use crate::label::{put_counts, put_typed, put_types};
 use crate::mistake::Mistake;
 use sect_places::position_of;
 use std::alloc::{AllocError, Global};
@@ -47,6 +48,22 @@ fn put_detail(text: &mut String, source: &[u8], detail: Detail) -> Result<(), Al
             text.push_str(" is open")
         }
         Detail::Earlier(span) => put_earlier(text, source, span.start),
+        Detail::Type(part) => {
+            text.push_str(" ")?;
+            put_typed(text, source, part)
+        }
+        Detail::Types(left, right) => {
+            text.push_str(" ")?;
+            put_types(text, source, left, right)
+        }
+        Detail::Limit(limit) => {
+            text.push_str(" ")?;
+            text.push_str(limit.words())
+        }
+        Detail::Counts(counts) => {
+            text.push_str(" ")?;
+            put_counts(text, source, counts)
+        }
     }
 }
 

@@ -1,16 +1,17 @@
 //! A diagnostic as a log of SARIF 2.1.0.
 
-ghost use Rattle.std.specs.Prelude.{◌≡◌, IfOk, length};
+ghost use Rattle.std.specs.Prelude.{◌≡◌, ◌++◌, IfOk, OnOk, length};
 ghost use Rattle.std.specs.String.{string_bytes};
 ghost use Rattle.serde_json.specs.View.{view};
 ghost use Rattle.sect_front.specs.FaultPlaces.{IsWithin};
 ghost use Rattle.sect_lint.specs.Details.{IsDetailWithin};
 ghost use Rattle.sect_lint.specs.Json.{list};
-ghost use Rattle.sect_lint.specs.Sarif.{region_json, location_json, related_json, related_by, said_by, result_json};
-ghost use Rattle.sect_lint.specs.Sarif.{rule_json, tool_json};
+ghost use Rattle.sect_lint.specs.Sarif.{region_json, location_json, related_json, related_by, aside_by, said_by};
+ghost use Rattle.sect_lint.specs.Sarif.{result_json, rule_json, tool_json};
 ghost use Rattle.sect_lint.specs.Sarif.{run_json, log_json, diagnostic_log as log_by, empty_log as empty_by};
 
 use crate::diagnostic::{Detail, Diagnostic};
+use crate::label::{put_counts, put_typed, put_types};
 use crate::mistake::Mistake;
 use sect_front::Span;
 use sect_places::position_of;
@@ -74,23 +75,45 @@ fn related_values(alloc: Global, source: &[u8], detail: Detail) -> Result<Value,
             let related = related_value(alloc, source, "first declared here", span)?;
             json!(in alloc; [related])
         }
-        Detail::Nothing => json!(in alloc; []),
-        Detail::Bytes(_) => json!(in alloc; []),
+        _ => json!(in alloc; []),
     }
 }
 
-/// What is wrong, and what is said beside the carets where it has no place of its own.
-fn message_of(alloc: Global, diagnostic: &Diagnostic) -> Result<String, AllocError>
-    ensures { IfOk result (λ text. string_bytes text ≡ said_by diagnostic.now diagnostic.now.detail) }
+/// Adds what is said beside the carets, where it has no place of its own.
+fn put_aside(text: &mut String, source: &[u8], detail: Detail) -> Result<(), AllocError>
+    requires { IsDetailWithin (length source.now) detail }
+    ensures { OnOk result (string_bytes text.new ≡ string_bytes text.old ++ aside_by source.now detail) }
+{
+    match detail {
+        Detail::Nothing | Detail::OpenBrace(_) | Detail::Earlier(_) => Ok(()),
+        Detail::Bytes(count) => Ok(write!(text, ": {count} bytes")?),
+        Detail::Type(part) => {
+            text.push_str(": ")?;
+            put_typed(text, source, part)
+        }
+        Detail::Types(left, right) => {
+            text.push_str(": ")?;
+            put_types(text, source, left, right)
+        }
+        Detail::Limit(limit) => {
+            text.push_str(": ")?;
+            text.push_str(limit.words())
+        }
+        Detail::Counts(counts) => {
+            text.push_str(": ")?;
+            put_counts(text, source, counts)
+        }
+    }
+}
+
+/// What is wrong, and what is said beside it.
+fn message_of(alloc: Global, source: &[u8], diagnostic: &Diagnostic) -> Result<String, AllocError>
+    requires { IsDetailWithin (length source.now) diagnostic.now.detail }
+    ensures { IfOk result (λ text. string_bytes text ≡ said_by source.now diagnostic.now) }
 {
     let mut text = String::new(alloc);
     text.push_str(diagnostic.mistake.title())?;
-    match diagnostic.detail {
-        Detail::Bytes(count) => write!(text, ": {count} bytes")?,
-        Detail::Nothing => {}
-        Detail::OpenBrace(_) => {}
-        Detail::Earlier(_) => {}
-    }
+    put_aside(&mut text, source, diagnostic.detail)?;
     Ok(text)
 }
 
@@ -101,7 +124,7 @@ fn result_value(alloc: Global, source: &[u8], diagnostic: &Diagnostic) -> Result
     ensures { IfOk result (λ v. view v ≡ result_json source.now diagnostic.now) }
 {
     let location = location_value(alloc, source, diagnostic.span)?;
-    let message = message_of(alloc, diagnostic)?;
+    let message = message_of(alloc, source, diagnostic)?;
     let text = message.as_str();
     let related = related_values(alloc, source, diagnostic.detail)?;
     let rule = format!(in alloc; "{}", diagnostic.mistake.number())?;

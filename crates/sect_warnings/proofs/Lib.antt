@@ -1,3 +1,4 @@
 mod Judging
 mod Placing
 mod Plain
+mod Sparing

@@ -8,12 +8,13 @@ use Rattle.sect_places.specs.Spans.{AreInOrder, span_in}
 use Rattle.sect_places.proofs.shared.Ordered.{range_among, span_proper}
 use Rattle.sect_lint.specs.Places.{no_range}
 use Rattle.sect_warnings.specs.declared.warning.Warning.{Warning}
+use Rattle.sect_warnings.specs.declared.warning.Told.TheVariants as told
 use Rattle.sect_warnings.specs.declared.warning.Placed.{Placed}
 use Rattle.sect_warnings.specs.Reports.{AreWithin}
 
 -- a warning with the bytes of its item, where these are the bytes of all tokens and the tokens of all items
 abbrev pub placed_by : List Span → List TokenRange → Warning → Placed
-placed_by tokens ranges w = record { warning = w; span = span_in tokens (get_or ranges w.item no_range) }
+placed_by tokens ranges w = record { told = told.Section w; span = span_in tokens (get_or ranges w.item no_range) }
 
 -- they are bytes of the text
 pub within : (total : ℕ) (tokens : List Span) (ranges : List TokenRange) → AreInOrder 0 total tokens

@@ -8,7 +8,10 @@ use Rattle.sect_lint.specs.Formats.{clean}
 use Rattle.sect_emit.specs.Compiled.{CompiledView}
 use Rattle.sect_warnings.specs.declared.warning.Warning.{Warning}
 use Rattle.sect_warnings.specs.declared.warning.Placed.{Placed}
+use Rattle.sect_places.specs.declared.name_use.NameSpan.{NameSpan}
+use Rattle.sect_places.specs.NameSpans.{AreNameSpans}
 use Rattle.sect_warnings.specs.Warnings.{AreWarnings}
+use Rattle.sect_warnings.specs.Spares.{AreSpares}
 use Rattle.sect_warnings.specs.Reports.{ArePlaced, reports}
 use Rattle.sect_warnings.specs.Json.{warning_json}
 use Rattle.sect_warnings.specs.Sarif.{warnings_log}
@@ -28,8 +31,10 @@ abbrev pub printed : Format → List ℕ → List Placed → List ℕ
 printed format source [] = clean format
 printed format source (p ∷ ps) = told format source (p ∷ ps)
 
--- the bytes are what is printed of the warnings of the program of that text
+-- the bytes are what is printed of the warnings of the program of that text: of its sections, and then of its
+-- declarations
 abbrev pub AreWarningsPrinted : List ℕ → CompiledView → Format → List ℕ → Type 0
 AreWarningsPrinted source c format bytes =
-    (ws : List Warning) × (ps : List Placed) × AreWarnings c ws × ArePlaced source c.scheme.program.source ws ps
-    × (bytes ≡ printed format source ps)
+    (ws : List Warning) × (ps : List Placed) × (names : List NameSpan) × (spares : List Placed) × AreWarnings c ws
+    × ArePlaced source c.scheme.program.source ws ps × AreNameSpans source c.scheme.program.source names
+    × AreSpares c.scheme names spares × (bytes ≡ printed format source (ps ++ spares))

@@ -1,5 +1,6 @@
 pub mod Warnings
 pub mod Titles
+pub mod Spares
 pub mod Reports
 pub mod Json
 pub mod Sarif

@@ -6,25 +6,35 @@ use Rattle.sect_lint.specs.Sarif.{text_json, location_json, tool_json, run_json,
 use Rattle.sect_names.specs.declared.lock.Effect.TheVariants as effect
 use Rattle.sect_warnings.specs.declared.warning.Finding.{Finding}
 use Rattle.sect_warnings.specs.declared.warning.Finding.TheVariants as finding
+use Rattle.sect_places.specs.declared.name_use.Thing.TheVariants as thing
+use Rattle.sect_warnings.specs.declared.warning.Spare.{Spare}
+use Rattle.sect_warnings.specs.declared.warning.Spare.TheVariants as spare
 use Rattle.sect_warnings.specs.declared.warning.Placed.{Placed}
-use Rattle.sect_warnings.specs.Titles.{name_of, title_of, note_of}
+use Rattle.sect_warnings.specs.Titles.{name_of, note_of, spare_name, spare_note, told_name, told_title}
 
 abbrev pub result_json : List ℕ → Placed → Data
 result_json source p =
     object (member (codes "level") (string (codes "warning"))
     (member (codes "locations") (list (location_json source p.span ∷ []))
-    (member (codes "message") (text_json (title_of p.warning))
-    (member (codes "ruleId") (string (name_of p.warning.finding)) no_members))))
+    (member (codes "message") (text_json (told_title p.told))
+    (member (codes "ruleId") (string (told_name p.told)) no_members))))
 
-abbrev pub rule_json : Finding → Data
-rule_json f =
-    object (member (codes "help") (text_json (note_of f)) (member (codes "id") (string (name_of f)) no_members))
+-- what is told under this name, and what that means
+abbrev pub rule_json : List ℕ → List ℕ → Data
+rule_json name note =
+    object (member (codes "help") (text_json note) (member (codes "id") (string name) no_members))
+
+abbrev pub finding_rule : Finding → Data
+finding_rule f = rule_json (name_of f) (note_of f)
+
+abbrev pub spare_rule : Spare → Data
+spare_rule s = rule_json (spare_name s) (spare_note s)
 
 -- what may be told
 abbrev pub rules : Data
 rules =
-    list (rule_json finding.NoLock ∷ rule_json (finding.ClassLock 0 effect.Read) ∷ rule_json (finding.NeverFilled 0 0)
-    ∷ [])
+    list (finding_rule finding.NoLock ∷ finding_rule (finding.ClassLock 0 effect.Read)
+    ∷ finding_rule (finding.NeverFilled 0 0) ∷ spare_rule (spare.Unused thing.Local) ∷ spare_rule spare.Hint ∷ [])
 
 abbrev pub warnings_log : List ℕ → List Placed → Data
 warnings_log source ps = log_json (run_json (list (map (result_json source) ps)) (tool_json rules))

@@ -1,10 +1,15 @@
 -- What is said of a warning.
 use Rattle.std.specs.Prelude.{ℕ, List, ◌++◌, codes}
 use Rattle.std.specs.Fmt.{decimal}
+use Rattle.sect_places.specs.declared.name_use.Thing.TheVariants as thing
 use Rattle.sect_names.specs.declared.lock.Effect.{Effect}
 use Rattle.sect_names.specs.declared.lock.Effect.TheVariants as effect
 use Rattle.sect_warnings.specs.declared.warning.Finding.{Finding}
 use Rattle.sect_warnings.specs.declared.warning.Finding.TheVariants as finding
+use Rattle.sect_warnings.specs.declared.warning.Spare.{Spare}
+use Rattle.sect_warnings.specs.declared.warning.Spare.TheVariants as spare
+use Rattle.sect_warnings.specs.declared.warning.Told.{Told}
+use Rattle.sect_warnings.specs.declared.warning.Told.TheVariants as told
 use Rattle.sect_warnings.specs.declared.warning.Warning.{Warning}
 
 -- its name
@@ -34,3 +39,34 @@ note_of (finding.ClassLock n e) =
     codes "a path to such an object has more fields than a lock may have; `sectc explain` shows where"
 note_of (finding.NeverFilled j x) =
     codes "no statement ever gives the local an object, so a thread that comes here ends by the fault `null`"
+
+-- the same of a declaration
+abbrev pub spare_name : Spare → List ℕ
+spare_name (spare.Unused what) = codes "unused"
+spare_name spare.Hint = codes "hint-without-use"
+
+abbrev pub spare_title : Spare → List ℕ
+spare_title (spare.Unused thing.Record) = codes "nothing uses this record"
+spare_title (spare.Unused thing.Field) = codes "nothing uses this field"
+spare_title (spare.Unused thing.Global) = codes "nothing uses this global"
+spare_title (spare.Unused thing.Procedure) = codes "nothing calls this procedure"
+spare_title (spare.Unused thing.Thread) = codes "nothing uses this thread"
+spare_title (spare.Unused thing.Local) = codes "nothing uses this variable"
+spare_title spare.Hint = codes "no section touches an object of this record"
+
+abbrev pub spare_note : Spare → List ℕ
+spare_note (spare.Unused what) = codes "no name in the text refers to it"
+spare_note spare.Hint = codes "its hint has nothing to protect"
+
+-- of a section or a declaration
+abbrev pub told_name : Told → List ℕ
+told_name (told.Section w) = name_of w.finding
+told_name (told.Declaration s) = spare_name s
+
+abbrev pub told_title : Told → List ℕ
+told_title (told.Section w) = title_of w
+told_title (told.Declaration s) = spare_title s
+
+abbrev pub told_note : Told → List ℕ
+told_note (told.Section w) = note_of w.finding
+told_note (told.Declaration s) = spare_note s

@@ -14,9 +14,11 @@ use crate::judge::warnings;
 use crate::place::places_of;
 use crate::report::reports_text;
 use crate::sarif::warnings_log;
+use crate::spare::spares;
 use crate::warning::Placed;
 use sect_emit::Compiled;
 use sect_lint::{Format, clean_text, compact};
+use sect_places::tree_names;
 use std::alloc::{AllocError, Global};
 
 /// Adds a warning as an object of JSON, and a line feed.
@@ -119,6 +121,9 @@ pub fn warnings_as(
 {
     let found = warnings(alloc, compiled)?;
     let tree = compiled.scheme().program().tree();
-    let placed = places_of(alloc, source, tree, found.as_slice())?;
+    let mut placed = places_of(alloc, source, tree, found.as_slice())?;
+    let names = tree_names(alloc, source, tree)?;
+    let spares = spares(alloc, compiled.scheme(), names.as_slice())?;
+    placed.extend_from_slice(spares.as_slice())?;
     printed(alloc, source, placed.as_slice(), format)
 }

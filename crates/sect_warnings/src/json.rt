@@ -17,9 +17,9 @@ pub fn warning_value(alloc: Global, source: &[u8], placed: &Placed) -> Result<Va
     ensures { IfOk result (λ v. view v ≡ warning_json source.now placed.now) }
 {
     let span = span_value(alloc, source, placed.span)?;
-    let code = placed.warning.finding.name();
-    let message = title(alloc, placed.warning)?;
-    let note = placed.warning.finding.note();
+    let code = placed.told.name();
+    let message = title(alloc, placed.told)?;
+    let note = placed.told.note();
     json!(in alloc; {"code": code, "labels": [], "message": message, "notes": [note],
         "severity": "warning", "span": span})
 }

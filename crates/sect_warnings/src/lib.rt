@@ -8,9 +8,11 @@ mod laws;
 mod place;
 mod report;
 mod sarif;
+mod spare;
 mod warning;
 
 pub use format::warnings_as;
 pub use judge::warnings;
 pub use laws::never_filled_locals_refer_to_nothing;
-pub use warning::{Finding, Warning};
+pub use spare::spares;
+pub use warning::{Finding, Placed, Spare, Told, Warning};

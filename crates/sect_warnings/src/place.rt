@@ -10,7 +10,7 @@ ghost use Rattle.sect_lint.specs.Places.{no_range};
 ghost use Rattle.sect_warnings.specs.Warnings.{AreAtItems};
 ghost use Rattle.sect_warnings.specs.Reports.{ArePlaced, AreWithin};
 
-use crate::warning::{Placed, Warning};
+use crate::warning::{Placed, Told, Warning};
 use sect_front::{Span, Tree};
 use sect_places::{TokenRange, item_ranges, range_span, token_spans};
 use std::alloc::{AllocError, Global};
@@ -41,7 +41,7 @@ pub fn places_of(
     let mut placed = Vec::with_capacity(alloc, found.len())?;
     for warning in found {
         placed.push(Placed {
-            warning: *warning,
+            told: Told::Section(*warning),
             span: item_span(tokens.as_slice(), ranges.as_slice(), warning.item),
         })?;
     }

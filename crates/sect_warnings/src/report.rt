@@ -5,10 +5,10 @@ ghost use Rattle.std.specs.List.{flat_map};
 ghost use Rattle.std.specs.Fmt.{decimal};
 ghost use Rattle.std.specs.String.{string_bytes};
 ghost use Rattle.sect_front.specs.FaultPlaces.{IsWithin};
-ghost use Rattle.sect_warnings.specs.Titles.{title_of, told_of, doing as doing_by};
+ghost use Rattle.sect_warnings.specs.Titles.{title_of, told_of, told_title, doing as doing_by};
 ghost use Rattle.sect_warnings.specs.Reports.{heading, note_line, report, reports, AreWithin};
 
-use crate::warning::{Finding, Placed, Warning};
+use crate::warning::{Finding, Placed, Told, Warning};
 use sect_lint::{put_excerpt, put_margin};
 use sect_names::Effect;
 use sect_places::position_of;
@@ -39,48 +39,53 @@ fn put_told(text: &mut String, finding: Finding) -> Result<(), AllocError>
     }
 }
 
-/// Adds what is told, in a few words.
-fn put_title(text: &mut String, warning: Warning) -> Result<(), AllocError>
+/// Adds what is told of a section, with its number.
+fn put_section(text: &mut String, warning: Warning) -> Result<(), AllocError>
     ensures { OnOk result (string_bytes text.new ≡ string_bytes text.old ++ title_of warning) }
 {
     write!(text, "section {}", warning.section)?;
     put_told(text, warning.finding)
 }
 
+/// Adds what is told, in a few words.
+fn put_title(text: &mut String, told: Told) -> Result<(), AllocError>
+    ensures { OnOk result (string_bytes text.new ≡ string_bytes text.old ++ told_title told) }
+{
+    match told {
+        Told::Section(warning) => put_section(text, warning),
+        Told::Declaration(spare) => text.push_str(spare.title()),
+    }
+}
+
 /// What is told, in a few words.
-pub fn title(alloc: Global, warning: Warning) -> Result<String, AllocError>
-    ensures { IfOk result (λ text. string_bytes text ≡ title_of warning) }
+pub fn title(alloc: Global, told: Told) -> Result<String, AllocError>
+    ensures { IfOk result (λ text. string_bytes text ≡ told_title told) }
 {
     let mut text = String::new(alloc);
-    put_title(&mut text, warning)?;
+    put_title(&mut text, told)?;
     Ok(text)
 }
 
 /// Adds the name of a warning and what is told.
 #[tactic(auto, unfolding(crate::specs::Reports::heading))]
-fn put_heading(text: &mut String, warning: Warning) -> Result<(), AllocError>
-    ensures { OnOk result (string_bytes text.new ≡ string_bytes text.old ++ heading warning) }
+fn put_heading(text: &mut String, told: Told) -> Result<(), AllocError>
+    ensures { OnOk result (string_bytes text.new ≡ string_bytes text.old ++ heading told) }
 {
-    let name = warning.finding.name();
+    let name = told.name();
     write!(text, "warning[{name}]: ")?;
-    put_title(text, warning)?;
+    put_title(text, told)?;
     text.push_str("\n")
 }
 
 /// Adds what it means, below a line of this number.
 #[tactic(auto, unfolding(crate::specs::Reports::note_line))]
-fn put_note(
-    text: &mut String,
-    warning: Warning,
-    number: &str,
-    line: usize,
-) -> Result<(), AllocError>
+fn put_note(text: &mut String, told: Told, number: &str, line: usize) -> Result<(), AllocError>
     requires { number.now ≡ decimal line }
-    ensures { OnOk result (string_bytes text.new ≡ string_bytes text.old ++ note_line line warning) }
+    ensures { OnOk result (string_bytes text.new ≡ string_bytes text.old ++ note_line line told) }
 {
     text.push_str("\n")?;
     put_margin(text, number)?;
-    Ok(write!(text, "= {}\n", warning.finding.note())?)
+    Ok(write!(text, "= {}\n", told.note())?)
 }
 
 /// Adds the report of a warning.
@@ -95,9 +100,9 @@ fn put_report(
 {
     let line = position_of(source, placed.span.start).line;
     let number = format!(in alloc; "{line}")?;
-    put_heading(text, placed.warning)?;
+    put_heading(text, placed.told)?;
     put_excerpt(text, source, placed.span, number.as_str())?;
-    put_note(text, placed.warning, number.as_str(), line)
+    put_note(text, placed.told, number.as_str(), line)
 }
 
 /// Adds the reports of warnings, each behind an empty line.

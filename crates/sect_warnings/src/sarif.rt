@@ -5,12 +5,13 @@ ghost use Rattle.serde_json.specs.View.{view};
 ghost use Rattle.sect_front.specs.FaultPlaces.{IsWithin};
 ghost use Rattle.sect_lint.specs.Json.{list};
 ghost use Rattle.sect_warnings.specs.Reports.{AreWithin};
-ghost use Rattle.sect_warnings.specs.Sarif.{result_json, rule_json, rules as rules_by, warnings_log as log_by};
+ghost use Rattle.sect_warnings.specs.Sarif.{result_json, rule_json, finding_rule, spare_rule, rules as rules_by, warnings_log as log_by};
 
 use crate::report::title;
-use crate::warning::{Finding, Placed};
+use crate::warning::{Finding, Placed, Spare};
 use sect_lint::{location_value, log_value, run_value, tool_value};
 use sect_names::Effect;
+use sect_places::Thing;
 use serde_json::{Value, json};
 use std::alloc::{AllocError, Global};
 
@@ -20,8 +21,8 @@ fn result_value(alloc: Global, source: &[u8], placed: &Placed) -> Result<Value, 
     ensures { IfOk result (λ v. view v ≡ result_json source.now placed.now) }
 {
     let location = location_value(alloc, source, placed.span)?;
-    let message = title(alloc, placed.warning)?;
-    let rule = placed.warning.finding.name();
+    let message = title(alloc, placed.told)?;
+    let rule = placed.told.name();
     json!(in alloc; {"level": "warning", "locations": [location], "message": {"text": message}, "ruleId": rule})
 }
 
@@ -37,29 +38,43 @@ fn results_value(alloc: Global, source: &[u8], placed: &[Placed]) -> Result<Valu
     Ok(Value::Array(results))
 }
 
-/// What a finding is.
-fn rule_value(alloc: Global, finding: Finding) -> Result<Value, AllocError>
-    ensures { IfOk result (λ v. view v ≡ rule_json finding) }
+/// What is told under this name, and what that means.
+fn rule_value(alloc: Global, name: &str, note: &str) -> Result<Value, AllocError>
+    ensures { IfOk result (λ v. view v ≡ rule_json name.now note.now) }
 {
-    let note = finding.note();
-    let name = finding.name();
     json!(in alloc; {"help": {"text": note}, "id": name})
+}
+
+/// What a finding is.
+fn finding_value(alloc: Global, finding: Finding) -> Result<Value, AllocError>
+    ensures { IfOk result (λ v. view v ≡ finding_rule finding) }
+{
+    rule_value(alloc, finding.name(), finding.note())
+}
+
+/// The same of what is told of a declaration.
+fn spare_value(alloc: Global, spare: Spare) -> Result<Value, AllocError>
+    ensures { IfOk result (λ v. view v ≡ spare_rule spare) }
+{
+    rule_value(alloc, spare.name(), spare.note())
 }
 
 /// What may be told.
 fn rules_value(alloc: Global) -> Result<Value, AllocError>
     ensures { IfOk result (λ v. view v ≡ rules_by) }
 {
-    let no_lock = rule_value(alloc, Finding::NoLock)?;
-    let class_lock = rule_value(
+    let no_lock = finding_value(alloc, Finding::NoLock)?;
+    let class_lock = finding_value(
         alloc,
         Finding::ClassLock {
             class: 0,
             effect: Effect::Read,
         },
     )?;
-    let never_filled = rule_value(alloc, Finding::NeverFilled { node: 0, local: 0 })?;
-    json!(in alloc; [no_lock, class_lock, never_filled])
+    let never_filled = finding_value(alloc, Finding::NeverFilled { node: 0, local: 0 })?;
+    let unused = spare_value(alloc, Spare::Unused(Thing::Local))?;
+    let hint = spare_value(alloc, Spare::Hint)?;
+    json!(in alloc; [no_lock, class_lock, never_filled, unused, hint])
 }
 
 /// The log of the warnings of a source text.

@@ -1,10 +1,12 @@
 //! What is worth a second look.
 
 ghost use Rattle.std.specs.Prelude.{◌≡◌};
-ghost use Rattle.sect_warnings.specs.Titles.{name_of, note_of};
+ghost use Rattle.sect_warnings.specs.Titles.{name_of, note_of, spare_name, spare_title, spare_note};
+ghost use Rattle.sect_warnings.specs.Titles.{told_name, told_note};
 
 use sect_front::Span;
 use sect_names::Effect;
+use sect_places::Thing;
 
 /// What may be told of a section of a program that is accepted.
 #[derive(Clone, Copy, Debug, PartialEq, Eq)]
@@ -54,9 +56,84 @@ pub struct Warning {
     pub item: usize,
 }
 
-/// A warning, and the bytes of its item.
+/// What may be told of a declaration of a program that is accepted.
+#[derive(Clone, Copy, Debug, PartialEq, Eq)]
+pub enum Spare {
+    /// No name refers to it.
+    Unused(Thing),
+    /// The record has a hint, and no section touches an object of it.
+    Hint,
+}
+
+impl Spare {
+    /// Its name.
+    pub fn name(self) -> &'static str
+        ensures { result.now ≡ spare_name self }
+    {
+        match self {
+            Spare::Unused(_) => "unused",
+            Spare::Hint => "hint-without-use",
+        }
+    }
+
+    /// What is told of a declaration, in a few words.
+    pub fn title(self) -> &'static str
+        ensures { result.now ≡ spare_title self }
+    {
+        match self {
+            Spare::Unused(Thing::Record) => "nothing uses this record",
+            Spare::Unused(Thing::Field) => "nothing uses this field",
+            Spare::Unused(Thing::Global) => "nothing uses this global",
+            Spare::Unused(Thing::Procedure) => "nothing calls this procedure",
+            Spare::Unused(Thing::Thread) => "nothing uses this thread",
+            Spare::Unused(Thing::Local) => "nothing uses this variable",
+            Spare::Hint => "no section touches an object of this record",
+        }
+    }
+
+    /// What it means.
+    pub fn note(self) -> &'static str
+        ensures { result.now ≡ spare_note self }
+    {
+        match self {
+            Spare::Unused(_) => "no name in the text refers to it",
+            Spare::Hint => "its hint has nothing to protect",
+        }
+    }
+}
+
+/// What is told, of a section or of a declaration.
+#[derive(Clone, Copy, Debug, PartialEq, Eq)]
+pub enum Told {
+    Section(Warning),
+    Declaration(Spare),
+}
+
+impl Told {
+    /// Its name.
+    pub fn name(self) -> &'static str
+        ensures { result.now ≡ told_name self }
+    {
+        match self {
+            Told::Section(warning) => warning.finding.name(),
+            Told::Declaration(spare) => spare.name(),
+        }
+    }
+
+    /// What it means.
+    pub fn note(self) -> &'static str
+        ensures { result.now ≡ told_note self }
+    {
+        match self {
+            Told::Section(warning) => warning.finding.note(),
+            Told::Declaration(spare) => spare.note(),
+        }
+    }
+}
+
+/// What is told, and the bytes that are marked.
 #[derive(Clone, Copy, Debug)]
 pub struct Placed {
-    pub warning: Warning,
+    pub told: Told,
     pub span: Span,
 }

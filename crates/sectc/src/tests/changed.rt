@@ -1,6 +1,6 @@
 //! Texts whose bytes are swapped, dropped or doubled: each is answered or refused by name.
 
-use super::hostile::{expect_any, is_valid};
+use super::hostile::{expect_any, expect_linted, is_valid};
 use super::programs::PROGRAMS;
 use super::{answer_of, text_of};
 use std::alloc::{AllocError, Global};
@@ -72,6 +72,21 @@ fn changed_programs(rt: HostRuntime) -> Result<(), Fail> {
     for source in PROGRAMS {
         for _ in 0..TEXTS {
             expect_answered(&rt, source.as_bytes(), &mut chance)?;
+        }
+    }
+    Ok(())
+}
+
+/// How many texts are made of each program for `lint`: more than 10,000 of all.
+const LINTED: u16 = 720;
+
+#[test]
+fn changed_programs_are_linted(rt: HostRuntime) -> Result<(), Fail> {
+    let mut chance = Chance { state: 3 };
+    for source in PROGRAMS {
+        for _ in 0..LINTED {
+            let input = changed(rt.alloc(), source.as_bytes(), &mut chance)?;
+            expect_linted(&rt, input.as_slice())?;
         }
     }
     Ok(())

@@ -122,6 +122,44 @@ fn expect_serial(
     Ok(())
 }
 
+/// The refusals that end in a line.
+const LINED: &[&str] = &[
+    "refused 1 ",
+    "refused 2 ",
+    "refused 3 ",
+    "refused 4 ",
+    "refused 5 ",
+    "refused 6 ",
+];
+
+/// The report of a text that is refused so names the number of the refusal, and the line, where it ends in one.
+fn expect_named(rt: &(impl AllocGlobal + Abort), report: &str, refused: &str) -> Result<(), Fail> {
+    let number = refused.split_whitespace().nth(1).unwrap_or("");
+    let heading = format!(in rt.alloc(); "error[{number}]: ")?;
+    assert!(rt; report.starts_with(heading.as_str()), "{refused}: {report}");
+    if is_one_of(refused, LINED) {
+        let line = refused.split_whitespace().last().unwrap_or("");
+        let place = format!(in rt.alloc(); " --> {line}:")?;
+        let second = report.lines().nth(1).unwrap_or("");
+        assert!(rt; second.starts_with(place.as_str()), "{refused}: {report}");
+    }
+    Ok(())
+}
+
+/// `lint` accepts a source text that `locks` answers, and reports of another the mistake for which `locks` refuses it.
+pub(super) fn expect_linted(
+    rt: &(impl Threads + Wait + Sync + AllocGlobal + Abort),
+    source: &[u8],
+) -> Result<(), Fail> {
+    let (status, shown) = expect_known(rt, source, &REFUSED)?;
+    let (other, report) = answer_of(rt, "lint", source)?;
+    assert_eq!(rt; other, status, "{report}");
+    if status == 1 {
+        expect_named(rt, &report, &shown)?;
+    }
+    Ok(())
+}
+
 /// Each command answers a source text, or refuses it by the line by which the others do, which is one of these.
 fn expect_answers(
     rt: &(impl Threads + Wait + Sync + AllocGlobal + Abort),

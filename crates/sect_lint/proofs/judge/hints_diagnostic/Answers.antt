@@ -6,8 +6,8 @@ use Rattle.sect_lint.specs.Places.{of_scheme, item_number}
 use Rattle.sect_lint.proofs.Faulty.{broken_within, scheme_known}
 use Rattle.sect_lint.proofs.judge.hints_diagnostic.Goals as goal
 
-pub item_span-requires-clause-there : goal.item_span-requires-clause-there
-item_span-requires-clause-there c =
+pub item_span-span-requires-clause-there : goal.item_span-span-requires-clause-there
+item_span-span-requires-clause-there c =
     let refused = c.requires.refused in
     let program : ProgramView = refused.1 in
     let fault = c.args.fault.now in

@@ -1,42 +1,70 @@
-use Rattle.std.proofs.Common.{◌<◌, length, subst, sym}
+use Rattle.std.proofs.Common.{◌≡◌, ◌<◌, length, subst, sym, ap, ◌∙◌}
 use Rattle.sect_front.specs.TreeView.{TreeView}
+use Rattle.sect_places.specs.Spans.{AreInOrder}
 use Rattle.sect_types.specs.Items.{items}
 use Rattle.sect_lint.specs.Places.{of_types, item_number}
 use Rattle.sect_lint.proofs.Faulty.{item_within, types_known}
-use Rattle.sect_lint.specs.Details.{IsDetailWithin}
+use Rattle.sect_lint.specs.Details.{IsDetailWithin, own_range, own_tokens, own_spans, item_detail}
 use Rattle.sect_lint.specs.Places.{marked_name}
 use Rattle.sect_lint.proofs.Marked.{is_marked, marked_within, detail_within}
+use Rattle.sect_lint.proofs.Parts.{order_behind}
 use Rattle.sect_lint.proofs.judge.types_diagnostic.Goals as goal
 
-pub item_span-requires-clause-there : goal.item_span-requires-clause-there
-item_span-requires-clause-there c =
+pub item_span-item-requires-clause-there : goal.item_span-item-requires-clause-there
+item_span-item-requires-clause-there c =
     let tree = c.requires.0 in
     let fault = c.args.fault.now in
     let same = c.in_ok-tree.ensures.same tree c.requires.1 in
-    rw c.of_types-2.ensures (subst (λ (t : TreeView). item_number t (of_types fault) < length (items t)) (sym same)
+    rw c.of_types-culprit.ensures (subst (λ (t : TreeView). item_number t (of_types fault) < length (items t)) (sym same)
+    (item_within tree fault (types_known fault c.in-Some.mistake c.in-Some.ensures) c.requires.2))
+
+pub own_words-requires-clause-there : goal.own_words-requires-clause-there
+own_words-requires-clause-there c =
+    let tree = c.requires.0 in
+    let fault = c.args.fault.now in
+    let same = c.in_ok-tree.ensures.same tree c.requires.1 in
+    rw c.of_types-culprit.ensures (subst (λ (t : TreeView). item_number t (of_types fault) < length (items t)) (sym same)
     (item_within tree fault (types_known fault c.in-Some.mistake c.in-Some.ensures) c.requires.2))
 
 pub returns-clause-told : goal.returns-clause-told
 returns-clause-told c =
     let source = c.args.source.now in
     let fault = c.args.fault.now in
+    let tree = c.in_ok-tree.tree in
     let names = c.in_ok-names.names.items in
     let are = c.in_ok-names.ensures in
+    let laid = c.in_ok-layout.ensures in
+    let item = item_number tree (of_types fault) in
     let marked = rw c.as_slice.ensures.value at c.marked_span-span.ensures in
-    let told = rw c.as_slice-2.ensures.value at c.named_detail-detail.ensures in
+    let tokens : c.own_words.result.0.now ≡ own_tokens tree item = rw c.of_types-culprit.ensures at c.own_words.ensures.tokens in
+    let spans : c.own_words.result.1.now ≡ own_spans tree c.in_ok-layout.layout.spans.items item =
+    rw c.of_types-culprit.ensures at c.own_words.ensures.spans in
+    let order = subst (AreInOrder 0 (length source)) (sym spans)
+    (order_behind (length source) (own_range tree item).first c.in_ok-layout.layout.spans.items laid.order) in
+    let here : c.item_detail-detail.result
+    ≡ item_detail tree names c.own_words.result.0.now c.own_words.result.1.now fault =
+    rw c.as_slice-2.ensures.value at c.item_detail-detail.ensures in
     record {
       mistake = sym c.in-Some.ensures;
       place = (
-        c.in_ok-tree.tree,
+        tree,
         names,
         are,
-        is_marked source c.in_ok-tree.tree c.in-Some.mistake (of_types fault)
-            (marked_name names fault) c.in_ok-item.item c.marked_span-span.result
-            (rw c.of_types-2.ensures at c.in_ok-item.ensures.item) marked,
+        is_marked source tree c.in-Some.mistake (of_types fault)
+            (marked_name names fault) c.item_span-item.result c.marked_span-span.result
+            (rw c.of_types-culprit.ensures at c.item_span-item.ensures.item) marked,
       );
-      within = marked_within (length source) names are.proper fault c.in_ok-item.item c.marked_span-span.result
-          c.in_ok-item.ensures.within marked;
-      detail = (c.in_ok-tree.tree, names, are, told);
-      told_within = subst (IsDetailWithin (length source)) (sym told)
-          (detail_within (length source) names are.proper fault);
+      within = marked_within (length source) names are.proper fault c.item_span-item.result c.marked_span-span.result
+          c.item_span-item.ensures.within marked;
+      detail = (
+        tree,
+        names,
+        are,
+        here ∙ ap (λ ts. item_detail tree names ts c.own_words.result.1.now fault) tokens
+            ∙ ap (λ ss. item_detail tree names (own_tokens tree item) ss fault)
+            (spans ∙ ap (λ ss. own_spans tree ss item) (laid.spans are.spelled)),
+      );
+      told_within = subst (IsDetailWithin (length source)) (sym here)
+          (detail_within (length source) names are.proper tree c.own_words.result.0.now c.own_words.result.1.now order
+          fault);
     }

@@ -1,0 +1,66 @@
+//! What is told of the declarations of a text.
+
+ghost use Rattle.std.specs.Prelude.{◌≡◌, ◌++◌, IfOk, OnOk, length, map};
+ghost use Rattle.std.specs.List.{flat_map};
+ghost use Rattle.sect_places.specs.Spans.{AreProper};
+ghost use Rattle.sect_warnings.specs.Reports.{AreWithin};
+ghost use Rattle.sect_warnings.specs.Spares.{unused_at, hint_at, AreSpares};
+
+use crate::warning::{Placed, Spare, Told};
+use sect_lint::{idle_hints, unused_names};
+use sect_names::Scheme;
+use sect_places::{NameSpan, Role};
+use std::alloc::{AllocError, Global};
+
+/// Adds that nothing uses what is declared, where a name declares something.
+fn add_unused(found: &mut Vec<Placed>, named: &NameSpan) -> Result<(), AllocError>
+    ensures { OnOk result (found.new.items ≡ found.old.items ++ unused_at named.now) }
+{
+    if let Role::Declared(thing) = named.used.role {
+        found.push(Placed {
+            told: Told::Declaration(Spare::Unused(thing)),
+            span: named.span,
+        })?;
+    }
+    Ok(())
+}
+
+/// Adds that nothing uses what these names declare.
+fn put_unused(found: &mut Vec<Placed>, names: &[NameSpan]) -> Result<(), AllocError>
+    ensures { OnOk result (found.new.items ≡ found.old.items ++ flat_map unused_at names.now) }
+{
+    for named in names {
+        add_unused(found, named)?;
+    }
+    Ok(())
+}
+
+/// Adds that the hints of these records have nothing to protect.
+fn put_hints(found: &mut Vec<Placed>, records: &[NameSpan]) -> Result<(), AllocError>
+    ensures { OnOk result (found.new.items ≡ found.old.items ++ map hint_at records.now) }
+{
+    for named in records {
+        found.push(Placed {
+            told: Told::Declaration(Spare::Hint),
+            span: named.span,
+        })?;
+    }
+    Ok(())
+}
+
+/// What is told of the declarations of a text with these names: what is never used, and then which hints have nothing
+/// to protect.
+pub fn spares(
+    alloc: Global,
+    scheme: &Scheme,
+    names: &[NameSpan],
+) -> Result<Vec<Placed>, AllocError>
+    ensures { IfOk result (λ found. AreSpares scheme.now names.now found.items) }
+{
+    let unused = unused_names(alloc, names)?;
+    let idle = idle_hints(alloc, scheme, names)?;
+    let mut found = Vec::new(alloc);
+    put_unused(&mut found, unused.as_slice())?;
+    put_hints(&mut found, idle.as_slice())?;
+    Ok(found)
+}

@@ -9,4 +9,5 @@ mod PlainObjects
 mod PlainOutcomes
 mod PlainTurns
 mod Rows
+mod SameTold
 mod Telling

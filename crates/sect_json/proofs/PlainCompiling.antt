@@ -1,7 +1,7 @@
 -- The document of a compiled program has no float.
 use Rattle.std.proofs.Common.{ℕ, List, Option, Some, None, length, refl}
 use Rattle.std.specs.Prelude.{slice_get, slice_index_or, option_map, [], ◌+◌}
-use Rattle.core.specs.List.{range_with_len}
+use Rattle.std.specs.List.{range_with_len}
 use Rattle.std.proofs.lemmas.Bool.{or_from}
 use Rattle.sect_types.specs.Sections.{sections_of}
 use Rattle.sect_graph.specs.declared.flow.Successors.{Successors}

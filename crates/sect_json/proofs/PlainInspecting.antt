@@ -1,7 +1,7 @@
 -- The document of what is known of a program has no float.
 use Rattle.std.proofs.Common.{◌≡◌, ℕ, suc, List, [], ◌∷◌, Option, Some, None, length, refl, sym, subst}
 use Rattle.std.specs.Prelude.{◌+◌, slice_get, slice_index_or, map}
-use Rattle.core.specs.List.{range_with_len}
+use Rattle.std.specs.List.{range_with_len}
 use Rattle.std.proofs.lemmas.Bool.{or_from}
 use Rattle.serde_json.specs.Data.{Data}
 use Rattle.sect_front.specs.declared.span.Span.{Span}

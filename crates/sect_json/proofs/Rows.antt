@@ -1,19 +1,27 @@
 -- Lists of values that are made one by one.
 use Rattle.std.proofs.Common.{◌≡◌, ℕ, ◌+◌, List, [], ◌∷◌, ◌++◌, map, take, drop, Some, sym, ap, ◌∙◌}
-use Rattle.std.proofs.Common.{◌≤◌, length, length-append, refl, subst, arith, inl, inr}
+use Rattle.std.proofs.Common.{◌≤◌, length, length-append, refl, subst, arith, rules, inl, inr, Bool}
 use Rattle.std.specs.Prelude.{slice_get, Vec}
 use Rattle.std.specs.declared.alloc.Global.{Global}
 use Rattle.std.proofs.lemmas.List.{map-append, take_all, take_more, append_assoc}
 use Rattle.std.proofs.lemmas.List.FromFn.{map-range_with_len_more}
 use Rattle.std.proofs.lemmas.Option.{slice_get_within, get_or_from_slice_get}
-use Rattle.core.specs.List.{range_with_len}
+use Rattle.std.specs.List.{range_with_len}
 use Rattle.sect_lemmas.proofs.Elements.{drop_next}
-use Rattle.serde_json.specs.Data.{Data}
+use Rattle.serde_json.specs.Data.{Data, null, boolean}
 use Rattle.serde_json.specs.View.{view}
-use Rattle.serde_json.specs.declared.value.Value.{Value, Array}
+use Rattle.serde_json.specs.declared.value.Value.{Value, Null, Array, the_lemmas}
+use Rattle.serde_json.specs.declared.value.Value as value
 use Rattle.serde_json.proofs.Views.{view-Array}
 use Rattle.sect_lemmas.proofs.Places.{pushed_at}
 use Rattle.sect_json.specs.Values.{list, by_place, AreTold}
+
+-- values without parts
+pub view_null : view Null ≡ null
+view_null = search (rules, the_lemmas)
+
+pub view_flag : (b : Bool) → view (value.Bool b) ≡ boolean b
+view_flag b = search (rules, the_lemmas)
 
 -- one value more
 pub view_more : (values more : List Value) (v : Value) (d : Data) → more ≡ values ++ v ∷ [] → view v ≡ d

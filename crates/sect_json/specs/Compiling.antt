@@ -1,6 +1,6 @@
 -- Compiled programs as JSON. `compiled_document` cites it.
 use Rattle.std.specs.Prelude.{ℕ, List, [], ◌∷◌, codes, length, map, slice_index_or}
-use Rattle.core.specs.List.{range_with_len}
+use Rattle.std.specs.List.{range_with_len}
 use Rattle.serde_json.specs.Data.{Data, string}
 use Rattle.sect_types.specs.Programs.{ProgramView}
 use Rattle.sect_types.specs.Sections.{sections_of}

@@ -1,7 +1,7 @@
 -- What is known of a program, as JSON. `inspection_document` cites it.
 use Rattle.std.specs.Prelude.{◌≡◌, ℕ, ◌+◌, List, [], ◌∷◌, Option, Some, None, codes, length, map, slice_get}
-use Rattle.std.specs.Prelude.{slice_index_or}
-use Rattle.core.specs.List.{range_with_len}
+use Rattle.std.specs.Prelude.{slice_index_or, true, false}
+use Rattle.std.specs.List.{range_with_len}
 use Rattle.serde_json.specs.Data.{Data, null, boolean, string}
 use Rattle.sect_front.specs.declared.span.Span.{Span}
 use Rattle.sect_front.specs.declared.tree.Locking.{Locking}

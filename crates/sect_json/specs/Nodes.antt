@@ -1,6 +1,6 @@
 -- Graphs as JSON. `nodes_value` cites it.
 use Rattle.std.specs.Prelude.{ℕ, ◌+◌, List, [], ◌∷◌, Option, Some, None, codes, length, map, option_map, slice_get}
-use Rattle.core.specs.List.{range_with_len}
+use Rattle.std.specs.List.{range_with_len}
 use Rattle.serde_json.specs.Data.{Data, string}
 use Rattle.sect_graph.specs.declared.flow.Successors.{Successors}
 use Rattle.sect_graph.specs.declared.flow.Successors.TheVariants.{Next, Branch}

@@ -2,7 +2,7 @@
 
 ghost use Rattle.std.specs.Prelude.{◌≡◌, ◌<◌, IfOk, length, map};
 ghost use Rattle.std.specs.String.{string_bytes};
-ghost use Rattle.core.specs.List.{range_with_len};
+ghost use Rattle.std.specs.List.{range_with_len};
 ghost use Rattle.serde_json.specs.View.{view};
 ghost use Rattle.sect_types.specs.Sections.{sections_of};
 ghost use Rattle.sect_emit.specs.Compiled.{program_of};

@@ -2,7 +2,7 @@
 
 ghost use Rattle.std.specs.Prelude.{◌≡◌, ◌<◌, ◌+◌, ℕ, List, Some, All, IfOk, length, map, slice_get, slice_index_or};
 ghost use Rattle.std.specs.String.{string_bytes};
-ghost use Rattle.core.specs.List.{range_with_len};
+ghost use Rattle.std.specs.List.{range_with_len};
 ghost use Rattle.serde_json.specs.View.{view};
 ghost use Rattle.sect_front.specs.Front.{IsSpelled};
 ghost use Rattle.sect_front.specs.declared.tree.Locking.TheVariants.{Inferred};
@@ -55,8 +55,8 @@ pub fn inspection_document(
         compiled,
         spans: &spans,
     };
-    let sections = section_values(alloc, of)?;
-    let threads = thread_values(alloc, of)?;
+    let sections = section_values(alloc, &of)?;
+    let threads = thread_values(alloc, &of)?;
     let value = inspection_value(alloc, compiled.scheme().k(), sections, threads)?;
     document(alloc, &value)
 }
@@ -82,10 +82,10 @@ fn inspection_value(
 }
 
 /// All sections, by number.
-fn section_values(alloc: Global, of: Inspected<'_>) -> Result<Vec<Value>, AllocError>
-    requires { IsInspected of }
-    ensures { IfOk result (λ values. AreTold (IsSectionInspected of.compiled.now of.source.now of.spans.now)
-        (length (sections_of (program_of of.compiled.now).texts)) (map view values.items)) }
+fn section_values(alloc: Global, of: &Inspected<'_>) -> Result<Vec<Value>, AllocError>
+    requires { IsInspected of.now }
+    ensures { IfOk result (λ values. AreTold (IsSectionInspected of.now.compiled.now of.now.source.now of.now.spans.now)
+        (length (sections_of (program_of of.now.compiled.now).texts)) (map view values.items)) }
 {
     let mut values = Vec::new(alloc);
     for section in 0..of.compiled.scheme().program().section_count() {
@@ -95,10 +95,10 @@ fn section_values(alloc: Global, of: Inspected<'_>) -> Result<Vec<Value>, AllocE
 }
 
 /// A section: its locks and their chains, its nodes and the locks that are needed there.
-fn section_value(alloc: Global, of: Inspected<'_>, section: u16) -> Result<Value, AllocError>
-    requires inspected { IsInspected of }
-    requires section { section < length (sections_of (program_of of.compiled.now).texts) }
-    ensures { IfOk result (λ v. IsSectionInspected of.compiled.now of.source.now of.spans.now section (view v)) }
+fn section_value(alloc: Global, of: &Inspected<'_>, section: u16) -> Result<Value, AllocError>
+    requires inspected { IsInspected of.now }
+    requires section { section < length (sections_of (program_of of.now.compiled.now).texts) }
+    ensures { IfOk result (λ v. IsSectionInspected of.now.compiled.now of.now.source.now of.now.spans.now section (view v)) }
 {
     let compiled = of.compiled;
     let found = section_chains(alloc, compiled, section)?;
@@ -155,17 +155,17 @@ fn told_section(alloc: Global, told: Told, section: u16, thread: u16) -> Result<
 /// The nodes of a section, the exit last, each with the locks that are needed from there on.
 fn section_nodes(
     alloc: Global,
-    of: Inspected<'_>,
+    of: &Inspected<'_>,
     section: u16,
     locks: &Locks,
 ) -> Result<Value, AllocError>
-    requires inspected { IsInspected of }
-    requires section { section < length (sections_of (program_of of.compiled.now).texts) }
-    requires many { length locks.now.at ≡ length (graphed_nodes of.compiled.now (graphed.Section section)) + 1 }
+    requires inspected { IsInspected of.now }
+    requires section { section < length (sections_of (program_of of.now.compiled.now).texts) }
+    requires many { length locks.now.at ≡ length (graphed_nodes of.now.compiled.now (graphed.Section section)) + 1 }
     requires named { (node : ℕ) (needed : List ALock) → slice_get locks.now.at node ≡ Some needed
-        → AreNamed (program_of of.compiled.now) needed }
+        → AreNamed (program_of of.now.compiled.now) needed }
     ensures { IfOk result (λ v. view v ≡ list (by_place
-        (section_node_json of.compiled.now of.source.now of.spans.now section) 0 locks.now.at)) }
+        (section_node_json of.now.compiled.now of.now.source.now of.now.spans.now section) 0 locks.now.at)) }
 {
     let mut values = Vec::new(alloc);
     for node in 0..graphed_flow(of.compiled, GraphOf::Section(section)).exit() + 1 {
@@ -178,16 +178,16 @@ fn section_nodes(
 /// A node of a section, where these locks are needed from there on.
 fn section_node(
     alloc: Global,
-    of: Inspected<'_>,
+    of: &Inspected<'_>,
     section: u16,
     node: u16,
     needed: &[Lock],
 ) -> Result<Value, AllocError>
-    requires inspected { IsInspected of }
-    requires section { section < length (sections_of (program_of of.compiled.now).texts) }
-    requires named { AreNamed (program_of of.compiled.now) needed.now }
+    requires inspected { IsInspected of.now }
+    requires section { section < length (sections_of (program_of of.now.compiled.now).texts) }
+    requires named { AreNamed (program_of of.now.compiled.now) needed.now }
     ensures { IfOk result (λ v. view v
-        ≡ section_node_json of.compiled.now of.source.now of.spans.now section node needed.now) }
+        ≡ section_node_json of.now.compiled.now of.now.source.now of.now.spans.now section node needed.now) }
 {
     let needs = locks_value(alloc, of.compiled.scheme().program(), needed)?;
     let told = node_told(alloc, of, GraphOf::Section(section), node)?;
@@ -219,16 +219,16 @@ struct NodeTold {
 /// What is told of a node of a graph.
 fn node_told(
     alloc: Global,
-    of: Inspected<'_>,
+    of: &Inspected<'_>,
     graph: GraphOf,
     node: u16,
 ) -> Result<NodeTold, AllocError>
-    requires inspected { IsInspected of }
-    requires there { IsThere of.compiled.now graph }
-    ensures next { IfOk result (λ told. view told.next ≡ next_at of.compiled.now graph node) }
+    requires inspected { IsInspected of.now }
+    requires there { IsThere of.now.compiled.now graph }
+    ensures next { IfOk result (λ told. view told.next ≡ next_at of.now.compiled.now graph node) }
     ensures place { IfOk result (λ told. view told.place
-        ≡ origin_json of.source.now (spans_at of.spans.now graph) node) }
-    ensures text { IfOk result (λ told. string_bytes told.text ≡ graphed_deed of.compiled.now graph node) }
+        ≡ origin_json of.now.source.now (spans_at of.now.spans.now graph) node) }
+    ensures text { IfOk result (λ told. string_bytes told.text ≡ graphed_deed of.now.compiled.now graph node) }
 {
     let mut text = String::new(alloc);
     put_graphed_node(&mut text, of.compiled, graph, node)?;
@@ -240,11 +240,11 @@ fn node_told(
 }
 
 /// Where the nodes of a graph come from.
-fn spans_of<'a>(of: Inspected<'a>, graph: GraphOf) -> &'a [NodeSpan]
-    requires inspected { IsInspected of }
-    requires there { IsThere of.compiled.now graph }
-    ensures spans { result.now ≡ spans_at of.spans.now graph }
-    ensures within { All (IsNodeWithin (length of.source.now)) result.now }
+fn spans_of<'a>(of: &'a Inspected<'_>, graph: GraphOf) -> &'a [NodeSpan]
+    requires inspected { IsInspected of.now }
+    requires there { IsThere of.now.compiled.now graph }
+    ensures spans { result.now ≡ spans_at of.now.spans.now graph }
+    ensures within { All (IsNodeWithin (length of.now.source.now)) result.now }
 {
     match graph {
         GraphOf::Thread(thread) => of.spans.thread(thread),
@@ -253,11 +253,11 @@ fn spans_of<'a>(of: Inspected<'a>, graph: GraphOf) -> &'a [NodeSpan]
 }
 
 /// All threads, by number.
-fn thread_values(alloc: Global, of: Inspected<'_>) -> Result<Vec<Value>, AllocError>
-    requires { IsInspected of }
+fn thread_values(alloc: Global, of: &Inspected<'_>) -> Result<Vec<Value>, AllocError>
+    requires { IsInspected of.now }
     ensures { IfOk result (λ values. map view values.items
-        ≡ map (thread_json of.compiled.now of.source.now of.spans.now)
-        (range_with_len 0 (length (program_of of.compiled.now).texts))) }
+        ≡ map (thread_json of.now.compiled.now of.now.source.now of.now.spans.now)
+        (range_with_len 0 (length (program_of of.now.compiled.now).texts))) }
 {
     let mut values = Vec::new(alloc);
     for thread in 0..of.compiled.scheme().program().thread_count() {
@@ -267,10 +267,10 @@ fn thread_values(alloc: Global, of: Inspected<'_>) -> Result<Vec<Value>, AllocEr
 }
 
 /// A thread.
-fn thread_value(alloc: Global, of: Inspected<'_>, thread: u16) -> Result<Value, AllocError>
-    requires inspected { IsInspected of }
-    requires thread { thread < length (program_of of.compiled.now).texts }
-    ensures { IfOk result (λ v. view v ≡ thread_json of.compiled.now of.source.now of.spans.now thread) }
+fn thread_value(alloc: Global, of: &Inspected<'_>, thread: u16) -> Result<Value, AllocError>
+    requires inspected { IsInspected of.now }
+    requires thread { thread < length (program_of of.now.compiled.now).texts }
+    ensures { IfOk result (λ v. view v ≡ thread_json of.now.compiled.now of.now.source.now of.now.spans.now thread) }
 {
     let nodes = thread_nodes(alloc, of, thread)?;
     let mut name = String::new(alloc);
@@ -279,12 +279,12 @@ fn thread_value(alloc: Global, of: Inspected<'_>, thread: u16) -> Result<Value, 
 }
 
 /// The nodes of a thread, the exit last.
-fn thread_nodes(alloc: Global, of: Inspected<'_>, thread: u16) -> Result<Value, AllocError>
-    requires inspected { IsInspected of }
-    requires thread { thread < length (program_of of.compiled.now).texts }
+fn thread_nodes(alloc: Global, of: &Inspected<'_>, thread: u16) -> Result<Value, AllocError>
+    requires inspected { IsInspected of.now }
+    requires thread { thread < length (program_of of.now.compiled.now).texts }
     ensures { IfOk result (λ v. view v ≡ list (map
-        (thread_node_json of.compiled.now of.source.now of.spans.now thread)
-        (range_with_len 0 (length (graphed_nodes of.compiled.now (graphed.Thread thread)) + 1)))) }
+        (thread_node_json of.now.compiled.now of.now.source.now of.now.spans.now thread)
+        (range_with_len 0 (length (graphed_nodes of.now.compiled.now (graphed.Thread thread)) + 1)))) }
 {
     let mut values = Vec::new(alloc);
     for node in 0..graphed_flow(of.compiled, GraphOf::Thread(thread)).exit() + 1 {
@@ -296,14 +296,14 @@ fn thread_nodes(alloc: Global, of: Inspected<'_>, thread: u16) -> Result<Value, 
 /// A node of a thread.
 fn thread_node(
     alloc: Global,
-    of: Inspected<'_>,
+    of: &Inspected<'_>,
     thread: u16,
     node: u16,
 ) -> Result<Value, AllocError>
-    requires inspected { IsInspected of }
-    requires thread { thread < length (program_of of.compiled.now).texts }
+    requires inspected { IsInspected of.now }
+    requires thread { thread < length (program_of of.now.compiled.now).texts }
     ensures { IfOk result (λ v. view v
-        ≡ thread_node_json of.compiled.now of.source.now of.spans.now thread node) }
+        ≡ thread_node_json of.now.compiled.now of.now.source.now of.now.spans.now thread node) }
 {
     let told = node_told(alloc, of, GraphOf::Thread(thread), node)?;
     told_thread_node(alloc, told, node)

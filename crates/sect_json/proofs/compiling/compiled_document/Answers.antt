@@ -1,5 +1,5 @@
 use Rattle.std.proofs.Common.{length, map, ap, ◌∙◌}
-use Rattle.core.specs.List.{range_with_len}
+use Rattle.std.specs.List.{range_with_len}
 use Rattle.std.proofs.lemmas.Result.{IfOk-weaker}
 use Rattle.serde_json.specs.View.{view}
 use Rattle.serde_json.specs.Written.{has_float}

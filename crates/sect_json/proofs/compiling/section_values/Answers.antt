@@ -1,5 +1,5 @@
 use Rattle.std.proofs.Common.{◌≡◌, length, map, ap, ◌∙◌, arith}
-use Rattle.core.specs.List.{range_with_len}
+use Rattle.std.specs.List.{range_with_len}
 use Rattle.sect_types.specs.Programs.{ProgramView}
 use Rattle.sect_types.specs.Sections.{sections_of}
 use Rattle.sect_names.specs.Schemes.{SchemeView}

@@ -14,7 +14,7 @@ returns c =
     let u = c.args.thread in
     let name = thread_name v.scheme.program.source u in
     let program = c.program.ensures ∙ ap (λ (s : SchemeView). s.program) c.scheme.ensures in
-    let text : string_bytes c.put_thread_name.new.name ≡ name =
+    let text : string_bytes c.put_thread_name.new.text ≡ name =
     c.in_ok-put_thread_name.ensures
     ∙ (ap (λ bs. bs ++ thread_name c.program.result.now.source u) c.new-name.ensures.bytes
     ∙ ap (λ (p : ProgramView). thread_name p.source u) program) in

@@ -8,12 +8,12 @@ use Rattle.sect_json.proofs.inspecting.section_nodes.Goals as goal
 
 pub section_node-requires-clause-named : goal.section_node-requires-clause-named
 section_node-requires-clause-named c =
-    subst (AreNamed (program_of c.args.of.compiled.now)) (sym c.as_slice.ensures.value)
+    subst (AreNamed (program_of c.args.of.now.compiled.now)) (sym c.as_slice.ensures.value)
     (c.requires.named c.loop-node.node c.in_ok-needed.needed.items c.in_ok-needed.ensures)
 
 pub loop-node-preserved : goal.loop-node-preserved
 loop-node-preserved c =
-    let of = c.args.of in
+    let of = c.args.of.now in
     let n = c.loop-node.node in
     let v = c.in_ok-section_node.field-0 in
     let needed = c.in_ok-needed.needed.items in

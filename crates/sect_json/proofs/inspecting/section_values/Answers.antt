@@ -10,13 +10,13 @@ use Rattle.sect_json.proofs.inspecting.section_values.Goals as goal
 
 pub loop-section-init : goal.loop-section-init
 loop-section-init c =
-    let of = c.args.of in
+    let of = c.args.of.now in
     let IsSo = IsSectionInspected of.compiled.now of.source.now of.spans.now in
     subst (AreTold IsSo 0) (ap (map view) (sym c.new-values.ensures.items)) (told_none IsSo)
 
 pub loop-section-preserved : goal.loop-section-preserved
 loop-section-preserved c =
-    let of = c.args.of in
+    let of = c.args.of.now in
     let v = c.in_ok-section_value.field-0 in
     let values = c.loop-section.values.items in
     told_more (IsSectionInspected of.compiled.now of.source.now of.spans.now) c.loop-section.section
@@ -25,7 +25,7 @@ loop-section-preserved c =
 
 pub returns : goal.returns
 returns c =
-    let of = c.args.of in
+    let of = c.args.of.now in
     let v = of.compiled.now in
     let program = c.program.ensures ∙ ap (λ (s : SchemeView). s.program) c.scheme.ensures in
     let count = c.section_count-section-end.ensures.count

@@ -7,14 +7,14 @@ use Rattle.sect_json.proofs.inspecting.thread_nodes.Goals as goal
 
 pub loop-node-preserved : goal.loop-node-preserved
 loop-node-preserved c =
-    let of = c.args.of in
+    let of = c.args.of.now in
     range_more (thread_node_json of.compiled.now of.source.now of.spans.now c.args.thread) c.loop-node.node
     c.loop-node.values.items c.push.new.self.items c.in_ok-thread_node.field-0 c.loop-node.invariant
     c.in_ok-push.ensures.items c.in_ok-thread_node.ensures
 
 pub returns : goal.returns
 returns c =
-    let of = c.args.of in
+    let of = c.args.of.now in
     let u = c.args.thread in
     let many = c.exit-node-end.ensures.number ∙ ap length c.graphed_flow.ensures in
     range_all (thread_node_json of.compiled.now of.source.now of.spans.now u) c.loop-node.node

@@ -1,5 +1,5 @@
 use Rattle.std.proofs.Common.{◌≡◌, map}
-use Rattle.core.specs.List.{range_with_len}
+use Rattle.std.specs.List.{range_with_len}
 use Rattle.serde_json.specs.View.{view}
 use Rattle.sect_json.specs.Inspecting.{thread_node_json}
 use Rattle.sect_json.proofs.inspecting.thread_nodes.Given as goal

@@ -2,7 +2,6 @@ use Rattle.std.proofs.Common.{◌≡◌, [], Some, sym, ap, ◌∙◌, subst}
 use Rattle.std.specs.Prelude.{slice_get}
 use Rattle.std.proofs.lemmas.Option.{slice_get-get_or}
 use Rattle.std.proofs.lemmas.Result.{on_ok_weaker}
-use Rattle.sect_lemmas.specs.Lists.{Has}
 use Rattle.sect_lemmas.proofs.Membership.{Has-slice_get}
 use Rattle.sect_lemmas.proofs.Places.{told_of, at_of}
 use Rattle.sect_graph.specs.declared.flow.Node.{Node}

@@ -107,7 +107,8 @@ module _ (keys : List Lock) where
     rises k within =
         let x = at_of locks k (omega (arith, within, length-map locks held)) in
         let y = at_of locks (k + 1) (omega (arith, within, length-map locks held)) in
-        ap (λ l. the_lock_order.cmp l (get_or (map held locks) (k + 1) lock.All)) (mapped_at held locks k x.0 lock.All x.1)
+        ap (λ l. the_lock_order.cmp l (get_or (map held locks) (k + 1) lock.All))
+        (mapped_at held locks k x.0 lock.All x.1)
         ∙ ap (the_lock_order.cmp x.0.lock.now) (mapped_at held locks (k + 1) y.0 lock.All y.1)
         ∙ beside k x.0 y.0 x.1 y.1
 

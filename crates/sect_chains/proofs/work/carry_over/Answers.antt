@@ -84,10 +84,12 @@ finding c =
     (c.in_ok-carry_one.ensures l.0 l.1).finding
 
 pub keep_found-requires-clause-count : goal.keep_found-requires-clause-count
-keep_found-requires-clause-count c = (finding (goal.at.keep_found-requires-clause-count c).In_ok-carry_one).numbering.count
+keep_found-requires-clause-count c =
+    (finding (goal.at.keep_found-requires-clause-count c).In_ok-carry_one).numbering.count
 
 pub keep_found-requires-clause-apart : goal.keep_found-requires-clause-apart
-keep_found-requires-clause-apart c = (finding (goal.at.keep_found-requires-clause-apart c).In_ok-carry_one).numbering.apart
+keep_found-requires-clause-apart c =
+    (finding (goal.at.keep_found-requires-clause-apart c).In_ok-carry_one).numbering.apart
 
 pub keep_found-requires-clause-once : goal.keep_found-requires-clause-once
 keep_found-requires-clause-once c = (finding (goal.at.keep_found-requires-clause-once c).In_ok-carry_one).apart

@@ -9,6 +9,7 @@ mod Firsts
 mod Adding
 mod Spreading
 mod Listing
+mod Staying
 mod Starting
 mod Chaining
 pub mod shared

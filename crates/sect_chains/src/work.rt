@@ -20,7 +20,7 @@ ghost use Rattle.sect_graph.specs.Predecessors.{IsAscending};
 use crate::keep::{KeptLink, keep, keep_found};
 use sect_graph::Flow;
 use sect_infer::{Numbering, Numbers, carry_one};
-use sect_names::{Link, Lock, Scheme};
+use sect_names::{Link, Lock, Scheme, stays};
 use std::alloc::{AllocError, Global};
 
 /// A section whose chains are searched.
@@ -164,8 +164,9 @@ pub fn generated(alloc: Global, section: Searched<'_>) -> Result<Trail, AllocErr
     Ok(trail)
 }
 
-/// Keeps the steps at a node that link to the one at an index, in the canonical order of their locks.
-fn carry_to(
+/// Keeps the steps at a node that link to the one at an index, in the canonical order of their locks, whatever the
+/// node's statement does.
+fn carry_over(
     alloc: Global,
     section: Searched<'_>,
     trail: &mut Trail,
@@ -212,6 +213,47 @@ fn carry_to(
         Some(index),
         fresh,
     )
+}
+
+/// Keeps the steps at a node that link to the one at an index, in the canonical order of their locks. Mostly the lock
+/// stays.
+fn carry_to(
+    alloc: Global,
+    section: Searched<'_>,
+    trail: &mut Trail,
+    fresh: &mut Numbers,
+    node: u16,
+    index: usize,
+) -> Result<(), AllocError>
+    requires node { node < length section.flow.now }
+    requires index { index < length trail.old.steps.items }
+    requires leads { (y : Node) (x : KeptLink) → slice_get section.flow.now node ≡ Some y
+        → slice_get trail.old.steps.items index ≡ Some x → LeadsTo y x.node }
+    requires lawful { AreLawful section.scheme.now section.thread section.last.now section.flow.now }
+    requires work { IsWork section.scheme.now section.thread section.last.now section.flow.now trail.old }
+    requires sorted { IsInOrder trail.old }
+    requires before { (l : Lock) → AllBefore trail.old (Some index) (link node l) }
+    ensures order { OnOk result ((y : Node) (b : Link) → slice_get section.entry.flow.now node ≡ Some y
+        → slice_get (links_of trail.old.numbering.keys trail.old.steps.items) index ≡ Some b
+        → AddsTo section.entry.scheme.now trail.old trail.new (Some index) (λ a. a.node ≡ node)
+        (λ a. (a.node ≡ node) × CarriedBack section.entry.scheme.now section.entry.thread y.label b.lock a.lock)) }
+    ensures kept { OnOk result ((y : Node) (b : Link) → slice_get section.entry.flow.now node ≡ Some y
+        → slice_get (links_of trail.old.numbering.keys trail.old.steps.items) index ≡ Some b
+        → GoesOn section.entry.scheme.now section.entry.thread section.entry.last.now
+        section.entry.flow.now trail.old trail.new
+        (λ a. (a.node ≡ node) × CarriedBack section.entry.scheme.now section.entry.thread y.label b.lock a.lock)) }
+{
+    let label = section.flow.action(node);
+    let number = trail.steps[index].number;
+    if stays(section.thread, &label, trail.numbering.lock(number)) {
+        let step = KeptLink {
+            node,
+            number,
+            next: Some(index),
+        };
+        return keep(&trail.numbering, &mut trail.found, &mut trail.steps, step);
+    }
+    carry_over(alloc, section, trail, fresh, node, index)
 }
 
 /// Keeps the steps that link to the one at an index, at the nodes from which control may go on to its own, in order.

@@ -16,7 +16,8 @@ use Rattle.sect_lemmas.proofs.Inserting.{behind}
 use Rattle.sect_names.proofs.shared.Telling.{lock_tells}
 use Rattle.sect_lemmas.proofs.Finding.{any_tells}
 use Rattle.sect_infer.specs.Numbers.{AreApart}
-use Rattle.sect_infer.specs.Numberings.{NumberingView, HasLock, AreOf, AreAbove, IsNumbering, Extends, IsNumbered, IsPut}
+use Rattle.sect_infer.specs.Numberings.{NumberingView, HasLock, AreOf, AreAbove, IsNumbering, Extends, IsNumbered}
+use Rattle.sect_infer.specs.Numberings.{IsPut}
 use Rattle.sect_infer.specs.Numberings.{AreAllPut}
 use Rattle.sect_infer.proofs.shared.Apart.{apart_push}
 use Rattle.sect_infer.proofs.shared.Extending.{get_left, extends_none, extends_then, extends_at}
@@ -126,7 +127,8 @@ module _ (s : SchemeView) where
       → IsNumbered s t t l n
   numbered_there t l n is at = record { numbering = is; longer = extends_none t; there = at }
 
-  pub put_there : (t : NumberingView) (l : Lock) (n : ℕ) → IsNumbering s t → slice_get t.keys n ≡ Some l → IsPut s t t l n
+  pub put_there : (t : NumberingView) (l : Lock) (n : ℕ) → IsNumbering s t → slice_get t.keys n ≡ Some l
+      → IsPut s t t l n
   put_there t l n is at = record { numbered = numbered_there t l n is at; only = λ k h. inl h }
 
   -- a lock that comes last has the next number

@@ -1,18 +1,17 @@
 -- Numbers in the canonical order of their locks.
-use Rattle.std.proofs.Common.{◌≡◌, ℕ, ◌+◌, ◌<◌, ◌≤◌, List, [], ◌∷◌, Some, Bool, true, false, map, length, get_or, sym, ap}
+use Rattle.std.proofs.Common.{◌≡◌, ℕ, ◌+◌, ◌<◌, List, [], ◌∷◌, Some, false, map, length, get_or, sym, ap}
 use Rattle.std.proofs.Common.{refl, ◌∙◌, subst, arith, true≢false, nat_eq, Less, Equal, Greater, inl, inr}
 use Rattle.std.specs.Prelude.{slice_get}
 use Rattle.std.specs.Option.{option_map}
 use Rattle.std.specs.declared.cmp.Ordering.{Ordering}
 use Rattle.std.specs.Ordering.{ordering_then, ordering_reverse, is_lt, nat_cmp}
 use Rattle.std.specs.Cmp.{unsigned_Decides}
-use Rattle.std.specs.List.{IsDistinct}
-use Rattle.std.specs.List.Sorted.{IsPermutation, IsSorted, IsStrictlySortedBy}
+use Rattle.std.specs.List.Sorted.{IsPermutation, IsSorted}
 use Rattle.std.proofs.lemmas.Cmp.{nat_eq_equiv}
 use Rattle.std.proofs.lemmas.List.{length-map}
 use Rattle.std.proofs.lemmas.List.Sorted.{IsPermutation-map, IsPermutation-sym, All-permutation}
 use Rattle.std.proofs.lemmas.Map.Keys.{apart_from_distinct, IsDistinct-IsPermutation, sorted_from_all_adjacent}
-use Rattle.std.proofs.lemmas.Option.{slice_get-get_or, get_or_from_slice_get, slice_get_within, slice_get-map}
+use Rattle.std.proofs.lemmas.Option.{get_or_from_slice_get, slice_get_within, slice_get-map}
 use Rattle.sect_lemmas.specs.Lists.{Has}
 use Rattle.sect_lemmas.proofs.Membership.{Has-get_or, Has-slice_get}
 use Rattle.sect_lemmas.proofs.Places.{Has-index, at_of}
@@ -108,7 +107,8 @@ module _ (keys : List Lock) where
     rises k within =
         let x = at_of locks k (omega (arith, within, length-map locks held)) in
         let y = at_of locks (k + 1) (omega (arith, within, length-map locks held)) in
-        ap (λ l. the_lock_order.cmp l (get_or (map held locks) (k + 1) lock.All)) (mapped_at held locks k x.0 lock.All x.1)
+        ap (λ l. the_lock_order.cmp l (get_or (map held locks) (k + 1) lock.All))
+        (mapped_at held locks k x.0 lock.All x.1)
         ∙ ap (the_lock_order.cmp x.0.lock.now) (mapped_at held locks (k + 1) y.0 lock.All y.1)
         ∙ beside k x.0 y.0 x.1 y.1
 

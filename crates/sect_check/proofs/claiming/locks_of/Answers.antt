@@ -7,5 +7,6 @@ pub returns-in_err-lock_of : goal.returns-in_err-lock_of
 returns-in_err-lock_of c =
     let n = c.args.naming.now in
     refuses (Denotes n.scheme n.thread) c.args.list.now c.loop-named.named-index c.named-item.result
-    c.named-item.result c.from_residual-in_err-lock_of.result c.in_err-lock_of.field-0.0 (omega arith) c.named-item.is refl
+    c.named-item.result c.from_residual-in_err-lock_of.result c.in_err-lock_of.field-0.0 (omega arith)
+    c.named-item.is refl
     c.from_residual-in_err-lock_of.ensures.1 c.in_err-lock_of.ensures

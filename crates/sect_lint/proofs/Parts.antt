@@ -25,11 +25,13 @@ use Rattle.sect_lint.specs.declared.form.Form.{Form}
 use Rattle.sect_lint.specs.declared.form.Form.TheVariants as form
 use Rattle.sect_lint.specs.Naming.{found, variable, member_of}
 use Rattle.sect_lint.specs.Typing.{named_shape, shape_of, declared_shape, assigned_shape, value_shape, target_shape}
-use Rattle.sect_lint.specs.Typing.{field_shape, shape_in, variable_in, typed_by, joined, made_by, one, two, loaded, stored}
+use Rattle.sect_lint.specs.Typing.{field_shape, shape_in, variable_in, typed_by, joined, made_by, one, two, loaded}
+use Rattle.sect_lint.specs.Typing.{stored}
 use Rattle.sect_lint.specs.Typing.{value_at, target_at, member_at, unless_int, types_detail}
 use Rattle.sect_lint.specs.Forms.{form_of}
 use Rattle.sect_lint.specs.Counting.{counts_by, counts_detail, parameters_of}
-use Rattle.sect_lint.specs.Arguments.{fits, parameter_by, unless_fits, differing, parameters_in, call_of, called_by, called_detail, mistyped_by, mistyped_detail}
+use Rattle.sect_lint.specs.Arguments.{fits, parameter_by, unless_fits, differing, parameters_in, call_of, called_by}
+use Rattle.sect_lint.specs.Arguments.{called_detail, mistyped_by, mistyped_detail}
 use Rattle.sect_lint.specs.declared.arguments.Call.{Call}
 use Rattle.sect_lint.specs.Labels.{IsShapeWithin, IsTypedWithin}
 use Rattle.sect_lint.specs.Details.{IsDetailWithin}
@@ -61,9 +63,11 @@ two_within total ss k n a b h first last =
     let less = slice_get_within ss (k + n) b last in
     let proper = span_proper total ss (range k (n + 1)) h (omega arith) (omega (arith, less)) in
     let at : k + (n + 1) - 1 ≡ k + n = omega arith in
-    let from : (get_or ss k no_span).start ≡ a.start = ap (λ (s : Span). s.start) (get_or_from_slice_get ss k a no_span first) in
+    let from : (get_or ss k no_span).start ≡ a.start =
+    ap (λ (s : Span). s.start) (get_or_from_slice_get ss k a no_span first) in
     let to : (get_or ss (k + (n + 1) - 1) no_span).end ≡ b.end =
-    ap (λ i. (get_or ss i no_span).end) at ∙ ap (λ (s : Span). s.end) (get_or_from_slice_get ss (k + n) b no_span last) in
+    ap (λ i. (get_or ss i no_span).end) at
+    ∙ ap (λ (s : Span). s.end) (get_or_from_slice_get ss (k + n) b no_span last) in
     (omega (arith, proper.0, from, to), omega (arith, proper.1, to))
 
 joined_by : (total : ℕ) (a b : Option Span)
@@ -165,14 +169,18 @@ module _ (total : ℕ) (names : List NameSpan) (proper : AreProper total (map (�
   module _ (item : ℕ) (ts : List Token) (ss : List Span) (order : AreInOrder 0 total ss) where
     value_told : (k : ℕ) → IfSome (value_at names item ts ss k) (IsTypedWithin total)
     value_told k =
-        typed_within total (slice_get ss k) _ (one_within 0 total ss k order) (shape_told (value_shape names item) (value_within item) (slice_get ts k))
+        typed_within total (slice_get ss k) _ (one_within 0 total ss k order)
+        (shape_told (value_shape names item) (value_within item) (slice_get ts k))
 
     target_told : (k : ℕ) → IfSome (target_at names item ts ss k) (IsTypedWithin total)
     target_told k =
-        typed_within total (slice_get ss k) _ (one_within 0 total ss k order) (shape_told (target_shape names item) (target_within item) (slice_get ts k))
+        typed_within total (slice_get ss k) _ (one_within 0 total ss k order)
+        (shape_told (target_shape names item) (target_within item) (slice_get ts k))
 
     member_told : (k : ℕ) → IfSome (member_at names item ts ss k) (IsTypedWithin total)
-    member_told k = typed_within total _ _ (joined_within total ss k 2 order) (shape_told (field_shape names item) (field_within item) (slice_get ts (k + 2)))
+    member_told k =
+        typed_within total _ _ (joined_within total ss k 2 order)
+        (shape_told (field_shape names item) (field_within item) (slice_get ts (k + 2)))
 
     types_within : (f : Form) → IsDetailWithin total (types_detail names item ts ss f)
     types_within form.Print = one_told total _ (value_told 1)

@@ -74,10 +74,12 @@ typed_by None h = None
 
 -- of an item's tokens the one of that number, as a value or as what is assigned to
 abbrev pub value_at : List NameSpan → ℕ → List Token → List Span → ℕ → Option Typed
-value_at names item tokens spans k = typed_by (slice_get spans k) (shape_in (value_shape names item) (slice_get tokens k))
+value_at names item tokens spans k =
+    typed_by (slice_get spans k) (shape_in (value_shape names item) (slice_get tokens k))
 
 abbrev pub target_at : List NameSpan → ℕ → List Token → List Span → ℕ → Option Typed
-target_at names item tokens spans k = typed_by (slice_get spans k) (shape_in (target_shape names item) (slice_get tokens k))
+target_at names item tokens spans k =
+    typed_by (slice_get spans k) (shape_in (target_shape names item) (slice_get tokens k))
 
 -- from the first byte of one to the last of another
 abbrev pub joined : Option Span → Option Span → Option Span

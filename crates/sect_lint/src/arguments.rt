@@ -3,9 +3,10 @@
 ghost use Rattle.std.specs.Prelude.{◌≡◌, Some, drop};
 ghost use Rattle.sect_lint.specs.Naming.{type_by, variable as variable_at};
 ghost use Rattle.sect_lint.specs.Typing.{variable_in as variable_by, value_shape as value_by, typed_by, two as two_by};
-ghost use Rattle.sect_lint.specs.Arguments.{takes as takes_by, fits as fits_by, parameter_by, differing as differing_by};
+ghost use Rattle.sect_lint.specs.Arguments.{takes as takes_by, fits as fits_by, parameter_by};
+ghost use Rattle.sect_lint.specs.Arguments.{differing as differing_by, mistyped_detail as mistyped_by};
 ghost use Rattle.sect_lint.specs.Arguments.{parameters_in as parameters_by, call_of as call_by};
-ghost use Rattle.sect_lint.specs.Arguments.{called_by as called_of, called_detail as called_by, mistyped_detail as mistyped_by};
+ghost use Rattle.sect_lint.specs.Arguments.{called_by as called_of, called_detail as called_by};
 
 use crate::call_counts::called_at;
 use crate::diagnostic::{Detail, Typed};
@@ -186,8 +187,8 @@ fn called_detail(
     }
 }
 
-/// What is told of an item of these tokens whose types don't agree: of a call an argument and its parameter. `spans` has
-/// the bytes of its tokens.
+/// What is told of an item of these tokens whose types don't agree: of a call an argument and its parameter. `spans`
+/// has the bytes of its tokens.
 pub fn mistyped_detail(
     procedures: &[Procedure],
     names: &[NameSpan],

@@ -98,8 +98,8 @@ fn marked_span(names: &[NameSpan], fault: &TypeFault, item: Span) -> Span
     }
 }
 
-/// What is said beside the carets of a text whose tree breaks a rule on types. `item` is the item at fault, `tokens` and
-/// `spans` have its tokens and their bytes.
+/// What is said beside the carets of a text whose tree breaks a rule on types. `tokens` and
+/// `spans` have the tokens of the item at fault and their bytes.
 fn item_detail(
     tree: &Tree,
     names: &[NameSpan],

@@ -31,6 +31,8 @@ mod orders;
 #[cfg(test)]
 mod parsing;
 #[cfg(test)]
+mod places;
+#[cfg(test)]
 mod pointing;
 #[cfg(test)]
 mod printing;

@@ -1,5 +1,5 @@
 -- The bytes of what is told of declarations lie in the text.
-use Rattle.std.proofs.Common.{◌≡◌, ℕ, zero, suc, ◌+◌, List, [], ◌∷◌, ◌++◌, map, Bool, true, false, arith, sym, subst}
+use Rattle.std.proofs.Common.{ℕ, zero, suc, List, [], ◌∷◌, ◌++◌, map, Bool, true, false, arith, sym, subst}
 use Rattle.std.specs.Prelude.{filter, if◌then◌else◌, ◌&&◌}
 use Rattle.std.specs.List.{flat_map}
 use Rattle.sect_front.specs.FaultPlaces.{IsWithin}
@@ -52,11 +52,11 @@ module _ (total : ℕ) where
 
   filtered : (test : NameSpan → Bool) (ns : List NameSpan) → Proper ns → Proper (filter test ns)
   filtered test [] h = tt
-  filtered test (n ∷ ns) h = by (test n)
+  filtered test (n ∷ ns) h = by (test n) (filtered test ns h.1)
     where
-      by : (b : Bool) → Proper (if b then n ∷ filter test ns else filter test ns)
-      by true = (h.0, filtered test ns h.1)
-      by false = filtered test ns h.1
+      by : (b : Bool) → Proper (filter test ns) → Proper (if b then n ∷ filter test ns else filter test ns)
+      by true rest = (h.0, rest)
+      by false rest = rest
 
   proper_both : (ns ms : List NameSpan) → Proper ns → Proper ms → Proper (ns ++ ms)
   proper_both [] ms h g = g

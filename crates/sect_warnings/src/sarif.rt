@@ -5,7 +5,8 @@ ghost use Rattle.serde_json.specs.View.{view};
 ghost use Rattle.sect_front.specs.FaultPlaces.{IsWithin};
 ghost use Rattle.sect_lint.specs.Json.{list};
 ghost use Rattle.sect_warnings.specs.Reports.{AreWithin};
-ghost use Rattle.sect_warnings.specs.Sarif.{result_json, rule_json, finding_rule, spare_rule, rules as rules_by, warnings_log as log_by};
+ghost use Rattle.sect_warnings.specs.Sarif.{result_json, rule_json, finding_rule, spare_rule};
+ghost use Rattle.sect_warnings.specs.Sarif.{rules as rules_by, warnings_log as log_by};
 
 use crate::report::title;
 use crate::warning::{Finding, Placed, Spare};

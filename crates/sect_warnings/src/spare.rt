@@ -50,11 +50,7 @@ fn put_hints(found: &mut Vec<Placed>, records: &[NameSpan]) -> Result<(), AllocE
 
 /// What is told of the declarations of a text with these names: what is never used, and then which hints have nothing
 /// to protect.
-pub fn spares(
-    alloc: Global,
-    scheme: &Scheme,
-    names: &[NameSpan],
-) -> Result<Vec<Placed>, AllocError>
+pub fn spares(alloc: Global, scheme: &Scheme, names: &[NameSpan]) -> Result<Vec<Placed>, AllocError>
     ensures { IfOk result (λ found. AreSpares scheme.now names.now found.items) }
 {
     let unused = unused_names(alloc, names)?;

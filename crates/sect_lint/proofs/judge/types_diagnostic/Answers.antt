@@ -15,16 +15,16 @@ item_span-item-requires-clause-there c =
     let tree = c.requires.0 in
     let fault = c.args.fault.now in
     let same = c.in_ok-tree.ensures.same tree c.requires.1 in
-    rw c.of_types-culprit.ensures (subst (λ (t : TreeView). item_number t (of_types fault) < length (items t)) (sym same)
-    (item_within tree fault (types_known fault c.in-Some.mistake c.in-Some.ensures) c.requires.2))
+    rw c.of_types-culprit.ensures (subst (λ (t : TreeView). item_number t (of_types fault) < length (items t))
+    (sym same) (item_within tree fault (types_known fault c.in-Some.mistake c.in-Some.ensures) c.requires.2))
 
 pub own_words-requires-clause-there : goal.own_words-requires-clause-there
 own_words-requires-clause-there c =
     let tree = c.requires.0 in
     let fault = c.args.fault.now in
     let same = c.in_ok-tree.ensures.same tree c.requires.1 in
-    rw c.of_types-culprit.ensures (subst (λ (t : TreeView). item_number t (of_types fault) < length (items t)) (sym same)
-    (item_within tree fault (types_known fault c.in-Some.mistake c.in-Some.ensures) c.requires.2))
+    rw c.of_types-culprit.ensures (subst (λ (t : TreeView). item_number t (of_types fault) < length (items t))
+    (sym same) (item_within tree fault (types_known fault c.in-Some.mistake c.in-Some.ensures) c.requires.2))
 
 pub returns-clause-told : goal.returns-clause-told
 returns-clause-told c =
@@ -36,7 +36,8 @@ returns-clause-told c =
     let laid = c.in_ok-layout.ensures in
     let item = item_number tree (of_types fault) in
     let marked = rw c.as_slice.ensures.value at c.marked_span-span.ensures in
-    let tokens : c.own_words.result.0.now ≡ own_tokens tree item = rw c.of_types-culprit.ensures at c.own_words.ensures.tokens in
+    let tokens : c.own_words.result.0.now ≡ own_tokens tree item =
+    rw c.of_types-culprit.ensures at c.own_words.ensures.tokens in
     let spans : c.own_words.result.1.now ≡ own_spans tree c.in_ok-layout.layout.spans.items item =
     rw c.of_types-culprit.ensures at c.own_words.ensures.spans in
     let order = subst (AreInOrder 0 (length source)) (sym spans)

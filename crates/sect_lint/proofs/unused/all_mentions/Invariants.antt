@@ -6,4 +6,5 @@ use Rattle.sect_lint.specs.Unused.{mentions}
 use Rattle.sect_lint.proofs.unused.all_mentions.Given as goal
 
 abbrev pub invariant-loop-named : goal.invariant-loop-named
-invariant-loop-named l = (r : Referent) → Has l.referents.keys r ↔ Has (flat_map mentions (take l.named-index l.names)) r
+invariant-loop-named l =
+    (r : Referent) → Has l.referents.keys r ↔ Has (flat_map mentions (take l.named-index l.names)) r

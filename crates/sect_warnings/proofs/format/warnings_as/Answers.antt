@@ -8,7 +8,18 @@ use Rattle.sect_warnings.proofs.Sparing.{with_spares}
 use Rattle.sect_warnings.proofs.format.warnings_as.Goals as goal
 
 pub printed-requires : goal.printed-requires
-printed-requires c = ?
+printed-requires c =
+    let ps = c.in_ok-placed.placed.items in
+    let names = c.in_ok-names.names.items in
+    let spares = c.in_ok-spares.spares.items in
+    let spare : AreSpares c.args.compiled.now.scheme names spares =
+    rw (c.scheme-2.ensures, c.as_slice-2.ensures.value) at c.in_ok-spares.ensures in
+    let all : c.as_slice-4.result.now ≡ ps ++ spares =
+    c.as_slice-4.ensures.value ∙ c.in_ok-extend_from_slice.ensures.items
+    ∙ ap (λ l. ps ++ l) c.as_slice-3.ensures.value in
+    subst (AreWithin (length c.args.source.now)) (sym all)
+    (with_spares (length c.args.source.now) c.args.compiled.now.scheme names ps spares c.in_ok-names.ensures.proper
+    spare c.in_ok-placed.ensures.within)
 
 pub returns : goal.returns
 returns c =
@@ -26,6 +37,9 @@ returns c =
     let named = subst (λ t. AreNameSpans source t names) tree c.in_ok-names.ensures in
     let spare : AreSpares c.args.compiled.now.scheme names spares =
     rw (c.scheme-2.ensures, c.as_slice-2.ensures.value) at c.in_ok-spares.ensures in
+    let all : c.as_slice-4.result.now ≡ ps ++ spares =
+    c.as_slice-4.ensures.value ∙ c.in_ok-extend_from_slice.ensures.items
+    ∙ ap (λ l. ps ++ l) c.as_slice-3.ensures.value in
     IfOk-weaker c.printed.result _ _
     (λ text h. (
       ws,
@@ -36,5 +50,5 @@ returns c =
       placed,
       named,
       spare,
-      h ∙ ap (printed c.args.format source) ?,
+      h ∙ ap (printed c.args.format source) all,
     )) c.printed.ensures

@@ -1,9 +1,10 @@
 //! Messages on a stream: header lines, an empty line, and as many bytes as the header says.
 
-ghost use Rattle.std.specs.Prelude.{◌≡◌, ◌+◌, ◌≤◌, ◌++◌, IfSome, IfOk, OnOk, OnErr, [], length, take};
+ghost use Rattle.std.specs.Prelude.{◌≡◌, ◌+◌, ◌≤◌, ◌++◌, IfSome, IfOk, OnOk, OnErr, ℕ, List, [], length, take};
 ghost use Rattle.std.specs.String.{string_bytes};
 ghost use Rattle.sect_lsp.specs.Framing.{place_of as place_by, number_from, content_length as length_by};
 ghost use Rattle.sect_lsp.specs.Framing.{front_behind as behind, front_of as front_by, frame, IsTaken};
+ghost use Rattle.sect_lsp.specs.Framing.{Spells, IsRest};
 ghost use Rattle.sect_lsp.specs.steps.Fronts.{IsFrontWithin};
 
 use std::alloc::{AllocError, Global};
@@ -179,6 +180,16 @@ impl Inbox {
             Front::Malformed => Ok(Taken::Malformed),
         }
     }
+}
+
+/// The bytes of a stream are one list of messages and one rest, and the messages that have come stay, whatever comes
+/// behind: so in which pieces the bytes come changes nothing.
+pub fn pieces_change_no_message()
+    ensures one { (bytes : List ℕ) (ms ns : List (List ℕ)) (r s : List ℕ) → Spells bytes ms r → IsRest r
+        → Spells bytes ns s → IsRest s → (ms ≡ ns) × (r ≡ s) }
+    ensures stay { (bytes more : List ℕ) (ms : List (List ℕ)) (rest : List ℕ) → Spells bytes ms rest
+        → Spells (bytes ++ more) ms (rest ++ more) }
+{
 }
 
 /// A message as it is written.

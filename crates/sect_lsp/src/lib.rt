@@ -3,4 +3,4 @@
 
 mod framing;
 
-pub use framing::{Front, Inbox, Taken};
+pub use framing::{Front, Inbox, Taken, frame_of, pieces_change_no_message};

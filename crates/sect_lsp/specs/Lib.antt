@@ -1,2 +1,4 @@
 pub mod Framing
+pub mod Positions
+pub mod Documents
 pub mod steps

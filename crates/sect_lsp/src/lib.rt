@@ -1,6 +1,10 @@
 //! A language server: what an editor tells and asks of the texts that are open, and what is answered.
 #![tactic(auto)]
 
+mod documents;
 mod framing;
+mod position;
 
+pub use documents::Documents;
 pub use framing::{Front, Inbox, Taken, frame_of, pieces_change_no_message};
+pub use position::{Encoding, Place, Range, edited};

@@ -1,4 +1,6 @@
 pub mod Framing
 pub mod Positions
 pub mod Documents
+pub mod Changes
+pub mod Protocol
 pub mod steps

@@ -71,6 +71,13 @@ fn text_in<'a>(list: &'a [Document], uri: &str) -> Option<&'a [u8]>
     None
 }
 
+/// Leaves out the document of this name.
+fn forget(list: &mut Vec<Document>, uri: &str)
+    ensures { list.new.items ≡ closed uri.now list.old.items }
+{
+    list.retain(|document| !document.is_called(uri));
+}
+
 impl Documents {
     /// None is open.
     pub fn new(alloc: Global) -> Documents
@@ -92,7 +99,7 @@ impl Documents {
     pub fn close(&mut self, uri: &str)
         ensures { self.new ≡ closed uri.now self.old }
     {
-        self.list.retain(|document| !document.is_called(uri));
+        forget(&mut self.list, uri);
     }
 
     /// Keeps this text under this name, in place of the one that was there.

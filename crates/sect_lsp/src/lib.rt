@@ -1,9 +1,11 @@
 //! A language server: what an editor tells and asks of the texts that are open, and what is answered.
 #![tactic(auto)]
 
+mod change;
 mod documents;
 mod framing;
 mod position;
+mod protocol;
 
 pub use documents::Documents;
 pub use framing::{Front, Inbox, Taken, frame_of, pieces_change_no_message};

@@ -2,11 +2,14 @@
 #![tactic(auto)]
 
 mod change;
+mod diagnosing;
 mod documents;
 mod framing;
 mod position;
 mod protocol;
+mod server;
 
 pub use documents::Documents;
 pub use framing::{Front, Inbox, Taken, frame_of, pieces_change_no_message};
 pub use position::{Encoding, Place, Range, edited};
+pub use server::{Phase, Server};

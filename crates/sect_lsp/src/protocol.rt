@@ -1,11 +1,10 @@
 //! Messages of JSON-RPC 2.0, as the protocol uses them.
 
-ghost use Rattle.std.specs.Prelude.{◌≡◌, IfOk, IfErr};
-ghost use Rattle.std.specs.Prelude.{codes};
+ghost use Rattle.std.specs.Prelude.{◌≡◌, IfOk, option_map};
 ghost use Rattle.serde_json.specs.Data.{null};
 ghost use Rattle.serde_json.specs.View.{view};
 ghost use Rattle.sect_lsp.specs.Protocol.{is_id as is_id_by, code_of, words_of, error_json, response_json};
-ghost use Rattle.sect_lsp.specs.Protocol.{notification_json, Result as ResultView, Error as ErrorView};
+ghost use Rattle.sect_lsp.specs.Protocol.{IsRead, notification_json, Result as ResultView, Error as ErrorView};
 
 use serde_json::{Value, json};
 use std::alloc::{AllocError, Global};
@@ -47,6 +46,22 @@ impl Fault {
             Fault::MethodNotFound => "there is no such method",
             Fault::InvalidParams => "the parameters aren't those of the method",
             Fault::ServerNotInitialized => "the server waits for initialize",
+        }
+    }
+}
+
+/// The value that the bytes of a message are, or nothing where they are no JSON.
+pub fn read(alloc: Global, message: &[u8]) -> Result<Option<Value>, AllocError>
+    ensures { IfOk result (λ value. IsRead message.now (option_map view value)) }
+{
+    match Value::from_slice(alloc, message) {
+        Ok(value) => Ok(Some(value)),
+        Err(error) => {
+            if error.is_memory() {
+                Err(AllocError)
+            } else {
+                Ok(None)
+            }
         }
     }
 }

@@ -1,2 +1,3 @@
 mod Finding
+mod Going
 pub mod shared

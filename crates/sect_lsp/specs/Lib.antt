@@ -5,4 +5,5 @@ pub mod Changes
 pub mod Protocol
 pub mod Diagnosing
 pub mod Server
+pub mod Sessions
 pub mod steps

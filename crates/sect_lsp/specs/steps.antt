@@ -1,3 +1,4 @@
 -- What the contracts of private functions speak of.
 pub mod Fronts
 pub mod Replying
+pub mod Underway

@@ -6,7 +6,7 @@ use serde_json::{Value, json};
 use std::alloc::{AllocError, Global};
 
 /// The diagnostics of a text.
-#[tactic(auto, using(crate::specs::Diagnosing::stub_one))]
+#[tactic(auto, unfolding(crate::specs::Diagnosing::AreDiagnostics))]
 pub fn diagnostics_of(
     alloc: Global,
     k: u16,

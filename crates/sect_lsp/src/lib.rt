@@ -8,8 +8,10 @@ mod framing;
 mod position;
 mod protocol;
 mod server;
+mod session;
 
 pub use documents::Documents;
 pub use framing::{Front, Inbox, Taken, frame_of, pieces_change_no_message};
 pub use position::{Encoding, Place, Range, edited};
 pub use server::{Phase, Server};
+pub use session::serve;

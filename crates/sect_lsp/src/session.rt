@@ -68,7 +68,7 @@ fn answer<O: Write>(
 fn read_piece<I: Read>(input: &mut I, inbox: &mut Inbox) -> io::Result<bool>
     ensures piece { OnOk result ((piece : List ℕ) × Consumes (I.remaining input.old) (I.remaining input.new) piece
         × (inbox.new ≡ inbox.old ++ piece)) }
-    ensures end { IfOk result (λ more. more ≡ false → IsAtEnd (I.remaining input.new)) }
+    ensures end { IfOk result (λ more. more ≡ false → IsAtEnd (I.remaining input.old)) }
 {
     let mut piece = [0u8; PIECE];
     match input.read(&mut piece) {
@@ -111,7 +111,7 @@ pub fn serve<I: Read, O: Write>(alloc: Global, input: &mut I, output: &mut O) ->
 {
     let mut inbox = Inbox::new(alloc);
     let mut server = Server::new(alloc);
-    for _ in 0..u64::MAX {
+    for _turn in 0..u64::MAX {
         match inbox.next()? {
             Taken::Message(message) => {
                 answer(alloc, &mut server, message.as_slice(), output)?;

@@ -1,3 +1,5 @@
 mod Finding
 mod Going
+mod Answering
+mod Keeping
 pub mod shared

@@ -6,4 +6,5 @@ pub mod Protocol
 pub mod Diagnosing
 pub mod Server
 pub mod Sessions
+pub mod Answered
 pub mod steps

@@ -5,6 +5,7 @@ mod change;
 mod diagnosing;
 mod documents;
 mod framing;
+mod laws;
 mod position;
 mod protocol;
 mod server;
@@ -12,6 +13,9 @@ mod session;
 
 pub use documents::Documents;
 pub use framing::{Front, Inbox, Taken, frame_of, pieces_change_no_message};
+pub use laws::{
+    closed_documents_are_forgotten, each_request_gets_one_answer, kept_texts_are_found,
+};
 pub use position::{Encoding, Place, Range, edited};
 pub use server::{Phase, Server};
 pub use session::serve;

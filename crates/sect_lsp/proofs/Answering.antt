@@ -1,19 +1,18 @@
 -- Each request gets one answer.
-use Rattle.std.proofs.Common.{◌≡◌, ℕ, List, [], ◌∷◌, ◌++◌, Option, Some, None, refl, ap, sym, ◌∙◌, subst}
-use Rattle.std.specs.Prelude.{codes, option_and_then}
+use Rattle.std.proofs.Common.{◌≡◌, ℕ, List, [], ◌∷◌, ◌++◌, Option, Some, None, refl, ap, ◌∙◌}
+use Rattle.std.specs.Prelude.{codes}
 use Rattle.std.specs.List.{flat_map}
 use Rattle.std.proofs.lemmas.Grind.{flat_map-append}
-use Rattle.serde_json.specs.Data.{Data, null, array, no_items}
-use Rattle.serde_json.specs.Find.{get, as_str}
-use Rattle.sect_lsp.specs.declared.protocol.Fault.{Fault}
+use Rattle.serde_json.specs.Data.{Data, array, no_items}
+use Rattle.serde_json.specs.Find.{get}
 use Rattle.sect_lsp.specs.declared.server.Phase.{Phase}
 use Rattle.sect_lsp.specs.declared.server.Phase.TheVariants as phase
 use Rattle.sect_lsp.specs.declared.server.Told.{Told}
 use Rattle.sect_lsp.specs.declared.server.Told.TheVariants as told
 use Rattle.sect_lsp.specs.Answered.{ids_by, ids_asked, ids_answered, listed, AreRead}
 use Rattle.sect_lsp.specs.Protocol.{Kind, Request, Notification, Response, Invalid, kind_of, ReplyView, Result, Error}
-use Rattle.sect_lsp.specs.Protocol.{response_json, notification_json}
-use Rattle.sect_lsp.specs.Server.{ServerView, Takes, Receives, Notes, NotesBy, NotesOf, Keeps, Forgets, Publishes}
+use Rattle.sect_lsp.specs.Protocol.{response_json}
+use Rattle.sect_lsp.specs.Server.{ServerView, Takes, Receives, Notes, NotesBy, NotesOf, Keeps}
 use Rattle.sect_lsp.specs.Server.{diagnostics_json, uri_of, text_at_opening, text_after, told_by}
 use Rattle.sect_lsp.specs.Sessions.{Runs}
 
@@ -70,8 +69,10 @@ pub runs_each : (s : ServerView) (ms : List (List ℕ)) (out : List Data) (t : S
     → (ds : List (Option Data)) × AreRead ms ds × (ids_answered out ≡ flat_map ids_asked ds)
 runs_each s [] out t h = ([], tt, ap ids_answered h.0)
 runs_each s (m ∷ ms) out t h =
-    let rest = runs_each h.2 ms h.3 t h.6 in
-    (h.4.0 ∷ rest.0, (h.4.1, rest.1),
-    ap ids_answered h.5 ∙ flat_map-append (λ d. listed (get (codes "id") d)) h.1 h.3
-    ∙ ap (λ ids. ids ++ ids_answered h.3) (takes_one s h.1 h.2 h.4.0 h.4.2)
-    ∙ ap (λ ids. ids_asked h.4.0 ++ ids) rest.2)
+    let rest = runs_each h.2 ms h.3 t h.6 in (
+      h.4.0 ∷ rest.0,
+      (h.4.1, rest.1),
+      ap ids_answered h.5 ∙ flat_map-append (λ d. listed (get (codes "id") d)) h.1 h.3
+          ∙ ap (λ ids. ids ++ ids_answered h.3) (takes_one s h.1 h.2 h.4.0 h.4.2)
+          ∙ ap (λ ids. ids_asked h.4.0 ++ ids) rest.2,
+    )

@@ -1,5 +1,5 @@
 -- The first place of a word.
-use Rattle.std.proofs.Common.{◌≡◌, ℕ, ◌+◌, ◌<◌, List, [], ◌∷◌, ◌++◌, length, drop, get_or, Option, Some, None, true, false}
+use Rattle.std.proofs.Common.{◌≡◌, ℕ, ◌+◌, ◌<◌, List, ◌∷◌, length, drop, get_or, Option, Some, None, false}
 use Rattle.std.proofs.Common.{cond, nat_eq, refl, sym, ap, subst, ◌∙◌, add-one, arith}
 use Rattle.std.proofs.Math.Seq.{drop-cons}
 use Rattle.std.specs.Prelude.{option_map}
@@ -19,8 +19,8 @@ pub place_next : (word bytes : List ℕ) (at : ℕ) → at < length bytes → st
 place_next word bytes at within not_here =
     let split : drop at bytes ≡ get_or bytes at 0 ∷ drop (at + 1) bytes = rw (add-one, drop-cons bytes at 0) refl in
     let here : starts_with nat_eq (get_or bytes at 0 ∷ drop (at + 1) bytes) word ≡ false =
-        subst (λ (bs : List ℕ). starts_with nat_eq bs word ≡ false) split not_here in
+    subst (λ (bs : List ℕ). starts_with nat_eq bs word ≡ false) split not_here in
     subst (λ (bs : List ℕ). option_map (λ n. at + n) (place_of word bs)
-        ≡ option_map (λ n. at + 1 + n) (place_of word (drop (at + 1) bytes))) (sym split)
-        (ap (λ b. option_map (λ n. at + n) (cond b (Some 0) (option_map (λ n. n + 1) (place_of word (drop (at + 1) bytes))))) here
-        ∙ one_more at (place_of word (drop (at + 1) bytes)))
+    ≡ option_map (λ n. at + 1 + n) (place_of word (drop (at + 1) bytes))) (sym split)
+    (ap (λ b. option_map (λ n. at + n) (cond b (Some 0) (option_map (λ n. n + 1) (place_of word (drop (at + 1) bytes))))) here
+    ∙ one_more at (place_of word (drop (at + 1) bytes)))

@@ -1,6 +1,6 @@
 -- A session goes on.
-use Rattle.std.proofs.Common.{◌≡◌, ◌≢◌, ℕ, ◌+◌, ◌⊎◌, List, [], ◌∷◌, ◌++◌, length, take, drop, Option, Some, None, IfSome}
-use Rattle.std.proofs.Common.{◌<◌, map, get_or, Bool, true, false, refl, sym, ap, subst, ◌∙◌, inl, inr, append-nil, append_assoc}
+use Rattle.std.proofs.Common.{◌≡◌, ℕ, ◌+◌, ◌⊎◌, List, [], ◌∷◌, ◌++◌, length, take, drop, Option, Some, None, IfSome}
+use Rattle.std.proofs.Common.{◌<◌, map, get_or, true, false, refl, sym, ap, subst, ◌∙◌, inl, inr, append-nil, append_assoc}
 use Rattle.std.specs.Io.KnownBytes.{Appends, Consumes, IsAtEnd}
 use Rattle.std.proofs.lemmas.List.{take_more, map-append}
 use Rattle.serde_json.specs.Data.{Data}
@@ -10,7 +10,7 @@ use Rattle.sect_lsp.specs.declared.framing.Front.{Front}
 use Rattle.sect_lsp.specs.declared.framing.Front.TheVariants.{Message, Part, Malformed}
 use Rattle.sect_lsp.specs.declared.server.Phase.{Phase}
 use Rattle.sect_lsp.specs.declared.server.Phase.TheVariants as phase
-use Rattle.sect_lsp.specs.Framing.{Spells, IsRest, front_of, frame}
+use Rattle.sect_lsp.specs.Framing.{Spells, front_of, frame}
 use Rattle.sect_lsp.specs.Server.{ServerView, Step, start}
 use Rattle.sect_lsp.specs.Sessions.{is_ended, Runs, IsTextOf, AreSent, IsSession, status_by}
 use Rattle.sect_lsp.specs.steps.Underway.{IsUnderway, IsAnswered}
@@ -19,9 +19,13 @@ use Rattle.sect_lsp.proofs.shared.Pieces.{front_more, message_more}
 -- one message more
 spells_one_more : (bytes : List ℕ) (ms : List (List ℕ)) (rest : List ℕ) (h b : ℕ) → Spells bytes ms rest
     → front_of rest ≡ Message h b → Spells bytes (ms ++ take b (drop h rest) ∷ []) (drop (h + b) rest)
-spells_one_more bytes [] rest h b is e =
-    (h, b, subst (λ (bs : List ℕ). front_of bs ≡ Message h b) is e, ap (λ bs. take b (drop h bs)) is,
-    ap (drop (h + b)) is)
+spells_one_more bytes [] rest h b is e = (
+  h,
+  b,
+  subst (λ (bs : List ℕ). front_of bs ≡ Message h b) is e,
+  ap (λ bs. take b (drop h bs)) is,
+  ap (drop (h + b)) is,
+)
 spells_one_more bytes (m ∷ ms) rest h b is e =
     (is.0, is.1, is.2, is.3, spells_one_more (drop (is.0 + is.1) bytes) ms rest h b is.4 e)
 
@@ -29,14 +33,24 @@ spells_one_more bytes (m ∷ ms) rest h b is e =
 runs_one_more : (s : ServerView) (ms : List (List ℕ)) (out : List Data) (t : ServerView) (m : List ℕ) (first : List Data)
     (u : ServerView) → Runs s ms out t → is_ended t.phase ≡ false → Step t m first u
     → Runs s (ms ++ m ∷ []) (out ++ first) u
-runs_one_more s [] out t m first u runs on step =
-    (subst (λ (v : ServerView). is_ended v.phase ≡ false) runs.1 on, first, u, [],
-    subst (λ (v : ServerView). Step v m first u) runs.1 step,
-    ap (λ ds. ds ++ first) runs.0 ∙ sym (append-nil first), (refl, refl))
-runs_one_more s (n ∷ ms) out t m first u runs on step =
-    (runs.0, runs.1, runs.2, runs.3 ++ first, runs.4,
-    ap (λ ds. ds ++ first) runs.5 ∙ append_assoc runs.1 runs.3 first,
-    runs_one_more runs.2 ms runs.3 t m first u runs.6 on step)
+runs_one_more s [] out t m first u runs on step = (
+  subst (λ (v : ServerView). is_ended v.phase ≡ false) runs.1 on,
+  first,
+  u,
+  [],
+  subst (λ (v : ServerView). Step v m first u) runs.1 step,
+  ap (λ ds. ds ++ first) runs.0 ∙ sym (append-nil first),
+  (refl, refl),
+)
+runs_one_more s (n ∷ ms) out t m first u runs on step = (
+  runs.0,
+  runs.1,
+  runs.2,
+  runs.3 ++ first,
+  runs.4,
+  ap (λ ds. ds ++ first) runs.5 ∙ append_assoc runs.1 runs.3 first,
+  runs_one_more runs.2 ms runs.3 t m first u runs.6 on step,
+)
 
 sent_more : (ds es : List Data) (a b : List ℕ) → AreSent ds a → AreSent es b → AreSent (ds ++ es) (a ++ b)
 sent_more [] es a b x y = subst (λ (bs : List ℕ). AreSent es (bs ++ b)) (sym x) y
@@ -63,7 +77,14 @@ at_end_before (Some xs) (Some ys) c e = c ∙ e
 begun : (left old : Option (List ℕ)) → IfSome left (λ bytes. IsUnderway bytes old old [] left start)
 begun None old = tt
 begun (Some bytes) old = record {
-  messages = []; out = []; sent = []; more = bytes; left_is = refl; spelled = refl; runs = (refl, refl); sent_is = refl;
+  messages = [];
+  out = [];
+  sent = [];
+  more = bytes;
+  left_is = refl;
+  spelled = refl;
+  runs = (refl, refl);
+  sent_is = refl;
   appended = appends_none old;
 }
 
@@ -78,7 +99,11 @@ pub same_way : (bytes : List ℕ) (old new after : Option (List ℕ)) (inbox hel
     (s t : ServerView) → after ≡ new → held ≡ inbox → rest ≡ left → t ≡ s → IsUnderway bytes old new inbox left s
     → IsUnderway bytes old after held rest t
 same_way bytes old new after inbox held left rest s t a b c d u = record {
-  messages = u.messages; out = u.out; sent = u.sent; more = u.more; left_is = c ∙ u.left_is;
+  messages = u.messages;
+  out = u.out;
+  sent = u.sent;
+  more = u.more;
+  left_is = c ∙ u.left_is;
   spelled = subst (λ (bs : List ℕ). Spells bytes u.messages (bs ++ u.more)) (sym b) u.spelled;
   runs = subst (λ (v : ServerView). Runs start u.messages u.out v) (sym d) u.runs;
   sent_is = u.sent_is;
@@ -117,24 +142,40 @@ module _ (bytes : List ℕ) (old new : Option (List ℕ)) (inbox : List ℕ) (le
           → IsUnderway bytes old new (inbox ++ piece) after s
       came None h = absurd h
       came (Some ys) h = record {
-        messages = u.messages; out = u.out; sent = u.sent; more = ys; left_is = refl;
+        messages = u.messages;
+        out = u.out;
+        sent = u.sent;
+        more = ys;
+        left_is = refl;
         spelled = subst (λ (rest : List ℕ). Spells bytes u.messages rest)
             (ap (λ bs. inbox ++ bs) h ∙ sym (append_assoc inbox piece ys)) u.spelled;
-        runs = u.runs; sent_is = u.sent_is; appended = u.appended;
+        runs = u.runs;
+        sent_is = u.sent_is;
+        appended = u.appended;
       }
 
   -- the server has ended
   pub ended_by_exit : (status : ℕ) → is_ended s.phase ≡ true → status ≡ status_by s.phase Part
       → (sent : List ℕ) × IsSession bytes sent status × Appends old new sent
-  ended_by_exit status e is = (u.sent, record {
-      messages = u.messages; rest = inbox ++ u.more; out = u.out; end = s; spelled = u.spelled; runs = u.runs;
+  ended_by_exit status e is = (
+    u.sent,
+    record {
+      messages = u.messages;
+      rest = inbox ++ u.more;
+      out = u.out;
+      end = s;
+      spelled = u.spelled;
+      runs = u.runs;
       sent_is = u.sent_is;
       all = λ on. absurd (no_both s.phase e on);
       status_is = is ∙ same s.phase (front_of (inbox ++ u.more)) e;
-    }, u.appended)
+    },
+    u.appended,
+  )
     where
       no_both : (p : Phase) → is_ended p ≡ true → is_ended p ≡ false → ⊥
       no_both p x y = let z : true ≡ false = sym x ∙ y in cc
+
       same : (p : Phase) (f : Front) → is_ended p ≡ true → status_by p Part ≡ status_by p f
       same phase.Waiting f x = absurd cc
       same phase.Serving f x = absurd cc
@@ -145,12 +186,21 @@ module _ (bytes : List ℕ) (old new : Option (List ℕ)) (inbox : List ℕ) (le
   -- no whole message stands at the front of what is left
   ended_by_rest : (status : ℕ) (front : Front) → front_of (inbox ++ u.more) ≡ front → (front ≡ Part) ⊎ (front ≡ Malformed)
       → status ≡ status_by s.phase front → (sent : List ℕ) × IsSession bytes sent status × Appends old new sent
-  ended_by_rest status front e rest is = (u.sent, record {
-      messages = u.messages; rest = inbox ++ u.more; out = u.out; end = s; spelled = u.spelled; runs = u.runs;
+  ended_by_rest status front e rest is = (
+    u.sent,
+    record {
+      messages = u.messages;
+      rest = inbox ++ u.more;
+      out = u.out;
+      end = s;
+      spelled = u.spelled;
+      runs = u.runs;
       sent_is = u.sent_is;
       all = λ on. subst (λ (f : Front). (f ≡ Part) ⊎ (f ≡ Malformed)) (sym e) rest;
       status_is = is ∙ ap (status_by s.phase) (sym e);
-    }, u.appended)
+    },
+    u.appended,
+  )
 
   -- the input ends
   pub ended_by_end : (status : ℕ) → front_of inbox ≡ Part → IsAtEnd left → status ≡ status_by s.phase Part
@@ -172,9 +222,9 @@ pub sent_one_more : (xs : List Value) (i : ℕ) (x : Value) (sent text : List �
     → AreSent (map view (take (i + 1) xs)) (sent ++ frame text)
 sent_one_more xs i x sent text within is sent_is told =
     let front : take (i + 1) xs ≡ take i xs ++ x ∷ [] =
-        take_more xs i x within ∙ ap (λ y. take i xs ++ y ∷ []) (sym is) in
+    take_more xs i x within ∙ ap (λ y. take i xs ++ y ∷ []) (sym is) in
     let all : map view (take (i + 1) xs) ≡ map view (take i xs) ++ view x ∷ [] =
-        ap (map view) front ∙ map-append view (take i xs) (x ∷ []) in
+    ap (map view) front ∙ map-append view (take i xs) (x ∷ []) in
     subst (λ (ds : List Data). AreSent ds (sent ++ frame text)) (sym all)
-        (sent_more (map view (take i xs)) (view x ∷ []) sent (frame text) sent_is
-        (text, [], told, sym (append-nil (frame text)), refl))
+    (sent_more (map view (take i xs)) (view x ∷ []) sent (frame text) sent_is
+    (text, [], told, sym (append-nil (frame text)), refl))

@@ -1,5 +1,5 @@
 -- The texts of documents that were opened and closed.
-use Rattle.std.proofs.Common.{◌≡◌, ◌≢◌, ℕ, List, [], ◌∷◌, ◌++◌, Option, Some, None, Bool, true, false, not, cond, filter}
+use Rattle.std.proofs.Common.{◌≡◌, ◌≢◌, ℕ, List, [], ◌∷◌, ◌++◌, Some, None, Bool, true, false, not, cond}
 use Rattle.std.proofs.Common.{refl, ap, sym, ◌∙◌}
 use Rattle.std.specs.Str.{bytes_eq}
 use Rattle.std.proofs.lemmas.Slice.Eq.{bytes_eq-Decides}
@@ -32,7 +32,7 @@ module _ (uri : List ℕ) where
     others_by d ds true e h =
         let called : d.uri ≡ uri = (bytes_eq-Decides d.uri uri).0 e in
         h ∙ sym (ap (λ c. cond c (Some d.text) (text_of other ds))
-            (not_same d.uri other (λ same. apart (sym same ∙ called))))
+        (not_same d.uri other (λ same. apart (sym same ∙ called))))
     others_by d ds false e h = ap (cond (bytes_eq d.uri other) (Some d.text)) h
 
     pub others_stay : (ds : List DocumentView) → text_of other (closed uri ds) ≡ text_of other ds

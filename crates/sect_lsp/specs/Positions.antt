@@ -1,5 +1,5 @@
 -- Positions of the protocol in a text: a line, and units of the encoding on it, both counted from 0.
-use Rattle.std.specs.Prelude.{ℕ, zero, suc, ◌+◌, ◌-◌, ◌==◌, ◌&&◌, ◌||◌, if◌then◌else◌, nat_lt, nat_le, max, List, [], ◌∷◌}
+use Rattle.std.specs.Prelude.{ℕ, ◌+◌, ◌-◌, ◌==◌, ◌&&◌, ◌||◌, if◌then◌else◌, nat_lt, nat_le, max, List, [], ◌∷◌}
 use Rattle.std.specs.Prelude.{◌++◌, take, drop, Option, Some, None}
 use Rattle.sect_front.specs.Gaps.{line_feed}
 use Rattle.sect_lsp.specs.declared.position.Encoding.{Encoding}

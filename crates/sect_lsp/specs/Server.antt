@@ -1,10 +1,10 @@
 -- The server as a machine: what it knows, and what comes of each message.
-use Rattle.std.specs.Prelude.{◌≡◌, ℕ, ◌≤◌, Bool, true, false, if◌then◌else◌, ◌||◌, nat_le, List, [], ◌∷◌, ◌++◌, Option, Some, None}
-use Rattle.std.specs.Prelude.{option_map, option_and_then, codes}
+use Rattle.std.specs.Prelude.{◌≡◌, ℕ, Bool, true, false, if◌then◌else◌, ◌||◌, nat_le, List, [], ◌∷◌, Option, Some, None}
+use Rattle.std.specs.Prelude.{option_and_then, codes}
 use Rattle.std.specs.Str.{bytes_eq}
 use Rattle.serde_json.specs.Data.{Data, null, boolean, number, unsigned, string, array, object, Items, no_items, item}
 use Rattle.serde_json.specs.Data.{no_members, member}
-use Rattle.serde_json.specs.Find.{get, pointer, as_str, as_array, as_number, as_u64}
+use Rattle.serde_json.specs.Find.{pointer, as_str, as_array, as_number, as_u64}
 use Rattle.sect_lsp.specs.declared.position.Encoding.{Encoding}
 use Rattle.sect_lsp.specs.declared.position.Encoding.TheVariants.{Utf8, Utf16}
 use Rattle.sect_lsp.specs.declared.protocol.Fault.{Fault}

@@ -1,5 +1,5 @@
 -- A session: the bytes that come, the messages that they spell, and what is written for them.
-use Rattle.std.specs.Prelude.{◌≡◌, ℕ, Bool, true, false, List, [], ◌∷◌, ◌++◌, length, Option, Some, None}
+use Rattle.std.specs.Prelude.{◌≡◌, ℕ, Bool, true, false, List, [], ◌∷◌, ◌++◌}
 use Rattle.serde_json.specs.Data.{Data}
 use Rattle.serde_json.specs.Written.{IsInOrder, has_float, compact_text}
 use Rattle.sect_lsp.specs.declared.framing.Front.{Front}

@@ -189,8 +189,7 @@ pub fn pieces_change_no_message()
         → Spells bytes ns s → IsRest s → (ms ≡ ns) × (r ≡ s) }
     ensures stay { (bytes more : List ℕ) (ms : List (List ℕ)) (rest : List ℕ) → Spells bytes ms rest
         → Spells (bytes ++ more) ms (rest ++ more) }
-{
-}
+{}
 
 /// A message as it is written.
 pub fn frame_of(alloc: Global, message: &str) -> Result<String, AllocError>

@@ -105,11 +105,7 @@ pub fn refusal_message(alloc: Global, why: Fault) -> Result<Value, AllocError>
 }
 
 /// What is told under this name.
-pub fn notification_message(
-    alloc: Global,
-    method: &str,
-    params: Value,
-) -> Result<Value, AllocError>
+pub fn notification_message(alloc: Global, method: &str, params: Value) -> Result<Value, AllocError>
     ensures { IfOk result (λ v. view v ≡ notification_json method.now (view params)) }
 {
     json!(in alloc; {"jsonrpc": "2.0", "method": method, "params": params})

@@ -1,5 +1,5 @@
 -- What comes behind changes nothing of the messages that have come.
-use Rattle.std.proofs.Common.{◌≡◌, ◌≢◌, ℕ, ◌+◌, ◌-◌, ◌<◌, ◌≤◌, ◌⊎◌, List, [], ◌∷◌, ◌++◌, length, take, drop, Option, Some, None}
+use Rattle.std.proofs.Common.{◌≡◌, ◌≢◌, ℕ, ◌+◌, ◌-◌, ◌≤◌, ◌⊎◌, List, [], ◌∷◌, ◌++◌, length, take, drop, Option, Some, None}
 use Rattle.std.proofs.Common.{Bool, true, false, cond, nat_eq, nat_lt, refl, sym, ap, subst, ◌∙◌, inl, inr, ⊎_elim, arith}
 use Rattle.std.proofs.Common.{append-nil}
 use Rattle.std.specs.Prelude.{option_map, codes}
@@ -8,7 +8,6 @@ use Rattle.std.specs.Cmp.Lexicographic.{pointwise}
 use Rattle.std.proofs.lemmas.List.{take-append-le, take_all, length-take, length-append, length-drop, drop-append-le}
 use Rattle.std.proofs.lemmas.Bool.{and_parts, cases_lt, le-ltb, ltb-false}
 use Rattle.std.proofs.Math.Seq.{take-append-add}
-use Rattle.sect_lsp.specs.declared.framing.Front.{Front}
 use Rattle.sect_lsp.specs.declared.framing.Front.TheVariants.{Message, Part, Malformed}
 use Rattle.sect_lsp.specs.declared.framing.TheConstants.{MOST_HEADER}
 use Rattle.sect_lsp.specs.Framing.{place_of, header_length, content_length, front_behind, front_by, front_of, Spells, IsRest}
@@ -45,7 +44,7 @@ place_fits w [] n e = absurd cc
 place_fits w (b ∷ bs) n e =
     ⊎_elim (λ p. let first : 0 ≡ n = cc in let fits = starts_fits w (b ∷ bs) p.0 in omega arith)
     (λ p. let later = mapped 1 (place_of w bs) n p.1 in let fits = place_fits w bs later.0 later.1 in
-        let past = later.2 in omega arith)
+    let past = later.2 in omega arith)
     (chosen (starts_with nat_eq (b ∷ bs) w) (Some 0) (option_map (λ m. m + 1) (place_of w bs)) (Some n) e)
 
 -- the first place of a word stays the first
@@ -58,18 +57,19 @@ place_more w (b ∷ bs) ys n e =
     ⊎_elim
     (λ p. ap (λ t. cond t (Some 0) (option_map (λ m. m + 1) (place_of w (bs ++ ys)))) (same ∙ p.0) ∙ p.1)
     (λ p. let later = mapped 1 (place_of w bs) n p.1 in
-        ap (λ t. cond t (Some 0) (option_map (λ m. m + 1) (place_of w (bs ++ ys)))) (same ∙ p.0)
-        ∙ ap (option_map (λ m. m + 1)) (place_more w bs ys later.0 later.1) ∙ ap Some later.2)
+    ap (λ t. cond t (Some 0) (option_map (λ m. m + 1) (place_of w (bs ++ ys)))) (same ∙ p.0)
+    ∙ ap (option_map (λ m. m + 1)) (place_more w bs ys later.0 later.1) ∙ ap Some later.2)
     (chosen (starts_with nat_eq (b ∷ bs) w) (Some 0) (option_map (λ m. m + 1) (place_of w bs)) (Some n) e)
 
 -- the first bytes, so many, begin with those of what came before
 first_more : (n : ℕ) (xs ys : List ℕ) → (rest : List ℕ) × (take n (xs ++ ys) ≡ take n xs ++ rest)
 first_more n xs ys = ⊎_elim
     (λ within. ([], take-append-le n xs ys (omega arith) ∙ sym (append-nil (take n xs))))
-    (λ past. let count : n ≡ length xs + (n - length xs) = omega arith in
-        (take (n - length xs) ys,
-        ap (λ m. take m (xs ++ ys)) count ∙ take-append-add xs ys (n - length xs)
-        ∙ ap (λ bs. bs ++ take (n - length xs) ys) (sym (take_all n xs past))))
+    (λ past. let count : n ≡ length xs + (n - length xs) = omega arith in (
+      take (n - length xs) ys,
+      ap (λ m. take m (xs ++ ys)) count ∙ take-append-add xs ys (n - length xs)
+          ∙ ap (λ bs. bs ++ take (n - length xs) ys) (sym (take_all n xs past)),
+    ))
     (cases_lt n (length xs))
 
 header_more : (bytes more : List ℕ) (n : ℕ) → header_length (take MOST_HEADER bytes) ≡ Some n
@@ -86,7 +86,7 @@ header_fits bytes n e =
     let at = mapped 4 (place_of (codes "\r\n\r\n") (take MOST_HEADER bytes)) n e in
     let past = at.2 in
     let fits : at.0 + 4 ≤ length (take MOST_HEADER bytes) =
-        place_fits (codes "\r\n\r\n") (take MOST_HEADER bytes) at.0 at.1 in
+    place_fits (codes "\r\n\r\n") (take MOST_HEADER bytes) at.0 at.1 in
     omega (arith, length-take MOST_HEADER bytes)
 
 behind_more : (bytes more : List ℕ) (n : ℕ) (o : Option ℕ) → front_behind bytes n o ≢ Part
@@ -95,9 +95,9 @@ behind_more bytes more n None not = refl
 behind_more bytes more n (Some k) not = ⊎_elim
     (λ p. absurd (not (sym p.1)))
     (λ p. let whole = ltb-false (length bytes) (n + k) p.0 in
-        let longer = length-append bytes more in
-        let still : nat_lt (length (bytes ++ more)) (n + k) ≡ false = le-ltb _ _ (omega arith) in
-        ap (λ t. cond t Part (Message n k)) still ∙ p.1)
+    let longer = length-append bytes more in
+    let still : nat_lt (length (bytes ++ more)) (n + k) ≡ false = le-ltb _ _ (omega arith) in
+    ap (λ t. cond t Part (Message n k)) still ∙ p.1)
     (chosen (nat_lt (length bytes) (n + k)) Part (Message n k) (front_behind bytes n (Some k)) refl)
 
 by_more : (bytes more : List ℕ) (o : Option ℕ) → header_length (take MOST_HEADER bytes) ≡ o → front_by bytes o ≢ Part
@@ -105,10 +105,10 @@ by_more : (bytes more : List ℕ) (o : Option ℕ) → header_length (take MOST_
 by_more bytes more None e not = ⊎_elim
     (λ p. absurd (not (sym p.1)))
     (λ p. let long = ltb-false (length bytes) MOST_HEADER p.0 in
-        let longer = length-append bytes more in
-        let still : nat_lt (length (bytes ++ more)) MOST_HEADER ≡ false = le-ltb _ _ (omega arith) in
-        ap (front_by (bytes ++ more)) (ap header_length (take-append-le MOST_HEADER bytes more long) ∙ e)
-        ∙ ap (λ t. cond t Part Malformed) still ∙ p.1)
+    let longer = length-append bytes more in
+    let still : nat_lt (length (bytes ++ more)) MOST_HEADER ≡ false = le-ltb _ _ (omega arith) in
+    ap (front_by (bytes ++ more)) (ap header_length (take-append-le MOST_HEADER bytes more long) ∙ e)
+    ∙ ap (λ t. cond t Part Malformed) still ∙ p.1)
     (chosen (nat_lt (length bytes) MOST_HEADER) Part Malformed (front_by bytes None) refl)
 by_more bytes more (Some n) e not =
     ap (front_by (bytes ++ more)) (header_more bytes more n e)
@@ -125,7 +125,7 @@ behind_fits bytes n None h b e = absurd cc
 behind_fits bytes n (Some k) h b e = ⊎_elim
     (λ p. absurd cc)
     (λ p. let whole = ltb-false (length bytes) (n + k) p.0 in
-        let first : n ≡ h = cc in let second : k ≡ b = cc in omega arith)
+    let first : n ≡ h = cc in let second : k ≡ b = cc in omega arith)
     (chosen (nat_lt (length bytes) (n + k)) Part (Message n k) (Message h b) e)
 
 by_fits : (bytes : List ℕ) (o : Option ℕ) (h b : ℕ) → front_by bytes o ≡ Message h b → h + b ≤ length bytes
@@ -154,9 +154,12 @@ pub spells_more : (bytes more : List ℕ) (ms : List (List ℕ)) (rest : List �
 spells_more bytes more [] rest h = ap (λ bs. bs ++ more) h
 spells_more bytes more (m ∷ ms) rest h =
     let stays = message_more bytes more h.0 h.1 h.2 in (
-      h.0, h.1, stays.0, h.3 ∙ sym stays.1,
+      h.0,
+      h.1,
+      stays.0,
+      h.3 ∙ sym stays.1,
       subst (λ (bs : List ℕ). Spells bs ms (rest ++ more)) (sym stays.2)
-        (spells_more (drop (h.0 + h.1) bytes) more ms rest h.4),
+          (spells_more (drop (h.0 + h.1) bytes) more ms rest h.4),
     )
 
 no_front : (bytes : List ℕ) → IsRest bytes → (h b : ℕ) → front_of bytes ≡ Message h b → ⊥
@@ -174,7 +177,7 @@ one_spelling bytes (m ∷ ms) (n ∷ ns) r s h p i q =
     let bodies : h.1 ≡ i.1 = cc in
     let past : drop (i.0 + i.1) bytes ≡ drop (h.0 + h.1) bytes = cc in
     let others = one_spelling (drop (h.0 + h.1) bytes) ms ns r s h.4 p
-        (subst (λ (bs : List ℕ). Spells bs ns s) past i.4) q in
+    (subst (λ (bs : List ℕ). Spells bs ns s) past i.4) q in
     let first : m ≡ n = h.3 ∙ ap (λ k. take k (drop h.0 bytes)) bodies ∙ ap (λ k. take i.1 (drop k bytes)) headers
-        ∙ sym i.3 in
+    ∙ sym i.3 in
     let rest = others.0 in (cc, others.1)

@@ -1,4 +1,4 @@
-use Rattle.std.proofs.Common.{List, ℕ, ◌++◌, ◌∙◌, sym, subst}
+use Rattle.std.proofs.Common.{◌++◌, ◌∙◌, subst}
 use Rattle.std.specs.Io.KnownBytes.{Appends}
 use Rattle.sect_lsp.specs.Framing.{frame}
 use Rattle.sect_lsp.proofs.Going.{sent_one_more, appends_more}

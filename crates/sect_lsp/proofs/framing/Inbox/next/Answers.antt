@@ -1,4 +1,4 @@
-use Rattle.std.proofs.Common.{◌≡◌, ◌+◌, ℕ, List, ap, sym, ◌∙◌, take, drop}
+use Rattle.std.proofs.Common.{◌+◌, ℕ, List, ap, ◌∙◌, take, drop}
 use Rattle.std.proofs.lemmas.List.{drop-take}
 use Rattle.sect_lsp.proofs.framing.Inbox.next.Goals as goal
 
@@ -12,6 +12,6 @@ returns-in_ok-message-in-Message c =
       body,
       cc,
       c.in_ok-message-in-Message.ensures.tail ∙ ap (drop header) c.in_ok-rest-in-Message.ensures.items
-      ∙ drop-take header body bytes ∙ ap (λ bs. take body (drop header bs)) is,
+          ∙ drop-take header body bytes ∙ ap (λ bs. take body (drop header bs)) is,
       c.in_ok-rest-in-Message.ensures.tail ∙ ap (drop (header + body)) is,
     )

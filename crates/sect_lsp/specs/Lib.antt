@@ -5,6 +5,7 @@ pub mod Changes
 pub mod Protocol
 pub mod Diagnosing
 pub mod Server
+pub mod Referring
 pub mod Sessions
 pub mod Answered
 pub mod steps

@@ -8,6 +8,7 @@ mod framing;
 mod laws;
 mod position;
 mod protocol;
+mod referring;
 mod server;
 mod session;
 

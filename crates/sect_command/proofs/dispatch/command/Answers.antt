@@ -1,16 +1,9 @@
--- The writer has what the answer says, whose words are answered right.
-use Rattle.std.proofs.Common.{inl, inr, sym, subst}
-use Rattle.std.specs.Io.KnownBytes.{Appends}
+-- An answer that is told is right for the words; a session was served.
+use Rattle.std.proofs.Common.{inl, inr}
 use Rattle.sect_command.proofs.dispatch.command.Goals as goal
 
-pub returns-in-Ok : goal.returns-in-Ok
-returns-in-Ok g c = elim c.told.ensures [
+pub returns-in-Session : goal.returns-in-Session
+returns-in-Session g c = elim c.served.ensures [
   | inl failed ↦ inl failed
-  | inr told ↦ inr (
-    c.in-Ok.answer,
-    sym told.0,
-    c.in-Ok.ensures,
-    subst (Appends (g.O.Write.contents c.args.output.now) (g.O.Write.contents c.told.new.output))
-        c.as_slice.ensures.value told.1,
-  )
+  | inr served ↦ inr (inr served)
 ]

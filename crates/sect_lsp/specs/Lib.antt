@@ -5,6 +5,8 @@ pub mod Changes
 pub mod Protocol
 pub mod Diagnosing
 pub mod Server
+pub mod Ranges
+pub mod Mistaken
 pub mod Referring
 pub mod Sessions
 pub mod Answered

@@ -1,6 +1,12 @@
--- stub
-use Rattle.std.specs.Prelude.{◌≡◌, ℕ, List}
-use Rattle.serde_json.specs.Data.{Data, array, no_items}
+-- The diagnostics of a text.
+use Rattle.std.specs.Prelude.{◌⊎◌, ℕ, List}
+use Rattle.serde_json.specs.Data.{Data}
+use Rattle.sect_emit.specs.Compiled.{CompiledView, IsCompiledFrom}
+use Rattle.sect_lsp.specs.Mistaken.{IsMistake}
+use Rattle.sect_lsp.specs.Warned.{AreWarningsOf}
 
-unfoldable pub AreDiagnostics : ℕ → List ℕ → List ℕ → Data → Type 0
-AreDiagnostics k uri text d = d ≡ array no_items
+-- the diagnostics of a text are those of `lint`: the mistake for which it is refused, or the warnings of what it is
+-- compiled to
+abbrev pub AreDiagnostics : ℕ → List ℕ → List ℕ → Data → Type 0
+AreDiagnostics k uri source value =
+    IsMistake uri source k value ⊎ ((c : CompiledView) × IsCompiledFrom source k c × AreWarningsOf source c value)

@@ -7,6 +7,7 @@ pub mod Diagnosing
 pub mod Server
 pub mod Ranges
 pub mod Mistaken
+pub mod Warned
 pub mod Referring
 pub mod Sessions
 pub mod Answered

@@ -13,6 +13,7 @@ mod ranges;
 mod referring;
 mod server;
 mod session;
+mod warned;
 
 pub use documents::Documents;
 pub use framing::{Front, Inbox, Taken, frame_of, pieces_change_no_message};

@@ -6,6 +6,8 @@ pub mod Protocol
 pub mod Diagnosing
 pub mod Server
 pub mod Referring
+pub mod Ranges
+pub mod Queries
 pub mod Sessions
 pub mod Answered
 pub mod steps

@@ -8,7 +8,10 @@ mod framing;
 mod laws;
 mod position;
 mod protocol;
+mod query;
+mod ranges;
 mod referring;
+mod reply;
 mod server;
 mod session;
 

@@ -3,4 +3,5 @@ mod Going
 mod Answering
 mod Keeping
 mod Within
+mod Listing
 pub mod shared

@@ -5,8 +5,9 @@ pub mod Changes
 pub mod Protocol
 pub mod Diagnosing
 pub mod Server
-pub mod Referring
 pub mod Ranges
+pub mod Mistaken
+pub mod Referring
 pub mod Queries
 pub mod Sessions
 pub mod Answered

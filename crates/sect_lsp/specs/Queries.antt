@@ -44,12 +44,15 @@ symbol_kind (role.Declared thing.Procedure) = Some 12
 symbol_kind (role.Declared thing.Thread) = Some 2
 symbol_kind _ = None
 
-abbrev pub symbol_by : List ℕ → NameSpan → Option ℕ → List Data
-symbol_by source n None = []
-symbol_by source n (Some kind) =
+abbrev pub symbol_json : List ℕ → NameSpan → ℕ → Data
+symbol_json source n kind =
     object (member (codes "kind") (count kind) (member (codes "name") (string n.used.name)
     (member (codes "range") (range_json source n.span) (member (codes "selectionRange") (range_json source n.span)
-    no_members)))) ∷ []
+    no_members))))
+
+abbrev pub symbol_by : List ℕ → NameSpan → Option ℕ → List Data
+symbol_by source n None = []
+symbol_by source n (Some kind) = symbol_json source n kind ∷ []
 
 -- the records, globals, procedures and threads, in text order
 abbrev pub symbols_of : List ℕ → List NameSpan → List Data

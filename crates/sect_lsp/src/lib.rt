@@ -6,6 +6,7 @@ mod diagnosing;
 mod documents;
 mod framing;
 mod laws;
+mod mistakes;
 mod position;
 mod protocol;
 mod query;

@@ -1,9 +1,12 @@
 //! What is asked of an open document.
 
-ghost use Rattle.std.specs.Prelude.{◌≡◌, ◌++◌, Some, IfOk, OnOk, length, map, option_map};
+ghost use Rattle.std.specs.Prelude.{◌≡◌, ◌++◌, Some, IfOk, OnOk, length, map, option_map, option_and_then};
 ghost use Rattle.serde_json.specs.View.{view};
 ghost use Rattle.sect_front.specs.FaultPlaces.{IsWithin};
-ghost use Rattle.sect_lsp.specs.Queries.{AreNamesOf, symbol_kind as symbol_kind_by, symbol_by, symbols_of, place_of};
+ghost use Rattle.sect_lsp.specs.Queries.{AreNamesOf, symbol_kind as symbol_kind_by, symbol_by, symbols_of};
+ghost use Rattle.sect_lsp.specs.Queries.{symbol_json, place_of};
+ghost use Rattle.sect_lsp.specs.Referring.{declaration_of as declaration_by};
+ghost use Rattle.std.specs.List.{list_any};
 ghost use Rattle.sect_lsp.specs.Queries.{declared_at as declared_by, definition_json, uses_by, highlight_json};
 ghost use Rattle.sect_lsp.specs.Queries.{clashes as clashes_by, takes as takes_by, may_be_called as may_be_called_by};
 ghost use Rattle.sect_lsp.specs.Queries.{edit_json, rename_json, rename_by, reply_by};
@@ -12,7 +15,7 @@ ghost use Rattle.sect_lsp.specs.steps.Naming.{AreNamesWithin, AreSpansWithin, Is
 ghost use Rattle.sect_lsp.specs.steps.Replying.{reply_view};
 
 use crate::change::place_in;
-use crate::position::{Encoding, offset};
+use crate::position::{Encoding, Place, offset};
 use crate::protocol::Fault;
 use crate::ranges::{location_value, range_value};
 use crate::referring::{declaration_of, name_at, uses_of};
@@ -70,6 +73,22 @@ fn symbol_kind(role: Role) -> Option<u32>
     }
 }
 
+/// A name that is listed as what the protocol calls so.
+fn symbol_value(
+    alloc: Global,
+    source: &[u8],
+    named: &NameSpan,
+    kind: u32,
+) -> Result<Value, AllocError>
+    requires { IsWithin (length source.now) named.now.span }
+    ensures { IfOk result (λ v. view v ≡ symbol_json source.now named.now kind) }
+{
+    let name = format!(in alloc; "{}", named.used.name)?;
+    let range = range_value(alloc, source, named.span)?;
+    let selection = range_value(alloc, source, named.span)?;
+    json!(in alloc; {"kind": kind, "name": name, "range": range, "selectionRange": selection})
+}
+
 /// Adds a name to what is listed, if it is.
 fn put_symbol(
     alloc: Global,
@@ -81,14 +100,14 @@ fn put_symbol(
     ensures { OnOk result (map view values.new.items ≡ map view values.old.items
         ++ symbol_by source.now named.now (symbol_kind_by named.now.used.role)) }
 {
-    let Some(kind) = symbol_kind(named.used.role) else {
-        return Ok(());
-    };
-    let name = format!(in alloc; "{}", named.used.name)?;
-    let range = range_value(alloc, source, named.span)?;
-    let selection = range_value(alloc, source, named.span)?;
-    values.push(json!(in alloc; {"kind": kind, "name": name, "range": range, "selectionRange": selection})?)?;
-    Ok(())
+    match symbol_kind(named.used.role) {
+        Some(kind) => {
+            let value = symbol_value(alloc, source, named, kind)?;
+            values.push(value)?;
+            Ok(())
+        }
+        None => Ok(()),
+    }
 }
 
 /// What a text declares.
@@ -103,18 +122,39 @@ fn symbols_value(alloc: Global, source: &[u8], names: &[NameSpan]) -> Result<Val
     Ok(Value::Array(values))
 }
 
-/// The declaration of the name at a place.
+/// The place that a message tells.
+pub fn place_told(message: &Value) -> Option<Place>
+    ensures { result ≡ place_of (view message.now) }
+{
+    match message.pointer("/params/position") {
+        Some(value) => place_in(value),
+        None => None,
+    }
+}
+
+/// The declaration that a name refers to, if there is a name.
+fn declaration_named(names: &[NameSpan], named: Option<NameSpan>) -> Option<NameSpan>
+    ensures { result ≡ option_and_then (declaration_by names.now) named }
+{
+    match named {
+        Some(named) => declaration_of(names, &named),
+        None => None,
+    }
+}
+
+/// The declaration of the name at a place, if one is told.
 pub fn declared_at(
     encoding: Encoding,
     source: &[u8],
     names: &[NameSpan],
-    message: &Value,
+    place: Option<Place>,
 ) -> Option<NameSpan>
-    ensures { result ≡ declared_by encoding source.now names.now (place_of (view message.now)) }
+    ensures { result ≡ declared_by encoding source.now names.now place }
 {
-    let place = place_in(message.pointer("/params/position")?)?;
-    let named = name_at(names, offset(encoding, source, place))?;
-    declaration_of(names, &named)
+    match place {
+        Some(place) => declaration_named(names, name_at(names, offset(encoding, source, place))),
+        None => None,
+    }
 }
 
 /// Where a name is declared.
@@ -216,11 +256,18 @@ fn takes(declared: &NameSpan, name: &str, named: &NameSpan) -> bool
         && clashes(declared.used.role, named.used.role, here)
 }
 
+/// Whether a name is declared anywhere where what is declared so can't have it.
+fn is_taken(names: &[NameSpan], declared: &NameSpan, name: &str) -> bool
+    ensures { result ≡ list_any (takes_by declared.now name.now) names.now }
+{
+    names.iter().any(|named| takes(declared, name, named))
+}
+
 /// Whether what is declared may have this name.
 fn may_be_called(names: &[NameSpan], declared: &NameSpan, name: &str) -> bool
     ensures { result ≡ may_be_called_by names.now declared.now name.now }
 {
-    is_name(name.as_bytes()) && !names.iter().any(|named| takes(declared, name, named))
+    is_name(name.as_bytes()) && !is_taken(names, declared, name)
 }
 
 /// A change of some bytes to a name.

@@ -16,7 +16,7 @@ use crate::change::after_changes;
 use crate::diagnosing::diagnostics_of;
 use crate::documents::Documents;
 use crate::position::Encoding;
-use crate::query::{Query, Subject, declared_at, names_of, reply_to};
+use crate::query::{Query, Subject, declared_at, names_of, place_told, reply_to};
 use crate::reply::{Reply, response};
 use crate::protocol::{
     Fault, is_id, notification_message, read, refusal_message,
@@ -281,16 +281,15 @@ impl Server {
             return Ok(Reply::Error(Fault::InvalidParams));
         };
         let names = names_of(alloc, source)?;
-        let names = names.as_slice();
-        let declared = declared_at(self.encoding, source, names, message);
-        let subject = Subject { uri, source, names };
-        reply_to(
-            alloc,
-            query,
-            &subject,
-            declared,
-            text_at(message, "/params/newName"),
-        )
+        let place = place_told(message);
+        let declared = declared_at(self.encoding, source, names.as_slice(), place);
+        let subject = Subject {
+            uri,
+            source,
+            names: names.as_slice(),
+        };
+        let name = text_at(message, "/params/newName");
+        reply_to(alloc, query, &subject, declared, name)
     }
 
     /// Answers what is asked of a document.

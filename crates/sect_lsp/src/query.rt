@@ -4,12 +4,14 @@ ghost use Rattle.std.specs.Prelude.{◌≡◌, ◌++◌, Some, IfOk, OnOk, lengt
 ghost use Rattle.serde_json.specs.View.{view};
 ghost use Rattle.sect_front.specs.FaultPlaces.{IsWithin};
 ghost use Rattle.sect_lsp.specs.Queries.{AreNamesOf, symbol_kind as symbol_kind_by, symbol_by, symbols_of};
-ghost use Rattle.sect_lsp.specs.Queries.{symbol_json, place_of};
+ghost use Rattle.sect_lsp.specs.Queries.{symbol_json};
+ghost use Rattle.sect_lsp.specs.Changes.{place_in as place_in_by};
+ghost use Rattle.serde_json.specs.Find.{pointer as pointer_by, as_str};
 ghost use Rattle.sect_lsp.specs.Referring.{declaration_of as declaration_by};
 ghost use Rattle.std.specs.List.{list_any};
 ghost use Rattle.sect_lsp.specs.Queries.{declared_at as declared_by, definition_json, uses_by, highlight_json};
 ghost use Rattle.sect_lsp.specs.Queries.{clashes as clashes_by, takes as takes_by, may_be_called as may_be_called_by};
-ghost use Rattle.sect_lsp.specs.Queries.{edit_json, rename_json, rename_by, reply_by};
+ghost use Rattle.sect_lsp.specs.Queries.{edit_json, rename_json, rename_by, reply_by, IsReply};
 ghost use Rattle.sect_lsp.specs.Ranges.{list, location_json};
 ghost use Rattle.sect_lsp.specs.steps.Naming.{AreNamesWithin, AreSpansWithin, IsFoundWithin};
 ghost use Rattle.sect_lsp.specs.steps.Replying.{reply_view};
@@ -40,16 +42,23 @@ pub enum Query {
     Rename,
 }
 
-/// A document, its text, and the names of that.
+/// A document and its text.
 #[derive(Clone, Copy)]
-pub struct Subject<'a> {
+pub struct Text<'a> {
     pub uri: &'a str,
     pub source: &'a [u8],
-    pub names: &'a [NameSpan],
+}
+
+/// A document, its text, and the names of that.
+#[derive(Clone, Copy)]
+struct Subject<'a> {
+    uri: &'a str,
+    source: &'a [u8],
+    names: &'a [NameSpan],
 }
 
 /// The names of a text. One that spells no tree has none.
-pub fn names_of(alloc: Global, source: &[u8]) -> Result<Vec<NameSpan>, AllocError>
+fn names_of(alloc: Global, source: &[u8]) -> Result<Vec<NameSpan>, AllocError>
     ensures names { IfOk result (λ names. AreNamesOf source.now names.items) }
     ensures within { IfOk result (λ names. AreNamesWithin (length source.now) names.items) }
 {
@@ -122,14 +131,11 @@ fn symbols_value(alloc: Global, source: &[u8], names: &[NameSpan]) -> Result<Val
     Ok(Value::Array(values))
 }
 
-/// The place that a message tells.
-pub fn place_told(message: &Value) -> Option<Place>
-    ensures { result ≡ place_of (view message.now) }
+/// The position at a place of a message.
+fn place_at(message: &Value, path: &str) -> Option<Place>
+    ensures { result ≡ option_and_then place_in_by (pointer_by path.now (view message.now)) }
 {
-    match message.pointer("/params/position") {
-        Some(value) => place_in(value),
-        None => None,
-    }
+    place_in(message.pointer(path)?)
 }
 
 /// The declaration that a name refers to, if there is a name.
@@ -143,7 +149,7 @@ fn declaration_named(names: &[NameSpan], named: Option<NameSpan>) -> Option<Name
 }
 
 /// The declaration of the name at a place, if one is told.
-pub fn declared_at(
+fn declared_at(
     encoding: Encoding,
     source: &[u8],
     names: &[NameSpan],
@@ -174,7 +180,7 @@ fn definition_value(
 }
 
 /// The bytes of all names that refer to a declaration, if there is one.
-fn uses(
+fn uses_of_any(
     alloc: Global,
     names: &[NameSpan],
     declared: Option<NameSpan>,
@@ -185,6 +191,22 @@ fn uses(
         Some(declared) => uses_of(alloc, names, &declared),
         None => Ok(Vec::new(alloc)),
     }
+}
+
+/// The same, for names that lie in the text.
+fn uses(
+    alloc: Global,
+    source: &[u8],
+    names: &[NameSpan],
+    declared: Option<NameSpan>,
+) -> Result<Vec<Span>, AllocError>
+    requires { AreNamesWithin (length source.now) names.now }
+    ensures uses { IfOk result (λ spans. spans.items ≡ uses_by names.now declared) }
+    ensures within { IfOk result (λ spans. AreSpansWithin (length source.now) spans.items) }
+{
+    let _text = source;
+    let spans = uses_of_any(alloc, names, declared)?;
+    Ok(spans)
 }
 
 /// Some places of a document.
@@ -307,7 +329,7 @@ fn rename_value(
     ensures { IfOk result (λ v. view v ≡ rename_json subject.now.uri.now subject.now.source.now name.now
         (uses_by subject.now.names.now (Some declared.now))) }
 {
-    let spans = uses(alloc, subject.names, Some(*declared))?;
+    let spans = uses(alloc, subject.source, subject.names, Some(*declared))?;
     let edits = edits_value(alloc, subject.source, name, spans.as_slice())?;
     let uri = subject.uri;
     json!(in alloc; {"changes": {(uri): edits}})
@@ -337,7 +359,7 @@ fn rename_reply(
 }
 
 /// What is answered of a document, where a message tells a place whose name has this declaration.
-pub fn reply_to(
+fn reply_to(
     alloc: Global,
     query: Query,
     subject: &Subject<'_>,
@@ -354,14 +376,45 @@ pub fn reply_to(
         Query::Symbols => symbols_value(alloc, source, subject.names)?,
         Query::Definition => definition_value(alloc, uri, source, declared)?,
         Query::References => {
-            let spans = uses(alloc, subject.names, declared)?;
+            let spans = uses(alloc, source, subject.names, declared)?;
             locations_value(alloc, uri, source, spans.as_slice())?
         }
         Query::Highlights => {
-            let spans = uses(alloc, subject.names, declared)?;
+            let spans = uses(alloc, source, subject.names, declared)?;
             highlights_value(alloc, source, spans.as_slice())?
         }
         Query::Rename => return rename_reply(alloc, subject, declared, name),
     };
     Ok(Reply::Result(value))
+}
+
+/// The text at a place of a message.
+pub fn text_at<'a>(message: &'a Value, path: &str) -> Option<&'a str>
+    ensures { option_map (λ text. text.now) result
+        ≡ option_and_then as_str (pointer_by path.now (view message.entry.now)) }
+{
+    message.pointer(path).and_then(Value::as_str)
+}
+
+/// What is answered to a message that asks something of a document.
+pub fn answer_query(
+    alloc: Global,
+    query: Query,
+    encoding: Encoding,
+    text: Text<'_>,
+    message: &Value,
+) -> Result<Reply, AllocError>
+    ensures { IfOk result (λ reply. IsReply query encoding (view message.now) text.entry.uri.now text.entry.source.now
+        (reply_view reply)) }
+{
+    let names = names_of(alloc, text.source)?;
+    let place = place_at(message, "/params/position");
+    let declared = declared_at(encoding, text.source, names.as_slice(), place);
+    let subject = Subject {
+        uri: text.uri,
+        source: text.source,
+        names: names.as_slice(),
+    };
+    let name = text_at(message, "/params/newName");
+    reply_to(alloc, query, &subject, declared, name)
 }

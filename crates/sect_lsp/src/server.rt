@@ -16,7 +16,7 @@ use crate::change::after_changes;
 use crate::diagnosing::diagnostics_of;
 use crate::documents::Documents;
 use crate::position::Encoding;
-use crate::query::{Query, Subject, declared_at, names_of, place_told, reply_to};
+use crate::query::{Query, Text, answer_query, text_at};
 use crate::reply::{Reply, response};
 use crate::protocol::{
     Fault, is_id, notification_message, read, refusal_message,
@@ -182,14 +182,6 @@ fn diagnostics_message(alloc: Global, uri: &str, diagnostics: Value) -> Result<V
     notification_message(alloc, "textDocument/publishDiagnostics", params)
 }
 
-/// The text at a place of a message.
-fn text_at<'a>(message: &'a Value, path: &str) -> Option<&'a str>
-    ensures { option_map (λ text. text.now) result
-        ≡ option_and_then as_str (pointer_by path.now (view message.entry.now)) }
-{
-    message.pointer(path).and_then(Value::as_str)
-}
-
 /// One message.
 fn one(alloc: Global, message: Value) -> Result<Vec<Value>, AllocError>
     ensures { IfOk result (λ out. map view out.items ≡ view message ∷ []) }
@@ -280,16 +272,8 @@ impl Server {
         let Some(source) = self.documents.text(uri) else {
             return Ok(Reply::Error(Fault::InvalidParams));
         };
-        let names = names_of(alloc, source)?;
-        let place = place_told(message);
-        let declared = declared_at(self.encoding, source, names.as_slice(), place);
-        let subject = Subject {
-            uri,
-            source,
-            names: names.as_slice(),
-        };
-        let name = text_at(message, "/params/newName");
-        reply_to(alloc, query, &subject, declared, name)
+        let text = Text { uri, source };
+        answer_query(alloc, query, self.encoding, text, message)
     }
 
     /// Answers what is asked of a document.

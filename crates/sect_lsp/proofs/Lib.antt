@@ -4,4 +4,5 @@ mod Answering
 mod Keeping
 mod Listing
 mod Proper
+mod Within
 pub mod shared

@@ -9,6 +9,7 @@ pub mod Ranges
 pub mod Mistaken
 pub mod Warned
 pub mod Referring
+pub mod Queries
 pub mod Sessions
 pub mod Answered
 pub mod steps

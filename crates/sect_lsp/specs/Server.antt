@@ -9,6 +9,8 @@ use Rattle.sect_lsp.specs.declared.position.Encoding.{Encoding}
 use Rattle.sect_lsp.specs.declared.position.Encoding.TheVariants.{Utf8, Utf16}
 use Rattle.sect_lsp.specs.declared.protocol.Fault.{Fault}
 use Rattle.sect_lsp.specs.declared.protocol.Fault.TheVariants as fault
+use Rattle.sect_lsp.specs.declared.query.Query.{Query}
+use Rattle.sect_lsp.specs.declared.query.Query.TheVariants as query
 use Rattle.sect_lsp.specs.declared.server.Phase.{Phase}
 use Rattle.sect_lsp.specs.declared.server.Phase.TheVariants as phase
 use Rattle.sect_lsp.specs.declared.server.Asked.{Asked}
@@ -19,6 +21,7 @@ use Rattle.sect_lsp.specs.declared.server.TheConstants.{DEFAULT_K, MOST_K}
 use Rattle.sect_lsp.specs.Changes.{after_changes}
 use Rattle.sect_lsp.specs.Diagnosing.{AreDiagnostics}
 use Rattle.sect_lsp.specs.Documents.{DocumentView, text_of, closed, opened}
+use Rattle.sect_lsp.specs.Queries.{IsReply}
 use Rattle.sect_lsp.specs.Protocol.{Kind, Request, Notification, Response, Invalid, kind_of, ReplyView, Result, Error}
 use Rattle.sect_lsp.specs.Protocol.{IsRead, response_json, notification_json}
 
@@ -41,6 +44,11 @@ abbrev pub asked_by : List ℕ → Asked
 asked_by method =
     if bytes_eq method (codes "initialize") then asked.Initialize
     else if bytes_eq method (codes "shutdown") then asked.Shutdown
+    else if bytes_eq method (codes "textDocument/documentSymbol") then asked.Query query.Symbols
+    else if bytes_eq method (codes "textDocument/definition") then asked.Query query.Definition
+    else if bytes_eq method (codes "textDocument/references") then asked.Query query.References
+    else if bytes_eq method (codes "textDocument/documentHighlight") then asked.Query query.Highlights
+    else if bytes_eq method (codes "textDocument/rename") then asked.Query query.Rename
     else asked.Unknown
 
 -- the text is among these values
@@ -80,10 +88,15 @@ encoding_name Utf16 = codes "utf-16"
 abbrev pub capabilities_json : Encoding → Data
 capabilities_json encoding =
     object (member (codes "capabilities")
-    (object (member (codes "positionEncoding") (string (encoding_name encoding))
+    (object (member (codes "definitionProvider") (boolean true)
+    (member (codes "documentHighlightProvider") (boolean true)
+    (member (codes "documentSymbolProvider") (boolean true)
+    (member (codes "positionEncoding") (string (encoding_name encoding))
+    (member (codes "referencesProvider") (boolean true)
+    (member (codes "renameProvider") (boolean true)
     (member (codes "textDocumentSync")
     (object (member (codes "change") (number (unsigned 2)) (member (codes "openClose") (boolean true) no_members)))
-    no_members)))
+    no_members))))))))
     (member (codes "serverInfo") (object (member (codes "name") (string (codes "sectc")) no_members)) no_members))
 
 abbrev pub Begins : ServerView → Data → Option ℕ → ReplyView → ServerView → Type 0
@@ -101,10 +114,26 @@ abbrev pub RepliesWaiting : ServerView → Asked → Data → ReplyView → Serv
 RepliesWaiting s asked.Initialize d reply t = Begins s d (k_of d) reply t
 RepliesWaiting s _ d reply t = Refuses s reply t fault.ServerNotInitialized
 
+-- ---- what is asked of documents
+
+-- the document that a message names
+abbrev pub uri_of : Data → Option (List ℕ)
+uri_of d = option_and_then as_str (pointer (codes "/params/textDocument/uri") d)
+
+-- of a document that isn't open nothing is answered
+abbrev pub IsQueryReply : ServerView → Query → Data → List ℕ → Option (List ℕ) → ReplyView → Type 0
+IsQueryReply s q d uri None reply = reply ≡ Error fault.InvalidParams
+IsQueryReply s q d uri (Some source) reply = IsReply q s.encoding d uri source reply
+
+abbrev pub IsQueried : ServerView → Query → Data → Option (List ℕ) → ReplyView → Type 0
+IsQueried s q d None reply = reply ≡ Error fault.InvalidParams
+IsQueried s q d (Some uri) reply = IsQueryReply s q d uri (text_of uri s.documents) reply
+
 -- while the server serves
 abbrev pub RepliesServing : ServerView → Asked → Data → ReplyView → ServerView → Type 0
 RepliesServing s asked.Initialize d reply t = Refuses s reply t fault.InvalidRequest
 RepliesServing s asked.Shutdown d reply t = (reply ≡ Result null) × (t ≡ in_phase phase.ShutDown s)
+RepliesServing s (asked.Query q) d reply t = IsQueried s q d (uri_of d) reply × (t ≡ s)
 RepliesServing s asked.Unknown d reply t = Refuses s reply t fault.MethodNotFound
 
 abbrev pub RepliesBy : Phase → ServerView → Asked → Data → ReplyView → ServerView → Type 0
@@ -128,9 +157,6 @@ abbrev pub phase_after_exit : Phase → Phase
 phase_after_exit phase.ShutDown = phase.Done
 phase_after_exit phase.Done = phase.Done
 phase_after_exit _ = phase.Abandoned
-
-abbrev pub uri_of : Data → Option (List ℕ)
-uri_of d = option_and_then as_str (pointer (codes "/params/textDocument/uri") d)
 
 abbrev pub text_at_opening : Data → Option (List ℕ)
 text_at_opening d = option_and_then as_str (pointer (codes "/params/textDocument/text") d)

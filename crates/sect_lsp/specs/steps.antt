@@ -2,3 +2,4 @@
 pub mod Fronts
 pub mod Replying
 pub mod Underway
+pub mod Naming

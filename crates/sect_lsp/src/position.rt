@@ -82,7 +82,7 @@ fn bytes_of_units(encoding: Encoding, line: &[u8], column: u64) -> usize
 }
 
 /// The byte at a position.
-fn offset(encoding: Encoding, text: &[u8], place: Place) -> usize
+pub fn offset(encoding: Encoding, text: &[u8], place: Place) -> usize
     ensures offset { result ≡ offset_by encoding place text.now }
     ensures within { result ≤ length text.now }
 {

@@ -3,20 +3,23 @@
 ghost use Rattle.std.specs.Prelude.{◌≡◌, ◌≤◌, ◌∷◌, [], IfOk, IfSome, List, map, option_map, option_and_then};
 ghost use Rattle.serde_json.specs.Find.{pointer as pointer_by, as_str, as_array};
 ghost use Rattle.serde_json.specs.View.{view, items_view};
-ghost use Rattle.sect_lsp.specs.Protocol.{kind_of, response_json};
+ghost use Rattle.sect_lsp.specs.Protocol.{kind_of};
 ghost use Rattle.sect_lsp.specs.Server.{asked_by, told_by, has_text as has_text_by, encoding_of as encoding_by};
 ghost use Rattle.sect_lsp.specs.Server.{k_of as k_by, encoding_name, capabilities_json, phase_after_exit};
 ghost use Rattle.sect_lsp.specs.Server.{diagnostics_json, text_at_opening, text_after, uri_of, in_phase, start};
 ghost use Rattle.sect_lsp.specs.Server.{RepliesServing, RepliesBy, Notes, NotesOf, Receives, Step};
-ghost use Rattle.sect_lsp.specs.Server.{Keeps, Begins, Forgets};
+ghost use Rattle.sect_lsp.specs.Documents.{text_of};
+ghost use Rattle.sect_lsp.specs.Server.{Keeps, Begins, Forgets, IsQueryReply, IsQueried};
 ghost use Rattle.sect_lsp.specs.steps.Replying.{reply_view};
 
 use crate::change::after_changes;
 use crate::diagnosing::diagnostics_of;
 use crate::documents::Documents;
 use crate::position::Encoding;
+use crate::query::{Query, Text, answer_query, text_at};
+use crate::reply::{Reply, response};
 use crate::protocol::{
-    Fault, error_message, is_id, notification_message, read, refusal_message, result_message,
+    Fault, is_id, notification_message, read, refusal_message,
 };
 use serde_json::{Value, json};
 use std::alloc::{AllocError, Global};
@@ -47,6 +50,8 @@ pub enum Phase {
 pub enum Asked {
     Initialize,
     Shutdown,
+    /// Something of a document.
+    Query(Query),
     Unknown,
 }
 
@@ -67,6 +72,11 @@ fn asked_of(method: &str) -> Asked
     match method {
         "initialize" => Asked::Initialize,
         "shutdown" => Asked::Shutdown,
+        "textDocument/documentSymbol" => Asked::Query(Query::Symbols),
+        "textDocument/definition" => Asked::Query(Query::Definition),
+        "textDocument/references" => Asked::Query(Query::References),
+        "textDocument/documentHighlight" => Asked::Query(Query::Highlights),
+        "textDocument/rename" => Asked::Query(Query::Rename),
         _ => Asked::Unknown,
     }
 }
@@ -152,7 +162,12 @@ fn capabilities(alloc: Global, encoding: Encoding) -> Result<Value, AllocError>
     let name = name_of(encoding);
     json!(in alloc; {
         "capabilities": {
+            "definitionProvider": true,
+            "documentHighlightProvider": true,
+            "documentSymbolProvider": true,
             "positionEncoding": name,
+            "referencesProvider": true,
+            "renameProvider": true,
             "textDocumentSync": {"change": 2, "openClose": true}
         },
         "serverInfo": {"name": "sectc"}
@@ -165,31 +180,6 @@ fn diagnostics_message(alloc: Global, uri: &str, diagnostics: Value) -> Result<V
 {
     let params = json!(in alloc; {"diagnostics": diagnostics, "uri": uri})?;
     notification_message(alloc, "textDocument/publishDiagnostics", params)
-}
-
-/// The text at a place of a message.
-fn text_at<'a>(message: &'a Value, path: &str) -> Option<&'a str>
-    ensures { option_map (λ text. text.now) result
-        ≡ option_and_then as_str (pointer_by path.now (view message.entry.now)) }
-{
-    message.pointer(path).and_then(Value::as_str)
-}
-
-/// What a request is answered.
-#[derive(Drop)]
-enum Reply {
-    Result(Value),
-    Error(Fault),
-}
-
-/// The answer to what was asked under this number or name.
-fn response(alloc: Global, id: &Value, reply: Reply) -> Result<Value, AllocError>
-    ensures { IfOk result (λ v. view v ≡ response_json (view id.now) (reply_view reply)) }
-{
-    match reply {
-        Reply::Result(value) => result_message(alloc, id, value),
-        Reply::Error(why) => error_message(alloc, id, why),
-    }
 }
 
 /// One message.
@@ -268,6 +258,35 @@ impl Server {
         Ok(Reply::Result(able))
     }
 
+    /// Answers what is asked of the text of a document.
+    fn query_text(
+        &self,
+        alloc: Global,
+        query: Query,
+        uri: &str,
+        message: &Value,
+    ) -> Result<Reply, AllocError>
+        ensures { IfOk result (λ reply. IsQueryReply self.now query (view message.now) uri.now
+            (text_of uri.now self.now.documents) (reply_view reply)) }
+    {
+        let Some(source) = self.documents.text(uri) else {
+            return Ok(Reply::Error(Fault::InvalidParams));
+        };
+        let text = Text { uri, source };
+        answer_query(alloc, query, self.encoding, text, message)
+    }
+
+    /// Answers what is asked of a document.
+    fn query(&self, alloc: Global, query: Query, message: &Value) -> Result<Reply, AllocError>
+        ensures { IfOk result (λ reply. IsQueried self.now query (view message.now) (uri_of (view message.now))
+            (reply_view reply)) }
+    {
+        match text_at(message, "/params/textDocument/uri") {
+            Some(uri) => self.query_text(alloc, query, uri, message),
+            None => Ok(Reply::Error(Fault::InvalidParams)),
+        }
+    }
+
     /// Answers what is asked while it serves.
     fn reply_serving(
         &mut self,
@@ -277,14 +296,13 @@ impl Server {
     ) -> Result<Reply, AllocError>
         ensures { IfOk result (λ reply. RepliesServing self.old asked (view message.now) (reply_view reply) self.new) }
     {
-        let _message = message;
-        let _alloc = alloc;
         match asked {
             Asked::Initialize => Ok(Reply::Error(Fault::InvalidRequest)),
             Asked::Shutdown => {
                 self.phase = Phase::ShutDown;
                 Ok(Reply::Result(Value::Null))
             }
+            Asked::Query(query) => self.query(alloc, query, message),
             Asked::Unknown => Ok(Reply::Error(Fault::MethodNotFound)),
         }
     }

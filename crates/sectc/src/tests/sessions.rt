@@ -14,8 +14,9 @@ use std::thread::Threads;
 const BEGIN: &str = "{\"jsonrpc\":\"2.0\",\"id\":1,\"method\":\"initialize\",\"params\":{\"capabilities\":{}}}";
 
 /// What the server can do.
-const ABLE: &str = "{\"id\":1,\"jsonrpc\":\"2.0\",\"result\":{\"capabilities\":{\"positionEncoding\":\"utf-16\",\
-    \"textDocumentSync\":{\"change\":2,\"openClose\":true}},\"serverInfo\":{\"name\":\"sectc\"}}}";
+const ABLE: &str = "{\"id\":1,\"jsonrpc\":\"2.0\",\"result\":{\"capabilities\":{\"definitionProvider\":true,\
+    \"documentHighlightProvider\":true,\"documentSymbolProvider\":true,\"positionEncoding\":\"utf-16\",\
+    \"referencesProvider\":true,\"renameProvider\":true,\"textDocumentSync\":{\"change\":2,\"openClose\":true}},\"serverInfo\":{\"name\":\"sectc\"}}}";
 
 const SHUT_DOWN: &str = "{\"jsonrpc\":\"2.0\",\"id\":\"last\",\"method\":\"shutdown\"}";
 

@@ -14,3 +14,4 @@ pub use format::warnings_as;
 pub use judge::warnings;
 pub use laws::never_filled_locals_refer_to_nothing;
 pub use warning::{Finding, Warning};
+// (a copy of its own)

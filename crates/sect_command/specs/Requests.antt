@@ -85,8 +85,8 @@ IsAnswerTold told old new status =
 abbrev pub IsServed : Option (List ℕ) → Option (List ℕ) → ℕ → List ℕ → Type 0
 IsServed old new status bytes = (sent : List ℕ) × IsSession bytes sent status × Appends old new sent
 
--- the run has failed; or its status is that of a right answer, whose text the output has behind what it had; or it was a
--- session with an editor
+-- the run has failed; or its status is that of a right answer, whose text the output has behind what it had; or it was
+-- a session with an editor
 abbrev pub IsTold : Option (List ℕ) → Option (List ℕ) → Option (List ℕ) → ℕ → Type 0
 IsTold input old new status =
     (status ≡ FAILED)

@@ -22,5 +22,6 @@ place_next word bytes at within not_here =
     subst (λ (bs : List ℕ). starts_with nat_eq bs word ≡ false) split not_here in
     subst (λ (bs : List ℕ). option_map (λ n. at + n) (place_of word bs)
     ≡ option_map (λ n. at + 1 + n) (place_of word (drop (at + 1) bytes))) (sym split)
-    (ap (λ b. option_map (λ n. at + n) (cond b (Some 0) (option_map (λ n. n + 1) (place_of word (drop (at + 1) bytes))))) here
+    (ap (λ b. option_map (λ n. at + n)
+    (cond b (Some 0) (option_map (λ n. n + 1) (place_of word (drop (at + 1) bytes))))) here
     ∙ one_more at (place_of word (drop (at + 1) bytes)))

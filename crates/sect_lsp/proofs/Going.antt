@@ -1,6 +1,7 @@
 -- A session goes on.
 use Rattle.std.proofs.Common.{◌≡◌, ℕ, ◌+◌, ◌⊎◌, List, [], ◌∷◌, ◌++◌, length, take, drop, Option, Some, None, IfSome}
-use Rattle.std.proofs.Common.{◌<◌, map, get_or, true, false, refl, sym, ap, subst, ◌∙◌, inl, inr, append-nil, append_assoc}
+use Rattle.std.proofs.Common.{◌<◌, map, get_or, true, false, refl, sym, ap, subst, ◌∙◌, inl, inr}
+use Rattle.std.proofs.Common.{append-nil, append_assoc}
 use Rattle.std.specs.Io.KnownBytes.{Appends, Consumes, IsAtEnd}
 use Rattle.std.proofs.lemmas.List.{take_more, map-append}
 use Rattle.serde_json.specs.Data.{Data}
@@ -30,8 +31,8 @@ spells_one_more bytes (m ∷ ms) rest h b is e =
     (is.0, is.1, is.2, is.3, spells_one_more (drop (is.0 + is.1) bytes) ms rest h b is.4 e)
 
 -- one step more
-runs_one_more : (s : ServerView) (ms : List (List ℕ)) (out : List Data) (t : ServerView) (m : List ℕ) (first : List Data)
-    (u : ServerView) → Runs s ms out t → is_ended t.phase ≡ false → Step t m first u
+runs_one_more : (s : ServerView) (ms : List (List ℕ)) (out : List Data) (t : ServerView) (m : List ℕ)
+    (first : List Data) (u : ServerView) → Runs s ms out t → is_ended t.phase ≡ false → Step t m first u
     → Runs s (ms ++ m ∷ []) (out ++ first) u
 runs_one_more s [] out t m first u runs on step = (
   subst (λ (v : ServerView). is_ended v.phase ≡ false) runs.1 on,
@@ -184,8 +185,8 @@ module _ (bytes : List ℕ) (old new : Option (List ℕ)) (inbox : List ℕ) (le
       same phase.Abandoned f x = refl
 
   -- no whole message stands at the front of what is left
-  ended_by_rest : (status : ℕ) (front : Front) → front_of (inbox ++ u.more) ≡ front → (front ≡ Part) ⊎ (front ≡ Malformed)
-      → status ≡ status_by s.phase front → (sent : List ℕ) × IsSession bytes sent status × Appends old new sent
+  ended_by_rest : (status : ℕ) (front : Front) → front_of (inbox ++ u.more) ≡ front
+      → (front ≡ Part) ⊎ (front ≡ Malformed) → status ≡ status_by s.phase front → (sent : List ℕ) × IsSession bytes sent status × Appends old new sent
   ended_by_rest status front e rest is = (
     u.sent,
     record {
@@ -207,7 +208,8 @@ module _ (bytes : List ℕ) (old new : Option (List ℕ)) (inbox : List ℕ) (le
       → (sent : List ℕ) × IsSession bytes sent status × Appends old new sent
   ended_by_end status e over is =
       let none : u.more ≡ [] = subst IsAtEnd u.left_is over in
-      ended_by_rest status Part (ap (λ bs. front_of (inbox ++ bs)) none ∙ ap front_of (append-nil inbox) ∙ e) (inl refl) is
+      ended_by_rest status Part (ap (λ bs. front_of (inbox ++ bs)) none ∙ ap front_of (append-nil inbox) ∙ e)
+      (inl refl) is
 
   -- no message begins with what comes
   pub ended_by_fault : (status : ℕ) → front_of inbox ≡ Malformed → status ≡ status_by s.phase Malformed

@@ -11,7 +11,8 @@ use Rattle.sect_lsp.specs.Ranges.{list}
 
 module _ {A : Type 0} (of : A → Data) (xs : List A) (n : ℕ) where
   -- the value of the next element
-  pub values_more : (d : A) (values more : List Value) (v : Value) → n < length xs → map view values ≡ map of (take n xs)
+  pub values_more : (d : A) (values more : List Value) (v : Value) → n < length xs
+      → map view values ≡ map of (take n xs)
       → more ≡ values ++ v ∷ [] → view v ≡ of (get_or xs n d) → map view more ≡ map of (take (n + 1) xs)
   values_more d values more v within had pushed is =
       ap (map view) pushed ∙ map-append view values (v ∷ []) ∙ ap (λ ds. ds ++ view v ∷ []) had

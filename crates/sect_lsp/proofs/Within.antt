@@ -1,7 +1,7 @@
 -- What is found among names lies where they lie.
-use Rattle.std.proofs.Common.{◌≡◌, ℕ, ◌<◌, ◌≤◌, List, [], ◌∷◌, Option, Some, None, IfSome, Bool, map, filter, subst, sym, ⊎_elim}
-use Rattle.std.proofs.Common.{arith}
-use Rattle.std.specs.Prelude.{All, option_and_then, slice_get}
+use Rattle.std.proofs.Common.{ℕ, List, [], ◌∷◌, Option, Some, None, map, filter}
+use Rattle.std.proofs.Common.{subst, sym, ⊎_elim, arith}
+use Rattle.std.specs.Prelude.{option_and_then, slice_get}
 use Rattle.std.proofs.lemmas.List.Elements.{All-nil, All-cons, All-filter, All-map}
 use Rattle.std.proofs.lemmas.Option.{slice_get_cases}
 use Rattle.sect_front.specs.FaultPlaces.{IsWithin}
@@ -9,11 +9,11 @@ use Rattle.sect_places.specs.Spans.{AreProper}
 use Rattle.sect_places.specs.declared.name_use.NameSpan.{NameSpan}
 use Rattle.sect_places.specs.declared.name_use.Role.{Role}
 use Rattle.sect_places.specs.declared.name_use.Role.TheVariants as role
-use Rattle.sect_places.specs.declared.name_use.Thing.{Thing}
 use Rattle.sect_lsp.specs.declared.position.Encoding.{Encoding}
 use Rattle.sect_lsp.specs.declared.position.Place.{Place}
 use Rattle.sect_lsp.specs.Queries.{declared_at, uses_by}
-use Rattle.sect_lsp.specs.Referring.{found, field_by, base_record, declaration_by, declaration_of, name_at, refers, uses_of}
+use Rattle.sect_lsp.specs.Referring.{found, field_by, base_record, declaration_by, declaration_of, name_at}
+use Rattle.sect_lsp.specs.Referring.{refers}
 use Rattle.sect_lsp.specs.steps.Naming.{IsNameWithin, AreNamesWithin, AreSpansWithin, IsFoundWithin}
 
 -- names whose spans are proper
@@ -28,7 +28,7 @@ module _ (total : ℕ) (names : List NameSpan) (all : AreNamesWithin total names
   slice_within : (k : ℕ) → IsFoundWithin total (slice_get names k)
   slice_within k = ⊎_elim
       (λ there. subst (IsFoundWithin total) (sym there.2)
-          (subst (IsNameWithin total) there.3 (all k there.0 there.1)))
+      (subst (IsNameWithin total) there.3 (all k there.0 there.1)))
       (λ past. subst (IsFoundWithin total) (sym past.1) tt)
       (slice_get_cases names k).1
 

@@ -7,6 +7,6 @@ use Rattle.sect_lsp.specs.Warned.{AreWarningsOf}
 
 -- the diagnostics of a text are those of `lint`: the mistake for which it is refused, or the warnings of what it is
 -- compiled to
-abbrev pub AreDiagnostics : ℕ → List ℕ → List ℕ → Data → Type 0
+unfoldable pub AreDiagnostics : ℕ → List ℕ → List ℕ → Data → Type 0
 AreDiagnostics k uri source value =
     IsMistake uri source k value ⊎ ((c : CompiledView) × IsCompiledFrom source k c × AreWarningsOf source c value)

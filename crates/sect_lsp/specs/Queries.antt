@@ -1,6 +1,6 @@
 -- What is asked of an open document, and what is answered.
-use Rattle.std.specs.Prelude.{◌≡◌, ◌≢◌, ◌⊎◌, ℕ, Bool, true, false, not, ◌&&◌, ◌||◌, if◌then◌else◌, List, [], ◌∷◌, map}
-use Rattle.std.specs.Prelude.{Option, Some, None, option_and_then, nat_eq, codes, length, All}
+use Rattle.std.specs.Prelude.{◌≡◌, ◌≢◌, ◌⊎◌, ℕ, Bool, false, not, ◌&&◌, ◌||◌, if◌then◌else◌, List, [], ◌∷◌, map}
+use Rattle.std.specs.Prelude.{Option, Some, None, option_and_then, nat_eq, codes}
 use Rattle.std.specs.List.{flat_map, list_any}
 use Rattle.std.specs.Cmp.Lexicographic.{pointwise}
 use Rattle.serde_json.specs.Data.{Data, null, string, object, no_members, member}
@@ -12,7 +12,6 @@ use Rattle.sect_front.specs.declared.parsing.FrontFault.TheVariants as front
 use Rattle.sect_front.specs.declared.span.Span.{Span}
 use Rattle.sect_places.specs.NameSpans.{HasNameSpans}
 use Rattle.sect_places.specs.declared.name_use.NameSpan.{NameSpan}
-use Rattle.sect_places.specs.declared.name_use.Thing.{Thing}
 use Rattle.sect_places.specs.declared.name_use.Thing.TheVariants as thing
 use Rattle.sect_places.specs.declared.name_use.Role.{Role}
 use Rattle.sect_places.specs.declared.name_use.Role.TheVariants as role
@@ -108,12 +107,14 @@ edit_json source name span =
 -- the name at all places that refer to a declaration
 abbrev pub rename_json : List ℕ → List ℕ → List ℕ → List Span → Data
 rename_json uri source name spans =
-    object (member (codes "changes") (object (member uri (list (map (edit_json source name) spans)) no_members)) no_members)
+    object (member (codes "changes") (object (member uri (list (map (edit_json source name) spans)) no_members))
+    no_members)
 
 -- a name that is none, or is taken, is refused, and so is a place without a name
 abbrev pub rename_by : List ℕ → List ℕ → List NameSpan → Option NameSpan → Option (List ℕ) → ReplyView
 rename_by uri source names (Some d) (Some name) =
-    if may_be_called names d name then Result (rename_json uri source name (uses_of names d)) else Error fault.InvalidParams
+    if may_be_called names d name then Result (rename_json uri source name (uses_of names d))
+    else Error fault.InvalidParams
 rename_by uri source names _ _ = Error fault.InvalidParams
 
 abbrev pub new_name : Data → Option (List ℕ)

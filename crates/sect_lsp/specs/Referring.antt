@@ -1,15 +1,11 @@
 -- Which declaration a name of a text refers to, and which names refer to it.
-use Rattle.std.specs.Prelude.{ℕ, Bool, true, false, ◌&&◌, ◌||◌, List, Option, Some, None, option_map, map, filter}
+use Rattle.std.specs.Prelude.{ℕ, Bool, false, ◌&&◌, List, Option, Some, None, map, filter}
 use Rattle.std.specs.Prelude.{nat_eq, nat_le, position, slice_get}
-use Rattle.std.specs.List.{list_any}
 use Rattle.std.specs.Cmp.Lexicographic.{pointwise}
 use Rattle.sect_front.specs.declared.span.Span.{Span}
 use Rattle.sect_places.specs.declared.name_use.NameSpan.{NameSpan}
-use Rattle.sect_places.specs.declared.name_use.Thing.{Thing}
-use Rattle.sect_places.specs.declared.name_use.Thing.TheVariants as thing
 use Rattle.sect_places.specs.declared.name_use.Role.{Role}
 use Rattle.sect_places.specs.declared.name_use.Role.TheVariants as role
-use Rattle.sect_places.specs.Declarations.{is_record, is_field, is_global, is_procedure, is_thread, is_local}
 use Rattle.sect_places.specs.Declarations.{record_of, global_of, procedure_of, field_of, variable_of, type_in, base_in}
 
 -- the name of that number, if one is given

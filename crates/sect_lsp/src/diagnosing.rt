@@ -12,12 +12,8 @@ use serde_json::{Value, json};
 use std::alloc::{AllocError, Global};
 
 /// The diagnostics of a text: those of `lint`.
-pub fn diagnostics_of(
-    alloc: Global,
-    k: u16,
-    uri: &str,
-    text: &[u8],
-) -> Result<Value, AllocError>
+#[tactic(auto, unfolding(crate::specs::Diagnosing::AreDiagnostics))]
+pub fn diagnostics_of(alloc: Global, k: u16, uri: &str, text: &[u8]) -> Result<Value, AllocError>
     requires { k ≤ 3 }
     ensures { IfOk result (λ v. AreDiagnostics k uri.now text.now (view v)) }
 {

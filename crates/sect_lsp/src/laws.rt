@@ -8,7 +8,7 @@ ghost use Rattle.sect_lsp.specs.Documents.{DocumentView, text_of, closed, opened
 ghost use Rattle.sect_lsp.specs.Server.{ServerView, Takes};
 ghost use Rattle.sect_lsp.specs.Sessions.{Runs};
 
-/// Each request gets one answer, under its own number or name, and in the order of the requests. What is told gets none.
+/// Each request gets one answer, under its own number or name, in the order of the requests. What is told gets none.
 pub fn each_request_gets_one_answer()
     ensures step { (s : ServerView) (d : Option Data) (out : List Data) (t : ServerView) → Takes s d out t
         → ids_answered out ≡ ids_asked d }

@@ -74,4 +74,3 @@ pub fn mistake_value(
     json!(in alloc; {"code": code, "message": message, "range": range, "relatedInformation": related,
         "severity": 1, "source": "sectc"})
 }
-

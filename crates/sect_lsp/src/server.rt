@@ -16,11 +16,9 @@ use crate::change::after_changes;
 use crate::diagnosing::diagnostics_of;
 use crate::documents::Documents;
 use crate::position::Encoding;
+use crate::protocol::{Fault, is_id, notification_message, read, refusal_message};
 use crate::query::{Query, Text, answer_query, text_at};
 use crate::reply::{Reply, response};
-use crate::protocol::{
-    Fault, is_id, notification_message, read, refusal_message,
-};
 use serde_json::{Value, json};
 use std::alloc::{AllocError, Global};
 use std::marker::Model;

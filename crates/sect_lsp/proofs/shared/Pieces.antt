@@ -1,6 +1,8 @@
 -- What comes behind changes nothing of the messages that have come.
-use Rattle.std.proofs.Common.{◌≡◌, ◌≢◌, ℕ, ◌+◌, ◌-◌, ◌≤◌, ◌⊎◌, List, [], ◌∷◌, ◌++◌, length, take, drop, Option, Some, None}
-use Rattle.std.proofs.Common.{Bool, true, false, cond, nat_eq, nat_lt, refl, sym, ap, subst, ◌∙◌, inl, inr, ⊎_elim, arith}
+use Rattle.std.proofs.Common.{◌≡◌, ◌≢◌, ℕ, ◌+◌, ◌-◌, ◌≤◌, ◌⊎◌, List, [], ◌∷◌, ◌++◌, length, take, drop, Option}
+use Rattle.std.proofs.Common.{Some, None}
+use Rattle.std.proofs.Common.{Bool, true, false, cond, nat_eq, nat_lt, refl, sym, ap, subst, ◌∙◌, inl, inr, ⊎_elim}
+use Rattle.std.proofs.Common.{arith}
 use Rattle.std.proofs.Common.{append-nil}
 use Rattle.std.specs.Prelude.{option_map, codes}
 use Rattle.std.specs.List.{starts_with}
@@ -10,7 +12,8 @@ use Rattle.std.proofs.lemmas.Bool.{and_parts, cases_lt, le-ltb, ltb-false}
 use Rattle.std.proofs.Math.Seq.{take-append-add}
 use Rattle.sect_lsp.specs.declared.framing.Front.TheVariants.{Message, Part, Malformed}
 use Rattle.sect_lsp.specs.declared.framing.TheConstants.{MOST_HEADER}
-use Rattle.sect_lsp.specs.Framing.{place_of, header_length, content_length, front_behind, front_by, front_of, Spells, IsRest}
+use Rattle.sect_lsp.specs.Framing.{place_of, header_length, content_length, front_behind, front_by, front_of}
+use Rattle.sect_lsp.specs.Framing.{Spells, IsRest}
 
 -- which way a choice went
 chosen : {A : Type 0} (b : Bool) (x y z : A) → cond b x y ≡ z → ((b ≡ true) × (x ≡ z)) ⊎ ((b ≡ false) × (y ≡ z))
@@ -112,7 +115,8 @@ by_more bytes more None e not = ⊎_elim
     (chosen (nat_lt (length bytes) MOST_HEADER) Part Malformed (front_by bytes None) refl)
 by_more bytes more (Some n) e not =
     ap (front_by (bytes ++ more)) (header_more bytes more n e)
-    ∙ ap (λ bs. front_behind (bytes ++ more) n (content_length bs)) (take-append-le n bytes more (header_fits bytes n e))
+    ∙ ap (λ bs. front_behind (bytes ++ more) n (content_length bs))
+    (take-append-le n bytes more (header_fits bytes n e))
     ∙ behind_more bytes more n (content_length (take n bytes)) not
 
 -- what stands at the front stays, whatever comes behind, unless it is less than a whole message
@@ -120,7 +124,8 @@ pub front_more : (bytes more : List ℕ) → front_of bytes ≢ Part → front_o
 front_more bytes more not = by_more bytes more (header_length (take MOST_HEADER bytes)) refl not
 
 -- a message at the front fits
-behind_fits : (bytes : List ℕ) (n : ℕ) (o : Option ℕ) (h b : ℕ) → front_behind bytes n o ≡ Message h b → h + b ≤ length bytes
+behind_fits : (bytes : List ℕ) (n : ℕ) (o : Option ℕ) (h b : ℕ) → front_behind bytes n o ≡ Message h b
+    → h + b ≤ length bytes
 behind_fits bytes n None h b e = absurd cc
 behind_fits bytes n (Some k) h b e = ⊎_elim
     (λ p. absurd cc)

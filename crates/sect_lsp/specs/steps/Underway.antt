@@ -6,8 +6,8 @@ use Rattle.sect_lsp.specs.Framing.{Spells}
 use Rattle.sect_lsp.specs.Server.{ServerView, Step, start}
 use Rattle.sect_lsp.specs.Sessions.{Runs, AreSent}
 
--- these bytes have come or will come: messages were taken, what is in the inbox isn't taken yet, and what is left hasn't
--- come. The writer has been given what was sent
+-- these bytes have come or will come: messages were taken, what is in the inbox isn't taken yet, and what is left
+-- hasn't come. The writer has been given what was sent
 pub record IsUnderway (bytes : List ℕ) (old new : Option (List ℕ)) (inbox : List ℕ) (left : Option (List ℕ))
     (s : ServerView) : Type 0 where
   pub messages : List (List ℕ)

@@ -11,12 +11,15 @@ use std::test::Fail;
 use std::thread::Threads;
 
 /// An editor begins, and counts by units of UTF-16.
-const BEGIN: &str = "{\"jsonrpc\":\"2.0\",\"id\":1,\"method\":\"initialize\",\"params\":{\"capabilities\":{}}}";
+const BEGIN: &str =
+    "{\"jsonrpc\":\"2.0\",\"id\":1,\"method\":\"initialize\",\"params\":{\"capabilities\":{}}}";
 
 /// What the server can do.
-const ABLE: &str = "{\"id\":1,\"jsonrpc\":\"2.0\",\"result\":{\"capabilities\":{\"definitionProvider\":true,\
+const ABLE: &str =
+    "{\"id\":1,\"jsonrpc\":\"2.0\",\"result\":{\"capabilities\":{\"definitionProvider\":true,\
     \"documentHighlightProvider\":true,\"documentSymbolProvider\":true,\"positionEncoding\":\"utf-16\",\
-    \"referencesProvider\":true,\"renameProvider\":true,\"textDocumentSync\":{\"change\":2,\"openClose\":true}},\"serverInfo\":{\"name\":\"sectc\"}}}";
+    \"referencesProvider\":true,\"renameProvider\":true,\"textDocumentSync\":{\"change\":2,\"openClose\":true}},\
+    \"serverInfo\":{\"name\":\"sectc\"}}}";
 
 const SHUT_DOWN: &str = "{\"jsonrpc\":\"2.0\",\"id\":\"last\",\"method\":\"shutdown\"}";
 
@@ -25,16 +28,19 @@ const DOWN: &str = "{\"id\":\"last\",\"jsonrpc\":\"2.0\",\"result\":null}";
 const EXIT: &str = "{\"jsonrpc\":\"2.0\",\"method\":\"exit\"}";
 
 /// A text whose x is set to null is opened.
-const OPEN: &str = "{\"method\":\"textDocument/didOpen\",\"params\":{\"textDocument\":{\"uri\":\"u\",\
+const OPEN: &str =
+    "{\"method\":\"textDocument/didOpen\",\"params\":{\"textDocument\":{\"uri\":\"u\",\
     \"text\":\"thread t { int x; x = null; }\"}}}";
 
-const WRONG: &str = "{\"jsonrpc\":\"2.0\",\"method\":\"textDocument/publishDiagnostics\",\"params\":{\"diagnostics\":[\
+const WRONG: &str =
+    "{\"jsonrpc\":\"2.0\",\"method\":\"textDocument/publishDiagnostics\",\"params\":{\"diagnostics\":[\
     {\"code\":12,\"message\":\"wrong type: both sides have one type, `+ - * < <=` and `print` take integers, and only a \
     local is assigned to\",\"range\":{\"end\":{\"character\":26,\"line\":0},\"start\":{\"character\":18,\"line\":0}},\
     \"relatedInformation\":[],\"severity\":1,\"source\":\"sectc\"}],\"uri\":\"u\"}}";
 
 /// The null becomes a 7.
-const CHANGE: &str = "{\"method\":\"textDocument/didChange\",\"params\":{\"textDocument\":{\"uri\":\"u\"},\
+const CHANGE: &str =
+    "{\"method\":\"textDocument/didChange\",\"params\":{\"textDocument\":{\"uri\":\"u\"},\
     \"contentChanges\":[{\"range\":{\"start\":{\"line\":0,\"character\":22},\"end\":{\"line\":0,\"character\":26}},\
     \"text\":\"7\"}]}}";
 
@@ -44,9 +50,12 @@ const CLOSE: &str =
 const CLEAN: &str = "{\"jsonrpc\":\"2.0\",\"method\":\"textDocument/publishDiagnostics\",\
     \"params\":{\"diagnostics\":[],\"uri\":\"u\"}}";
 
-const NO_JSON: &str = "{\"error\":{\"code\":-32700,\"message\":\"the message is no JSON\"},\"id\":null,\"jsonrpc\":\"2.0\"}";
+const NO_JSON: &str =
+    "{\"error\":{\"code\":-32700,\"message\":\"the message is no JSON\"},\"id\":null,\
+    \"jsonrpc\":\"2.0\"}";
 
-const EARLY: &str = "{\"error\":{\"code\":-32002,\"message\":\"the server waits for initialize\"},\"id\":\"last\",\
+const EARLY: &str =
+    "{\"error\":{\"code\":-32002,\"message\":\"the server waits for initialize\"},\"id\":\"last\",\
     \"jsonrpc\":\"2.0\"}";
 
 /// What is sent, what comes back, and the status.
@@ -105,7 +114,10 @@ fn sessions_are_served(rt: HostRuntime) -> Result<(), Fail> {
         let drips = Dripping {
             left: input.as_slice(),
         };
-        assert_eq!(rt; command(&rt, words.as_slice(), drips, &mut dripped), *status);
+        assert_eq!(rt;
+            command(&rt, words.as_slice(), drips, &mut dripped),
+            *status
+        );
         assert!(rt; dripped == output);
     }
     Ok(())

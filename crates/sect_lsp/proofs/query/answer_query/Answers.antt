@@ -1,4 +1,4 @@
-use Rattle.std.proofs.Common.{◌≡◌, ℕ, List, length, sym, subst, ap, ◌∙◌}
+use Rattle.std.proofs.Common.{◌≡◌, List, length, sym, subst, ap, ◌∙◌}
 use Rattle.serde_json.specs.View.{view}
 use Rattle.std.proofs.lemmas.Result.{IfOk-weaker}
 use Rattle.sect_places.specs.declared.name_use.NameSpan.{NameSpan}
@@ -21,8 +21,8 @@ returns c =
     let source = c.args.text.source.now in
     let names : List NameSpan = c.in_ok-names.names.items in
     let declared : c.declared_at-declared.result ≡ declared_at c.args.encoding source names c.place_at-place.result =
-        c.declared_at-declared.ensures
-        ∙ ap (λ ns. declared_at c.args.encoding source ns c.place_at-place.result) c.as_slice.ensures.value in
+    c.declared_at-declared.ensures
+    ∙ ap (λ ns. declared_at c.args.encoding source ns c.place_at-place.result) c.as_slice.ensures.value in
     let name = new_name (view c.args.message.now) in
     let by = reply_by c.args.query uri source in
     IfOk-weaker c.reply_to.result _ _
@@ -30,6 +30,6 @@ returns c =
       names,
       c.in_ok-names.ensures.names,
       h ∙ (ap (by c.as_slice-2.result.now c.declared_at-declared.result) c.text_at-name.ensures
-      ∙ (ap (λ ns. by ns c.declared_at-declared.result name) c.as_slice-2.ensures.value
-      ∙ ap (λ d. by names d name) (declared ∙ ap (declared_at c.args.encoding source names) c.place_at-place.ensures))),
+          ∙ (ap (λ ns. by ns c.declared_at-declared.result name) c.as_slice-2.ensures.value
+          ∙ ap (λ d. by names d name) (declared ∙ ap (declared_at c.args.encoding source names) c.place_at-place.ensures))),
     )) c.reply_to.ensures

@@ -5,4 +5,5 @@ use Rattle.sect_lsp.proofs.server.has_text.Given as goal
 
 -- no value so far is the text
 abbrev pub invariant-loop-value : goal.invariant-loop-value
-invariant-loop-value l = has_text l.text (items_view l.values) ≡ has_text l.text (items_view (drop l.value-index l.values))
+invariant-loop-value l =
+    has_text l.text (items_view l.values) ≡ has_text l.text (items_view (drop l.value-index l.values))

@@ -7,7 +7,8 @@ use Rattle.sect_lsp.specs.Sessions.{is_ended, status_by}
 use Rattle.sect_lsp.specs.steps.Underway.{IsAnswered}
 use Rattle.sect_lsp.proofs.Going.{begun_so, same_way, taken_on, read_on, ended_by_exit, ended_by_end, ended_by_fault}
 use Rattle.sect_lsp.proofs.session.serve.Goals as goal
-use Rattle.sect_lsp.proofs.session.serve.Goals.{in-Message+in_ok-answer-in-Message+else-has_ended, in-Part+in_ok-read_piece-in-Part+else-not-branch}
+use Rattle.sect_lsp.proofs.session.serve.Goals.{in-Message+in_ok-answer-in-Message+else-has_ended}
+use Rattle.sect_lsp.proofs.session.serve.Goals.{in-Part+in_ok-read_piece-in-Part+else-not-branch}
 
 pub loop-turn-init : goal.loop-turn-init
 loop-turn-init g c = record {
@@ -32,7 +33,8 @@ loop-turn-preserved g c =
             underway = IfSome_then (g.I.Read.remaining c.args.input.now) i.underway (λ bytes u.
                 same_way bytes old new _ _ _ left _ w.answer.new.server _ (ap g.O.Write.contents w.output-is)
                 (w.inbox-is ∙ taken.4) (ap g.I.Read.remaining w.input-is) w.server-is
-                (taken_on bytes old mid c.loop-turn.inbox left c.loop-turn.server u taken.0 taken.1 w.in-Message.message.items
+                (taken_on bytes old mid c.loop-turn.inbox left c.loop-turn.server u taken.0 taken.1
+                w.in-Message.message.items
                 w.answer.new.server new i.on taken.2 taken.3 answered));
             on = ap (λ s. is_ended s.phase) w.server-is ∙ (ap is_ended (sym w.phase.ensures)
                 ∙ (sym w.has_ended.ensures ∙ w.if-has_ended.false));
@@ -44,7 +46,8 @@ loop-turn-preserved g c =
             underway = IfSome_then (g.I.Read.remaining c.args.input.now) i.underway (λ bytes u.
                 same_way bytes old mid _ (c.loop-turn.inbox ++ piece.0) _ (g.I.Read.remaining w.read_piece.new.input) _
                 c.loop-turn.server _ (ap g.O.Write.contents w.output-is)
-                (w.inbox-is ∙ (piece.2 ∙ ap (λ bs. bs ++ piece.0) taken.1)) (ap g.I.Read.remaining w.input-is) w.server-is
+                (w.inbox-is ∙ (piece.2 ∙ ap (λ bs. bs ++ piece.0) taken.1)) (ap g.I.Read.remaining w.input-is)
+                w.server-is
                 (read_on bytes old mid c.loop-turn.inbox left c.loop-turn.server u piece.0
                 (g.I.Read.remaining w.read_piece.new.input) piece.1));
             on = ap (λ s. is_ended s.phase) w.server-is ∙ i.on;

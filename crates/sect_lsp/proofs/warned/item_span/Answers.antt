@@ -1,5 +1,4 @@
 use Rattle.std.proofs.Common.{length}
-use Rattle.sect_places.specs.Spans.{no_span}
 use Rattle.sect_lsp.proofs.Proper.{proper_at}
 use Rattle.sect_lsp.proofs.warned.item_span.Goals as goal
 

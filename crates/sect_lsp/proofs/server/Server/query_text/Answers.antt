@@ -17,9 +17,9 @@ returns c =
     let uri : List ℕ = c.args.uri.now in
     let source : List ℕ = c.in-Some.source.now in
     let text : Some source ≡ text_of uri s.documents =
-        ap (option_map (λ (t : Bor (List ℕ)). t.now)) (sym c.in-Some.is)
-        ∙ (c.text.ensures ∙ ap (λ (v : ServerView). text_of uri v.documents) c.self.view_is) in
+    ap (option_map (λ (t : Bor (List ℕ)). t.now)) (sym c.in-Some.is)
+    ∙ (c.text.ensures ∙ ap (λ (v : ServerView). text_of uri v.documents) c.self.view_is) in
     let encoding : c.self.inside.encoding ≡ s.encoding = ap (λ (v : ServerView). v.encoding) c.self.view_is in
     IfOk-weaker c.answer_query.result _ _
     (λ reply h. subst (λ (o : Option (List ℕ)). IsQueryReply s q d uri o (reply_view reply)) text
-        (subst (λ (e : Encoding). IsReply q e d uri source (reply_view reply)) encoding h)) c.answer_query.ensures
+    (subst (λ (e : Encoding). IsReply q e d uri source (reply_view reply)) encoding h)) c.answer_query.ensures

@@ -1,5 +1,5 @@
 -- What a run answers to its words and its input. `command` cites it.
-use Rattle.std.specs.Prelude.{◌≡◌, ◌≢◌, ◌⊎◌, ◌++◌, ℕ, Option, List, IfSome, codes}
+use Rattle.std.specs.Prelude.{◌≡◌, ◌≢◌, ◌⊎◌, ◌++◌, ℕ, Option, List, Result, Ok, IfSome, codes}
 use Rattle.std.specs.Io.KnownBytes.{Appends}
 use Rattle.sect_infer.specs.Workers.{AreOffered}
 use Rattle.sect_answers.specs.Answers.{IsAnswer, IsDue}
@@ -20,6 +20,8 @@ use Rattle.sect_answers.specs.declared.refusal.Refusal.{Refusal}
 use Rattle.sect_answers.specs.declared.refusal.Refusal.TheVariants as refusal
 use Rattle.sect_command.specs.declared.dispatch.TheConstants.{DONE, REFUSED, WRONG_WORDS, FAILED}
 use Rattle.sect_command.specs.declared.dispatch.Answer.{Answer}
+use Rattle.sect_command.specs.declared.dispatch.Failure.{Failure}
+use Rattle.sect_lsp.specs.Sessions.{IsSession}
 use Rattle.sect_command.specs.declared.options.Form.TheVariants.{Listing, Document, Certificate}
 use Rattle.sect_command.specs.declared.options.Request.{Request}
 use Rattle.sect_command.specs.declared.options.Request.TheVariants.{Locks, Compile, Explain, Conflicts, Graph, Lint}
@@ -77,8 +79,20 @@ IsRightForWords input answer =
     (answer.status ≡ WRONG_WORDS)
     ⊎ ((request : Request) × IfSome input (λ source. IsRight request source answer))
 
--- the run has failed, or its status is that of a right answer, whose text the output has behind what it had
+-- an answer is written with its status, or the run has failed
+abbrev pub IsAnswerTold : Result Answer Failure → Option (List ℕ) → Option (List ℕ) → ℕ → Type 0
+IsAnswerTold told old new status =
+    (status ≡ FAILED)
+    ⊎ ((answer : Answer) × (told ≡ Ok answer) × (answer.status ≡ status) × Appends old new answer.text.items)
+
+-- the bytes are those of a session with an editor, for which this is written, and which has this status
+abbrev pub IsServed : Option (List ℕ) → Option (List ℕ) → ℕ → List ℕ → Type 0
+IsServed old new status bytes = (sent : List ℕ) × IsSession bytes sent status × Appends old new sent
+
+-- the run has failed; or its status is that of a right answer, whose text the output has behind what it had; or it was
+-- a session with an editor
 abbrev pub IsTold : Option (List ℕ) → Option (List ℕ) → Option (List ℕ) → ℕ → Type 0
 IsTold input old new status =
     (status ≡ FAILED)
-    ⊎ ((answer : Answer) × (answer.status ≡ status) × IsRightForWords input answer × Appends old new answer.text.items)
+    ⊎ (((answer : Answer) × (answer.status ≡ status) × IsRightForWords input answer × Appends old new answer.text.items)
+    ⊎ IfSome input (IsServed old new status))

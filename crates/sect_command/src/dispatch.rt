@@ -4,10 +4,12 @@ ghost use Rattle.std.specs.Prelude.{◌≡◌, ◌⊎◌, IfOk, IfErr, IfSome};
 ghost use Rattle.std.specs.Io.KnownBytes.{Appends};
 ghost use Rattle.sect_command.specs.declared.dispatch.Failure.TheVariants.{Memory};
 ghost use Rattle.sect_command.specs.declared.dispatch.TheConstants.{FAILED, WRONG_WORDS};
-ghost use Rattle.sect_command.specs.Requests.{Answers, IsRefusalDue, IsRight, IsRightForWords, IsTold, line_of};
+ghost use Rattle.sect_command.specs.Requests.{Answers, IsRefusalDue, IsRight, IsTold, line_of};
+ghost use Rattle.sect_command.specs.Requests.{IsAnswerTold};
 ghost use Rattle.std.specs.String.{string_bytes};
 
-use crate::options::{Form, Request, UsageFault, request_of};
+use crate::options::{Form, Request, UsageFault, Wanted, wanted_of};
+use crate::serving::served;
 use sect_answers::{
     Refusal, all_outcomes, findings, inspection, locks, program_certificate, program_conflicts,
     program_document, program_explanation, program_graph, program_listing, put_refusal,
@@ -70,8 +72,9 @@ impl From<io::Error> for Failure {
     }
 }
 
-/// Judges the words (the program's name first), reads the whole input, works, and writes the answer. It gives the
-/// exit status: 0 done, 1 refused, 2 the words are wrong, 3 want of memory, or the input or the output failed.
+/// Judges the words (the program's name first), reads the whole input, works, and writes the answer; or serves an
+/// editor, if they ask for that. It gives the exit status: 0 done, 1 refused, 2 the words are wrong, 3 want of memory, or
+/// the input or the output failed.
 pub fn command<R: Threads + Wait + Sync + AllocGlobal, I: Read + Drop, O: Write>(
     rt: &R,
     words: &[String],
@@ -80,7 +83,24 @@ pub fn command<R: Threads + Wait + Sync + AllocGlobal, I: Read + Drop, O: Write>
 ) -> u8
     ensures { IsTold (I.remaining input) (O.contents output.old) (O.contents output.new) result }
 {
-    match answer_to(rt, words, input) {
+    match wanted_of(rt.alloc(), words) {
+        Ok(Wanted::Session) => served(rt.alloc(), input, output),
+        Ok(Wanted::Answer(request)) => {
+            let answer = answered(rt, rt.alloc(), request, input);
+            answer_told(output, answer)
+        }
+        Err(fault) => {
+            let answer = words_refused(rt.alloc(), fault);
+            answer_told(output, answer)
+        }
+    }
+}
+
+/// Writes an answer, or why there is none, and gives the status.
+fn answer_told<O: Write>(output: &mut O, answer: Result<Answer, Failure>) -> u8
+    ensures { IsAnswerTold answer (O.contents output.old) (O.contents output.new) result }
+{
+    match answer {
         Ok(answer) => told(output, answer.status, answer.text.as_slice()),
         Err(Failure::Memory) => told(output, FAILED, OUT_OF_MEMORY),
         Err(Failure::Streams) => told(output, FAILED, b"input or output failed\n"),
@@ -98,21 +118,6 @@ pub fn told<O: Write>(output: &mut O, status: u8, text: &[u8]) -> u8
             Err(_) => FAILED,
         },
         Err(_) => FAILED,
-    }
-}
-
-/// What the words ask of the input. Words that are wrong are answered before the input is read.
-fn answer_to<R: Threads + Wait + Sync + AllocGlobal, I: Read + Drop>(
-    rt: &R,
-    words: &[String],
-    input: I,
-) -> Result<Answer, Failure>
-    ensures { IfOk result (IsRightForWords (I.remaining input)) }
-{
-    let alloc = rt.alloc();
-    match request_of(alloc, words) {
-        Ok(request) => answered(rt, alloc, request, input),
-        Err(fault) => words_refused(alloc, fault),
     }
 }
 

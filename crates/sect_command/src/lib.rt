@@ -7,5 +7,6 @@ mod formats;
 mod linting;
 mod options;
 mod running;
+mod serving;
 
 pub use dispatch::{DONE, FAILED, OUT_OF_MEMORY, REFUSED, WRONG_WORDS, command, told};

@@ -9,6 +9,7 @@ use crate::linting::{lint_command, lint_format_of};
 use crate::running::{
     FUEL, STATES, outcomes_command, run_command, schedule_command, serial_command, threads_of,
 };
+use crate::serving::lsp_command;
 use clap::error::ErrorKind;
 use clap::{Arg, ArgAction, ArgMatches, Command};
 use sect_answers::Format;
@@ -28,7 +29,7 @@ pub const DEFAULT_K: u16 = 2;
 /// The workers that infer locks where the command line doesn't say.
 pub const DEFAULT_WORKERS: u16 = 1;
 
-/// What a command line asks for.
+/// What is answered to the whole input.
 #[derive(Debug, Drop)]
 pub enum Request {
     /// The lock set of each section, whose paths have at most k fields.
@@ -102,6 +103,15 @@ pub enum Request {
     Check {
         k: u16,
     },
+}
+
+/// What the words of a command line ask for.
+#[derive(Debug, Drop)]
+pub enum Wanted {
+    /// A session with an editor.
+    Session,
+    /// One answer to the whole input.
+    Answer(Request),
 }
 
 /// How a compiled program is printed.
@@ -253,6 +263,7 @@ fn grammar<'a>(alloc: Global) -> Result<Command<'a>, AllocError>
     let sectc = sectc.version(VERSION);
     let sectc = with_running(alloc, with_inference(alloc, sectc)?)?;
     let sectc = with(sectc, lint_command(alloc))?;
+    let sectc = with(sectc, lsp_command(alloc))?;
     let check =
         "tests a certificate: the input is the certificate, and the source text behind its line `end`";
     let sectc = with(sectc, k_command(alloc, "check", check))?;
@@ -342,10 +353,11 @@ fn form_of(alloc: Global, options: &ArgMatches<'_>) -> Result<Form, UsageFault> 
 }
 
 /// What the words ask for, the program's name first.
-pub fn request_of(alloc: Global, words: &[String]) -> Result<Request, UsageFault> {
+pub fn wanted_of(alloc: Global, words: &[String]) -> Result<Wanted, UsageFault> {
     let matches = grammar(alloc)?.try_get_matches_from(words)?;
     match matches.subcommand() {
-        Some((name, options)) => requested(alloc, name, options),
+        Some(("lsp", _)) => Ok(Wanted::Session),
+        Some((name, options)) => Ok(Wanted::Answer(requested(alloc, name, options)?)),
         None => unreachable!(),
     }
 }

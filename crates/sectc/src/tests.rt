@@ -6,6 +6,7 @@ mod check;
 mod hostile;
 mod programs;
 mod run;
+mod sessions;
 mod streams;
 mod stretch;
 mod workers;

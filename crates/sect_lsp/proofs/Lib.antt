@@ -1,0 +1,8 @@
+mod Finding
+mod Going
+mod Answering
+mod Keeping
+mod Listing
+mod Proper
+mod Within
+pub mod shared

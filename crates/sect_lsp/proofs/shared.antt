@@ -1,0 +1,2 @@
+-- What crates above may cite.
+pub mod Pieces

@@ -1,0 +1,15 @@
+pub mod Framing
+pub mod Positions
+pub mod Documents
+pub mod Changes
+pub mod Protocol
+pub mod Diagnosing
+pub mod Server
+pub mod Ranges
+pub mod Mistaken
+pub mod Warned
+pub mod Referring
+pub mod Queries
+pub mod Sessions
+pub mod Answered
+pub mod steps

@@ -1,0 +1,27 @@
+//! A language server: what an editor tells and asks of the texts that are open, and what is answered.
+#![tactic(auto)]
+
+mod change;
+mod diagnosing;
+mod documents;
+mod framing;
+mod laws;
+mod mistakes;
+mod position;
+mod protocol;
+mod query;
+mod ranges;
+mod referring;
+mod reply;
+mod server;
+mod session;
+mod warned;
+
+pub use documents::Documents;
+pub use framing::{Front, Inbox, Taken, frame_of, pieces_change_no_message};
+pub use laws::{
+    closed_documents_are_forgotten, each_request_gets_one_answer, kept_texts_are_found,
+};
+pub use position::{Encoding, Place, Range, edited};
+pub use server::{Phase, Server};
+pub use session::serve;

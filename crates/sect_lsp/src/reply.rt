@@ -1,0 +1,27 @@
+//! What a request is answered.
+
+ghost use Rattle.std.specs.Prelude.{◌≡◌, IfOk};
+ghost use Rattle.serde_json.specs.View.{view};
+ghost use Rattle.sect_lsp.specs.Protocol.{response_json};
+ghost use Rattle.sect_lsp.specs.steps.Replying.{reply_view};
+
+use crate::protocol::{Fault, error_message, result_message};
+use serde_json::Value;
+use std::alloc::{AllocError, Global};
+
+/// What a request is answered.
+#[derive(Drop)]
+pub enum Reply {
+    Result(Value),
+    Error(Fault),
+}
+
+/// The answer to what was asked under this number or name.
+pub fn response(alloc: Global, id: &Value, reply: Reply) -> Result<Value, AllocError>
+    ensures { IfOk result (λ v. view v ≡ response_json (view id.now) (reply_view reply)) }
+{
+    match reply {
+        Reply::Result(value) => result_message(alloc, id, value),
+        Reply::Error(why) => error_message(alloc, id, why),
+    }
+}

@@ -73,8 +73,8 @@ impl From<io::Error> for Failure {
 }
 
 /// Judges the words (the program's name first), reads the whole input, works, and writes the answer; or serves an
-/// editor, if they ask for that. It gives the exit status: 0 done, 1 refused, 2 the words are wrong, 3 want of memory, or
-/// the input or the output failed.
+/// editor, if they ask for that. It gives the exit status: 0 done, 1 refused, 2 the words are wrong, 3 want of memory,
+/// or the input or the output failed.
 pub fn command<R: Threads + Wait + Sync + AllocGlobal, I: Read + Drop, O: Write>(
     rt: &R,
     words: &[String],

@@ -98,7 +98,8 @@ fn section_values(alloc: Global, of: &Inspected<'_>) -> Result<Vec<Value>, Alloc
 fn section_value(alloc: Global, of: &Inspected<'_>, section: u16) -> Result<Value, AllocError>
     requires inspected { IsInspected of.now }
     requires section { section < length (sections_of (program_of of.now.compiled.now).texts) }
-    ensures { IfOk result (λ v. IsSectionInspected of.now.compiled.now of.now.source.now of.now.spans.now section (view v)) }
+    ensures { IfOk result (λ v.
+        IsSectionInspected of.now.compiled.now of.now.source.now of.now.spans.now section (view v)) }
 {
     let compiled = of.compiled;
     let found = section_chains(alloc, compiled, section)?;

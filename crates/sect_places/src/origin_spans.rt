@@ -15,8 +15,8 @@ use sect_types::Program;
 use std::alloc::{AllocError, Global};
 use std::marker::Model;
 
-/// Where a node comes from: the bytes of the item that says what it does, and if that is a procedure's those of the call
-/// in the thread.
+/// Where a node comes from: the bytes of the item that says what it does, and if that is a procedure's those of the
+/// call in the thread.
 #[derive(Clone, Copy, Debug)]
 pub struct NodeSpan {
     pub item: Span,

@@ -2,6 +2,7 @@
 #![tactic(auto)]
 
 mod innermost;
+mod items;
 mod lexer;
 mod limits;
 mod listing;
@@ -20,6 +21,7 @@ mod within;
 mod words;
 
 pub use innermost::innermost_brace;
+pub use items::Items;
 pub use lexer::after_gap;
 pub use limits::{MOST_BYTES, MOST_DEPTH, MOST_NAME_BYTES, limits_of_texts};
 pub use listing::tokens_of;
@@ -31,7 +33,7 @@ pub use same::is_same;
 pub use span::Span;
 pub use token::Token;
 pub use tree::{
-    Block, Comparison, Declaration, Declarations, GlobalObject, Hints, Kind, Locking, Operand,
-    Operands, Operator, Primitive, Procedure, Record, Statement, Test, Thread, Tree,
+    Block, Comparison, Declaration, Declarations, GlobalObject, Kind, Locking, Operand, Operator,
+    Primitive, Procedure, Record, Statement, Test, Thread, Tree,
 };
 pub use words::is_name;

@@ -12,11 +12,12 @@ ghost use Rattle.sect_front.specs.Tokens.{procedures_tokens};
 ghost use Rattle.sect_front.specs.Trees.{statement_of};
 ghost use Rattle.sect_front.specs.steps.Writes.{Writes};
 
+use crate::items::Items;
 use crate::name::Name;
 use crate::token::Token;
 use crate::tree::{
-    Block, Comparison, Declaration, Declarations, GlobalObject, Hints, Kind, Locking, Operand,
-    Operands, Operator, Primitive, Procedure, Record, Statement, Test, Thread, Tree,
+    Block, Comparison, Declaration, Declarations, GlobalObject, Kind, Locking, Operand, Operator,
+    Primitive, Procedure, Record, Statement, Test, Thread, Tree,
 };
 use std::alloc::{AllocError, Global};
 
@@ -160,7 +161,7 @@ fn put_more_operands(out: &mut Vec<Token>, values: &[Operand]) -> Result<(), All
 }
 
 /// The arguments of a call, with commas between them.
-fn put_operands(out: &mut Vec<Token>, values: &Operands) -> Result<(), AllocError>
+fn put_operands(out: &mut Vec<Token>, values: &Items<Operand>) -> Result<(), AllocError>
     ensures { OnOk result (Writes out.old.items out.new.items (operands_tokens values.now)) }
 {
     let Some((first, others)) = values.as_slice().split_first() else {
@@ -170,7 +171,7 @@ fn put_operands(out: &mut Vec<Token>, values: &Operands) -> Result<(), AllocErro
     put_more_operands(out, others)
 }
 
-fn put_call(out: &mut Vec<Token>, callee: Name, values: &Operands) -> Result<(), AllocError>
+fn put_call(out: &mut Vec<Token>, callee: Name, values: &Items<Operand>) -> Result<(), AllocError>
     ensures { OnOk result (Writes out.old.items out.new.items (call_tokens callee values.now)) }
 {
     put_all(out, &[Token::Call, Token::Name(callee), Token::OpenParen])?;
@@ -242,7 +243,7 @@ fn put_declarations(out: &mut Vec<Token>, list: &Declarations) -> Result<(), All
     Ok(())
 }
 
-fn put_hints(out: &mut Vec<Token>, hints: &Hints) -> Result<(), AllocError>
+fn put_hints(out: &mut Vec<Token>, hints: &Items<Name>) -> Result<(), AllocError>
     ensures { OnOk result (Writes out.old.items out.new.items (hints_tokens hints.now)) }
 {
     for hint in hints.as_slice() {

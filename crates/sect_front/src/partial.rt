@@ -4,9 +4,10 @@ ghost use Rattle.std.specs.Prelude.{◌≡◌};
 ghost use Rattle.sect_front.specs.steps.Advance.{advance_of, assign_step, store_step, branch_step, operand_of};
 ghost use Rattle.sect_front.specs.steps.Advance.{operator_of, comparison_of, first_step, ends_with};
 
+use crate::items::Items;
 use crate::name::Name;
 use crate::token::Token;
-use crate::tree::{Comparison, Locking, Operand, Operands, Operator, Primitive, Test};
+use crate::tree::{Comparison, Locking, Operand, Operator, Primitive, Test};
 
 /// Which statement a test belongs to.
 #[derive(Clone, Copy)]
@@ -69,9 +70,9 @@ pub enum PartialCall {
     AfterName(Name),
     Open(Name),
     /// The last argument stands apart until what follows it has been read.
-    AfterArgument(Name, Operands, Operand),
-    AfterComma(Name, Operands),
-    AfterClose(Name, Operands),
+    AfterArgument(Name, Items<Operand>, Operand),
+    AfterComma(Name, Items<Operand>),
+    AfterClose(Name, Items<Operand>),
 }
 
 /// What one more token leads to.

@@ -4,12 +4,11 @@ ghost use Rattle.std.specs.Prelude.{◌≡◌, ◌≤◌, []};
 ghost use Rattle.std.specs.Option.{ForSome};
 ghost use Rattle.sect_front.specs.Limits.{most_depth};
 
+use crate::items::Items;
 use crate::name::Name;
 use crate::partial::PartialHead;
 use crate::token::Token;
-use crate::tree::{
-    Block, Declarations, GlobalObject, Hints, Kind, Procedure, Record, Thread, Tree,
-};
+use crate::tree::{Block, Declarations, GlobalObject, Kind, Procedure, Record, Thread, Tree};
 use crate::within::{StepError, Within};
 use std::alloc::Global;
 use std::marker::Model;
@@ -28,11 +27,11 @@ pub enum Part {
 #[derive(Drop)]
 pub enum RecordStage {
     AfterWord,
-    Head(Name, Hints),
-    AfterProtectedBy(Name, Hints),
-    Fields(Name, Hints, Declarations),
-    AfterKind(Name, Hints, Declarations, Kind),
-    AfterField(Name, Hints, Declarations, Kind, Name),
+    Head(Name, Items<Name>),
+    AfterProtectedBy(Name, Items<Name>),
+    Fields(Name, Items<Name>, Declarations),
+    AfterKind(Name, Items<Name>, Declarations, Kind),
+    AfterField(Name, Items<Name>, Declarations, Kind, Name),
 }
 
 /// What has been read of a global.
@@ -261,7 +260,7 @@ impl Reader {
     {
         let next = match stage {
             RecordStage::AfterWord => match token {
-                Token::Name(name) => RecordStage::Head(name, Hints::new(alloc)),
+                Token::Name(name) => RecordStage::Head(name, Items::new(alloc)),
                 _ => return Err(StepError::Unexpected),
             },
             RecordStage::Head(name, hints) => match token {
@@ -291,7 +290,7 @@ impl Reader {
     }
 
     /// A token after `protected_by`.
-    fn hint(&mut self, name: Name, mut hints: Hints, token: Token) -> Result<(), StepError>
+    fn hint(&mut self, name: Name, mut hints: Items<Name>, token: Token) -> Result<(), StepError>
         ensures { Reads result self.new
             (record_step self.old.source (RecordStage.AfterProtectedBy name hints) token) }
     {
@@ -310,7 +309,7 @@ impl Reader {
     fn after_field(
         &mut self,
         name: Name,
-        hints: Hints,
+        hints: Items<Name>,
         mut fields: Declarations,
         kind: Kind,
         field: Name,
@@ -334,7 +333,7 @@ impl Reader {
     fn end_record(
         &mut self,
         name: Name,
-        hints: Hints,
+        hints: Items<Name>,
         fields: Declarations,
     ) -> Result<(), StepError>
         ensures { Reads result self.new (end_record_step self.old.source name hints fields) }

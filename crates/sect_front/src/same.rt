@@ -3,10 +3,11 @@
 ghost use Rattle.std.specs.Prelude.{◌≡◌, ◌↔◌, IsTrue};
 ghost use Rattle.sect_front.specs.Trees.{statement_of};
 
+use crate::items::Items;
 use crate::name::Name;
 use crate::tree::{
-    Block, Declarations, GlobalObject, Hints, Operand, Operands, Primitive, Procedure, Record,
-    Statement, Test, Thread, Tree,
+    Block, Declarations, GlobalObject, Operand, Primitive, Procedure, Record, Statement, Test,
+    Thread, Tree,
 };
 
 /// Whether two names are one.
@@ -67,7 +68,7 @@ fn same_primitive(left: Primitive, right: Primitive) -> bool
 }
 
 /// Whether two lists of arguments are the same.
-fn same_operands(left: &Operands, right: &Operands) -> bool
+fn same_operands(left: &Items<Operand>, right: &Items<Operand>) -> bool
     ensures { IsTrue result ↔ (left.now ≡ right.now) }
 {
     left.as_slice() == right.as_slice()
@@ -117,7 +118,7 @@ fn same_declarations(left: &Declarations, right: &Declarations) -> bool
 }
 
 /// Whether two lists of hints are the same.
-fn same_hints(left: &Hints, right: &Hints) -> bool
+fn same_hints(left: &Items<Name>, right: &Items<Name>) -> bool
     ensures { IsTrue result ↔ (left.now ≡ right.now) }
 {
     left.as_slice() == right.as_slice()

@@ -4,6 +4,7 @@ ghost use Rattle.std.specs.Prelude.{◌≡◌, OnOk, OnErr};
 ghost use Rattle.sect_front.specs.Syntax.{End};
 ghost use Rattle.sect_front.specs.Limits.{most_depth};
 
+use crate::items::Items;
 use crate::literal::Literal;
 use crate::name::Name;
 use std::alloc::{AllocError, Global};
@@ -68,50 +69,6 @@ pub enum Primitive {
     Print(Operand),
 }
 
-/// The arguments of a call, in text order.
-#[derive(Drop)]
-pub struct Operands {
-    list: Vec<Operand>,
-}
-
-impl Model for Operands {
-    ghost use Rattle.std.specs.Prelude.{List};
-    ghost use Rattle.sect_front.specs.declared.tree.Operand.{Operand};
-
-    ghost Value = { List Operand };
-
-    ghost view = { λ o. o.list.items };
-}
-
-impl Operands {
-    ghost use Rattle.std.specs.Prelude.{◌++◌, ◌∷◌, []};
-
-    /// No arguments.
-    pub fn new(alloc: Global) -> Operands
-        ensures { result ≡ [] }
-    {
-        Operands {
-            list: Vec::new(alloc),
-        }
-    }
-
-    /// Adds an argument at the end.
-    pub fn push(&mut self, operand: Operand) -> Result<(), AllocError>
-        ensures ok { OnOk result (self.new ≡ self.old ++ operand ∷ []) }
-        ensures err { OnErr result (self.new ≡ self.old) }
-    {
-        self.list.push(operand)?;
-        Ok(())
-    }
-
-    /// The arguments.
-    pub fn as_slice(&self) -> &[Operand]
-        ensures { result.now ≡ self.now }
-    {
-        self.list.as_slice()
-    }
-}
-
 /// Statements, one after another.
 #[cycle(tree)]
 #[derive(Drop)]
@@ -129,8 +86,8 @@ pub enum Statement {
     IfElse(Test, Block, Block),
     While(Test, Block),
     Atomic(Locking, Block),
-    /// `call f(v, ..)`
-    Call(Name, Operands),
+    /// `call f(v, ..)`, with the arguments in text order
+    Call(Name, Items<Operand>),
 }
 
 impl Model for Block {
@@ -242,54 +199,12 @@ impl Declarations {
     }
 }
 
-/// The globals that a record names in `protected_by`, in text order.
-#[derive(Drop)]
-pub struct Hints {
-    list: Vec<Name>,
-}
-
-impl Model for Hints {
-    ghost use Rattle.std.specs.Prelude.{List, ℕ};
-
-    ghost Value = { List (List ℕ) };
-
-    ghost view = { λ h. h.list.items };
-}
-
-impl Hints {
-    ghost use Rattle.std.specs.Prelude.{◌++◌, ◌∷◌, []};
-
-    /// No hints.
-    pub fn new(alloc: Global) -> Hints
-        ensures { result ≡ [] }
-    {
-        Hints {
-            list: Vec::new(alloc),
-        }
-    }
-
-    /// Adds a hint at the end.
-    pub fn push(&mut self, name: Name) -> Result<(), AllocError>
-        ensures ok { OnOk result (self.new ≡ self.old ++ name ∷ []) }
-        ensures err { OnErr result (self.new ≡ self.old) }
-    {
-        self.list.push(name)?;
-        Ok(())
-    }
-
-    /// The names.
-    pub fn as_slice(&self) -> &[Name]
-        ensures { result.now ≡ self.now }
-    {
-        self.list.as_slice()
-    }
-}
-
 /// A record: its name, its hints and its fields.
 #[derive(Drop)]
 pub struct Record {
     pub name: Name,
-    pub hints: Hints,
+    /// The globals that the record names in `protected_by`, in text order.
+    pub hints: Items<Name>,
     pub fields: Declarations,
 }
 

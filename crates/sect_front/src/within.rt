@@ -3,10 +3,11 @@
 ghost use Rattle.std.specs.Prelude.{◌≡◌, ◌∷◌, [], OnOk};
 ghost use Rattle.sect_front.specs.Syntax.{End, If};
 
+use crate::items::Items;
 use crate::name::Name;
 use crate::partial::{Branch, Move, PartialBranch, PartialCall, PartialHead, advance, operand};
 use crate::token::Token;
-use crate::tree::{Block, Locking, Operand, Operands, Statement, Test};
+use crate::tree::{Block, Locking, Operand, Statement, Test};
 use std::alloc::{AllocError, AllocFailed, Global};
 use std::marker::Model;
 use std::mem;
@@ -256,8 +257,8 @@ impl Within {
                 _ => return Err(StepError::Unexpected),
             },
             PartialCall::Open(callee) => match token {
-                Token::CloseParen => PartialCall::AfterClose(callee, Operands::new(alloc)),
-                _ => return self.argument(callee, Operands::new(alloc), token),
+                Token::CloseParen => PartialCall::AfterClose(callee, Items::new(alloc)),
+                _ => return self.argument(callee, Items::new(alloc), token),
             },
             PartialCall::AfterArgument(callee, values, value) => {
                 return self.after_argument(callee, values, value, token);
@@ -273,7 +274,7 @@ impl Within {
     fn argument(
         &mut self,
         callee: Name,
-        values: Operands,
+        values: Items<Operand>,
         token: &Token,
     ) -> Result<Option<Block>, StepError>
         ensures { Steps result self.new
@@ -290,7 +291,7 @@ impl Within {
     fn after_argument(
         &mut self,
         callee: Name,
-        mut values: Operands,
+        mut values: Items<Operand>,
         value: Operand,
         token: &Token,
     ) -> Result<Option<Block>, StepError>
@@ -316,7 +317,7 @@ impl Within {
     fn end_call(
         &mut self,
         callee: Name,
-        values: Operands,
+        values: Items<Operand>,
         token: &Token,
     ) -> Result<Option<Block>, StepError>
         ensures { Steps result self.new

@@ -11,7 +11,9 @@ use Rattle.sect_front.proofs.tree.Record.TheSendSync as records
 use Rattle.sect_front.proofs.tree.GlobalObject.TheSendSync as globals
 use Rattle.sect_front.proofs.tree.Test.TheSendSync as tests
 use Rattle.sect_front.proofs.tree.Primitive.TheSendSync as primitives
-use Rattle.sect_front.proofs.tree.Operands.TheSendSync as operands
+use Rattle.sect_front.proofs.items.Items.TheSendSync as items
+use Rattle.sect_front.proofs.tree.Operand.TheSendSync as operand
+use Rattle.sect_front.proofs.literal.Literal.TheSendSync as literal
 use Rattle.sect_front.proofs.tree.Locking.TheSendSync as locking
 use Rattle.sect_front.proofs.name.Name.TheSendSync as name
 use Rattle.std.proofs.vec.Vec.TheSendSync as vec
@@ -28,7 +30,9 @@ block_sync = search (
   heap.the_sync,
   tests.the_sync,
   primitives.the_sync,
-  operands.the_sync,
+  items.the_sync,
+  operand.the_sync,
+  literal.the_sync,
   name.the_sync,
   locking.the_sync,
 ) depth 20

@@ -2,10 +2,10 @@
 
 use crate::failure::Failure;
 use sect_cert::{
-    Cert, CertBase, CertFault, CertLock, CertPath, CertSection, CertStep, Chain, ChainSteps, Items,
-    Runs, read_cert, write_cert,
+    Cert, CertBase, CertFault, CertLock, CertPath, CertSection, CertStep, Chain, ChainSteps, Runs,
+    read_cert, write_cert,
 };
-use sect_front::Name;
+use sect_front::{Items, Name};
 use std::alloc::{AllocError, Global};
 
 /// How many nodes a section has, and how many steps a chain.

@@ -1,9 +1,9 @@
 //! What a certificate says. It knows no program: its lists stand in any order, and may repeat a lock.
 
 use crate::chain_steps::ChainSteps;
-use crate::items::Items;
 use crate::lock::CertLock;
 use crate::runs::Runs;
+use sect_front::Items;
 
 /// A node, by its number, and a lock that is needed from there on.
 #[derive(Drop)]

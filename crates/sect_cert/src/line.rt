@@ -12,11 +12,11 @@ ghost use Rattle.sect_cert.specs.steps.Reading.{colon_number as colon_number_at}
 use crate::certificate::Chain;
 use crate::chain::steps_of;
 use crate::fault::LineFault;
-use crate::items::Items;
 use crate::list::locks_of;
 use crate::lock::CertLock;
 use crate::numbers::{ends_with, number, without_end};
 use crate::parts::Parts;
+use sect_front::Items;
 use std::alloc::Global;
 
 /// A line, by its form.

@@ -6,11 +6,11 @@ ghost use Rattle.sect_cert.specs.steps.Numbers.{ends_with as ends_with_of};
 ghost use Rattle.sect_cert.specs.steps.Lists.{place_behind, StepsTo, step_of, list_of};
 
 use crate::fault::LineFault;
-use crate::items::Items;
 use crate::lock::CertLock;
 use crate::numbers::{ends_with, number, without_end};
 use crate::parts::Parts;
 use crate::subject::{CertMode, class_lock, mode_of, subject};
+use sect_front::Items;
 use std::alloc::Global;
 
 /// What the next word of a list is to be.

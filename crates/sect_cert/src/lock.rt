@@ -1,7 +1,6 @@
 //! Locks of a certificate, by the names that stand in a program's text.
 
-use crate::items::Items;
-use sect_front::Name;
+use sect_front::{Items, Name};
 
 /// What a path begins at.
 #[derive(Clone, Copy)]

@@ -9,11 +9,11 @@ ghost use Rattle.sect_cert.specs.steps.Stages.{later_of, header_of, read_of, is_
 use crate::again::{Lines, is_next};
 use crate::certificate::{Cert, CertSection, Chain};
 use crate::fault::LineFault;
-use crate::items::Items;
 use crate::line::{CertLine, line_of};
 use crate::lock::CertLock;
 use crate::runs::Runs;
 use crate::zeros::{is_exact, without_zeros};
+use sect_front::Items;
 use std::alloc::Global;
 
 /// The sections that are whole, and how many there are to be.

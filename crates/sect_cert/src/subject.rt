@@ -7,11 +7,10 @@ ghost use Rattle.sect_cert.specs.steps.Subjects.{path_lock as path_lock_of, clas
 ghost use Rattle.sect_cert.specs.steps.Subjects.{all_lock as all_lock_of, subject_of};
 
 use crate::fault::LineFault;
-use crate::items::Items;
 use crate::lock::{CertBase, CertLock, CertPath};
 use crate::numbers::number;
 use crate::parts::Parts;
-use sect_front::{Name, is_name};
+use sect_front::{Items, Name, is_name};
 use std::alloc::Global;
 
 /// What a lock allows.

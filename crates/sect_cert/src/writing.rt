@@ -16,11 +16,10 @@ ghost use Rattle.sect_cert.specs.declared.line.CertLine.TheVariants as line;
 use crate::certificate::{Cert, CertSection, Chain};
 use crate::chain_steps::ChainSteps;
 use crate::fault::CertFault;
-use crate::items::Items;
 use crate::lock::{CertBase, CertLock, CertPath};
 use crate::runs::Runs;
 use itoa::Buffer;
-use sect_front::Name;
+use sect_front::{Items, Name};
 use std::alloc::{AllocError, Global};
 
 /// Writes a word behind a blank.

@@ -1,6 +1,7 @@
 //! What a certificate claims of a section, by the program's numbers.
 
-use sect_cert::{Items, Runs};
+use sect_cert::Runs;
+use sect_front::Items;
 use sect_names::{Link, Lock};
 
 /// A claimed chain: the number of its lock in the entry list, and its steps.

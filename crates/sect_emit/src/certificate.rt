@@ -13,8 +13,9 @@ ghost use Rattle.sect_emit.specs.Words.{IsChainNamed};
 ghost use Rattle.sect_emit.specs.steps.Spelled.{IsSectionSpelled, IsSpelled};
 
 use crate::words::{chains_of, list_of, lists_of};
-use sect_cert::{Cert, CertSection, Items};
+use sect_cert::{Cert, CertSection};
 use sect_chains::{Chain, chains};
+use sect_front::Items;
 use sect_infer::Locks;
 use sect_names::{Scheme, locks_stay_the_programs, steps_of_sections};
 use std::alloc::{AllocError, Global};

@@ -14,8 +14,9 @@ ghost use Rattle.sect_names.specs.Printing.{IsNamed, AreNamed};
 ghost use Rattle.sect_emit.specs.Words.{path_words, lock_words, list_words, step_words, chain_words, chains_words};
 ghost use Rattle.sect_emit.specs.Words.{IsChainNamed};
 
-use sect_cert::{CertBase, CertLock, CertPath, CertStep, ChainSteps, Items, Runs};
+use sect_cert::{CertBase, CertLock, CertPath, CertStep, ChainSteps, Runs};
 use sect_chains::Chain;
+use sect_front::Items;
 use sect_infer::Locks;
 use sect_names::{Effect, Link, Lock, Path, Right, field_name};
 use sect_points::Variable;

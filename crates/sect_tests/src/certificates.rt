@@ -3,10 +3,10 @@
 
 use crate::programs::printed;
 use sect_cert::{
-    Cert, CertBase, CertFault, CertLock, CertPath, CertSection, CertStep, Chain, ChainSteps, Items,
-    Runs, read_cert, write_cert,
+    Cert, CertBase, CertFault, CertLock, CertPath, CertSection, CertStep, Chain, ChainSteps, Runs,
+    read_cert, write_cert,
 };
-use sect_front::{Name, is_name};
+use sect_front::{Items, Name, is_name};
 use std::alloc::{AllocError, Global};
 use std::process::Abort;
 use std::test::Fail;

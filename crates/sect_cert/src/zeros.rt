@@ -36,12 +36,13 @@ pub fn is_exact(line: &[u8]) -> bool
     ensures { result ≡ exact_line line.now }
 {
     let mut rest = line;
-    let mut inside = false;
+    let mut before = b' ';
     while let Some((first, others)) = rest.split_first() {
-        if leads(inside, *first, others) {
+        // Few bytes are zeros, and the byte before is looked at for these alone.
+        if *first == b'0' && leads(is_name_byte(before), *first, others) {
             return false;
         }
-        inside = is_name_byte(*first);
+        before = *first;
         rest = others;
     }
     true

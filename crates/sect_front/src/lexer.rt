@@ -3,7 +3,7 @@
 ghost use Rattle.std.specs.Prelude.{◌≡◌, ◌<◌, ◌≤◌, ◌^◌, length, drop, take_while, true, false, IfSome};
 ghost use Rattle.std.specs.List.{list_all};
 ghost use Rattle.sect_front.specs.Words.{is_name_byte as name_byte, begins, is_letter as letter_of};
-ghost use Rattle.sect_front.specs.Gaps.{is_blank as blank_of, begins_with as begins_so, after_gap as gap_of};
+ghost use Rattle.sect_front.specs.Gaps.{is_blank as blank_of, begins_with as begins_so, after_gap as gap_of, skip};
 ghost use Rattle.sect_front.specs.steps.Recognition.{word_token as word_of, number_of, decimal_from, spelled};
 ghost use Rattle.sect_front.specs.steps.Recognition.{single_sign, double_sign};
 ghost use Rattle.sect_front.specs.steps.Lexeme.{sign_at, with_length, lexeme_of, begins_name};
@@ -30,21 +30,34 @@ fn begins_with(bytes: &[u8], byte: u8) -> bool
     }
 }
 
+/// What follows a comment that has been opened, up to its line feed.
+fn after_comment(bytes: &[u8]) -> &[u8]
+    ensures same { skip false result.now ≡ skip true bytes.now }
+    ensures less { length result.now ≤ length bytes.now }
+{
+    let mut rest = bytes;
+    while let Some((first, others)) = rest.split_first() {
+        rest = others;
+        if *first == b'\n' {
+            return rest;
+        }
+    }
+    rest
+}
+
 /// What follows the blanks and comments at the front.
 pub fn after_gap(bytes: &[u8]) -> &[u8]
     ensures { result.now ≡ gap_of bytes.now }
 {
     let mut rest = bytes;
-    let mut comment = false;
     while let Some((first, others)) = rest.split_first() {
-        if comment {
-            comment = *first != b'\n';
+        rest = if is_blank(*first) {
+            others
         } else if *first == b'/' && begins_with(others, b'/') {
-            comment = true;
-        } else if !is_blank(*first) {
+            after_comment(others)
+        } else {
             return rest;
-        }
-        rest = others;
+        };
     }
     rest
 }

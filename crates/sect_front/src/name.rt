@@ -71,13 +71,31 @@ impl Name {
     }
 }
 
+/// Whether two names have the same bytes. They are short, so this is quicker than a comparison of slices.
+fn are_same(one: &[u8], other: &[u8]) -> bool
+    ensures { result ≡ pointwise nat_eq one.now other.now }
+{
+    let mut left = one;
+    let mut right = other;
+    while let Some((first, behind)) = left.split_first() {
+        match right.split_first() {
+            Some((second, beyond)) if *first == *second => {
+                left = behind;
+                right = beyond;
+            }
+            _ => return false,
+        }
+    }
+    right.is_empty()
+}
+
 impl PartialEq for Name {
     ghost eq = { pointwise nat_eq };
 
     ghost laws = { Prim.search (comparing, rules) };
 
     fn eq(&self, other: &Name) -> bool {
-        self.as_bytes() == other.as_bytes()
+        are_same(self.as_bytes(), other.as_bytes())
     }
 }
 

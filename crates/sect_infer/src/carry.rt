@@ -47,6 +47,7 @@ fn find_all(
 }
 
 /// Finds what is needed before a node for one lock that is needed after it, where the node touches that.
+#[inline(never)]
 fn carry_over(
     alloc: Global,
     scheme: &Scheme,
@@ -67,6 +68,7 @@ fn carry_over(
 }
 
 /// Finds what is needed before a node for one lock that is needed after it, which has this number.
+#[inline(always)]
 pub fn carry_one(
     alloc: Global,
     scheme: &Scheme,

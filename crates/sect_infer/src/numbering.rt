@@ -69,6 +69,7 @@ impl Numbering {
     }
 
     /// Whether another lock, whose number is one of these, covers the lock with this number.
+    #[inline(always)]
     pub fn is_under(&self, numbers: &Numbers, number: usize) -> bool
         requires { number < length self.now.above }
         ensures { result ≡ is_under self.now.above numbers.now number }

@@ -1,6 +1,6 @@
 //! Sets of numbers.
 
-ghost use Rattle.std.specs.Prelude.{◌≡◌, ◌<◌, ℕ, ◌++◌, ◌∷◌, [], false, length, slice_index_or, OnOk};
+ghost use Rattle.std.specs.Prelude.{◌≡◌, ◌<◌, ◌≤◌, ℕ, ◌++◌, ◌∷◌, [], false, length, slice_index_or, OnOk};
 ghost use Rattle.sect_infer.specs.Numbers.{has_number, with_number, with_numbers};
 
 use std::alloc::{AllocError, Global};
@@ -24,14 +24,27 @@ impl Model for Numbers {
     ghost invariant = { λ n. AreMarked n.members.items n.marks.items };
 }
 
+/// Makes room for the mark of a number behind all marks. No more numbers are marked.
+#[cold]
+#[inline(never)]
+fn add_marks(marks: &mut Vec<bool>, number: usize) -> Result<(), AllocError>
+    requires { length marks.old.items ≤ number }
+    ensures room { OnOk result (number < length marks.new.items) }
+    ensures same { (n : ℕ) → slice_index_or marks.new.items n false ≡ slice_index_or marks.old.items n false }
+{
+    marks.resize(number, false)?;
+    marks.push(false)?;
+    Ok(())
+}
+
 /// Makes room for the mark of a number. No more numbers are marked.
+#[inline(always)]
 fn make_room(marks: &mut Vec<bool>, number: usize) -> Result<(), AllocError>
     ensures room { OnOk result (number < length marks.new.items) }
     ensures same { (n : ℕ) → slice_index_or marks.new.items n false ≡ slice_index_or marks.old.items n false }
 {
     if marks.len() <= number {
-        marks.resize(number, false)?;
-        marks.push(false)?;
+        add_marks(marks, number)?;
     }
     Ok(())
 }
@@ -55,6 +68,7 @@ impl Numbers {
     }
 
     /// Adds a number, unless it is there.
+    #[inline(always)]
     pub fn insert(&mut self, number: usize) -> Result<(), AllocError>
         ensures { OnOk result (self.new ≡ with_number self.old number) }
     {
@@ -65,6 +79,7 @@ impl Numbers {
     }
 
     /// Adds a number that isn't there.
+    #[inline(always)]
     fn mark(&mut self, number: usize) -> Result<(), AllocError>
         requires { has_number self.old number ≡ false }
         ensures { OnOk result (self.new ≡ self.old ++ number ∷ []) }

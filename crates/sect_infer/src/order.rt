@@ -62,6 +62,6 @@ pub fn in_order(
     ensures { IfOk result (λ order. IsOrderOf numbering.now.keys numbers.now order.items) }
 {
     let mut locks = with_locks(alloc, numbering, numbers)?;
-    locks.sort_unstable();
+    locks.sort()?;
     numbers_of(alloc, locks.as_slice())
 }

@@ -7,7 +7,7 @@ ghost use Rattle.std.specs.Cmp.{partial_equiv_from_equiv};
 ghost use Rattle.std.specs.Cmp.Rules.{comparing};
 ghost use Rattle.std.proofs.Common.{rules};
 ghost use Rattle.sect_names.specs.Comparing.{path_eq, path_fed, path_cmp, path_equivalence, path_alike, path_ties};
-ghost use Rattle.sect_names.specs.Comparing.{path_total, path_order};
+ghost use Rattle.sect_names.specs.Comparing.{path_total, path_order, fields_eq, fields_cmp};
 
 use sect_points::Variable;
 use sect_types::Field;
@@ -106,13 +106,57 @@ impl Path {
     }
 }
 
+/// Whether two lists of fields are one. They are short, so this is quicker than a comparison of slices.
+fn same_fields(fields: &[Field], others: &[Field]) -> bool
+    ensures { result ≡ fields_eq fields.now others.now }
+{
+    let mut left = fields;
+    let mut right = others;
+    while let Some((first, behind)) = left.split_first() {
+        match right.split_first() {
+            Some((other, beyond)) if *first == *other => {
+                left = behind;
+                right = beyond;
+            }
+            _ => return false,
+        }
+    }
+    right.is_empty()
+}
+
+/// How two lists of fields compare, field by field: a list stands before one that goes on from it. They are short, so
+/// this is quicker than a comparison of slices.
+fn compare_fields(fields: &[Field], others: &[Field]) -> Ordering
+    ensures { result ≡ fields_cmp fields.now others.now }
+{
+    let mut left = fields;
+    let mut right = others;
+    while let Some((first, behind)) = left.split_first() {
+        let Some((other, beyond)) = right.split_first() else {
+            return Ordering::Greater;
+        };
+        match first.cmp(other) {
+            Ordering::Equal => {
+                left = behind;
+                right = beyond;
+            }
+            order => return order,
+        }
+    }
+    if right.is_empty() {
+        Ordering::Equal
+    } else {
+        Ordering::Less
+    }
+}
+
 impl PartialEq for Path {
     ghost eq = { path_eq };
 
     ghost laws = { partial_equiv_from_equiv path_equivalence };
 
     fn eq(&self, other: &Path) -> bool {
-        self.base() == other.base() && self.fields() == other.fields()
+        self.base() == other.base() && same_fields(self.fields(), other.fields())
     }
 }
 
@@ -141,9 +185,10 @@ impl Ord for Path {
     ghost matches_eq = { path_ties };
 
     fn cmp(&self, other: &Path) -> Ordering {
-        self.base()
-            .cmp(&other.base())
-            .then(self.fields().cmp(other.fields()))
+        match self.base().cmp(&other.base()) {
+            Ordering::Equal => compare_fields(self.fields(), other.fields()),
+            order => order,
+        }
     }
 }
 

@@ -17,6 +17,7 @@ use sect_types::{Action, Label};
 /// Whether a node's statement may change what a path denotes: it gives the variable that the path begins with a value,
 /// or writes a field that the path follows. Else the path alone may denote before the node what it denotes after it,
 /// whatever the classes.
+#[inline(always)]
 pub fn touches(thread: u16, label: &Label, path: &Path) -> bool
     ensures { IsFalse result → (classes : ClassesView) (q : PathView)
         → Before classes thread label.now path.now q ↔ (q ≡ path.now) }
@@ -35,6 +36,7 @@ pub fn touches(thread: u16, label: &Label, path: &Path) -> bool
 
 /// Whether a node doesn't touch a lock: where that is one of the program's, it alone is needed before the node because
 /// it is needed after it.
+#[inline(always)]
 pub fn stays(thread: u16, label: &Label, lock: &Lock) -> bool
     ensures { IsTrue result → (s : SchemeView) → IsLockOf s thread lock.now
         → (l : Lock) → CarriedBack s thread label.now lock.now l ↔ (l ≡ lock.now) }

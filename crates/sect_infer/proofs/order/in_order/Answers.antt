@@ -9,8 +9,8 @@ returns c =
     let keys = c.args.numbering.now.keys in
     let numbers = c.args.numbers.now in
     let sorted = sorted_order keys c.requires.apart numbers c.requires.once c.in_ok-locks.locks.items
-    c.sort_unstable.new.self.items c.in_ok-locks.ensures.numbers c.in_ok-locks.ensures.locks
-    c.sort_unstable.ensures.permutation c.sort_unstable.ensures.sorted in
+    c.sort.new.self.items c.in_ok-locks.ensures.numbers c.in_ok-locks.ensures.locks
+    c.sort.ensures.permutation c.in_ok-sort.ensures.sorted in
     IfOk-weaker c.numbers_of.result (λ order. order.items ≡ map number c.as_slice.result.now)
     (λ order. IsOrderOf keys numbers order.items)
     (λ order is. subst (IsOrderOf keys numbers) (sym (is ∙ ap (map number) c.as_slice.ensures.value)) sorted)

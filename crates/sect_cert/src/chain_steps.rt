@@ -1,6 +1,6 @@
 //! The steps of chains, in which neighbours often have one lock. Contracts see them as steps in order.
 
-ghost use Rattle.std.specs.Prelude.{◌≡◌, ◌≢◌, ◌<◌, ◌-◌, [], ◌∷◌, ◌++◌, Some, slice_get, length, OnOk, IsTrue};
+ghost use Rattle.std.specs.Prelude.{◌≡◌, ◌≢◌, ◌<◌, ◌-◌, [], ◌∷◌, ◌++◌, Some, slice_get, length, IfOk, OnOk, IsTrue};
 ghost use Rattle.std.specs.Option.{option_map};
 ghost use Rattle.sect_cert.specs.declared.certificate.CertStep.{CertStep};
 
@@ -38,6 +38,16 @@ impl ChainSteps {
             nodes: Vec::new(alloc),
             locks: Runs::new(alloc),
         }
+    }
+
+    /// No steps, and room for so many.
+    pub fn with_capacity(alloc: Global, count: usize) -> Result<ChainSteps, AllocError>
+        ensures { IfOk result (λ steps. steps ≡ []) }
+    {
+        Ok(ChainSteps {
+            nodes: Vec::with_capacity(alloc, count)?,
+            locks: Runs::with_capacity(alloc, count)?,
+        })
     }
 
     /// How many there are.

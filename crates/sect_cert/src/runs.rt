@@ -1,6 +1,6 @@
 //! Lists in which neighbours are often equal, which contracts see as their elements in order.
 
-ghost use Rattle.std.specs.Prelude.{◌≡◌, ◌≢◌, ◌<◌, ◌-◌, Some, slice_get, [], ◌∷◌, ◌++◌, length, OnOk, OnErr, IsTrue};
+ghost use Rattle.std.specs.Prelude.{◌≡◌, ◌≢◌, ◌<◌, ◌-◌, Some, slice_get, [], ◌∷◌, ◌++◌, length, IfOk, OnOk, OnErr, IsTrue};
 
 use std::alloc::{AllocError, Global};
 use std::marker::Model;
@@ -32,6 +32,16 @@ impl<T: Drop> Runs<T> {
             kept: Vec::new(alloc),
             numbers: Vec::new(alloc),
         }
+    }
+
+    /// No elements, and room for so many.
+    pub fn with_capacity(alloc: Global, count: usize) -> Result<Runs<T>, AllocError>
+        ensures { IfOk result (λ runs. runs ≡ []) }
+    {
+        Ok(Runs {
+            kept: Vec::new(alloc),
+            numbers: Vec::with_capacity(alloc, count)?,
+        })
     }
 
     /// How many there are.

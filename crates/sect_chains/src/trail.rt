@@ -52,6 +52,21 @@ fn link_at(trail: &Trail, index: usize) -> Result<Link, AllocError>
     })
 }
 
+/// How many steps stand behind the one at an index, up to where a lock is generated.
+fn steps_behind(trail: &Trail, start: usize) -> usize
+    requires back { GoBack (links_of trail.now.numbering.keys trail.now.steps.items) (nexts_of trail.now.steps.items) }
+    requires there { start < length trail.now.steps.items }
+    ensures { result ≤ start }
+{
+    let mut count = 0usize;
+    let mut at = start;
+    while let Some(next) = trail.steps[at].next {
+        count += 1;
+        at = next;
+    }
+    count
+}
+
 /// The steps from the one at an index on, to where a lock is generated.
 pub fn links_from(alloc: Global, trail: &Trail, start: usize) -> Result<Vec<Link>, AllocError>
     requires back { GoBack (links_of trail.now.numbering.keys trail.now.steps.items) (nexts_of trail.now.steps.items) }
@@ -60,7 +75,7 @@ pub fn links_from(alloc: Global, trail: &Trail, start: usize) -> Result<Vec<Link
     ensures { IfOk result (λ links. AreFrom (links_of trail.now.numbering.keys trail.now.steps.items)
         (nexts_of trail.now.steps.items) start links.items) }
 {
-    let mut links = Vec::new(alloc);
+    let mut links = Vec::with_capacity(alloc, steps_behind(trail, start) + 1)?;
     let mut at = start;
     while let Some(next) = trail.steps[at].next {
         links.push(link_at(trail, at)?)?;

@@ -1,4 +1,5 @@
 mod Scanning
+mod Claimed
 mod Standing
 mod Resolving
 mod Linking

@@ -1,8 +1,7 @@
 -- The steps of a claimed chain.
 use Rattle.std.proofs.Common.{◌≡◌, ◌↔◌, ℕ, zero, suc, ◌+◌, ◌-◌, ◌<◌, ◌≤◌, List, [], ◌∷◌, Some, Bool, true, length}
-use Rattle.std.proofs.Common.{refl, ap, get_or, ◌∙◌, subst, arith}
+use Rattle.std.proofs.Common.{refl, ap, ◌∙◌, subst, arith}
 use Rattle.std.specs.Prelude.{slice_get}
-use Rattle.std.proofs.lemmas.Option.{slice_get_read}
 use Rattle.sect_graph.specs.declared.flow.Node.{Node}
 use Rattle.sect_names.specs.declared.lock.Lock.{Lock}
 use Rattle.sect_names.specs.declared.link.Link.{Link}
@@ -24,14 +23,8 @@ begins_when links a l b at node same = (
 
 module _ (s : SchemeView) (t : ℕ) (g : List Node) (links : List Link) (n : ℕ) where
   -- step n is read, and the one before it
-  module _ (a b : Link) (within : n < length links) (past : 0 < n) (a_is : a ≡ get_or links (n - 1) a)
-      (b_is : b ≡ get_or links n b) where
-    before : slice_get links (n - 1) ≡ Some a
-    before = slice_get_read links (length links) (n - 1) a refl (omega (arith, within)) a_is
-
-    here : slice_get links n ≡ Some b
-    here = slice_get_read links (length links) n b refl within b_is
-
+  module _ (a b : Link) (past : 0 < n) (before : slice_get links (n - 1) ≡ Some a)
+      (here : slice_get links n ≡ Some b) where
     -- a step to which the one before it links comes right
     pub comes_from : LinksTo s t g a b → ComesRight s t g links n
     comes_from to = λ h x y e at_x at_y.
@@ -50,19 +43,12 @@ module _ (s : SchemeView) (t : ℕ) (g : List Node) (links : List Link) (n : ℕ
   comes_first e = λ h x y f at_x at_y. absurd (omega (arith, e, f))
 
   module _ (last : List Lock) where
-    -- a step that isn't the last ends right
-    pub ends_inner : n + 1 < length links → EndsRight s t last g links n
-    ends_inner lt = λ a e at. absurd (omega (arith, lt, e))
-
-    -- the last one does exactly where its lock is generated
-    pub ends_last : (a : Link) → n < length links → length links ≤ n + 1 → a ≡ get_or links n a
+    -- the last step ends right exactly where its lock is generated
+    pub ends_last : (a : Link) → n < length links → length links ≤ n + 1 → slice_get links n ≡ Some a
         → IsGeneratedAt s t last g a ↔ EndsRight s t last g links n
-    ends_last a within end is = (
-      λ made x e at_x.
-          let at : slice_get links n ≡ Some a = slice_get_read links (length links) n a refl within is in
-          let same : a ≡ x = cc in
-          subst (IsGeneratedAt s t last g) same made,
-      λ right. right a (omega (arith, within, end)) (slice_get_read links (length links) n a refl within is),
+    ends_last a within end at = (
+      λ made x e at_x. (let same : a ≡ x = cc at in subst (IsGeneratedAt s t last g) same made),
+      λ right. right a (omega (arith, within, end)) at,
     )
 
 module _ (s : SchemeView) (t : ℕ) (last : List Lock) (g : List Node) where

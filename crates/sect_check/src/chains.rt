@@ -50,8 +50,7 @@ fn judge_chain(
     let Some(chain) = chain_of(claims.chains.as_slice(), number) else {
         return Err(SectionFault::NoChain { lock: number });
     };
-    let links = chain.links.as_slice();
-    match first_wrong(alloc, scheme, thread, locking, flow, lock, links)? {
+    match first_wrong(alloc, scheme, thread, locking, flow, lock, &chain.links)? {
         None => Ok(()),
         Some(step) => Err(SectionFault::BrokenChain { lock: number, step }),
     }

@@ -6,6 +6,7 @@ ghost use Rattle.sect_check.specs.Names.{Denotes};
 ghost use Rattle.sect_check.specs.Meaning.{DenotesStep, DenotesChain, DenotesSection};
 ghost use Rattle.sect_check.specs.steps.Resolving.{Resolves, Extends};
 
+use crate::claimed_links::ClaimedLinks;
 use crate::claims::{ChainClaim, Claims};
 use crate::locks::lock_of;
 use crate::naming::Naming;
@@ -13,7 +14,7 @@ use crate::unresolved::Unresolved;
 use sect_cert::{CertLock, CertSection, Chain, ChainSteps, Runs};
 use sect_front::Items;
 use sect_graph::Flow;
-use sect_names::{Link, Lock};
+use sect_names::Lock;
 use std::alloc::Global;
 
 /// The locks of a list.
@@ -70,32 +71,31 @@ fn next_link(
     naming: &Naming,
     steps: &ChainSteps,
     index: usize,
-    links: &mut Vec<Link>,
+    links: &mut ClaimedLinks,
 ) -> Result<(), Unresolved>
     requires there { index < length steps.now }
-    requires before { AllZip (DenotesStep naming.now.scheme naming.now.thread) (take index steps.now) links.old.items }
-    ensures { Extends (DenotesStep naming.now.scheme naming.now.thread) steps.now index links.new.items result }
+    requires before { AllZip (DenotesStep naming.now.scheme naming.now.thread) (take index steps.now) links.old }
+    ensures { Extends (DenotesStep naming.now.scheme naming.now.thread) steps.now index links.new result }
 {
     let node = steps.node(index);
     if 0 < index && steps.is_one(index, index - 1) {
-        let lock = links[index - 1].lock.try_clone()?;
-        links.push(Link { node, lock })?;
+        links.push_again(node)?;
         return Ok(());
     }
     let lock = lock_of(alloc, naming, steps.lock(index))?;
-    links.push(Link { node, lock })?;
+    links.push(node, lock)?;
     Ok(())
 }
 
 /// The steps of a chain.
-fn links_of(alloc: Global, naming: &Naming, steps: &ChainSteps) -> Result<Items<Link>, Unresolved>
+fn links_of(alloc: Global, naming: &Naming, steps: &ChainSteps) -> Result<ClaimedLinks, Unresolved>
     ensures { Resolves result (AllZip (DenotesStep naming.now.scheme naming.now.thread) steps.now) }
 {
-    let mut links = Vec::with_capacity(alloc, steps.len())?;
+    let mut links = ClaimedLinks::with_capacity(alloc, steps.len())?;
     for index in 0..steps.len() {
         next_link(alloc, naming, steps, index, &mut links)?;
     }
-    Ok(Items::from_vec(links))
+    Ok(links)
 }
 
 /// A chain.

@@ -1,14 +1,15 @@
 //! What a certificate claims of a section, by the program's numbers.
 
+use crate::claimed_links::ClaimedLinks;
 use sect_cert::Runs;
 use sect_front::Items;
-use sect_names::{Link, Lock};
+use sect_names::Lock;
 
 /// A claimed chain: the number of its lock in the entry list, and its steps.
 #[derive(Drop)]
 pub struct ChainClaim {
     pub lock: u32,
-    pub links: Items<Link>,
+    pub links: ClaimedLinks,
 }
 
 /// What is claimed of a section: the locks that are needed from each node on, by its number and the exit counted; those

@@ -4,6 +4,7 @@
 
 mod chains;
 mod checking;
+mod claimed_links;
 mod claiming;
 mod claims;
 mod covering;

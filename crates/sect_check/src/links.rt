@@ -9,11 +9,12 @@ ghost use Rattle.sect_names.specs.Chains.{link, IsGeneratedAt, LinksTo, IsChain}
 ghost use Rattle.sect_check.specs.Faults.{IsFirst, ComesRight, EndsRight, IsStepRight};
 ghost use Rattle.sect_check.specs.steps.Shapes.{AreLawfulLinks};
 
+use crate::claimed_links::{ClaimedLink, ClaimedLinks};
 use crate::covering::has;
 use crate::lists::generated_at;
 use sect_front::Locking;
 use sect_graph::{Flow, Successors};
-use sect_names::{Link, Lock, Scheme, stays};
+use sect_names::{Lock, Scheme, stays};
 use sect_types::Label;
 use std::alloc::{AllocError, Global};
 
@@ -45,15 +46,16 @@ fn is_generated(
     thread: u16,
     locking: Locking,
     flow: &Flow,
-    step: &Link,
+    step: ClaimedLink<'_>,
 ) -> bool
-    ensures { IsTrue result ↔ IsGeneratedAt scheme.now thread (end_locks locking) flow.now step.now }
+    ensures { IsTrue result ↔ IsGeneratedAt scheme.now thread (end_locks locking) flow.now
+        (link step.entry.node step.entry.lock.now) }
 {
     if step.node > flow.exit() as u32 {
         return false;
     }
     match generated_at(alloc, scheme, thread, locking, flow, step.node as u16) {
-        Some(lock) => lock == step.lock,
+        Some(lock) => lock == *step.lock,
         None => false,
     }
 }
@@ -83,11 +85,12 @@ fn links_to(
     scheme: &Scheme,
     thread: u16,
     flow: &Flow,
-    step: &Link,
-    next: &Link,
+    step: ClaimedLink<'_>,
+    next: ClaimedLink<'_>,
 ) -> Result<bool, AllocError>
-    requires { IsLockOf scheme.now thread next.now.lock }
-    ensures { IfOk result (λ it. IsTrue it ↔ LinksTo scheme.now thread flow.now step.now next.now) }
+    requires { IsLockOf scheme.now thread next.lock.now }
+    ensures { IfOk result (λ it. IsTrue it ↔ LinksTo scheme.now thread flow.now
+        (link step.entry.node step.entry.lock.now) (link next.entry.node next.entry.lock.now)) }
 {
     let Some(node) = node_of(flow, step.node) else {
         return Ok(false);
@@ -96,17 +99,18 @@ fn links_to(
         return Ok(false);
     }
     let label = flow.action(node);
-    is_carried_back(alloc, scheme, thread, &label, &next.lock, &step.lock)
+    is_carried_back(alloc, scheme, thread, &label, next.lock, step.lock)
 }
 
 /// Whether the steps begin at the entry with this lock.
-fn begins(links: &[Link], lock: &Lock) -> bool
+fn begins(links: &ClaimedLinks, lock: &Lock) -> bool
     ensures { IsTrue result ↔ (slice_get links.now 0 ≡ Some (link 0 lock.now)) }
 {
-    match links.first() {
-        Some(step) => step.node == 0 && step.lock == *lock,
-        None => false,
+    if links.len() == 0 {
+        return false;
     }
+    let first = links.at(0);
+    first.node == 0 && *first.lock == *lock
 }
 
 /// Whether a step that isn't the first is linked to by the one before it, and the last one's lock is generated.
@@ -116,7 +120,7 @@ fn is_right(
     thread: u16,
     locking: Locking,
     flow: &Flow,
-    links: &[Link],
+    links: &ClaimedLinks,
     number: usize,
 ) -> Result<bool, AllocError>
     requires number { number < length links.now }
@@ -124,22 +128,12 @@ fn is_right(
     ensures { IfOk result (λ it. IsTrue it ↔ (ComesRight scheme.now thread flow.now links.now number
         × EndsRight scheme.now thread (end_locks locking) flow.now links.now number)) }
 {
-    if number > 0
-        && !links_to(
-            alloc,
-            scheme,
-            thread,
-            flow,
-            &links[number - 1],
-            &links[number],
-        )?
-    {
+    let count = links.len();
+    let step = links.at(number);
+    if number > 0 && !links_to(alloc, scheme, thread, flow, links.at(number - 1), step)? {
         return Ok(false);
     }
-    Ok(
-        number + 1 < links.len()
-            || is_generated(alloc, scheme, thread, locking, flow, &links[number]),
-    )
+    Ok(number + 1 < count || is_generated(alloc, scheme, thread, locking, flow, step))
 }
 
 /// The first step at which these aren't a chain of the lock.
@@ -150,7 +144,7 @@ pub fn first_wrong(
     locking: Locking,
     flow: &Flow,
     lock: &Lock,
-    links: &[Link],
+    links: &ClaimedLinks,
 ) -> Result<Option<usize>, AllocError>
     requires { AreLawfulLinks scheme.now thread links.now }
     ensures { IfOk result (λ found. MatchOption found

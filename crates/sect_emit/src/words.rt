@@ -170,8 +170,8 @@ fn chain_of(
     ensures words { IfOk result (λ words. words ≡ chain_words program.now.source lock chain.now) }
     ensures good { IfOk result IsChain }
 {
-    let mut steps = ChainSteps::new(alloc);
     let links = chain.links();
+    let mut steps = ChainSteps::with_capacity(alloc, links.len())?;
     for index in 0..links.len() {
         next_step(alloc, program, links, index, &mut steps)?;
     }

@@ -1,6 +1,5 @@
 use Rattle.std.proofs.Common.{List, refl, subst}
 use Rattle.sect_lemmas.specs.Lists.{Has}
-use Rattle.sect_names.specs.declared.link.Link.{Link}
 use Rattle.sect_names.specs.Needed.{end_locks}
 use Rattle.sect_check.specs.declared.claims.ChainClaim.{ChainClaim}
 use Rattle.sect_check.proofs.Chaining.{broken_at}
@@ -12,8 +11,7 @@ chain_of-requires-clause-below c = rw c.as_slice.ensures c.requires.below
 pub first_wrong-requires : goal.first_wrong-requires
 first_wrong-requires c = λ a h.
     let chain = c.in-Some.chain.now in
-    c.requires.lawful chain (subst (λ (xs : List ChainClaim). Has xs chain) c.as_slice.ensures c.in-Some.ensures.0) a
-    (subst (λ (links : List Link). Has links a) c.as_slice-links.ensures h)
+    c.requires.lawful chain (subst (λ (xs : List ChainClaim). Has xs chain) c.as_slice.ensures c.in-Some.ensures.0) a h
 
 pub returns-in-Some-2 : goal.returns-in-Some-2
 returns-in-Some-2 c =
@@ -22,6 +20,6 @@ returns-in-Some-2 c =
       refl,
       broken_at c.args.scheme.now c.args.thread (end_locks c.args.locking) c.args.flow.now c.args.claims.now
           c.args.number c.args.lock.now chain (found, c.in-Some.ensures.1)
-          c.as_slice-links.result.now c.as_slice-links.ensures c.in_ok-first_wrong.field-0 c.in-Some-2.step
+          chain.links refl c.in_ok-first_wrong.field-0 c.in-Some-2.step
           c.in-Some-2.is c.in_ok-first_wrong.ensures,
     )

@@ -1,4 +1,5 @@
 use Rattle.std.proofs.Common.{sym, ◌∙◌, true≢false}
+use Rattle.sect_names.specs.Chains.{link}
 use Rattle.sect_names.specs.Needed.{end_locks}
 use Rattle.sect_names.proofs.shared.Telling.{lock_tells}
 use Rattle.sect_check.proofs.Generating.{generated_one, generated_none}
@@ -7,7 +8,7 @@ use Rattle.sect_check.proofs.links.is_generated.Goals as goal
 pub returns-in-Some : goal.returns-in-Some
 returns-in-Some c =
     let l = c.in-Some.lock in
-    let step = c.args.step.now in
+    let step = link c.args.step.node c.args.step.lock.now in
     let tells = lock_tells l step.lock in
     generated_one c.args.scheme.now c.args.thread (end_locks c.args.locking) c.args.flow.now step.node
     c.generated_at.result c.generated_at.ensures l step.lock c.in-Some.is c.eq.result
@@ -15,7 +16,7 @@ returns-in-Some c =
 
 pub returns-in-None : goal.returns-in-None
 returns-in-None c =
-    let step = c.args.step.now in (
+    let step = link c.args.step.node c.args.step.lock.now in (
       λ t. absurd (true≢false (sym t)),
       λ h. absurd (generated_none c.args.scheme.now c.args.thread (end_locks c.args.locking) c.args.flow.now step.node
           c.generated_at.result c.generated_at.ensures step.lock c.in-None.is h),

@@ -1,6 +1,9 @@
 -- The bytes of names that are told lie in the text.
-use Rattle.std.proofs.Common.{◌≡◌, ℕ, List, Option, Some, None, map, slice_get, refl, sym, subst, arith}
-use Rattle.std.specs.Prelude.{MatchOption}
+use Rattle.std.proofs.Common.{◌≡◌, ℕ, List, Option, Some, None, map, slice_get, refl, sym, subst, arith, ap, ◌∙◌}
+use Rattle.std.specs.Prelude.{All, MatchOption, option_map}
+use Rattle.std.proofs.lemmas.List.{length-map}
+use Rattle.std.proofs.lemmas.Option.{get_or_from_slice_get, slice_get-map}
+use Rattle.sect_lemmas.proofs.Places.{Has-index, at_of}
 use Rattle.sect_front.specs.TreeView.{TreeView}
 use Rattle.sect_front.specs.FaultPlaces.{IsWithin}
 use Rattle.sect_front.specs.declared.span.Span.{Span}
@@ -14,7 +17,11 @@ use Rattle.sect_places.proofs.shared.Names.{name_proper}
 use Rattle.sect_lint.specs.declared.culprit.Culprit.{Culprit}
 use Rattle.sect_lint.specs.declared.mistake.Mistake.{Mistake}
 use Rattle.sect_lint.specs.Naming.{found, unknown_at, declared_at, earlier_at, earlier_of, earlier_detail}
-use Rattle.sect_lint.specs.Details.{IsDetailWithin, item_detail}
+use Rattle.sect_lint.specs.Calls.{Leads, IsCircleTold}
+use Rattle.sect_lint.specs.declared.diagnostic.Detail.{Detail}
+use Rattle.sect_lint.specs.declared.diagnostic.Detail.TheVariants as detail
+use Rattle.sect_lint.specs.Details.{IsDetailWithin, IsToldOf, item_detail}
+use Rattle.sect_lint.proofs.Circling.{leads_has}
 use Rattle.sect_lint.specs.Places.{IsItemSpan, IsMarked, marked_name}
 use Rattle.sect_lint.proofs.Parts.{mistyped_within, counts_within}
 
@@ -71,6 +78,42 @@ module _ (total : ℕ) (names : List NameSpan) (proper : AreProper total (map (�
   detail_within tree ts ss order (types.TooMany i) = tt
   detail_within tree ts ss order (types.Recursion i) = tt
   detail_within tree ts ss order (types.Arguments i) = counts_within total 0 tree.procedures ts ss order
+
+  -- the calls of a circle stand in the text
+  spans_within : (from to : NameSpan) (calls : List NameSpan) (spans : List Span) → Leads names from to calls
+      → spans ≡ map (λ (n : NameSpan). n.span) calls → All (IsWithin total) spans
+  spans_within from to calls spans h e =
+      subst (All (IsWithin total)) (sym e) (λ k d lt.
+      let here = at_of calls k (omega (arith, lt, length-map calls (λ (n : NameSpan). n.span))) in
+      let there = Has-index names here.0 (leads_has names from to calls h k here.0 here.1) in
+      subst (IsWithin total) (sym (get_or_from_slice_get (map (λ (n : NameSpan). n.span) calls) k here.0.span d
+      (slice_get-map (λ (n : NameSpan). n.span) calls k ∙ ap (option_map (λ (n : NameSpan). n.span)) here.1)))
+      (name_within total names there.0 here.0 proper there.1))
+
+  circle_within : (item : ℕ) (told : Detail) → IsCircleTold names item told → IsDetailWithin total told
+  circle_within item (detail.Circle spans) h =
+      spans_within h.1.procedure h.1.procedure h.0 spans.items h.1.leads h.2
+  circle_within item detail.Nothing h = tt
+  circle_within item (detail.Bytes n) h = subst (IsDetailWithin total) (sym h) tt
+  circle_within item (detail.OpenBrace at) h = subst (IsDetailWithin total) (sym h) tt
+  circle_within item (detail.Earlier s) h = subst (IsDetailWithin total) (sym h) tt
+  circle_within item (detail.Type t) h = subst (IsDetailWithin total) (sym h) tt
+  circle_within item (detail.Types a b) h = subst (IsDetailWithin total) (sym h) tt
+  circle_within item (detail.Limit l) h = subst (IsDetailWithin total) (sym h) tt
+  circle_within item (detail.Counts c) h = subst (IsDetailWithin total) (sym h) tt
+
+  -- what is told lies in the text, where what is told of another mistake does
+  pub told_within : (fault : TypeFault) (other told : Detail) → IsDetailWithin total other
+      → IsToldOf names fault other told → IsDetailWithin total told
+  told_within types.Memory other told h e = subst (IsDetailWithin total) (sym e) h
+  told_within (types.Unknown i) other told h e = subst (IsDetailWithin total) (sym e) h
+  told_within (types.Twice i) other told h e = subst (IsDetailWithin total) (sym e) h
+  told_within (types.WrongType i) other told h e = subst (IsDetailWithin total) (sym e) h
+  told_within (types.SharedOutside i) other told h e = subst (IsDetailWithin total) (sym e) h
+  told_within (types.Nested i) other told h e = subst (IsDetailWithin total) (sym e) h
+  told_within (types.TooMany i) other told h e = subst (IsDetailWithin total) (sym e) h
+  told_within (types.Recursion i) other told h e = circle_within i told e
+  told_within (types.Arguments i) other told h e = subst (IsDetailWithin total) (sym e) h
 
 pub is_marked : (source : List ℕ) (tree : TreeView) (m : Mistake) (who : Culprit) (o : Option NameSpan)
     (item span : Span) → IsItemSpan source tree m who item

@@ -1,6 +1,7 @@
 -- What is said beside the carets.
-use Rattle.std.specs.Prelude.{◌≡◌, ◌<◌, ⊤, ℕ, ◌-◌, List, [], ◌++◌, Option, Some, None, length, slice_get, codes}
-use Rattle.std.specs.Prelude.{take, drop, get_or}
+use Rattle.std.specs.Prelude.{◌≡◌, ◌<◌, ⊤, ℕ, ◌-◌, List, [], ◌∷◌, ◌++◌, Option, Some, None, length, slice_get, codes}
+use Rattle.std.specs.Prelude.{All, take, drop, get_or}
+use Rattle.std.specs.List.{flat_map}
 use Rattle.std.specs.Fmt.{decimal}
 use Rattle.sect_front.specs.Front.{line_of}
 use Rattle.sect_front.specs.FaultPlaces.{open_braces, IsWithin}
@@ -23,7 +24,8 @@ use Rattle.sect_lint.specs.Places.{no_range, of_types, item_number}
 use Rattle.sect_lint.specs.Arguments.{mistyped_detail}
 use Rattle.sect_lint.specs.Limits.{words_of, item_limit}
 use Rattle.sect_lint.specs.Counting.{counts_detail}
-use Rattle.sect_lint.specs.Labels.{typed_text, types_text, counts_text, IsTypedWithin}
+use Rattle.sect_lint.specs.Labels.{quoted, typed_text, types_text, counts_text, IsTypedWithin}
+use Rattle.sect_lint.specs.Calls.{IsCircleTold}
 use Rattle.sect_lint.specs.declared.diagnostic.Detail.{Detail}
 use Rattle.sect_lint.specs.declared.diagnostic.Detail.TheVariants as detail
 
@@ -63,11 +65,16 @@ item_detail tree names tokens spans (types.TooMany item) =
 item_detail tree names tokens spans (types.Arguments item) = counts_detail tree.procedures tokens spans
 item_detail tree names tokens spans _ = detail.Nothing
 
+-- of a call that leads back it is said by which calls, and of all else this
+abbrev pub IsToldOf : List NameSpan → TypeFault → Detail → Detail → Type 0
+IsToldOf names (types.Recursion item) other told = IsCircleTold names item told
+IsToldOf names _ other told = told ≡ other
+
 -- what is said of a tree that breaks a rule, where these are the bytes of its tokens
-abbrev pub detail_by : TreeView → List NameSpan → List Span → TypeFault → Detail
-detail_by tree names spans why =
+abbrev pub IsDetailBy : TreeView → List NameSpan → List Span → TypeFault → Detail → Type 0
+IsDetailBy tree names spans why told =
     let item : ℕ = item_number tree (of_types why) in
-    item_detail tree names (own_tokens tree item) (own_spans tree spans item) why
+    IsToldOf names why (item_detail tree names (own_tokens tree item) (own_spans tree spans item) why) told
 
 -- the line and the column of a place
 abbrev pub place_text : List ℕ → ℕ → List ℕ
@@ -75,6 +82,19 @@ place_text source at = decimal (line_of source at) ++ codes ":" ++ decimal (colu
 
 abbrev pub earlier_text : List ℕ → ℕ → List ℕ
 earlier_text source at = codes " first declared at " ++ place_text source at
+
+-- a call with its place, and a call behind others
+abbrev pub called_text : List ℕ → Span → List ℕ → List ℕ
+called_text source s words = quoted source s ++ words ++ place_text source s.start
+
+abbrev pub next_text : List ℕ → Span → List ℕ
+next_text source s = codes ", " ++ called_text source s (codes " at ")
+
+-- the calls of a circle, each with its place
+abbrev pub circle_text : List ℕ → List Span → List ℕ
+circle_text source [] = []
+circle_text source (s ∷ spans) =
+    called_text source s (codes " is called at ") ++ flat_map (next_text source) spans
 
 abbrev pub detail_text : List ℕ → Detail → List ℕ
 detail_text source detail.Nothing = []
@@ -85,6 +105,7 @@ detail_text source (detail.Type t) = codes " " ++ typed_text source t
 detail_text source (detail.Types a b) = codes " " ++ types_text source a b
 detail_text source (detail.Limit l) = codes " " ++ words_of l
 detail_text source (detail.Counts c) = codes " " ++ counts_text source c
+detail_text source (detail.Circle spans) = codes " " ++ circle_text source spans.items
 
 -- a place that is told is one of a text of so many bytes
 abbrev pub IsDetailWithin : ℕ → Detail → Type 0
@@ -93,4 +114,5 @@ IsDetailWithin total (detail.Earlier span) = IsWithin total span
 IsDetailWithin total (detail.Type t) = IsTypedWithin total t
 IsDetailWithin total (detail.Types a b) = IsTypedWithin total a × IsTypedWithin total b
 IsDetailWithin total (detail.Counts c) = IsWithin total c.procedure
+IsDetailWithin total (detail.Circle spans) = All (IsWithin total) spans.items
 IsDetailWithin total _ = ⊤

@@ -1,5 +1,5 @@
 -- A diagnostic as a value of JSON.
-use Rattle.std.specs.Prelude.{ℕ, List, [], ◌∷◌, ◌++◌, codes}
+use Rattle.std.specs.Prelude.{ℕ, List, [], ◌∷◌, ◌++◌, codes, map}
 use Rattle.std.specs.Fmt.{decimal}
 use Rattle.serde_json.specs.Data.{Data, number, string, array, object, unsigned, no_members, member}
 use Rattle.serde_json.specs.View.{items_of}
@@ -11,7 +11,7 @@ use Rattle.sect_lint.specs.declared.diagnostic.Detail.{Detail}
 use Rattle.sect_lint.specs.declared.diagnostic.Detail.TheVariants as detail
 use Rattle.sect_lint.specs.declared.diagnostic.Diagnostic.{Diagnostic}
 use Rattle.sect_lint.specs.Limits.{words_of}
-use Rattle.sect_lint.specs.Labels.{typed_text, counts_text}
+use Rattle.sect_lint.specs.Labels.{quoted, typed_text, counts_text}
 use Rattle.sect_lint.specs.Mistakes.{number_of, title_of, note_of}
 
 abbrev pub count : ℕ → Data
@@ -36,6 +36,10 @@ abbrev pub label_json : List ℕ → List ℕ → Span → Data
 label_json source message span =
     object (member (codes "message") (string message) (member (codes "span") (span_json source span) no_members))
 
+-- a call of a circle
+abbrev pub call_json : List ℕ → Span → Data
+call_json source called = label_json source (quoted source called ++ codes " is called here") called
+
 -- what is said beside the carets, each with its own place
 abbrev pub labels_json : List ℕ → Diagnostic → Data
 labels_json source d = told d.detail
@@ -50,6 +54,7 @@ labels_json source d = told d.detail
         list (label_json source (typed_text source a) a.span ∷ label_json source (typed_text source b) b.span ∷ [])
     told (detail.Limit l) = list (label_json source (words_of l) d.span ∷ [])
     told (detail.Counts c) = list (label_json source (counts_text source c) c.procedure ∷ [])
+    told (detail.Circle calls) = list (map (call_json source) calls.items)
 
 abbrev pub diagnostic_json : List ℕ → Diagnostic → Data
 diagnostic_json source d =

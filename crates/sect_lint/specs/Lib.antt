@@ -4,6 +4,7 @@ pub mod Naming
 pub mod Forms
 pub mod Limits
 pub mod Typing
+pub mod Calls
 pub mod Counting
 pub mod Arguments
 pub mod Labels

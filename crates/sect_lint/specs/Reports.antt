@@ -18,14 +18,14 @@ use Rattle.sect_lint.specs.declared.diagnostic.Diagnostic.{Diagnostic}
 use Rattle.sect_lint.specs.declared.mistake.Mistake.{Mistake}
 use Rattle.sect_lint.specs.Mistakes.{mistake_of, number_of, title_of, note_of}
 use Rattle.sect_lint.specs.Places.{IsPlaceOf}
-use Rattle.sect_lint.specs.Details.{IsFrontDetail, IsDetailWithin, detail_by, detail_text}
+use Rattle.sect_lint.specs.Details.{IsFrontDetail, IsDetailWithin, IsDetailBy, detail_text}
 use Rattle.sect_lint.specs.Excerpts.{excerpt, margin}
 
 abbrev pub IsDetail : List ℕ → Refusal → Span → Detail → Type 0
 IsDetail source (refusal.Front why) span told = IsFrontDetail source why span told
 IsDetail source (refusal.Types why) span told =
     (tree : TreeView) × (names : List NameSpan) × (are : AreNameSpans source tree names)
-    × (told ≡ detail_by tree names (map token_span are.spelled.places) why)
+    × IsDetailBy tree names (map token_span are.spelled.places) why told
 IsDetail source _ span told = told ≡ detail.Nothing
 
 -- the diagnostic names the mistake of a text that is refused so, and its bytes. All places are the text's

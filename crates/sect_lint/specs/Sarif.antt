@@ -1,5 +1,5 @@
 -- A diagnostic as a log of SARIF 2.1.0, which code hosts and editors read.
-use Rattle.std.specs.Prelude.{ℕ, ◌-◌, List, [], ◌∷◌, ◌++◌, codes}
+use Rattle.std.specs.Prelude.{ℕ, ◌-◌, List, [], ◌∷◌, ◌++◌, codes, map}
 use Rattle.std.specs.Fmt.{decimal}
 use Rattle.serde_json.specs.Data.{Data, string, object, no_members, member}
 use Rattle.sect_front.specs.Front.{line_of}
@@ -12,7 +12,7 @@ use Rattle.sect_lint.specs.declared.diagnostic.Diagnostic.{Diagnostic}
 use Rattle.sect_lint.specs.declared.mistake.Mistake.{Mistake}
 use Rattle.sect_lint.specs.Mistakes.{number_of, title_of, note_of}
 use Rattle.sect_lint.specs.Limits.{words_of}
-use Rattle.sect_lint.specs.Labels.{typed_text, types_text, counts_text}
+use Rattle.sect_lint.specs.Labels.{quoted, typed_text, types_text, counts_text}
 use Rattle.sect_lint.specs.Json.{count, list}
 
 abbrev pub text_json : List ℕ → Data
@@ -42,10 +42,15 @@ related_json source message span =
     object (member (codes "message") (text_json message) (member (codes "physicalLocation")
     (physical_json source span) no_members))
 
+-- a call of a circle
+abbrev pub related_call : List ℕ → Span → Data
+related_call source called = related_json source (quoted source called ++ codes " is called here") called
+
 -- the places beside that of the mistake
 abbrev pub related_by : List ℕ → Detail → List Data
 related_by source (detail.OpenBrace at) = related_json source (codes "this `{` is open") (span_from at 1) ∷ []
 related_by source (detail.Earlier span) = related_json source (codes "first declared here") span ∷ []
+related_by source (detail.Circle calls) = map (related_call source) calls.items
 related_by source _ = []
 
 -- what is said beside the carets, where it has no place of its own
@@ -58,6 +63,7 @@ aside_by source (detail.Type t) = codes ": " ++ typed_text source t
 aside_by source (detail.Types a b) = codes ": " ++ types_text source a b
 aside_by source (detail.Limit l) = codes ": " ++ words_of l
 aside_by source (detail.Counts c) = codes ": " ++ counts_text source c
+aside_by source (detail.Circle calls) = []
 
 -- what is wrong, and what is said beside it
 abbrev pub said_by : List ℕ → Diagnostic → List ℕ

@@ -1,3 +1,4 @@
 -- Words of private contracts.
 pub mod Laid
+pub mod Linked
 pub mod Spare

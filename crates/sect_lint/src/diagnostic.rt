@@ -5,7 +5,7 @@ use crate::mistake::Mistake;
 use sect_front::Span;
 
 /// What is wrong with a source text, and where.
-#[derive(Clone, Copy, Debug)]
+#[derive(Debug, Drop)]
 pub struct Diagnostic {
     pub mistake: Mistake,
     /// The bytes that the carets stand under.
@@ -14,7 +14,7 @@ pub struct Diagnostic {
 }
 
 /// What is said beside the carets.
-#[derive(Clone, Copy, Debug)]
+#[derive(Debug, Drop)]
 pub enum Detail {
     Nothing,
     /// How many bytes there are.
@@ -31,6 +31,8 @@ pub enum Detail {
     Limit(Limit),
     /// How many arguments and how many parameters there are.
     Counts(Counts),
+    /// The names in the calls by which the first of them leads back.
+    Circle(Vec<Span>),
 }
 
 /// What a part of a text is, by its type.

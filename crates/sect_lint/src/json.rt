@@ -1,14 +1,15 @@
 //! A diagnostic as JSON.
 
-ghost use Rattle.std.specs.Prelude.{◌≡◌, ◌≤◌, ◌∷◌, [], IfOk, length};
+ghost use Rattle.std.specs.Prelude.{◌≡◌, ◌≤◌, ◌∷◌, [], All, IfOk, length, map};
 ghost use Rattle.serde_json.specs.View.{view};
 ghost use Rattle.sect_front.specs.FaultPlaces.{IsWithin};
 ghost use Rattle.sect_lint.specs.Details.{IsDetailWithin};
 ghost use Rattle.sect_lint.specs.Labels.{typed_text, counts_text, IsTypedWithin};
-ghost use Rattle.sect_lint.specs.Json.{list, place_json, span_json, label_json, labels_json, diagnostic_json};
+ghost use Rattle.sect_lint.specs.Json.{list, place_json, span_json, label_json, call_json, labels_json};
+ghost use Rattle.sect_lint.specs.Json.{diagnostic_json};
 
 use crate::diagnostic::{Counts, Detail, Diagnostic, Typed};
-use crate::label::{put_counts, put_typed};
+use crate::label::{put_counts, put_quoted, put_typed};
 use sect_front::Span;
 use sect_places::position_of;
 use serde_json::{Value, json};
@@ -75,13 +76,36 @@ fn types_value(alloc: Global, source: &[u8], left: Typed, right: Typed) -> Resul
     json!(in alloc; [left, right])
 }
 
+/// A call of a circle.
+fn call_value(alloc: Global, source: &[u8], called: Span) -> Result<Value, AllocError>
+    requires { IsWithin (length source.now) called }
+    ensures { IfOk result (λ v. view v ≡ call_json source.now called) }
+{
+    let mut text = String::new(alloc);
+    put_quoted(&mut text, source, called)?;
+    text.push_str(" is called here")?;
+    label_value(alloc, source, text.as_str(), called)
+}
+
+/// The calls of a circle.
+fn circle_value(alloc: Global, source: &[u8], calls: &[Span]) -> Result<Value, AllocError>
+    requires { All (IsWithin (length source.now)) calls.now }
+    ensures { IfOk result (λ v. view v ≡ list (map (call_json source.now) calls.now)) }
+{
+    let mut values = Vec::new(alloc);
+    for called in calls {
+        values.push(call_value(alloc, source, *called)?)?;
+    }
+    Ok(Value::Array(values))
+}
+
 /// What is said beside the carets.
 fn labels_value(alloc: Global, source: &[u8], diagnostic: &Diagnostic) -> Result<Value, AllocError>
     requires span { IsWithin (length source.now) diagnostic.now.span }
     requires detail { IsDetailWithin (length source.now) diagnostic.now.detail }
     ensures { IfOk result (λ v. view v ≡ labels_json source.now diagnostic.now) }
 {
-    match diagnostic.detail {
+    match &diagnostic.detail {
         Detail::Nothing => json!(in alloc; []),
         Detail::Bytes(count) => {
             let message = format!(in alloc; "{count} bytes")?;
@@ -90,29 +114,30 @@ fn labels_value(alloc: Global, source: &[u8], diagnostic: &Diagnostic) -> Result
         }
         Detail::OpenBrace(at) => {
             let brace = Span {
-                start: at,
-                end: at + 1,
+                start: *at,
+                end: *at + 1,
             };
             let label = label_value(alloc, source, "this `{` is open", brace)?;
             json!(in alloc; [label])
         }
         Detail::Earlier(span) => {
-            let label = label_value(alloc, source, "first declared here", span)?;
+            let label = label_value(alloc, source, "first declared here", *span)?;
             json!(in alloc; [label])
         }
         Detail::Type(part) => {
-            let label = typed_value(alloc, source, part)?;
+            let label = typed_value(alloc, source, *part)?;
             json!(in alloc; [label])
         }
-        Detail::Types(left, right) => types_value(alloc, source, left, right),
+        Detail::Types(left, right) => types_value(alloc, source, *left, *right),
         Detail::Limit(limit) => {
             let label = label_value(alloc, source, limit.words(), diagnostic.span)?;
             json!(in alloc; [label])
         }
         Detail::Counts(counts) => {
-            let label = counts_value(alloc, source, counts)?;
+            let label = counts_value(alloc, source, *counts)?;
             json!(in alloc; [label])
         }
+        Detail::Circle(calls) => circle_value(alloc, source, calls.as_slice()),
     }
 }
 

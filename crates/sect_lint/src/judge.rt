@@ -10,11 +10,12 @@ ghost use Rattle.sect_names.specs.Sources.{IsTypedText};
 ghost use Rattle.sect_names.specs.Verdicts as schemes;
 ghost use Rattle.sect_names.specs.declared.refusal.Refusal.TheVariants as refusal;
 ghost use Rattle.sect_lint.specs.Places.{marked_name};
-ghost use Rattle.sect_lint.specs.Details.{IsFrontDetail, IsDetailWithin, item_detail as item_detail_by};
+ghost use Rattle.sect_lint.specs.Details.{IsFrontDetail, IsDetailWithin, IsToldOf, item_detail as item_detail_by};
 ghost use Rattle.sect_lint.specs.Reports.{IsDiagnosisOf, IsJudged, IsNotJudged};
 
 use crate::arguments::mistyped_detail;
 use crate::call_counts::counts_detail;
+use crate::circle::circle_detail;
 use crate::culprit::Culprit;
 use crate::diagnostic::{Detail, Diagnostic};
 use crate::layout::{item_span, layout_of, own_words};
@@ -123,6 +124,22 @@ fn item_detail(
     }
 }
 
+/// What is said beside the carets of a text whose tree breaks a rule on types: of a call that leads back by which calls
+/// it does, and of all else this.
+fn told_of(
+    alloc: Global,
+    names: &[NameSpan],
+    fault: &TypeFault,
+    other: Detail,
+) -> Result<Detail, AllocError>
+    ensures { IfOk result (IsToldOf names.now fault.now other) }
+{
+    match fault {
+        TypeFault::Recursion { item } => circle_detail(alloc, names, *item as usize),
+        _ => Ok(other),
+    }
+}
+
 /// What is told of a text whose tree breaks a rule on types.
 fn types_diagnostic(alloc: Global, source: &[u8], fault: &TypeFault) -> Result<Diagnostic, Refusal>
     requires { (tree : TreeView) × IsSpelled source.now tree × types.Judges {A = ℕ} tree (Err fault.now) }
@@ -140,7 +157,8 @@ fn types_diagnostic(alloc: Global, source: &[u8], fault: &TypeFault) -> Result<D
     let item = item_span(source, &tree, &layout, mistake, culprit);
     let span = marked_span(names.as_slice(), fault, item);
     let (tokens, spans) = own_words(source, &tree, &layout, culprit);
-    let detail = item_detail(&tree, names.as_slice(), tokens, spans, fault);
+    let other = item_detail(&tree, names.as_slice(), tokens, spans, fault);
+    let detail = told_of(alloc, names.as_slice(), fault, other)?;
     Ok(Diagnostic {
         mistake,
         span,

@@ -24,7 +24,7 @@ fn bytes_of(source: &[u8], span: Span) -> &[u8]
 }
 
 /// Adds bytes of a text between backquotes.
-fn put_quoted(text: &mut String, source: &[u8], span: Span) -> Result<(), AllocError>
+pub fn put_quoted(text: &mut String, source: &[u8], span: Span) -> Result<(), AllocError>
     requires { IsWithin (length source.now) span }
     ensures { OnOk result (string_bytes text.new ≡ string_bytes text.old ++ quoted source.now span) }
 {

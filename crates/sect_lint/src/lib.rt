@@ -3,6 +3,7 @@
 
 mod arguments;
 mod call_counts;
+mod circle;
 mod culprit;
 mod diagnostic;
 mod excerpt;
@@ -21,6 +22,7 @@ mod sarif;
 mod typing;
 mod unused;
 
+pub use circle::{is_call_in, procedure_item};
 pub use diagnostic::{Counts, Detail, Diagnostic, Shape, Typed};
 pub use excerpt::{put_excerpt, put_margin};
 pub use format::{Format, clean_text, compact, report_as};

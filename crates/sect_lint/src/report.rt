@@ -1,16 +1,20 @@
 //! What is reported of a source text that is refused.
 
-ghost use Rattle.std.specs.Prelude.{◌≡◌, ◌≤◌, ◌++◌, OnOk, length};
+ghost use Rattle.std.specs.Prelude.{◌≡◌, ◌≤◌, ◌++◌, All, OnOk, length};
 ghost use Rattle.std.specs.Fmt.{decimal};
 ghost use Rattle.std.specs.String.{string_bytes};
 ghost use Rattle.sect_front.specs.FaultPlaces.{IsWithin};
-ghost use Rattle.sect_lint.specs.Details.{place_text, detail_text, earlier_text, IsDetailWithin};
+ghost use Rattle.sect_lint.specs.Details.{place_text, detail_text, earlier_text, called_text};
+ghost use Rattle.sect_lint.specs.Details.{next_text, circle_text};
+ghost use Rattle.sect_lint.specs.Details.{IsDetailWithin};
+ghost use Rattle.std.specs.List.{flat_map};
 ghost use Rattle.sect_lint.specs.Reports.{heading, note_line, report};
 
 use crate::diagnostic::{Detail, Diagnostic};
 use crate::excerpt::{put_excerpt, put_margin};
-use crate::label::{put_counts, put_typed, put_types};
+use crate::label::{put_counts, put_quoted, put_typed, put_types};
 use crate::mistake::Mistake;
+use sect_front::Span;
 use sect_places::position_of;
 use std::alloc::{AllocError, Global};
 use std::fmt::Write;
@@ -34,27 +38,71 @@ fn put_earlier(text: &mut String, source: &[u8], at: usize) -> Result<(), AllocE
     Ok(())
 }
 
+/// Adds a call with its place, behind these words.
+fn put_call(text: &mut String, source: &[u8], called: Span, words: &str) -> Result<(), AllocError>
+    requires { IsWithin (length source.now) called }
+    ensures { OnOk result (string_bytes text.new ≡ string_bytes text.old
+        ++ called_text source.now called words.now) }
+{
+    put_quoted(text, source, called)?;
+    text.push_str(words)?;
+    put_place(text, source, called.start)
+}
+
+/// Adds a call behind others.
+fn put_next(text: &mut String, source: &[u8], called: Span) -> Result<(), AllocError>
+    requires { IsWithin (length source.now) called }
+    ensures { OnOk result (string_bytes text.new ≡ string_bytes text.old ++ next_text source.now called) }
+{
+    text.push_str(", ")?;
+    put_call(text, source, called, " at ")
+}
+
+/// Adds calls behind another.
+fn put_others(text: &mut String, source: &[u8], calls: &[Span]) -> Result<(), AllocError>
+    requires { All (IsWithin (length source.now)) calls.now }
+    ensures { OnOk result (string_bytes text.new
+        ≡ string_bytes text.old ++ flat_map (next_text source.now) calls.now) }
+{
+    for called in calls {
+        put_next(text, source, *called)?;
+    }
+    Ok(())
+}
+
+/// Adds the calls of a circle, each with its place.
+fn put_circle(text: &mut String, source: &[u8], calls: &[Span]) -> Result<(), AllocError>
+    requires { All (IsWithin (length source.now)) calls.now }
+    ensures { OnOk result (string_bytes text.new ≡ string_bytes text.old ++ circle_text source.now calls.now) }
+{
+    let Some((first, others)) = calls.split_first() else {
+        return Ok(());
+    };
+    put_call(text, source, *first, " is called at ")?;
+    put_others(text, source, others)
+}
+
 /// Adds what is said beside the carets.
-fn put_detail(text: &mut String, source: &[u8], detail: Detail) -> Result<(), AllocError>
-    requires { IsDetailWithin (length source.now) detail }
-    ensures { OnOk result (string_bytes text.new ≡ string_bytes text.old ++ detail_text source.now detail) }
+fn put_detail(text: &mut String, source: &[u8], detail: &Detail) -> Result<(), AllocError>
+    requires { IsDetailWithin (length source.now) detail.now }
+    ensures { OnOk result (string_bytes text.new ≡ string_bytes text.old ++ detail_text source.now detail.now) }
 {
     match detail {
         Detail::Nothing => Ok(()),
         Detail::Bytes(count) => Ok(write!(text, " {count} bytes")?),
         Detail::OpenBrace(at) => {
             text.push_str(" the `{` at ")?;
-            put_place(text, source, at)?;
+            put_place(text, source, *at)?;
             text.push_str(" is open")
         }
         Detail::Earlier(span) => put_earlier(text, source, span.start),
         Detail::Type(part) => {
             text.push_str(" ")?;
-            put_typed(text, source, part)
+            put_typed(text, source, *part)
         }
         Detail::Types(left, right) => {
             text.push_str(" ")?;
-            put_types(text, source, left, right)
+            put_types(text, source, *left, *right)
         }
         Detail::Limit(limit) => {
             text.push_str(" ")?;
@@ -62,7 +110,11 @@ fn put_detail(text: &mut String, source: &[u8], detail: Detail) -> Result<(), Al
         }
         Detail::Counts(counts) => {
             text.push_str(" ")?;
-            put_counts(text, source, counts)
+            put_counts(text, source, *counts)
+        }
+        Detail::Circle(calls) => {
+            text.push_str(" ")?;
+            put_circle(text, source, calls.as_slice())
         }
     }
 }
@@ -108,7 +160,7 @@ pub fn put_report(
     let number = format!(in alloc; "{line}")?;
     put_heading(text, diagnostic.mistake)?;
     put_excerpt(text, source, diagnostic.span, number.as_str())?;
-    put_detail(text, source, diagnostic.detail)?;
+    put_detail(text, source, &diagnostic.detail)?;
     put_note(text, diagnostic.mistake, number.as_str(), line)?;
     Ok(())
 }

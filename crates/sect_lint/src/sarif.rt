@@ -1,17 +1,18 @@
 //! A diagnostic as a log of SARIF 2.1.0.
 
-ghost use Rattle.std.specs.Prelude.{◌≡◌, ◌++◌, IfOk, OnOk, length};
+ghost use Rattle.std.specs.Prelude.{◌≡◌, ◌++◌, All, IfOk, OnOk, length, map};
 ghost use Rattle.std.specs.String.{string_bytes};
 ghost use Rattle.serde_json.specs.View.{view};
 ghost use Rattle.sect_front.specs.FaultPlaces.{IsWithin};
 ghost use Rattle.sect_lint.specs.Details.{IsDetailWithin};
 ghost use Rattle.sect_lint.specs.Json.{list};
-ghost use Rattle.sect_lint.specs.Sarif.{region_json, location_json, related_json, related_by, aside_by, said_by};
+ghost use Rattle.sect_lint.specs.Sarif.{region_json, location_json, related_json, related_call, related_by};
+ghost use Rattle.sect_lint.specs.Sarif.{aside_by, said_by};
 ghost use Rattle.sect_lint.specs.Sarif.{result_json, rule_json, tool_json};
 ghost use Rattle.sect_lint.specs.Sarif.{run_json, log_json, diagnostic_log as log_by, empty_log as empty_by};
 
 use crate::diagnostic::{Detail, Diagnostic};
-use crate::label::{put_counts, put_typed, put_types};
+use crate::label::{put_counts, put_quoted, put_typed, put_types};
 use crate::mistake::Mistake;
 use sect_front::Span;
 use sect_places::position_of;
@@ -57,43 +58,67 @@ fn related_value(
         "physicalLocation": {"artifactLocation": {"uri": "stdin"}, "region": region}})
 }
 
+/// A call of a circle.
+fn call_value(alloc: Global, source: &[u8], called: Span) -> Result<Value, AllocError>
+    requires { IsWithin (length source.now) called }
+    ensures { IfOk result (λ v. view v ≡ related_call source.now called) }
+{
+    let mut text = String::new(alloc);
+    put_quoted(&mut text, source, called)?;
+    text.push_str(" is called here")?;
+    related_value(alloc, source, text.as_str(), called)
+}
+
+/// The calls of a circle.
+fn circle_value(alloc: Global, source: &[u8], calls: &[Span]) -> Result<Value, AllocError>
+    requires { All (IsWithin (length source.now)) calls.now }
+    ensures { IfOk result (λ v. view v ≡ list (map (related_call source.now) calls.now)) }
+{
+    let mut values = Vec::new(alloc);
+    for called in calls {
+        values.push(call_value(alloc, source, *called)?)?;
+    }
+    Ok(Value::Array(values))
+}
+
 /// The places beside that of the mistake.
-fn related_values(alloc: Global, source: &[u8], detail: Detail) -> Result<Value, AllocError>
-    requires { IsDetailWithin (length source.now) detail }
-    ensures { IfOk result (λ v. view v ≡ list (related_by source.now detail)) }
+fn related_values(alloc: Global, source: &[u8], detail: &Detail) -> Result<Value, AllocError>
+    requires { IsDetailWithin (length source.now) detail.now }
+    ensures { IfOk result (λ v. view v ≡ list (related_by source.now detail.now)) }
 {
     match detail {
         Detail::OpenBrace(at) => {
             let brace = Span {
-                start: at,
-                end: at + 1,
+                start: *at,
+                end: *at + 1,
             };
             let related = related_value(alloc, source, "this `{` is open", brace)?;
             json!(in alloc; [related])
         }
         Detail::Earlier(span) => {
-            let related = related_value(alloc, source, "first declared here", span)?;
+            let related = related_value(alloc, source, "first declared here", *span)?;
             json!(in alloc; [related])
         }
+        Detail::Circle(calls) => circle_value(alloc, source, calls.as_slice()),
         _ => json!(in alloc; []),
     }
 }
 
 /// Adds what is said beside the carets, where it has no place of its own.
-fn put_aside(text: &mut String, source: &[u8], detail: Detail) -> Result<(), AllocError>
-    requires { IsDetailWithin (length source.now) detail }
-    ensures { OnOk result (string_bytes text.new ≡ string_bytes text.old ++ aside_by source.now detail) }
+fn put_aside(text: &mut String, source: &[u8], detail: &Detail) -> Result<(), AllocError>
+    requires { IsDetailWithin (length source.now) detail.now }
+    ensures { OnOk result (string_bytes text.new ≡ string_bytes text.old ++ aside_by source.now detail.now) }
 {
     match detail {
-        Detail::Nothing | Detail::OpenBrace(_) | Detail::Earlier(_) => Ok(()),
+        Detail::Nothing | Detail::OpenBrace(_) | Detail::Earlier(_) | Detail::Circle(_) => Ok(()),
         Detail::Bytes(count) => Ok(write!(text, ": {count} bytes")?),
         Detail::Type(part) => {
             text.push_str(": ")?;
-            put_typed(text, source, part)
+            put_typed(text, source, *part)
         }
         Detail::Types(left, right) => {
             text.push_str(": ")?;
-            put_types(text, source, left, right)
+            put_types(text, source, *left, *right)
         }
         Detail::Limit(limit) => {
             text.push_str(": ")?;
@@ -101,7 +126,7 @@ fn put_aside(text: &mut String, source: &[u8], detail: Detail) -> Result<(), All
         }
         Detail::Counts(counts) => {
             text.push_str(": ")?;
-            put_counts(text, source, counts)
+            put_counts(text, source, *counts)
         }
     }
 }
@@ -113,7 +138,7 @@ fn message_of(alloc: Global, source: &[u8], diagnostic: &Diagnostic) -> Result<S
 {
     let mut text = String::new(alloc);
     text.push_str(diagnostic.mistake.title())?;
-    put_aside(&mut text, source, diagnostic.detail)?;
+    put_aside(&mut text, source, &diagnostic.detail)?;
     Ok(text)
 }
 
@@ -126,7 +151,7 @@ fn result_value(alloc: Global, source: &[u8], diagnostic: &Diagnostic) -> Result
     let location = location_value(alloc, source, diagnostic.span)?;
     let message = message_of(alloc, source, diagnostic)?;
     let text = message.as_str();
-    let related = related_values(alloc, source, diagnostic.detail)?;
+    let related = related_values(alloc, source, &diagnostic.detail)?;
     let rule = format!(in alloc; "{}", diagnostic.mistake.number())?;
     json!(in alloc; {"level": "error", "locations": [location], "message": {"text": text},
         "relatedLocations": related, "ruleId": rule})

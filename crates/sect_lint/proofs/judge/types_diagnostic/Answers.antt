@@ -4,9 +4,10 @@ use Rattle.sect_places.specs.Spans.{AreInOrder}
 use Rattle.sect_types.specs.Items.{items}
 use Rattle.sect_lint.specs.Places.{of_types, item_number}
 use Rattle.sect_lint.proofs.Faulty.{item_within, types_known}
-use Rattle.sect_lint.specs.Details.{IsDetailWithin, own_range, own_tokens, own_spans, item_detail}
+use Rattle.sect_lint.specs.declared.diagnostic.Detail.{Detail}
+use Rattle.sect_lint.specs.Details.{IsDetailWithin, IsToldOf, own_range, own_tokens, own_spans, item_detail}
 use Rattle.sect_lint.specs.Places.{marked_name}
-use Rattle.sect_lint.proofs.Marked.{is_marked, marked_within, detail_within}
+use Rattle.sect_lint.proofs.Marked.{is_marked, marked_within, detail_within, told_within}
 use Rattle.sect_lint.proofs.Parts.{order_behind}
 use Rattle.sect_lint.proofs.judge.types_diagnostic.Goals as goal
 
@@ -42,9 +43,14 @@ returns-clause-told c =
     rw c.of_types-culprit.ensures at c.own_words.ensures.spans in
     let order = subst (AreInOrder 0 (length source)) (sym spans)
     (order_behind (length source) (own_range tree item).first c.in_ok-layout.layout.spans.items laid.order) in
-    let here : c.item_detail-detail.result
+    let here : c.item_detail-other.result
     ≡ item_detail tree names c.own_words.result.0.now c.own_words.result.1.now fault =
-    rw c.as_slice-2.ensures.value at c.item_detail-detail.ensures in
+    rw c.as_slice-2.ensures.value at c.item_detail-other.ensures in
+    let other = here ∙ ap (λ ts. item_detail tree names ts c.own_words.result.1.now fault) tokens
+    ∙ ap (λ ss. item_detail tree names (own_tokens tree item) ss fault)
+    (spans ∙ ap (λ ss. own_spans tree ss item) (laid.spans are.spelled)) in
+    let told : IsToldOf names fault c.item_detail-other.result c.in_ok-detail.detail =
+    rw c.as_slice-3.ensures.value at c.in_ok-detail.ensures in
     record {
       mistake = sym c.in-Some.ensures;
       place = (
@@ -61,11 +67,10 @@ returns-clause-told c =
         tree,
         names,
         are,
-        here ∙ ap (λ ts. item_detail tree names ts c.own_words.result.1.now fault) tokens
-            ∙ ap (λ ss. item_detail tree names (own_tokens tree item) ss fault)
-            (spans ∙ ap (λ ss. own_spans tree ss item) (laid.spans are.spelled)),
+        subst (λ (d : Detail). IsToldOf names fault d c.in_ok-detail.detail) other told,
       );
-      told_within = subst (IsDetailWithin (length source)) (sym here)
+      told_within = told_within (length source) names are.proper fault c.item_detail-other.result c.in_ok-detail.detail
+          (subst (IsDetailWithin (length source)) (sym here)
           (detail_within (length source) names are.proper tree c.own_words.result.0.now c.own_words.result.1.now order
-          fault);
+          fault)) told;
     }

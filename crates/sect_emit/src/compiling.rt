@@ -1,11 +1,12 @@
 //! Compilation.
 
-ghost use Rattle.std.specs.Prelude.{◌≡◌, map, IfOk, IfErr, OnOk, IsOkUnless};
+ghost use Rattle.std.specs.Prelude.{◌≡◌, ◌↔◌, map, IfOk, IfErr, IsErrOf, OnOk, IsOkUnless};
 ghost use Rattle.sect_names.specs.declared.refusal.Refusal.TheVariants.{Memory};
 ghost use Rattle.sect_names.specs.Schemes.{SchemeView};
 ghost use Rattle.sect_names.specs.Sources.{IsAccepted, IsDue};
 ghost use Rattle.sect_infer.specs.Sets.{AreAllInferred};
-ghost use Rattle.sect_infer.specs.Workers.{AreOffered};
+ghost use Rattle.sect_infer.specs.Workers.{AreOffered, AreRefused};
+ghost use Rattle.sect_infer.specs.declared.workers.InferFault.TheVariants.{BadWorkers};
 ghost use Rattle.sect_emit.specs.declared.fault.CompileFault.TheVariants as fault;
 ghost use Rattle.sect_emit.specs.Compiled.{IsCompiled, AreSetsLeast, IsCompiledFrom};
 ghost use Rattle.sect_emit.specs.Faults.{IsDueBy};
@@ -15,7 +16,7 @@ use crate::compiled::Compiled;
 use crate::fault::CompileFault;
 use crate::fixed::fixed_part;
 use crate::plan::Grip;
-use sect_infer::{Locks, Seen, check_workers, infer, infer_all};
+use sect_infer::{InferFault, Locks, Seen, check_workers, infer, infer_all};
 use sect_names::{Refusal, Scheme, accept};
 use std::alloc::{AllocError, Global};
 use std::sync::Wait;
@@ -58,8 +59,25 @@ pub fn compile_with<R: Threads + Wait + Sync>(
 {
     check_workers(workers)?;
     let scheme = accept(alloc, source, k)?;
-    let shared = infer_all(rt, alloc, &scheme, workers, &Unseen)?;
-    Ok(planned(alloc, scheme, shared)?)
+    let locks = locks_by(rt, alloc, &scheme, workers)?;
+    Ok(planned(alloc, scheme, locks)?)
+}
+
+/// The locks of each section, by so many workers. Where there is one, it is the caller.
+fn locks_by<R: Threads + Wait + Sync>(
+    rt: &R,
+    alloc: Global,
+    scheme: &Scheme,
+    workers: u16,
+) -> Result<Vec<Locks>, InferFault>
+    requires { AreOffered workers }
+    ensures locks { IfOk result (λ all. AreAllInferred scheme.now all.items) }
+    ensures workers { IsErrOf result BadWorkers ↔ AreRefused workers }
+{
+    if workers == 1 {
+        return Ok(all_locks(alloc, scheme)?);
+    }
+    infer_all(rt, alloc, scheme, workers, &Unseen)
 }
 
 /// Has all workers started, is told of sections and does nothing.

@@ -24,7 +24,7 @@ use std::marker::Model;
 /// for one key at most, and no first waiter is compatible with all holders of its key.
 #[derive(Drop)]
 pub struct Table {
-    arena: Arena,
+    arena: Box<Arena>,
 }
 
 impl Model for Table {
@@ -33,9 +33,9 @@ impl Model for Table {
 
     ghost Value = { Contents };
 
-    ghost view = { λ table. table.arena };
+    ghost view = { λ table. table.arena.value };
 
-    ghost invariant = { λ table. IsKept table.arena };
+    ghost invariant = { λ table. IsKept table.arena.value };
 }
 
 impl Table {
@@ -45,7 +45,7 @@ impl Table {
         ensures kept { IfOk result IsKept }
     {
         Ok(Table {
-            arena: Arena::with_threads(alloc, threads)?,
+            arena: Box::new(alloc, Arena::with_threads(alloc, threads)?)?,
         })
     }
 
@@ -72,7 +72,7 @@ impl Table {
         ensures mode { result ≡ mode_in key (held_by self.now thread) }
         ensures kept { IsKept self.now }
     {
-        requests::held(&self.arena, thread, key)
+        requests::held(&*self.arena, thread, key)
     }
 
     /// The first that waits for a key, and in which mode.
@@ -80,7 +80,7 @@ impl Table {
         ensures waiter { result ≡ first_of (entry_of key self.now.entries).waiters }
         ensures kept { IsKept self.now }
     {
-        requests::first_waiter(&self.arena, key)
+        requests::first_waiter(&*self.arena, key)
     }
 
     /// The number of free nodes: of requests that need no memory, on keys that were asked for before.
@@ -108,7 +108,7 @@ impl Table {
 
         ensures kept { IsKept self.new }
     {
-        requests::request(&mut self.arena, thread, key, mode)
+        requests::request(&mut *self.arena, thread, key, mode)
     }
 
     /// Gives a thread a key that nobody holds or waits for, in exclusive mode.
@@ -121,7 +121,7 @@ impl Table {
         ensures err { OnErr result (self.new ≡ self.old) }
         ensures kept { IsKept self.new }
     {
-        requests::give_fresh(&mut self.arena, thread, key)
+        requests::give_fresh(&mut *self.arena, thread, key)
     }
 
     /// Gives all keys of a thread back, in the order in which it came to hold them. On each key waiters come to hold
@@ -139,6 +139,6 @@ impl Table {
         ensures spare { self.new.spare ≡ self.old.spare + length (held_by self.old thread) }
         ensures kept { IsKept self.new }
     {
-        releases::release_all(&mut self.arena, &mut grants.list, thread);
+        releases::release_all(&mut *self.arena, &mut grants.list, thread);
     }
 }

@@ -30,10 +30,10 @@ returns-in_err-scheme-clause-refuses g c =
     (source_due c.args.workers c.args.source.now c.args.k why c.in_ok-check_workers.ensures.ok
     c.in_err-scheme.ensures.refuses) c.from_residual-in_err-scheme.ensures.1
 
-pub returns-in_err-shared-clause-only : goal.returns-in_err-shared-clause-only
-returns-in_err-shared-clause-only g c = λ s offered accepted.
-    let why = c.in_err-shared.field-0.0 in
-    given c.from_residual-in_err-shared.result (λ r. r ≡ fault.Memory) (of_workers why)
+pub returns-in_err-locks-clause-only : goal.returns-in_err-locks-clause-only
+returns-in_err-locks-clause-only g c = λ s offered accepted.
+    let why = c.in_err-locks.field-0.0 in
+    given c.from_residual-in_err-locks.result (λ r. r ≡ fault.Memory) (of_workers why)
     (refused_for_memory c.args.workers why offered
-    (λ bad. c.in_err-shared.ensures.workers.0 (ap (λ (f : InferFault). Err f) bad)))
-    c.from_residual-in_err-shared.ensures.1
+    (λ bad. c.in_err-locks.ensures.workers.0 (ap (λ (f : InferFault). Err f) bad)))
+    c.from_residual-in_err-locks.ensures.1

@@ -1,9 +1,34 @@
 // The source text: a text area over its coloured copy, with line numbers, and what is said beside the lines.
-import { element } from "./view.js";
+import { element, fragment } from "./view.js";
 import { tokensOf } from "./syntax.js";
 
 const ROW = 21;
 const PADDING = 8;
+
+/** What of these pieces of the text lies in the line that begins at `start`, by the line's own places. */
+function marksOf(pieces, name, start, length) {
+  const within = (place) => Math.min(Math.max(place - start, 0), length);
+  const marks = pieces.map((piece) => ({ name, from: within(piece.start), to: within(piece.end) }));
+  return marks.filter(({ from, to }) => from < to);
+}
+
+/** A line with its colours: it is cut where a token or a mark begins or ends. */
+function coloured(line, marks) {
+  const tokens = tokensOf(line);
+  const cuts = new Set([0, line.length]);
+  for (const { start, end } of tokens) cuts.add(start).add(end);
+  for (const { from, to } of marks) cuts.add(from).add(to);
+  const places = [...cuts].sort((one, other) => one - other);
+  let at = 0;
+  const pieces = places.slice(1).map((end, number) => {
+    const start = places[number];
+    while (at < tokens.length && tokens[at].end <= start) at++;
+    const token = tokens[at] && tokens[at].start <= start ? [tokens[at].kind] : [];
+    const names = [...token, ...marks.filter(({ from, to }) => from <= start && end <= to).map(({ name }) => name)];
+    return names.length ? element("span", { class: names.join(" ") }, line.slice(start, end)) : line.slice(start, end);
+  });
+  return element("span", {}, ...pieces, "\n");
+}
 
 export class Editor {
   /** `changed` is called after each change of the text. */
@@ -14,6 +39,7 @@ export class Editor {
     this.marks = document.getElementById("marks");
     this.lit = [];
     this.faults = [];
+    this.painted = [];
     this.source.addEventListener("input", () => {
       this.forget();
       this.paint();
@@ -85,25 +111,28 @@ export class Editor {
     this.marks.scrollTop = scrollTop;
   }
 
-  /** Colours the text: it is cut where a token, a lit piece or a fault begins or ends. */
+  /** Colours the text. Only the lines between the first and the last that have changed are made anew. */
   paint() {
     const { text } = this;
-    const tokens = tokensOf(text);
-    const cuts = new Set([0, text.length]);
-    for (const { start, end } of [...tokens, ...this.lit, ...this.faults]) cuts.add(start).add(end);
-    const places = [...cuts].sort((one, other) => one - other);
-    const pieces = [];
-    let at = 0;
-    places.slice(1).forEach((end, number) => {
-      const start = places[number];
-      while (at < tokens.length && tokens[at].end <= start) at++;
-      const within = ({ start: from, end: to }) => from <= start && end <= to;
-      const names = [tokens[at] && within(tokens[at]) ? tokens[at].kind : "", this.lit.some(within) ? "lit" : "",
-        this.faults.some(within) ? "fault" : ""].filter(Boolean);
-      pieces.push(names.length ? element("span", { class: names.join(" ") }, text.slice(start, end)) : text.slice(start, end));
+    let start = 0;
+    const lines = text.split("\n").map((line) => {
+      const from = start;
+      start += line.length + 1;
+      const lit = marksOf(this.lit, "lit", from, line.length);
+      return { line, marks: [...lit, ...marksOf(this.faults, "fault", from, line.length)] };
     });
-    this.colours.replaceChildren(...pieces, "\n");
-    this.numbers.textContent = text.split("\n").map((_, line) => line + 1).join("\n");
+    const keys = lines.map(({ line, marks }) => JSON.stringify([line, marks]));
+    const most = Math.min(keys.length, this.painted.length);
+    let above = 0;
+    while (above < most && keys[above] === this.painted[above]) above++;
+    let below = 0;
+    while (below < most - above && keys.at(-1 - below) === this.painted.at(-1 - below)) below++;
+    const made = lines.slice(above, lines.length - below).map(({ line, marks }) => coloured(line, marks));
+    const rows = [...this.colours.children];
+    rows.slice(above, rows.length - below).forEach((row) => row.remove());
+    this.colours.insertBefore(fragment(made), this.colours.children[above] ?? null);
+    if (keys.length !== this.painted.length) this.numbers.textContent = keys.map((_, line) => line + 1).join("\n");
+    this.painted = keys;
     this.scrolled();
   }
 }

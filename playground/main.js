@@ -50,9 +50,10 @@ class Page {
     const begun = performance.now();
     this.tell("at work");
     try {
-      const answer = await this.ask("inspect", "--k", this.k);
+      const asked = ["inspect", "lint"].map((command) => this.ask(command, "--k", this.k));
+      const [answer, report] = await Promise.all(asked);
       if (version !== this.version) return;
-      await this.judge(answer);
+      this.judge(answer, report);
       this.tell(`answered in ${Math.round(performance.now() - begun)} ms`);
       await this.showView();
     } catch (failure) {
@@ -66,19 +67,17 @@ class Page {
     document.getElementById("stop").disabled = what !== "at work";
   }
 
-  /** Shows the locks beside the sections, or the refusal and its place. */
-  async judge(answer) {
+  /** Shows the locks beside the sections, or the refusal and its place, and what is worth a second look. */
+  judge(answer, report) {
     const faults = document.getElementById("faults");
     faults.classList.toggle("bad", answer.status !== 0);
     this.editor.clearMarks();
-    this.editor.underline([]);
     this.answer = answer;
     const { sections, threads, span } = this.documentOf(answer);
     this.sections = sections ?? [];
     this.threads = (threads ?? []).map(({ name }) => name);
-    const report = await this.ask("lint", "--k", this.k);
     faults.textContent = report.text.trimEnd();
-    if (span) this.editor.underline([this.piece(span)]);
+    this.editor.underline(span ? [this.piece(span)] : []);
     this.sections.forEach(({ locks, place }, number) => {
       const set = locks.map(lockText).join(", ") || "none";
       const click = () => this.open(this.views[0], () => this.views[0].choose(number, 0));

@@ -16,7 +16,12 @@ export function element(name, attributes = {}, ...children) {
   return filled(document.createElement(name), attributes, children);
 }
 
-/** The same for a picture. */
+/** Elements that are put in at one stroke. */
+export function fragment(children) {
+  return filled(document.createDocumentFragment(), {}, children);
+}
+
+/** An element of a picture. */
 export function drawn(name, attributes = {}, ...children) {
   return filled(document.createElementNS(SVG, name), attributes, children);
 }

@@ -1,6 +1,7 @@
 //! What a name of a certificate stands for in a program: a variable or a field.
 
-ghost use Rattle.std.specs.Prelude.{◌≡◌, ◌<◌, length, slice_index_or, [], IfSome};
+ghost use Rattle.std.specs.Prelude.{◌≡◌, ◌<◌, length, slice_index_or, [], IfSome, nat_eq};
+ghost use Rattle.std.specs.Cmp.Lexicographic.{pointwise};
 ghost use Rattle.sect_types.specs.Sight.{place, names_of_declared};
 ghost use Rattle.sect_types.specs.LocalNames.{all_local_names, place_of_local};
 ghost use Rattle.sect_types.specs.LocalNames.{is_same_call as same_call, is_same_local as same_local};
@@ -11,13 +12,20 @@ use sect_front::{Declaration, Name};
 use sect_points::Variable;
 use sect_types::{Field, LocalName, Program, ValueType};
 
+/// Whether two names are one. Those of different lengths are told apart at once.
+fn is_same_name(one: &Name, other: &Name) -> bool
+    ensures { result ≡ pointwise nat_eq one.now other.now }
+{
+    one.as_bytes().len() == other.as_bytes().len() && *one == *other
+}
+
 /// The number of the field of this name.
 fn number_in(list: &[Declaration], name: &Name) -> Option<usize>
     ensures place { result ≡ place name.now (names_of_declared list.now) }
     ensures within { IfSome result (λ number. number < length list.now) }
 {
     for number in 0..list.len() {
-        if *name == list[number].name {
+        if is_same_name(name, &list[number].name) {
             return Some(number);
         }
     }

@@ -1,5 +1,5 @@
 -- Who is let in next.
-use Rattle.std.proofs.Common.{◌≡◌, ◌+◌, List, [], ◌∷◌, ◌++◌, true, false, ap}
+use Rattle.std.proofs.Common.{◌≡◌, List, [], ◌∷◌, ◌++◌, true, false, ap}
 use Rattle.std.specs.Prelude.{if◌then◌else◌}
 use Rattle.sect_table.specs.declared.claims.Claim.{Claim}
 use Rattle.sect_table.specs.Contents.{may_join, let_through}

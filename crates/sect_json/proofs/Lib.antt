@@ -1,4 +1,7 @@
+mod Calling
+mod Holding
 mod Plain
+mod PlainCalls
 mod PlainCompiling
 mod PlainConflicts
 mod PlainExplaining
@@ -7,7 +10,9 @@ mod PlainKeys
 mod PlainLocks
 mod PlainObjects
 mod PlainOutcomes
+mod PlainSites
 mod PlainTurns
 mod Rows
 mod SameTold
+mod Sited
 mod Telling

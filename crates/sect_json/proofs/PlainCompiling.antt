@@ -1,5 +1,5 @@
 -- The document of a compiled program has no float.
-use Rattle.std.proofs.Common.{ℕ, List, Option, Some, None, length, refl}
+use Rattle.std.proofs.Common.{ℕ, Option, Some, None, length, refl}
 use Rattle.std.specs.Prelude.{slice_get, slice_index_or, option_map, [], ◌+◌}
 use Rattle.std.specs.List.{range_with_len}
 use Rattle.std.proofs.lemmas.Bool.{or_from}

@@ -1,12 +1,14 @@
 -- Lists of values that are made one by one.
 use Rattle.std.proofs.Common.{◌≡◌, ℕ, ◌+◌, List, [], ◌∷◌, ◌++◌, map, take, drop, Some, sym, ap, ◌∙◌}
-use Rattle.std.proofs.Common.{◌≤◌, length, length-append, refl, subst, arith, rules, inl, inr, Bool}
+use Rattle.std.proofs.Common.{◌≤◌, length, length-append, refl, subst, arith, rules, inl, inr, Bool, true, false, if◌then◌else◌}
 use Rattle.std.specs.Prelude.{slice_get, Vec}
 use Rattle.std.specs.declared.alloc.Global.{Global}
-use Rattle.std.proofs.lemmas.List.{map-append, take_all, take_more, append_assoc}
+use Rattle.std.proofs.lemmas.List.{map-append, map-id, take_all, take_more, append_assoc, append-nil, drop_all}
+use Rattle.std.proofs.lemmas.Grind.{flat_map-append}
+use Rattle.std.proofs.lemmas.List.Elements.{filter-append}
 use Rattle.std.proofs.lemmas.List.FromFn.{map-range_with_len_more}
 use Rattle.std.proofs.lemmas.Option.{slice_get_within, get_or_from_slice_get}
-use Rattle.std.specs.List.{range_with_len}
+use Rattle.std.specs.List.{range_with_len, flat_map, filter}
 use Rattle.sect_lemmas.proofs.Elements.{drop_next}
 use Rattle.serde_json.specs.Data.{Data, null, boolean}
 use Rattle.serde_json.specs.View.{view}
@@ -14,7 +16,7 @@ use Rattle.serde_json.specs.declared.value.Value.{Value, Null, Array, the_lemmas
 use Rattle.serde_json.specs.declared.value.Value as value
 use Rattle.serde_json.proofs.Views.{view-Array}
 use Rattle.sect_lemmas.proofs.Places.{pushed_at}
-use Rattle.sect_json.specs.Values.{list, by_place, AreTold}
+use Rattle.sect_json.specs.Values.{count, list, by_place, AreTold}
 
 -- values without parts
 pub view_null : view Null ≡ null
@@ -73,6 +75,61 @@ module _ (of : ℕ → Data) where
       → view (Array values) ≡ list (map of (range_with_len 0 count))
   range_all n count values all had =
       view-Array values ∙ ap list (had ∙ ap (λ m. map of (range_with_len 0 m)) all)
+
+-- the next number
+range_next : (n : ℕ) → range_with_len 0 (n + 1) ≡ range_with_len 0 n ++ n ∷ []
+range_next n =
+    sym (map-id (range_with_len 0 (n + 1))) ∙ (map-range_with_len_more (λ k. k) 0 n n (omega arith)
+    ∙ ap (λ ks. ks ++ n ∷ []) (map-id (range_with_len 0 n)))
+
+-- what the first numbers give, and what the next gives
+pub flat_range_more : {A : Type 0} (of : ℕ → List A) (n : ℕ)
+    → flat_map of (range_with_len 0 (n + 1)) ≡ flat_map of (range_with_len 0 n) ++ of n
+flat_range_more of n =
+    ap (flat_map of) (range_next n) ∙ (flat_map-append of (range_with_len 0 n) (n ∷ [])
+    ∙ ap (λ xs. flat_map of (range_with_len 0 n) ++ xs) (append-nil (of n)))
+
+-- the next number, if it passes the test
+pub filter_range_in : (p : ℕ → Bool) (n : ℕ) → p n ≡ true
+    → filter p (range_with_len 0 (n + 1)) ≡ filter p (range_with_len 0 n) ++ n ∷ []
+filter_range_in p n e =
+    ap (filter p) (range_next n) ∙ (filter-append p (range_with_len 0 n) (n ∷ [])
+    ∙ ap (λ xs. filter p (range_with_len 0 n) ++ xs) (ap (λ b. if b then n ∷ [] else []) e))
+
+pub filter_range_out : (p : ℕ → Bool) (n : ℕ) → p n ≡ false
+    → filter p (range_with_len 0 (n + 1)) ≡ filter p (range_with_len 0 n)
+filter_range_out p n e =
+    ap (filter p) (range_next n) ∙ (filter-append p (range_with_len 0 n) (n ∷ [])
+    ∙ (ap (λ xs. filter p (range_with_len 0 n) ++ xs) (ap (λ b. if b then n ∷ [] else []) e)
+    ∙ append-nil (filter p (range_with_len 0 n))))
+
+module _ (p : ℕ → Bool) (n : ℕ) (values : List Value)
+    (had : map view values ≡ map count (filter p (range_with_len 0 n))) where
+  -- the numbers that pass, and the next, if it does
+  pub counted_in : (more : List Value) (v : Value) → p n ≡ true → more ≡ values ++ v ∷ [] → view v ≡ count n
+      → map view more ≡ map count (filter p (range_with_len 0 (n + 1)))
+  counted_in more v passes pushed is =
+      view_more values more v (count n) pushed is
+      ∙ (ap (λ ds. ds ++ count n ∷ []) had ∙ (sym (map-append count (filter p (range_with_len 0 n)) (n ∷ []))
+      ∙ ap (map count) (sym (filter_range_in p n passes))))
+
+  pub counted_out : p n ≡ false → map view values ≡ map count (filter p (range_with_len 0 (n + 1)))
+  counted_out fails = had ∙ ap (map count) (sym (filter_range_out p n fails))
+
+-- the values are those of all, where there are no more
+pub by_place_all : {A : Type 0} (of : ℕ → A → Data) (xs : List A) (n : ℕ) (values : Vec Value Global) (all : List Data)
+    → length xs ≤ n → map view values.items ++ by_place of n (drop n xs) ≡ all → view (Array values) ≡ list all
+by_place_all of xs n values all past had =
+    view-Array values ∙ ap list (sym (append-nil (map view values.items))
+    ∙ (ap (λ ys. map view values.items ++ by_place of n ys) (sym (drop_all n xs past)) ∙ had))
+
+-- lists behind one another, each by its number
+pub lists_more : (of : ℕ → List Data) (n : ℕ) (old had more : List Data)
+    → had ≡ old ++ flat_map of (range_with_len 0 n) → more ≡ had ++ of n
+    → more ≡ old ++ flat_map of (range_with_len 0 (n + 1))
+lists_more of n old had more e m =
+    m ∙ (ap (λ xs. xs ++ of n) e ∙ (append_assoc old (flat_map of (range_with_len 0 n)) (of n)
+    ∙ ap (λ xs. old ++ xs) (sym (flat_range_more of n))))
 
 module _ (IsSo : ℕ → Data → Type 0) where
   -- no value

@@ -1,9 +1,8 @@
 -- What is known of a program, as JSON. `inspection_document` cites it.
-use Rattle.std.specs.Prelude.{◌≡◌, ℕ, ◌+◌, List, [], ◌∷◌, Option, Some, None, codes, length, map, slice_get}
+use Rattle.std.specs.Prelude.{◌≡◌, ℕ, ◌+◌, List, [], ◌∷◌, codes, length, map, slice_get}
 use Rattle.std.specs.Prelude.{slice_index_or, true, false}
 use Rattle.std.specs.List.{range_with_len}
-use Rattle.serde_json.specs.Data.{Data, null, boolean, string}
-use Rattle.sect_front.specs.declared.span.Span.{Span}
+use Rattle.serde_json.specs.Data.{Data, boolean, string}
 use Rattle.sect_front.specs.declared.tree.Locking.{Locking}
 use Rattle.sect_front.specs.declared.tree.Locking.TheVariants as locking
 use Rattle.sect_types.specs.Sections.{sections_of}
@@ -13,7 +12,9 @@ use Rattle.sect_names.specs.Needed.{end_of}
 use Rattle.sect_names.specs.declared.link.Link.{Link}
 use Rattle.sect_names.specs.declared.lock.Lock.{Lock}
 use Rattle.sect_places.specs.declared.origin_spans.NodeSpan.{NodeSpan}
+use Rattle.sect_places.specs.NameSpans.{AreNameSpans}
 use Rattle.sect_places.specs.NodeSpans.{NodeSpansView, AreNodeSpans}
+use Rattle.sect_places.specs.declared.name_use.NameSpan.{NameSpan}
 use Rattle.sect_places.specs.Spans.{no_span}
 use Rattle.sect_lint.specs.Json.{span_json}
 use Rattle.sect_emit.specs.Compiled.{CompiledView, program_of}
@@ -23,24 +24,12 @@ use Rattle.sect_emit.specs.Labels.{thread_name}
 use Rattle.sect_emit.specs.declared.graphs.GraphOf.{GraphOf}
 use Rattle.sect_emit.specs.declared.graphs.GraphOf.TheVariants as graphed
 use Rattle.sect_json.specs.Values.{count, list, by_place, record_of, document_text, AreTold}
-use Rattle.sect_json.specs.Compiling.{set_json, plan_json, thread_with}
+use Rattle.sect_json.specs.Compiling.{set_json, plan_json}
+use Rattle.sect_json.specs.Calls.{procedure_json, calls_json}
 use Rattle.sect_json.specs.Explaining.{chain_json}
 use Rattle.sect_json.specs.Locks.{lock_json}
 use Rattle.sect_json.specs.Nodes.{next_at}
-
--- bytes of the text, where there are some
-abbrev pub bytes_json : List ℕ → Option Span → Data
-bytes_json source None = null
-bytes_json source (Some s) = span_json source s
-
--- the bytes of a node's statement, and those of the call that it is of; the exit comes from none
-abbrev pub place_of : Option NodeSpan → Option Span
-place_of None = None
-place_of (Some s) = Some s.item
-
-abbrev pub call_of : Option NodeSpan → Option Span
-call_of None = None
-call_of (Some s) = s.call
+use Rattle.sect_json.specs.Sites.{bytes_json, call_of, place_of, locals_json, sites_json, AreClasses}
 
 -- where a node comes from: the call and the statement
 abbrev pub origin_with : Data → Data → Data
@@ -132,23 +121,66 @@ pub record IsSectionInspected (c : CompiledView) (source : List ℕ) (v : NodeSp
   pub chained : IsChained c i chains
   pub told : value ≡ section_json c source v i needed chains
 
--- a thread: its name, its nodes and its number
-abbrev pub thread_json : CompiledView → List ℕ → NodeSpansView → ℕ → Data
-thread_json c source v u = thread_with (thread_name (program_of c).source u)
-    (list (map (thread_node_json c source v u)
-    (range_with_len 0 (length (graphed_nodes c (graphed.Thread u)) + 1))))
-    u
+-- what is told of a thread, beside its number: its calls, its locals, its name and its nodes
+pub record ThreadTold : Type 0 where
+  pub calls : Data
+  pub locals : Data
+  pub name : List ℕ
+  pub nodes : Data
 
--- a program with this k, its sections and its threads
-abbrev pub inspection_with : ℕ → List Data → List Data → Data
-inspection_with k sections threads =
-    record_of ((codes "k", count k) ∷ (codes "sections", list sections) ∷ (codes "threads", list threads) ∷ [])
+abbrev pub thread_with : ThreadTold → ℕ → Data
+thread_with told u = record_of (
+    (codes "calls", told.calls)
+    ∷ (codes "locals", told.locals)
+    ∷ (codes "name", string told.name)
+    ∷ (codes "nodes", told.nodes)
+    ∷ (codes "thread", count u) ∷ [])
+
+abbrev pub thread_json : CompiledView → List ℕ → NodeSpansView → List NameSpan → ℕ → Data
+thread_json c source v names u =
+    let t = (program_of c).source in
+    thread_with (record {
+      calls = calls_json source names (length t.procedures) (thread_name t u);
+      locals = locals_json c u;
+      name = thread_name t u;
+      nodes = list (map (thread_node_json c source v u)
+          (range_with_len 0 (length (graphed_nodes c (graphed.Thread u)) + 1)));
+    }) u
+
+-- what is told of a program, beside its k
+pub record ProgramTold : Type 0 where
+  pub classes : List Data
+  pub procedures : List Data
+  pub sections : List Data
+  pub sites : List Data
+  pub threads : List Data
+
+abbrev pub inspection_with : ℕ → ProgramTold → Data
+inspection_with k told = record_of (
+    (codes "classes", list told.classes)
+    ∷ (codes "k", count k)
+    ∷ (codes "procedures", list told.procedures)
+    ∷ (codes "sections", list told.sections)
+    ∷ (codes "sites", list told.sites)
+    ∷ (codes "threads", list told.threads) ∷ [])
+
+abbrev pub inspection_json : CompiledView → List ℕ → NodeSpansView → List NameSpan → List Data → List Data → Data
+inspection_json c source v names classes sections = inspection_with c.scheme.most (record {
+  classes = classes;
+  procedures = map (procedure_json source names) (program_of c).source.procedures;
+  sections = sections;
+  sites = sites_json c source v.sections names;
+  threads = map (thread_json c source v names) (range_with_len 0 (length (program_of c).texts));
+})
 
 -- the bytes are the document of a compiled program, whose text this is
 pub record IsInspectionDocument (source : List ℕ) (c : CompiledView) (bytes : List ℕ) : Type 0 where
   pub spans : NodeSpansView
   pub placed : AreNodeSpans source (program_of c) spans
+  pub names : List NameSpan
+  pub named : AreNameSpans source (program_of c).source names
+  pub classes : List Data
+  pub parted : AreClasses c.scheme.classes.numbers classes
   pub sections : List Data
   pub inspected : AreTold (IsSectionInspected c source spans) (length (sections_of (program_of c).texts)) sections
-  pub printed : bytes ≡ document_text (inspection_with c.scheme.most sections
-      (map (thread_json c source spans) (range_with_len 0 (length (program_of c).texts))))
+  pub printed : bytes ≡ document_text (inspection_json c source spans names classes sections)

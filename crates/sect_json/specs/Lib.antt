@@ -2,11 +2,13 @@ pub mod Values
 pub mod Keys
 pub mod Nodes
 pub mod Objects
+pub mod Calls
 pub mod Compiling
 pub mod Conflicts
 pub mod Outcomes
 pub mod Inspecting
 pub mod Locks
 pub mod Explaining
+pub mod Sites
 pub mod steps
 pub mod Turns

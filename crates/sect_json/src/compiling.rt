@@ -144,12 +144,7 @@ fn thread_value(alloc: Global, compiled: &Compiled, thread: u16) -> Result<Value
 }
 
 /// A thread with its nodes.
-pub fn told_thread(
-    alloc: Global,
-    name: String,
-    nodes: Value,
-    thread: u16,
-) -> Result<Value, AllocError>
+fn told_thread(alloc: Global, name: String, nodes: Value, thread: u16) -> Result<Value, AllocError>
     ensures { IfOk result (λ v. view v ≡ thread_with (string_bytes name) (view nodes) thread) }
 {
     json!(in alloc; {"name": name, "nodes": nodes, "thread": thread})

@@ -9,38 +9,45 @@ ghost use Rattle.sect_front.specs.declared.tree.Locking.TheVariants.{Inferred};
 ghost use Rattle.sect_types.specs.Sections.{sections_of};
 ghost use Rattle.sect_names.specs.Printing.{AreNamed};
 ghost use Rattle.sect_names.specs.declared.lock.Lock.{Lock as ALock};
-ghost use Rattle.sect_places.specs.NodeSpans.{IsCallWithin, IsNodeWithin};
+ghost use Rattle.sect_places.specs.NodeSpans.{IsNodeWithin};
 ghost use Rattle.sect_lint.specs.Json.{span_json};
 ghost use Rattle.sect_emit.specs.Compiled.{program_of};
+ghost use Rattle.sect_emit.specs.Labels.{thread_name};
 ghost use Rattle.sect_emit.specs.Graphed.{IsThere, graphed_nodes, graphed_deed};
 ghost use Rattle.sect_emit.specs.declared.graphs.GraphOf.TheVariants as graphed;
 ghost use Rattle.sect_json.specs.Nodes.{next_at};
 ghost use Rattle.sect_json.specs.Values.{list, by_place, AreTold};
-ghost use Rattle.sect_json.specs.Inspecting.{bytes_json, origin_with, origin_json, spans_at, thread_node_with};
+ghost use Rattle.sect_json.specs.Calls.{calls_json};
+ghost use Rattle.sect_json.specs.Inspecting.{origin_with, origin_json, spans_at, thread_node_with};
 ghost use Rattle.sect_json.specs.Inspecting.{thread_node_json, section_node_with, section_node_json, is_all};
-ghost use Rattle.sect_json.specs.Inspecting.{section_with, IsSectionInspected, thread_json, inspection_with};
-ghost use Rattle.sect_json.specs.Inspecting.{IsInspectionDocument};
-ghost use Rattle.sect_json.specs.steps.Inspected.{IsInspected, section_told};
+ghost use Rattle.sect_json.specs.Inspecting.{section_with, IsSectionInspected, thread_with, thread_json};
+ghost use Rattle.sect_json.specs.Inspecting.{inspection_with, IsInspectionDocument};
+ghost use Rattle.sect_json.specs.Sites.{bytes_json};
+ghost use Rattle.sect_json.specs.steps.Inspected.{IsInspected, IsProgramTold, section_told, thread_told, program_told};
 
-use crate::compiling::{plan_value, set_value, told_thread};
+use crate::calls::{calls_value, procedure_values};
+use crate::compiling::{plan_value, set_value};
+use crate::context::Inspected;
 use crate::explaining::chains_value;
 use crate::locks::locks_value;
 use crate::nodes::next_value;
+use crate::sites::{bytes_value, class_values, locals_value, site_values};
 use crate::writing::document;
 use sect_emit::{
     Compiled, GraphOf, graphed_flow, put_graphed_node, put_thread_name, section_chains,
     section_locks, section_thread,
 };
-use sect_front::{Locking, Span};
+use sect_front::Locking;
 use sect_infer::Locks;
 use sect_lint::span_value;
 use sect_names::Lock;
-use sect_places::{NodeSpan, NodeSpans, node_spans};
+use sect_places::{NodeSpan, node_spans, tree_names};
 use serde_json::{Value, json};
 use std::alloc::{AllocError, Global};
 
 /// What is known of a compiled program, whose text this is: its sections and its threads with their nodes, where they
-/// stand, the locks that are needed at each node, and why.
+/// stand, the locks that are needed at each node, and why; its classes, their sites and to which of these its locals and
+/// fields may refer; its procedures and calls.
 pub fn inspection_document(
     alloc: Global,
     source: &[u8],
@@ -49,36 +56,59 @@ pub fn inspection_document(
     requires { IsSpelled source.now (program_of compiled.now).source }
     ensures { IfOk result (λ text. IsInspectionDocument source.now compiled.now (string_bytes text)) }
 {
-    let spans = node_spans(alloc, source, compiled.scheme().program())?;
+    let program = compiled.scheme().program();
+    let spans = node_spans(alloc, source, program)?;
+    let names = tree_names(alloc, source, program.tree())?;
     let of = Inspected {
         source,
         compiled,
         spans: &spans,
+        names: names.as_slice(),
     };
-    let sections = section_values(alloc, &of)?;
-    let threads = thread_values(alloc, &of)?;
-    let value = inspection_value(alloc, compiled.scheme().k(), sections, threads)?;
+    let value = program_value(alloc, &of)?;
     document(alloc, &value)
 }
 
-/// A compiled program, its text, and where its nodes come from.
-#[derive(Clone, Copy)]
-struct Inspected<'a> {
-    source: &'a [u8],
-    compiled: &'a Compiled,
-    spans: &'a NodeSpans,
+/// What is known of a program.
+fn program_value(alloc: Global, of: &Inspected<'_>) -> Result<Value, AllocError>
+    requires { IsInspected of.now }
+    ensures { IfOk result (λ v. IsProgramTold of.now (view v)) }
+{
+    let scheme = of.compiled.scheme();
+    let procedures = scheme.program().tree().procedures();
+    let parts = Parts {
+        classes: class_values(alloc, scheme.classes())?,
+        procedures: procedure_values(alloc, of, procedures)?,
+        sections: section_values(alloc, of)?,
+        sites: site_values(alloc, of)?,
+        threads: thread_values(alloc, of)?,
+    };
+    told_program(alloc, scheme.k(), parts)
 }
 
-/// Sections and threads.
-fn inspection_value(
-    alloc: Global,
-    k: u16,
+/// What is told of a program, beside its k.
+#[derive(Drop)]
+struct Parts {
+    classes: Vec<Value>,
+    procedures: Vec<Value>,
     sections: Vec<Value>,
+    sites: Vec<Value>,
     threads: Vec<Value>,
-) -> Result<Value, AllocError>
-    ensures { IfOk result (λ v. view v ≡ inspection_with k (map view sections.items) (map view threads.items)) }
+}
+
+/// A program with what is told of it.
+fn told_program(alloc: Global, k: u16, parts: Parts) -> Result<Value, AllocError>
+    ensures { IfOk result (λ v. view v ≡ inspection_with k (program_told parts)) }
 {
-    json!(in alloc; {"k": k, "sections": sections, "threads": threads})
+    let Parts {
+        classes,
+        procedures,
+        sections,
+        sites,
+        threads,
+    } = parts;
+    json!(in alloc; {"classes": classes, "k": k, "procedures": procedures, "sections": sections, "sites": sites,
+        "threads": threads})
 }
 
 /// All sections, by number.
@@ -257,7 +287,7 @@ fn spans_of<'a>(of: &'a Inspected<'_>, graph: GraphOf) -> &'a [NodeSpan]
 fn thread_values(alloc: Global, of: &Inspected<'_>) -> Result<Vec<Value>, AllocError>
     requires { IsInspected of.now }
     ensures { IfOk result (λ values. map view values.items
-        ≡ map (thread_json of.now.compiled.now of.now.source.now of.now.spans.now)
+        ≡ map (thread_json of.now.compiled.now of.now.source.now of.now.spans.now of.now.names.now)
         (range_with_len 0 (length (program_of of.now.compiled.now).texts))) }
 {
     let mut values = Vec::new(alloc);
@@ -271,12 +301,56 @@ fn thread_values(alloc: Global, of: &Inspected<'_>) -> Result<Vec<Value>, AllocE
 fn thread_value(alloc: Global, of: &Inspected<'_>, thread: u16) -> Result<Value, AllocError>
     requires inspected { IsInspected of.now }
     requires thread { thread < length (program_of of.now.compiled.now).texts }
-    ensures { IfOk result (λ v. view v ≡ thread_json of.now.compiled.now of.now.source.now of.now.spans.now thread) }
+    ensures { IfOk result (λ v. view v
+        ≡ thread_json of.now.compiled.now of.now.source.now of.now.spans.now of.now.names.now thread) }
 {
-    let nodes = thread_nodes(alloc, of, thread)?;
+    let program = of.compiled.scheme().program();
     let mut name = String::new(alloc);
-    put_thread_name(&mut name, of.compiled.scheme().program(), thread)?;
-    told_thread(alloc, name, nodes, thread)
+    put_thread_name(&mut name, program, thread)?;
+    let told = Threaded {
+        calls: thread_calls(alloc, of, thread)?,
+        locals: locals_value(alloc, of, thread)?,
+        name,
+        nodes: thread_nodes(alloc, of, thread)?,
+    };
+    told_thread(alloc, told, thread)
+}
+
+/// What is told of a thread, beside its number.
+#[derive(Drop)]
+struct Threaded {
+    calls: Value,
+    locals: Value,
+    name: String,
+    nodes: Value,
+}
+
+/// A thread with what is told of it.
+fn told_thread(alloc: Global, told: Threaded, thread: u16) -> Result<Value, AllocError>
+    ensures { IfOk result (λ v. view v ≡ thread_with (thread_told told) thread) }
+{
+    let Threaded {
+        calls,
+        locals,
+        name,
+        nodes,
+    } = told;
+    json!(in alloc; {"calls": calls, "locals": locals, "name": name, "nodes": nodes, "thread": thread})
+}
+
+/// The calls of a thread.
+fn thread_calls(alloc: Global, of: &Inspected<'_>, thread: u16) -> Result<Value, AllocError>
+    requires inspected { IsInspected of.now }
+    requires thread { thread < length (program_of of.now.compiled.now).texts }
+    ensures { IfOk result (λ v. view v ≡ calls_json of.now.source.now of.now.names.now
+        (length (program_of of.now.compiled.now).source.procedures)
+        (thread_name (program_of of.now.compiled.now).source thread)) }
+{
+    let program = of.compiled.scheme().program();
+    program.facts();
+    let tree = program.tree();
+    let name = &tree.threads()[thread as usize].name;
+    calls_value(alloc, of, name, tree.procedures().len())
 }
 
 /// The nodes of a thread, the exit last.
@@ -351,15 +425,4 @@ fn told_origin(alloc: Global, call: Value, statement: Value) -> Result<Value, Al
     ensures { IfOk result (λ v. view v ≡ origin_with (view call) (view statement)) }
 {
     json!(in alloc; {"call": call, "statement": statement})
-}
-
-/// Bytes of the text, where there are some.
-fn bytes_value(alloc: Global, source: &[u8], span: Option<Span>) -> Result<Value, AllocError>
-    requires { IsCallWithin (length source.now) span }
-    ensures { IfOk result (λ v. view v ≡ bytes_json source.now span) }
-{
-    match span {
-        None => Ok(Value::Null),
-        Some(span) => span_value(alloc, source, span),
-    }
 }

@@ -1,8 +1,10 @@
 //! What commands answer, as JSON: each document is defined as a value, and what is written is that value's text.
 #![tactic(auto)]
 
+mod calls;
 mod compiling;
 mod conflicts;
+mod context;
 mod explaining;
 mod inspecting;
 mod keys;
@@ -10,6 +12,7 @@ mod locks;
 mod nodes;
 mod objects;
 mod outcomes;
+mod sites;
 mod turns;
 mod writing;
 

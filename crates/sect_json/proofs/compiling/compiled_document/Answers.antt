@@ -5,7 +5,7 @@ use Rattle.serde_json.specs.View.{view}
 use Rattle.serde_json.specs.Written.{has_float}
 use Rattle.sect_types.specs.Sections.{sections_of}
 use Rattle.sect_json.specs.Values.{document_text}
-use Rattle.sect_json.specs.Compiling.{section_json, thread_json, compiled_with, compiled_json}
+use Rattle.sect_json.specs.Compiling.{section_json, compiled_with}
 use Rattle.sect_json.proofs.PlainCompiling.{plain_compiled}
 use Rattle.sect_json.proofs.compiling.compiled_document.Goals as goal
 

@@ -1,11 +1,12 @@
-use Rattle.std.proofs.Common.{◌≡◌, Some, None, sym, ap, ◌∙◌}
+use Rattle.std.proofs.Common.{◌≡◌, Some, sym, ap, ◌∙◌}
 use Rattle.std.specs.Prelude.{slice_get}
 use Rattle.std.proofs.lemmas.Option.{slice_get-get_or, slice_get_past}
 use Rattle.std.proofs.lemmas.Result.{IfOk-weaker}
 use Rattle.serde_json.specs.Data.{null}
 use Rattle.serde_json.specs.View.{view}
 use Rattle.serde_json.specs.declared.value.Value.{Null}
-use Rattle.sect_json.specs.Inspecting.{bytes_json, call_of, place_of, origin_with}
+use Rattle.sect_json.specs.Inspecting.{origin_with}
+use Rattle.sect_json.specs.Sites.{bytes_json, call_of, place_of}
 use Rattle.sect_json.proofs.Rows.{view_null}
 use Rattle.sect_json.proofs.inspecting.origin_value.Goals as goal
 

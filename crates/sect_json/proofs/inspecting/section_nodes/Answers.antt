@@ -1,5 +1,4 @@
-use Rattle.std.proofs.Common.{◌≡◌, ◌<◌, length, ap, ◌∙◌, sym, subst, arith}
-use Rattle.std.specs.Prelude.{slice_get}
+use Rattle.std.proofs.Common.{ap, ◌∙◌, sym, subst}
 use Rattle.sect_names.specs.Printing.{AreNamed}
 use Rattle.sect_emit.specs.Compiled.{program_of}
 use Rattle.sect_json.specs.Inspecting.{section_node_json}

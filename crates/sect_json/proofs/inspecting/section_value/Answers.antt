@@ -1,7 +1,7 @@
 use Rattle.std.proofs.Common.{map, sym, ap, ◌∙◌}
 use Rattle.std.proofs.lemmas.Option.{get_or_from_slice_get}
 use Rattle.std.proofs.lemmas.Result.{IfOk-weaker}
-use Rattle.std.specs.Prelude.{slice_index_or, []}
+use Rattle.std.specs.Prelude.{slice_index_or}
 use Rattle.sect_front.specs.declared.tree.Locking.TheVariants.{Inferred}
 use Rattle.sect_places.specs.Spans.{no_span}
 use Rattle.sect_lint.specs.Json.{span_json}

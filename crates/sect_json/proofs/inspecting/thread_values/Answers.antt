@@ -9,7 +9,7 @@ use Rattle.sect_json.proofs.inspecting.thread_values.Goals as goal
 pub loop-thread-preserved : goal.loop-thread-preserved
 loop-thread-preserved c =
     let of = c.args.of.now in
-    range_more (thread_json of.compiled.now of.source.now of.spans.now) c.loop-thread.thread c.loop-thread.values.items
+    range_more (thread_json of.compiled.now of.source.now of.spans.now of.names.now) c.loop-thread.thread c.loop-thread.values.items
     c.push.new.self.items c.in_ok-thread_value.field-0 c.loop-thread.invariant c.in_ok-push.ensures.items
     c.in_ok-thread_value.ensures
 
@@ -22,4 +22,4 @@ returns c =
     let all : c.loop-thread.thread ≡ length v.scheme.program.texts =
     omega (arith, c.loop-thread-test.false, c.loop-thread.auto.thread-end, count) in
     c.loop-thread.invariant
-    ∙ ap (λ n. map (thread_json v of.source.now of.spans.now) (range_with_len 0 n)) all
+    ∙ ap (λ n. map (thread_json v of.source.now of.spans.now of.names.now) (range_with_len 0 n)) all

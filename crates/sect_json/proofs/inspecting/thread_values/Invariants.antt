@@ -6,4 +6,4 @@ use Rattle.sect_json.proofs.inspecting.thread_values.Given as goal
 
 abbrev pub invariant-loop-thread : goal.invariant-loop-thread
 invariant-loop-thread l = map view l.values.items
-    ≡ map (thread_json l.of.compiled.now l.of.source.now l.of.spans.now) (range_with_len 0 l.thread)
+    ≡ map (thread_json l.of.compiled.now l.of.source.now l.of.spans.now l.of.names.now) (range_with_len 0 l.thread)

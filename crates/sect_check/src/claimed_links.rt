@@ -70,6 +70,16 @@ impl ClaimedLinks {
         }
     }
 
+    /// Whether the locks of two links are kept as one. Then they are equal.
+    pub fn is_one(&self, index: usize, other: usize) -> bool
+        requires index { index < length self.now }
+        requires other { other < length self.now }
+        ensures { IsTrue result → (a b : Link) → slice_get self.now index ≡ Some a
+            → slice_get self.now other ≡ Some b → a.lock ≡ b.lock }
+    {
+        self.locks.is_one(index, other)
+    }
+
     /// Adds a link at the end.
     pub fn push(&mut self, node: u32, lock: Lock) -> Result<(), AllocError>
         ensures { OnOk result (self.new ≡ self.old ++ link node lock ∷ []) }

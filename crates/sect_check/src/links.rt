@@ -1,6 +1,6 @@
 //! Whether the steps of a claimed chain link to each other.
 
-ghost use Rattle.std.specs.Prelude.{◌≡◌, ◌≤◌, ◌<◌, ◌↔◌, length, slice_get, Some, MatchOption, IfOk, IsTrue};
+ghost use Rattle.std.specs.Prelude.{◌≡◌, ◌≤◌, ◌<◌, ◌-◌, ◌↔◌, length, slice_get, Some, MatchOption, IfOk, IsTrue};
 ghost use Rattle.sect_graph.specs.Paths.{IsSuccessor};
 ghost use Rattle.sect_names.specs.Locks.{IsLockOf};
 ghost use Rattle.sect_names.specs.Carrying.{CarriedBack};
@@ -79,19 +79,28 @@ fn is_carried_back(
     Ok(has(carried.as_slice(), before))
 }
 
-/// Whether a step links to another.
+/// A step of a claimed chain and the one behind it, and whether their locks are known to be one.
+#[derive(Clone, Copy)]
+struct Pair<'a> {
+    step: ClaimedLink<'a>,
+    next: ClaimedLink<'a>,
+    same: bool,
+}
+
+/// Whether a step links to another. Mostly its lock is that one's, and stays.
 fn links_to(
     alloc: Global,
     scheme: &Scheme,
     thread: u16,
     flow: &Flow,
-    step: ClaimedLink<'_>,
-    next: ClaimedLink<'_>,
+    pair: Pair<'_>,
 ) -> Result<bool, AllocError>
-    requires { IsLockOf scheme.now thread next.lock.now }
+    requires lawful { IsLockOf scheme.now thread pair.next.lock.now }
+    requires same { IsTrue pair.same → pair.step.lock.now ≡ pair.next.lock.now }
     ensures { IfOk result (λ it. IsTrue it ↔ LinksTo scheme.now thread flow.now
-        (link step.entry.node step.entry.lock.now) (link next.entry.node next.entry.lock.now)) }
+        (link pair.entry.step.node pair.entry.step.lock.now) (link pair.entry.next.node pair.entry.next.lock.now)) }
 {
+    let Pair { step, next, same } = pair;
     let Some(node) = node_of(flow, step.node) else {
         return Ok(false);
     };
@@ -99,7 +108,25 @@ fn links_to(
         return Ok(false);
     }
     let label = flow.action(node);
+    if same && stays(thread, &label, next.lock) {
+        return Ok(true);
+    }
     is_carried_back(alloc, scheme, thread, &label, next.lock, step.lock)
+}
+
+/// The step at an index, behind another, and that one.
+fn pair_at(links: &ClaimedLinks, number: usize) -> Pair<'_>
+    requires past { 0 < number }
+    requires there { number < length links.now }
+    ensures step { slice_get links.now (number - 1) ≡ Some (link result.step.node result.step.lock.now) }
+    ensures next { slice_get links.now number ≡ Some (link result.next.node result.next.lock.now) }
+    ensures same { IsTrue result.same → result.step.lock.now ≡ result.next.lock.now }
+{
+    Pair {
+        step: links.at(number - 1),
+        next: links.at(number),
+        same: links.is_one(number - 1, number),
+    }
 }
 
 /// Whether the steps begin at the entry with this lock.
@@ -129,11 +156,10 @@ fn is_right(
         × EndsRight scheme.now thread (end_locks locking) flow.now links.now number)) }
 {
     let count = links.len();
-    let step = links.at(number);
-    if number > 0 && !links_to(alloc, scheme, thread, flow, links.at(number - 1), step)? {
+    if number > 0 && !links_to(alloc, scheme, thread, flow, pair_at(links, number))? {
         return Ok(false);
     }
-    Ok(number + 1 < count || is_generated(alloc, scheme, thread, locking, flow, step))
+    Ok(number + 1 < count || is_generated(alloc, scheme, thread, locking, flow, links.at(number)))
 }
 
 /// The first step at which these aren't a chain of the lock.

@@ -39,7 +39,7 @@ pub fn explanation(
 {
     let mut text = String::new(alloc);
     for section in 0..compiled.scheme().program().section_count() {
-        put_section(alloc, &mut text, compiled, lines, section)?;
+        put_explained_section(alloc, &mut text, compiled, lines, section)?;
     }
     Ok(text.into_bytes())
 }
@@ -54,8 +54,9 @@ struct Explained<'a> {
     lines: &'a [NodeLine],
 }
 
-/// Adds the lines of a section of a compiled program.
-fn put_section(
+/// Adds the lines that say why a section of a compiled program takes its locks: its number and its thread, and for each
+/// lock, in order, its chain. `lines` has those of the nodes of each section.
+pub fn put_explained_section(
     alloc: Global,
     text: &mut String,
     compiled: &Compiled,

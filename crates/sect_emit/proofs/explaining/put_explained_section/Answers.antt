@@ -10,7 +10,7 @@ use Rattle.sect_names.specs.Schemes.{SchemeView}
 use Rattle.sect_emit.proofs.Explained.{explained}
 use Rattle.sect_emit.proofs.Graphed.{section_graph, section_named}
 use Rattle.sect_emit.proofs.Numbered.{on_ok}
-use Rattle.sect_emit.proofs.explaining.put_section.Goals as goal
+use Rattle.sect_emit.proofs.explaining.put_explained_section.Goals as goal
 
 pub put_explained-requires-clause-nodes : goal.put_explained-requires-clause-nodes
 put_explained-requires-clause-nodes c =

@@ -1,5 +1,5 @@
 -- What a run answers to its words and its input. `command` cites it.
-use Rattle.std.specs.Prelude.{◌≡◌, ◌≢◌, ◌⊎◌, ◌++◌, ℕ, Option, List, Result, Ok, IfSome, codes}
+use Rattle.std.specs.Prelude.{◌≡◌, ◌≢◌, ◌≤◌, ◌⊎◌, ◌++◌, ℕ, Option, List, Result, Ok, IfSome, codes}
 use Rattle.std.specs.Io.KnownBytes.{Appends}
 use Rattle.sect_infer.specs.Workers.{AreOffered}
 use Rattle.sect_answers.specs.Answers.{IsAnswer, IsDue}
@@ -85,9 +85,11 @@ IsAnswerTold told old new status =
     (status ≡ FAILED)
     ⊎ ((answer : Answer) × (told ≡ Ok answer) × (answer.status ≡ status) × Appends old new answer.text.items)
 
--- the bytes are those of a session with an editor, for which this is written, and which has this status
-abbrev pub IsServed : Option (List ℕ) → Option (List ℕ) → ℕ → List ℕ → Type 0
-IsServed old new status bytes = (sent : List ℕ) × IsSession bytes sent status × Appends old new sent
+-- this is written for an editor, and the status is 0 or 1; where the bytes of the input are known, they are those of a
+-- session for which it is written, and which has this status
+abbrev pub IsServed : Option (List ℕ) → Option (List ℕ) → Option (List ℕ) → ℕ → Type 0
+IsServed input old new status =
+    (status ≤ 1) × ((sent : List ℕ) × Appends old new sent × IfSome input (λ bytes. IsSession bytes sent status))
 
 -- the run has failed; or its status is that of a right answer, whose text the output has behind what it had; or it was
 -- a session with an editor
@@ -95,4 +97,4 @@ abbrev pub IsTold : Option (List ℕ) → Option (List ℕ) → Option (List ℕ
 IsTold input old new status =
     (status ≡ FAILED)
     ⊎ (((answer : Answer) × (answer.status ≡ status) × IsRightForWords input answer × Appends old new answer.text.items)
-    ⊎ IfSome input (IsServed old new status))
+    ⊎ IsServed input old new status)

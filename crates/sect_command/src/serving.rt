@@ -1,6 +1,6 @@
 //! A session with an editor.
 
-ghost use Rattle.std.specs.Prelude.{◌≡◌, ◌⊎◌, false, IfOk, IfSome};
+ghost use Rattle.std.specs.Prelude.{◌≡◌, ◌⊎◌, false, IfOk};
 ghost use Rattle.clap.specs.declared.builder.command.Command.TheViews.{out-Command as fields_of};
 ghost use Rattle.sect_command.specs.declared.dispatch.TheConstants.{FAILED};
 ghost use Rattle.sect_command.specs.Requests.{IsServed};
@@ -22,7 +22,7 @@ pub fn lsp_command<'a>(alloc: Global) -> Result<Command<'a>, AllocError>
 /// Serves an editor until one of the two ends. It gives the exit status.
 pub fn served<I: Read + Drop, O: Write>(alloc: Global, mut input: I, output: &mut O) -> u8
     ensures { (result ≡ FAILED)
-        ⊎ IfSome (I.remaining input) (IsServed (O.contents output.old) (O.contents output.new) result) }
+        ⊎ IsServed (I.remaining input) (O.contents output.old) (O.contents output.new) result }
 {
     match serve(alloc, &mut input, output) {
         Ok(status) => status,

@@ -64,9 +64,22 @@ appends_more (Some xs) None z a b p q = absurd p
 appends_more (Some xs) (Some ys) None a b p q = absurd q
 appends_more (Some xs) (Some ys) (Some zs) a b p q = q ∙ ap (λ bs. bs ++ b) p ∙ append_assoc xs a b
 
-appends_none : (x : Option (List ℕ)) → Appends x x []
+pub appends_none : (x : Option (List ℕ)) → Appends x x []
 appends_none None = tt
 appends_none (Some xs) = sym (append-nil xs)
+
+-- what was written, and then an answer
+pub writes_more : (old mid new : Option (List ℕ)) (s : ServerView) (m : List ℕ) (t : ServerView)
+    → ((sent : List ℕ) × Appends old mid sent) → IsAnswered s m t mid new → (sent : List ℕ) × Appends old new sent
+writes_more old mid new s m t written answered =
+    (written.0 ++ answered.1, appends_more old mid new written.0 answered.1 written.1 answered.4)
+
+-- what is written is that of the session, where the bytes of the reader are known
+pub served : (left old new : Option (List ℕ)) (status : ℕ) → ((sent : List ℕ) × Appends old new sent)
+    → IfSome left (λ bytes. (sent : List ℕ) × IsSession bytes sent status × Appends old new sent)
+    → (sent : List ℕ) × Appends old new sent × IfSome left (λ bytes. IsSession bytes sent status)
+served None old new status written session = (written.0, written.1, tt)
+served (Some bytes) old new status written session = (session.0, session.2, session.1)
 
 -- where a reader that gave no byte is at its end it was there before
 pub at_end_before : (x y : Option (List ℕ)) → Consumes x y [] → IsAtEnd y → IsAtEnd x

@@ -1,8 +1,9 @@
+mod Choosing
 mod Finding
 mod Going
 mod Answering
 mod Keeping
 mod Listing
-mod Proper
 mod Within
+mod Wording
 pub mod shared

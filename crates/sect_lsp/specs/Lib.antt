@@ -10,6 +10,12 @@ pub mod Mistaken
 pub mod Warned
 pub mod Referring
 pub mod Queries
+pub mod Accepted
+pub mod Marks
+pub mod Hovering
+pub mod Words
+pub mod Completing
+pub mod Asking
 pub mod Sessions
 pub mod Answered
 pub mod steps

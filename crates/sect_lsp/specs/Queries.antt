@@ -25,7 +25,7 @@ use Rattle.sect_lsp.specs.Changes.{place_in}
 use Rattle.sect_lsp.specs.Positions.{offset}
 use Rattle.sect_lsp.specs.Protocol.{ReplyView, Result, Error}
 use Rattle.sect_lsp.specs.Ranges.{count, list, range_json, location_json}
-use Rattle.sect_lsp.specs.Referring.{name_at, declaration_of, uses_of}
+use Rattle.sect_lsp.specs.Referring.{declared_under, uses_of}
 
 -- the names of a text. One that spells no tree has none
 abbrev pub AreNamesOf : List ℕ → List NameSpan → Type 0
@@ -66,8 +66,7 @@ place_of d = option_and_then place_in (pointer (codes "/params/position") d)
 -- the declaration of the name at a place
 abbrev pub declared_at : Encoding → List ℕ → List NameSpan → Option Place → Option NameSpan
 declared_at encoding source names None = None
-declared_at encoding source names (Some place) =
-    option_and_then (declaration_of names) (name_at names (offset encoding place source))
+declared_at encoding source names (Some place) = declared_under names (offset encoding place source)
 
 abbrev pub definition_json : List ℕ → List ℕ → Option NameSpan → Data
 definition_json uri source None = null

@@ -1,6 +1,6 @@
 -- Which declaration a name of a text refers to, and which names refer to it.
 use Rattle.std.specs.Prelude.{ℕ, Bool, false, ◌&&◌, List, Option, Some, None, map, filter}
-use Rattle.std.specs.Prelude.{nat_eq, nat_le, position, slice_get}
+use Rattle.std.specs.Prelude.{nat_eq, nat_le, position, slice_get, option_and_then}
 use Rattle.std.specs.Cmp.Lexicographic.{pointwise}
 use Rattle.sect_front.specs.declared.span.Span.{Span}
 use Rattle.sect_places.specs.declared.name_use.NameSpan.{NameSpan}
@@ -61,6 +61,10 @@ touches at n = nat_le n.span.start at && nat_le at n.span.end
 -- the name at a place, the first that it touches
 abbrev pub name_at : List NameSpan → ℕ → Option NameSpan
 name_at names at = found names (position (touches at) names)
+
+-- the declaration of the name at a place
+abbrev pub declared_under : List NameSpan → ℕ → Option NameSpan
+declared_under names at = option_and_then (declaration_of names) (name_at names at)
 
 abbrev pub is_there : NameSpan → Option NameSpan → Bool
 is_there d None = false

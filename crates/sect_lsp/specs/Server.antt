@@ -9,8 +9,10 @@ use Rattle.sect_lsp.specs.declared.position.Encoding.{Encoding}
 use Rattle.sect_lsp.specs.declared.position.Encoding.TheVariants.{Utf8, Utf16}
 use Rattle.sect_lsp.specs.declared.protocol.Fault.{Fault}
 use Rattle.sect_lsp.specs.declared.protocol.Fault.TheVariants as fault
-use Rattle.sect_lsp.specs.declared.query.Query.{Query}
 use Rattle.sect_lsp.specs.declared.query.Query.TheVariants as query
+use Rattle.sect_lsp.specs.declared.question.Question.{Question}
+use Rattle.sect_lsp.specs.declared.question.Question.TheVariants as question
+use Rattle.sect_lsp.specs.declared.question.Reading.{Reading}
 use Rattle.sect_lsp.specs.declared.server.Phase.{Phase}
 use Rattle.sect_lsp.specs.declared.server.Phase.TheVariants as phase
 use Rattle.sect_lsp.specs.declared.server.Asked.{Asked}
@@ -21,7 +23,7 @@ use Rattle.sect_lsp.specs.declared.server.TheConstants.{DEFAULT_K, MOST_K}
 use Rattle.sect_lsp.specs.Changes.{after_changes}
 use Rattle.sect_lsp.specs.Diagnosing.{AreDiagnostics}
 use Rattle.sect_lsp.specs.Documents.{DocumentView, text_of, closed, opened}
-use Rattle.sect_lsp.specs.Queries.{IsReply}
+use Rattle.sect_lsp.specs.Asking.{IsReplyTo}
 use Rattle.sect_lsp.specs.Protocol.{Kind, Request, Notification, Response, Invalid, kind_of, ReplyView, Result, Error}
 use Rattle.sect_lsp.specs.Protocol.{IsRead, response_json, notification_json}
 
@@ -44,11 +46,15 @@ abbrev pub asked_by : List ℕ → Asked
 asked_by method =
     if bytes_eq method (codes "initialize") then asked.Initialize
     else if bytes_eq method (codes "shutdown") then asked.Shutdown
-    else if bytes_eq method (codes "textDocument/documentSymbol") then asked.Query query.Symbols
-    else if bytes_eq method (codes "textDocument/definition") then asked.Query query.Definition
-    else if bytes_eq method (codes "textDocument/references") then asked.Query query.References
-    else if bytes_eq method (codes "textDocument/documentHighlight") then asked.Query query.Highlights
-    else if bytes_eq method (codes "textDocument/rename") then asked.Query query.Rename
+    else if bytes_eq method (codes "textDocument/documentSymbol") then asked.Document (question.Names query.Symbols)
+    else if bytes_eq method (codes "textDocument/definition") then asked.Document (question.Names query.Definition)
+    else if bytes_eq method (codes "textDocument/references") then asked.Document (question.Names query.References)
+    else if bytes_eq method (codes "textDocument/documentHighlight") then asked.Document (question.Names query.Highlights)
+    else if bytes_eq method (codes "textDocument/rename") then asked.Document (question.Names query.Rename)
+    else if bytes_eq method (codes "textDocument/hover") then asked.Document question.Hover
+    else if bytes_eq method (codes "textDocument/inlayHint") then asked.Document question.Hints
+    else if bytes_eq method (codes "textDocument/codeLens") then asked.Document question.Lenses
+    else if bytes_eq method (codes "textDocument/completion") then asked.Document question.Completion
     else asked.Unknown
 
 -- the text is among these values
@@ -84,19 +90,34 @@ abbrev pub encoding_name : Encoding → List ℕ
 encoding_name Utf8 = codes "utf-8"
 encoding_name Utf16 = codes "utf-16"
 
--- what the server can do
-abbrev pub capabilities_json : Encoding → Data
-capabilities_json encoding =
-    object (member (codes "capabilities")
-    (object (member (codes "definitionProvider") (boolean true)
+-- a change is the whole text or a range, and documents are opened and closed
+abbrev pub sync_json : Data
+sync_json =
+    object (member (codes "change") (number (unsigned 2)) (member (codes "openClose") (boolean true) no_members))
+
+-- completion is asked for behind a dot, too
+abbrev pub completion_json : Data
+completion_json =
+    object (member (codes "triggerCharacters") (array (item (string (codes ".")) no_items)) no_members)
+
+abbrev pub able_json : Encoding → Data
+able_json encoding =
+    object (member (codes "codeLensProvider") (object no_members)
+    (member (codes "completionProvider") completion_json
+    (member (codes "definitionProvider") (boolean true)
     (member (codes "documentHighlightProvider") (boolean true)
     (member (codes "documentSymbolProvider") (boolean true)
+    (member (codes "hoverProvider") (boolean true)
+    (member (codes "inlayHintProvider") (boolean true)
     (member (codes "positionEncoding") (string (encoding_name encoding))
     (member (codes "referencesProvider") (boolean true)
     (member (codes "renameProvider") (boolean true)
-    (member (codes "textDocumentSync")
-    (object (member (codes "change") (number (unsigned 2)) (member (codes "openClose") (boolean true) no_members)))
-    no_members))))))))
+    (member (codes "textDocumentSync") sync_json no_members)))))))))))
+
+-- what the server can do
+abbrev pub capabilities_json : Encoding → Data
+capabilities_json encoding =
+    object (member (codes "capabilities") (able_json encoding)
     (member (codes "serverInfo") (object (member (codes "name") (string (codes "sectc")) no_members)) no_members))
 
 abbrev pub Begins : ServerView → Data → Option ℕ → ReplyView → ServerView → Type 0
@@ -120,20 +141,24 @@ RepliesWaiting s _ d reply t = Refuses s reply t fault.ServerNotInitialized
 abbrev pub uri_of : Data → Option (List ℕ)
 uri_of d = option_and_then as_str (pointer (codes "/params/textDocument/uri") d)
 
--- of a document that isn't open nothing is answered
-abbrev pub IsQueryReply : ServerView → Query → Data → List ℕ → Option (List ℕ) → ReplyView → Type 0
-IsQueryReply s q d uri None reply = reply ≡ Error fault.InvalidParams
-IsQueryReply s q d uri (Some source) reply = IsReply q s.encoding d uri source reply
+-- how texts are read
+abbrev pub reading_of : ServerView → Reading
+reading_of s = record { k = s.k; encoding = s.encoding }
 
-abbrev pub IsQueried : ServerView → Query → Data → Option (List ℕ) → ReplyView → Type 0
-IsQueried s q d None reply = reply ≡ Error fault.InvalidParams
-IsQueried s q d (Some uri) reply = IsQueryReply s q d uri (text_of uri s.documents) reply
+-- of a document that isn't open nothing is answered
+abbrev pub IsTextReply : ServerView → Question → Data → List ℕ → Option (List ℕ) → ReplyView → Type 0
+IsTextReply s q d uri None reply = reply ≡ Error fault.InvalidParams
+IsTextReply s q d uri (Some source) reply = IsReplyTo q (reading_of s) d uri source reply
+
+abbrev pub IsDocumentReply : ServerView → Question → Data → Option (List ℕ) → ReplyView → Type 0
+IsDocumentReply s q d None reply = reply ≡ Error fault.InvalidParams
+IsDocumentReply s q d (Some uri) reply = IsTextReply s q d uri (text_of uri s.documents) reply
 
 -- while the server serves
 abbrev pub RepliesServing : ServerView → Asked → Data → ReplyView → ServerView → Type 0
 RepliesServing s asked.Initialize d reply t = Refuses s reply t fault.InvalidRequest
 RepliesServing s asked.Shutdown d reply t = (reply ≡ Result null) × (t ≡ in_phase phase.ShutDown s)
-RepliesServing s (asked.Query q) d reply t = IsQueried s q d (uri_of d) reply × (t ≡ s)
+RepliesServing s (asked.Document q) d reply t = IsDocumentReply s q d (uri_of d) reply × (t ≡ s)
 RepliesServing s asked.Unknown d reply t = Refuses s reply t fault.MethodNotFound
 
 abbrev pub RepliesBy : Phase → ServerView → Asked → Data → ReplyView → ServerView → Type 0

@@ -3,3 +3,5 @@ pub mod Fronts
 pub mod Replying
 pub mod Underway
 pub mod Naming
+pub mod Marking
+pub mod Pointing

@@ -41,7 +41,7 @@ fn place_at(value: &Value, key: &str) -> Option<Place>
 }
 
 /// From one position to another.
-fn range_in(value: &Value) -> Option<Range>
+pub fn range_in(value: &Value) -> Option<Range>
     ensures { result ≡ range_by (view value.now) }
 {
     let start = place_at(value, "start")?;

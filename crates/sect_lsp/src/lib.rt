@@ -1,21 +1,29 @@
 //! A language server: what an editor tells and asks of the texts that are open, and what is answered.
 #![tactic(auto)]
 
+mod accepted;
 mod change;
+mod completion;
+mod declaring;
 mod diagnosing;
 mod documents;
 mod framing;
+mod hover;
 mod laws;
+mod marks;
 mod mistakes;
+mod objects;
 mod position;
 mod protocol;
 mod query;
+mod question;
 mod ranges;
 mod referring;
 mod reply;
 mod server;
 mod session;
 mod warned;
+mod words;
 
 pub use documents::Documents;
 pub use framing::{Front, Inbox, Taken, frame_of, pieces_change_no_message};

@@ -7,7 +7,6 @@ ghost use Rattle.sect_lsp.specs.Queries.{AreNamesOf, symbol_kind as symbol_kind_
 ghost use Rattle.sect_lsp.specs.Queries.{symbol_json};
 ghost use Rattle.sect_lsp.specs.Changes.{place_in as place_in_by};
 ghost use Rattle.serde_json.specs.Find.{pointer as pointer_by, as_str};
-ghost use Rattle.sect_lsp.specs.Referring.{declaration_of as declaration_by};
 ghost use Rattle.std.specs.List.{list_any};
 ghost use Rattle.sect_lsp.specs.Queries.{declared_at as declared_by, definition_json, uses_by, highlight_json};
 ghost use Rattle.sect_lsp.specs.Queries.{clashes as clashes_by, takes as takes_by, may_be_called as may_be_called_by};
@@ -20,14 +19,14 @@ use crate::change::place_in;
 use crate::position::{Encoding, Place, offset};
 use crate::protocol::Fault;
 use crate::ranges::{location_value, range_value};
-use crate::referring::{declaration_of, name_at, uses_of};
+use crate::referring::{declared_under, uses_of};
 use crate::reply::Reply;
 use sect_front::{FrontFault, Span, is_name};
 use sect_places::{NameSpan, Role, Thing, name_spans};
 use serde_json::{Value, json};
 use std::alloc::{AllocError, Global};
 
-/// What may be asked of a document.
+/// What may be asked of a document that its names tell.
 #[derive(Clone, Copy, Debug, PartialEq, Eq)]
 pub enum Query {
     /// What it declares.
@@ -132,20 +131,10 @@ fn symbols_value(alloc: Global, source: &[u8], names: &[NameSpan]) -> Result<Val
 }
 
 /// The position at a place of a message.
-fn place_at(message: &Value, path: &str) -> Option<Place>
+pub fn place_at(message: &Value, path: &str) -> Option<Place>
     ensures { result ≡ option_and_then place_in_by (pointer_by path.now (view message.now)) }
 {
     place_in(message.pointer(path)?)
-}
-
-/// The declaration that a name refers to, if there is a name.
-fn declaration_named(names: &[NameSpan], named: Option<NameSpan>) -> Option<NameSpan>
-    ensures { result ≡ option_and_then (declaration_by names.now) named }
-{
-    match named {
-        Some(named) => declaration_of(names, &named),
-        None => None,
-    }
 }
 
 /// The declaration of the name at a place, if one is told.
@@ -158,7 +147,7 @@ fn declared_at(
     ensures { result ≡ declared_by encoding source.now names.now place }
 {
     match place {
-        Some(place) => declaration_named(names, name_at(names, offset(encoding, source, place))),
+        Some(place) => declared_under(names, offset(encoding, source, place)),
         None => None,
     }
 }

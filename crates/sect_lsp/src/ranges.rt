@@ -11,7 +11,7 @@ use serde_json::{Value, json};
 use std::alloc::{AllocError, Global};
 
 /// A place.
-fn place_value(alloc: Global, source: &[u8], at: usize) -> Result<Value, AllocError>
+pub fn place_value(alloc: Global, source: &[u8], at: usize) -> Result<Value, AllocError>
     requires { at ≤ length source.now }
     ensures { IfOk result (λ v. view v ≡ place_json source.now at) }
 {

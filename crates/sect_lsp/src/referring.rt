@@ -4,7 +4,7 @@ ghost use Rattle.std.specs.Prelude.{◌≡◌, ◌<◌, IfSome, IfOk, length, po
 ghost use Rattle.sect_lsp.specs.Referring.{found as found_by, variable as variable_by, base_record as base_record_by};
 ghost use Rattle.sect_lsp.specs.Referring.{base_by, type_by, record_by, field_by, declaration_of as declaration_by};
 ghost use Rattle.sect_lsp.specs.Referring.{touches as touches_by, name_at as name_at_by, is_there as is_there_by};
-ghost use Rattle.sect_lsp.specs.Referring.{refers as refers_by, uses_of as uses_by};
+ghost use Rattle.sect_lsp.specs.Referring.{declared_under as declared_under_by, refers as refers_by, uses_of as uses_by};
 
 use sect_front::{Name, Span};
 use sect_places::{
@@ -41,7 +41,7 @@ fn base_of(names: &[NameSpan], base: Option<NameSpan>) -> Option<NameSpan>
 }
 
 /// The name of the record that a declaration refers to.
-fn type_of(names: &[NameSpan], declared: Option<NameSpan>) -> Option<NameSpan>
+pub fn type_of(names: &[NameSpan], declared: Option<NameSpan>) -> Option<NameSpan>
     ensures { result ≡ type_by names.now declared }
 {
     match declared {
@@ -112,6 +112,16 @@ pub fn name_at(names: &[NameSpan], at: usize) -> Option<NameSpan>
     ensures { result ≡ name_at_by names.now at }
 {
     found(names, number_at(names, at))
+}
+
+/// The declaration of the name at a place, if one is told.
+pub fn declared_under(names: &[NameSpan], at: usize) -> Option<NameSpan>
+    ensures { result ≡ declared_under_by names.now at }
+{
+    match name_at(names, at) {
+        Some(named) => declaration_of(names, &named),
+        None => None,
+    }
 }
 
 /// Whether this is the declaration.

@@ -5,11 +5,12 @@ ghost use Rattle.serde_json.specs.Find.{pointer as pointer_by, as_str, as_array}
 ghost use Rattle.serde_json.specs.View.{view, items_view};
 ghost use Rattle.sect_lsp.specs.Protocol.{kind_of};
 ghost use Rattle.sect_lsp.specs.Server.{asked_by, told_by, has_text as has_text_by, encoding_of as encoding_by};
-ghost use Rattle.sect_lsp.specs.Server.{k_of as k_by, encoding_name, capabilities_json, phase_after_exit};
+ghost use Rattle.sect_lsp.specs.Server.{k_of as k_by, encoding_name, sync_json, completion_json, able_json};
+ghost use Rattle.sect_lsp.specs.Server.{capabilities_json, phase_after_exit};
 ghost use Rattle.sect_lsp.specs.Server.{diagnostics_json, text_at_opening, text_after, uri_of, in_phase, start};
 ghost use Rattle.sect_lsp.specs.Server.{RepliesServing, RepliesBy, Notes, NotesOf, Receives, Step};
 ghost use Rattle.sect_lsp.specs.Documents.{text_of};
-ghost use Rattle.sect_lsp.specs.Server.{Keeps, Begins, Forgets, IsQueryReply, IsQueried};
+ghost use Rattle.sect_lsp.specs.Server.{Keeps, Begins, Forgets, reading_of, IsTextReply, IsDocumentReply};
 ghost use Rattle.sect_lsp.specs.steps.Replying.{reply_view};
 
 use crate::change::after_changes;
@@ -17,7 +18,8 @@ use crate::diagnosing::diagnostics_of;
 use crate::documents::Documents;
 use crate::position::Encoding;
 use crate::protocol::{Fault, is_id, notification_message, read, refusal_message};
-use crate::query::{Query, Text, answer_query, text_at};
+use crate::query::{Query, Text, text_at};
+use crate::question::{Question, Reading, answer};
 use crate::reply::{Reply, response};
 use serde_json::{Value, json};
 use std::alloc::{AllocError, Global};
@@ -49,7 +51,7 @@ pub enum Asked {
     Initialize,
     Shutdown,
     /// Something of a document.
-    Query(Query),
+    Document(Question),
     Unknown,
 }
 
@@ -70,11 +72,15 @@ fn asked_of(method: &str) -> Asked
     match method {
         "initialize" => Asked::Initialize,
         "shutdown" => Asked::Shutdown,
-        "textDocument/documentSymbol" => Asked::Query(Query::Symbols),
-        "textDocument/definition" => Asked::Query(Query::Definition),
-        "textDocument/references" => Asked::Query(Query::References),
-        "textDocument/documentHighlight" => Asked::Query(Query::Highlights),
-        "textDocument/rename" => Asked::Query(Query::Rename),
+        "textDocument/documentSymbol" => Asked::Document(Question::Names(Query::Symbols)),
+        "textDocument/definition" => Asked::Document(Question::Names(Query::Definition)),
+        "textDocument/references" => Asked::Document(Question::Names(Query::References)),
+        "textDocument/documentHighlight" => Asked::Document(Question::Names(Query::Highlights)),
+        "textDocument/rename" => Asked::Document(Question::Names(Query::Rename)),
+        "textDocument/hover" => Asked::Document(Question::Hover),
+        "textDocument/inlayHint" => Asked::Document(Question::Hints),
+        "textDocument/codeLens" => Asked::Document(Question::Lenses),
+        "textDocument/completion" => Asked::Document(Question::Completion),
         _ => Asked::Unknown,
     }
 }
@@ -153,23 +159,48 @@ fn name_of(encoding: Encoding) -> &'static str
     }
 }
 
+/// A change is the whole text or a range, and documents are opened and closed.
+fn sync_value(alloc: Global) -> Result<Value, AllocError>
+    ensures { IfOk result (λ v. view v ≡ sync_json) }
+{
+    json!(in alloc; {"change": 2, "openClose": true})
+}
+
+/// Completion is asked for behind a dot, too.
+fn completion_options(alloc: Global) -> Result<Value, AllocError>
+    ensures { IfOk result (λ v. view v ≡ completion_json) }
+{
+    json!(in alloc; {"triggerCharacters": ["."]})
+}
+
+/// What may be asked.
+fn able_value(alloc: Global, encoding: Encoding) -> Result<Value, AllocError>
+    ensures { IfOk result (λ v. view v ≡ able_json encoding) }
+{
+    let sync = sync_value(alloc)?;
+    let completion = completion_options(alloc)?;
+    let name = name_of(encoding);
+    json!(in alloc; {
+        "codeLensProvider": {},
+        "completionProvider": completion,
+        "definitionProvider": true,
+        "documentHighlightProvider": true,
+        "documentSymbolProvider": true,
+        "hoverProvider": true,
+        "inlayHintProvider": true,
+        "positionEncoding": name,
+        "referencesProvider": true,
+        "renameProvider": true,
+        "textDocumentSync": sync
+    })
+}
+
 /// What the server can do.
 fn capabilities(alloc: Global, encoding: Encoding) -> Result<Value, AllocError>
     ensures { IfOk result (λ v. view v ≡ capabilities_json encoding) }
 {
-    let name = name_of(encoding);
-    json!(in alloc; {
-        "capabilities": {
-            "definitionProvider": true,
-            "documentHighlightProvider": true,
-            "documentSymbolProvider": true,
-            "positionEncoding": name,
-            "referencesProvider": true,
-            "renameProvider": true,
-            "textDocumentSync": {"change": 2, "openClose": true}
-        },
-        "serverInfo": {"name": "sectc"}
-    })
+    let able = able_value(alloc, encoding)?;
+    json!(in alloc; {"capabilities": able, "serverInfo": {"name": "sectc"}})
 }
 
 /// The message that the diagnostics of a document are these.
@@ -256,31 +287,47 @@ impl Server {
         Ok(Reply::Result(able))
     }
 
+    /// How texts are read.
+    fn reading(&self) -> Reading
+        ensures reading { result ≡ reading_of self.now }
+        ensures most { result.k ≤ MOST_K }
+    {
+        Reading {
+            k: self.k,
+            encoding: self.encoding,
+        }
+    }
+
     /// Answers what is asked of the text of a document.
-    fn query_text(
+    fn answer_text(
         &self,
         alloc: Global,
-        query: Query,
+        question: Question,
         uri: &str,
         message: &Value,
     ) -> Result<Reply, AllocError>
-        ensures { IfOk result (λ reply. IsQueryReply self.now query (view message.now) uri.now
+        ensures { IfOk result (λ reply. IsTextReply self.now question (view message.now) uri.now
             (text_of uri.now self.now.documents) (reply_view reply)) }
     {
         let Some(source) = self.documents.text(uri) else {
             return Ok(Reply::Error(Fault::InvalidParams));
         };
         let text = Text { uri, source };
-        answer_query(alloc, query, self.encoding, text, message)
+        answer(alloc, question, self.reading(), text, message)
     }
 
     /// Answers what is asked of a document.
-    fn query(&self, alloc: Global, query: Query, message: &Value) -> Result<Reply, AllocError>
-        ensures { IfOk result (λ reply. IsQueried self.now query (view message.now) (uri_of (view message.now))
-            (reply_view reply)) }
+    fn answer_document(
+        &self,
+        alloc: Global,
+        question: Question,
+        message: &Value,
+    ) -> Result<Reply, AllocError>
+        ensures { IfOk result (λ reply. IsDocumentReply self.now question (view message.now)
+            (uri_of (view message.now)) (reply_view reply)) }
     {
         match text_at(message, "/params/textDocument/uri") {
-            Some(uri) => self.query_text(alloc, query, uri, message),
+            Some(uri) => self.answer_text(alloc, question, uri, message),
             None => Ok(Reply::Error(Fault::InvalidParams)),
         }
     }
@@ -300,7 +347,7 @@ impl Server {
                 self.phase = Phase::ShutDown;
                 Ok(Reply::Result(Value::Null))
             }
-            Asked::Query(query) => self.query(alloc, query, message),
+            Asked::Document(question) => self.answer_document(alloc, question, message),
             Asked::Unknown => Ok(Reply::Error(Fault::MethodNotFound)),
         }
     }

@@ -1,6 +1,6 @@
 //! A session over any reader and writer.
 
-ghost use Rattle.std.specs.Prelude.{◌≡◌, ◌++◌, ℕ, List, false, IfOk, OnOk, IfSome, map};
+ghost use Rattle.std.specs.Prelude.{◌≡◌, ◌≤◌, ◌++◌, ℕ, List, false, IfOk, OnOk, IfSome, map};
 ghost use Rattle.std.specs.Io.KnownBytes.{Appends, Consumes, IsAtEnd};
 ghost use Rattle.std.specs.String.{string_bytes};
 ghost use Rattle.serde_json.specs.View.{view};
@@ -95,7 +95,8 @@ fn has_ended(phase: Phase) -> bool
 
 /// The status of the program, where the bytes end so.
 fn status_of(phase: Phase, front: Front) -> u8
-    ensures { result ≡ status_by phase front }
+    ensures status { result ≡ status_by phase front }
+    ensures most { result ≤ 1 }
 {
     match (phase, front) {
         (Phase::Done, _) | (Phase::ShutDown, Front::Part) => 0,
@@ -106,8 +107,11 @@ fn status_of(phase: Phase, front: Front) -> u8
 /// Serves an editor until it ends the session, the input ends, or no message begins with what comes. It gives the exit
 /// status: 0 if the server was shut down before, else 1.
 pub fn serve<I: Read, O: Write>(alloc: Global, input: &mut I, output: &mut O) -> io::Result<u8>
-    ensures { IfOk result (λ status. IfSome (I.remaining input.old) (λ bytes. (sent : List ℕ)
-        × IsSession bytes sent status × Appends (O.contents output.old) (O.contents output.new) sent)) }
+    // What is written stands behind what the writer has, and is that of a session where the reader's bytes are known.
+    ensures session { IfOk result (λ status. (sent : List ℕ)
+        × Appends (O.contents output.old) (O.contents output.new) sent
+        × IfSome (I.remaining input.old) (λ bytes. IsSession bytes sent status)) }
+    ensures status { IfOk result (λ status. status ≤ 1) }
 {
     let mut inbox = Inbox::new(alloc);
     let mut server = Server::new(alloc);

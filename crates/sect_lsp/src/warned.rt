@@ -1,80 +1,51 @@
 //! The warnings of a text that is accepted, as an editor shows them.
 
-ghost use Rattle.std.specs.Prelude.{◌≡◌, ◌<◌, IfOk, length, map, get_or, All};
+ghost use Rattle.std.specs.Prelude.{◌≡◌, IfOk, length, map};
 ghost use Rattle.serde_json.specs.View.{view};
 ghost use Rattle.sect_front.specs.Front.{IsSpelled};
 ghost use Rattle.sect_front.specs.FaultPlaces.{IsWithin};
-ghost use Rattle.sect_places.specs.Spans.{AreProper, no_span};
 ghost use Rattle.sect_emit.specs.Compiled.{program_of};
 ghost use Rattle.sect_lsp.specs.Ranges.{list};
-ghost use Rattle.sect_lsp.specs.Warned.{told_json, warning_json, AreWarningsOf};
-ghost use Rattle.sect_warnings.specs.declared.warning.Warning.{Warning as WarningView};
+ghost use Rattle.sect_lsp.specs.Warned.{tags as tags_by, warning_json, AreWarningsOf};
+ghost use Rattle.sect_warnings.specs.Reports.{AreWithin};
 
 use crate::ranges::range_value;
 use sect_emit::Compiled;
-use sect_front::Span;
-use sect_places::tree_spans;
-use sect_warnings::{Warning, warnings};
+use sect_warnings::{Placed, Spare, Told, placed_warnings};
 use serde_json::{Value, json};
 use std::alloc::{AllocError, Global};
 
+/// What nothing uses is shown as something that may go.
+fn tags(alloc: Global, told: Told) -> Result<Value, AllocError>
+    ensures { IfOk result (λ v. view v ≡ list (tags_by told)) }
+{
+    match told {
+        Told::Declaration(Spare::Unused(_)) => json!(in alloc; [1]),
+        Told::Declaration(Spare::Hint) | Told::Section(_) => json!(in alloc; []),
+    }
+}
+
 /// A warning: its name and what it means, at some bytes.
-fn told_value(
-    alloc: Global,
-    source: &[u8],
-    span: Span,
-    name: &str,
-    note: &str,
-) -> Result<Value, AllocError>
-    requires { IsWithin (length source.now) span }
-    ensures { IfOk result (λ v. view v ≡ told_json source.now span name.now note.now) }
+fn warning_value(alloc: Global, source: &[u8], placed: &Placed) -> Result<Value, AllocError>
+    requires { IsWithin (length source.now) placed.now.span }
+    ensures { IfOk result (λ v. view v ≡ warning_json source.now placed.now) }
 {
-    let range = range_value(alloc, source, span)?;
+    let range = range_value(alloc, source, placed.span)?;
+    let tags = tags(alloc, placed.told)?;
+    let (name, note) = (placed.told.name(), placed.told.note());
     let message = format!(in alloc; "{name}: {note}")?;
-    json!(in alloc; {"code": name, "message": message, "range": range, "severity": 2, "source": "sectc"})
+    json!(in alloc; {"code": name, "message": message, "range": range, "severity": 2, "source": "sectc",
+        "tags": tags})
 }
 
-/// The bytes of an item.
-fn item_span(source: &[u8], spans: &[Span], item: usize) -> Span
-    requires item { item < length spans.now }
-    requires spans { AreProper (length source.now) spans.now }
-    ensures span { result ≡ get_or spans.now item no_span }
-    ensures within { IsWithin (length source.now) result }
-{
-    let _text = source;
-    spans[item]
-}
-
-/// A warning of a text whose items have these bytes.
-fn warning_value(
-    alloc: Global,
-    source: &[u8],
-    spans: &[Span],
-    warning: &Warning,
-) -> Result<Value, AllocError>
-    requires item { warning.now.item < length spans.now }
-    requires spans { AreProper (length source.now) spans.now }
-    ensures { IfOk result (λ v. view v ≡ warning_json source.now spans.now warning.now) }
-{
-    let span = item_span(source, spans, warning.item);
-    let (name, note) = (warning.finding.name(), warning.finding.note());
-    told_value(alloc, source, span, name, note)
-}
-
-/// Warnings of a text whose items have these bytes.
-fn warning_values(
-    alloc: Global,
-    source: &[u8],
-    spans: &[Span],
-    warnings: &[Warning],
-) -> Result<Value, AllocError>
-    requires items { All (λ (w : WarningView). w.item < length spans.now) warnings.now }
-    requires spans { AreProper (length source.now) spans.now }
-    ensures { IfOk result (λ v. view v ≡ list (map (warning_json source.now spans.now) warnings.now)) }
+/// Some warnings.
+fn warning_values(alloc: Global, source: &[u8], placed: &[Placed]) -> Result<Value, AllocError>
+    requires { AreWithin (length source.now) placed.now }
+    ensures { IfOk result (λ v. view v ≡ list (map (warning_json source.now) placed.now)) }
 {
     let mut values = Vec::new(alloc);
-    for warning in warnings {
-        values.push(warning_value(alloc, source, spans, warning)?)?;
+    for warning in placed {
+        values.push(warning_value(alloc, source, warning)?)?;
     }
     Ok(Value::Array(values))
 }
@@ -84,7 +55,6 @@ pub fn warnings_of(alloc: Global, source: &[u8], compiled: &Compiled) -> Result<
     requires { IsSpelled source.now (program_of compiled.now).source }
     ensures { IfOk result (λ v. AreWarningsOf source.now compiled.now (view v)) }
 {
-    let found = warnings(alloc, compiled)?;
-    let spans = tree_spans(alloc, source, compiled.scheme().program().tree())?;
-    warning_values(alloc, source, spans.as_slice(), found.as_slice())
+    let placed = placed_warnings(alloc, source, compiled)?;
+    warning_values(alloc, source, placed.as_slice())
 }

@@ -31,10 +31,14 @@ abbrev pub printed : Format → List ℕ → List Placed → List ℕ
 printed format source [] = clean format
 printed format source (p ∷ ps) = told format source (p ∷ ps)
 
--- the bytes are what is printed of the warnings of the program of that text: of its sections, and then of its
--- declarations
-abbrev pub AreWarningsPrinted : List ℕ → CompiledView → Format → List ℕ → Type 0
-AreWarningsPrinted source c format bytes =
+-- what is worth a second look in the program of that text, with its bytes: of its sections, and then of its declarations
+abbrev pub AreAllPlaced : List ℕ → CompiledView → List Placed → Type 0
+AreAllPlaced source c all =
     (ws : List Warning) × (ps : List Placed) × (names : List NameSpan) × (spares : List Placed) × AreWarnings c ws
     × ArePlaced source c.scheme.program.source ws ps × AreNameSpans source c.scheme.program.source names
-    × AreSpares c.scheme names spares × (bytes ≡ printed format source (ps ++ spares))
+    × AreSpares c.scheme names spares × (all ≡ ps ++ spares)
+
+-- the bytes are what is printed of that
+abbrev pub AreWarningsPrinted : List ℕ → CompiledView → Format → List ℕ → Type 0
+AreWarningsPrinted source c format bytes =
+    (all : List Placed) × AreAllPlaced source c all × (bytes ≡ printed format source all)

@@ -7,7 +7,7 @@ ghost use Rattle.sect_front.specs.Front.{IsSpelled};
 ghost use Rattle.sect_front.specs.FaultPlaces.{IsWithin};
 ghost use Rattle.sect_warnings.specs.Reports.{AreWithin};
 ghost use Rattle.sect_warnings.specs.Formats.{json_line, told as told_by, printed as printed_by};
-ghost use Rattle.sect_warnings.specs.Formats.{AreWarningsPrinted};
+ghost use Rattle.sect_warnings.specs.Formats.{AreAllPlaced, AreWarningsPrinted};
 
 use crate::json::warning_value;
 use crate::judge::warnings;
@@ -109,7 +109,27 @@ fn printed(
     }
 }
 
-/// What is worth a second look in the compiled program of a source text, as it is printed.
+/// What is worth a second look in the compiled program of a source text, with the bytes that are marked: of its sections,
+/// and then of its declarations.
+pub fn placed_warnings(
+    alloc: Global,
+    source: &[u8],
+    compiled: &Compiled,
+) -> Result<Vec<Placed>, AllocError>
+    requires { IsSpelled source.now compiled.now.scheme.program.source }
+    ensures placed { IfOk result (λ all. AreAllPlaced source.now compiled.now all.items) }
+    ensures within { IfOk result (λ all. AreWithin (length source.now) all.items) }
+{
+    let found = warnings(alloc, compiled)?;
+    let tree = compiled.scheme().program().tree();
+    let mut placed = places_of(alloc, source, tree, found.as_slice())?;
+    let names = tree_names(alloc, source, tree)?;
+    let spares = spares(alloc, compiled.scheme(), names.as_slice())?;
+    placed.extend_from_slice(spares.as_slice())?;
+    Ok(placed)
+}
+
+/// The same, as it is printed.
 pub fn warnings_as(
     alloc: Global,
     source: &[u8],
@@ -119,11 +139,6 @@ pub fn warnings_as(
     requires { IsSpelled source.now compiled.now.scheme.program.source }
     ensures { IfOk result (λ text. AreWarningsPrinted source.now compiled.now format (string_bytes text)) }
 {
-    let found = warnings(alloc, compiled)?;
-    let tree = compiled.scheme().program().tree();
-    let mut placed = places_of(alloc, source, tree, found.as_slice())?;
-    let names = tree_names(alloc, source, tree)?;
-    let spares = spares(alloc, compiled.scheme(), names.as_slice())?;
-    placed.extend_from_slice(spares.as_slice())?;
+    let placed = placed_warnings(alloc, source, compiled)?;
     printed(alloc, source, placed.as_slice(), format)
 }

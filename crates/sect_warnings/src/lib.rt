@@ -11,7 +11,7 @@ mod sarif;
 mod spare;
 mod warning;
 
-pub use format::warnings_as;
+pub use format::{placed_warnings, warnings_as};
 pub use judge::warnings;
 pub use laws::never_filled_locals_refer_to_nothing;
 pub use spare::spares;

@@ -15,10 +15,11 @@ const BEGIN: &str =
     "{\"jsonrpc\":\"2.0\",\"id\":1,\"method\":\"initialize\",\"params\":{\"capabilities\":{}}}";
 
 /// What the server can do.
-const ABLE: &str =
-    "{\"id\":1,\"jsonrpc\":\"2.0\",\"result\":{\"capabilities\":{\"definitionProvider\":true,\
-    \"documentHighlightProvider\":true,\"documentSymbolProvider\":true,\"positionEncoding\":\"utf-16\",\
-    \"referencesProvider\":true,\"renameProvider\":true,\"textDocumentSync\":{\"change\":2,\"openClose\":true}},\
+const ABLE: &str = "{\"id\":1,\"jsonrpc\":\"2.0\",\"result\":{\"capabilities\":{\"codeLensProvider\":{},\
+    \"completionProvider\":{\"triggerCharacters\":[\".\"]},\"definitionProvider\":true,\
+    \"documentHighlightProvider\":true,\"documentSymbolProvider\":true,\"hoverProvider\":true,\
+    \"inlayHintProvider\":true,\"positionEncoding\":\"utf-16\",\"referencesProvider\":true,\
+    \"renameProvider\":true,\"textDocumentSync\":{\"change\":2,\"openClose\":true}},\
     \"serverInfo\":{\"name\":\"sectc\"}}}";
 
 const SHUT_DOWN: &str = "{\"jsonrpc\":\"2.0\",\"id\":\"last\",\"method\":\"shutdown\"}";

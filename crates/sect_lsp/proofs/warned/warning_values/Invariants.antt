@@ -5,4 +5,4 @@ use Rattle.sect_lsp.proofs.warned.warning_values.Given as goal
 
 abbrev pub invariant-loop-warning : goal.invariant-loop-warning
 invariant-loop-warning l =
-    map view l.values.items ≡ map (warning_json l.source l.spans) (take l.warning-index l.warnings)
+    map view l.values.items ≡ map (warning_json l.source) (take l.warning-index l.placed)

@@ -1,0 +1,140 @@
+//! What may be asked of an open document, and what is answered.
+
+ghost use Rattle.std.specs.Prelude.{◌≡◌, ◌≤◌, IfOk, IfSome, length, option_and_then};
+ghost use Rattle.serde_json.specs.Find.{pointer};
+ghost use Rattle.sect_lsp.specs.Changes.{range_in as range_in_by};
+ghost use Rattle.serde_json.specs.View.{view};
+ghost use Rattle.sect_lsp.specs.Accepted.{IsToldOf};
+ghost use Rattle.sect_lsp.specs.Asking.{byte_told as byte_by, IsReplyTo};
+ghost use Rattle.sect_lsp.specs.Hovering.{IsHoverIf};
+ghost use Rattle.sect_lsp.specs.Marks.{AreHints, AreLenses, hinted_range as range_by};
+ghost use Rattle.sect_lsp.specs.steps.Replying.{reply_view};
+
+use crate::accepted::compiled_of;
+use crate::change::range_in;
+use crate::completion::completion_value;
+use crate::hover::hover_value;
+use crate::marks::{hints_value, lenses_value};
+use crate::position::{Encoding, Range, offset};
+use crate::query::{Query, Text, answer_query, place_at};
+use crate::reply::Reply;
+use serde_json::Value;
+use std::alloc::{AllocError, Global};
+
+/// What may be asked of a document.
+#[derive(Clone, Copy, Debug, PartialEq, Eq)]
+pub enum Question {
+    /// Something that its names tell.
+    Names(Query),
+    /// What stands at a place.
+    Hover,
+    /// The locks behind each `atomic`.
+    Hints,
+    /// How many locks each `atomic` takes, and which sections it excludes.
+    Lenses,
+    /// What may be written at a place.
+    Completion,
+}
+
+/// How a text is read: how many fields a path may have, at most 3, and how places are counted.
+#[derive(Clone, Copy, Debug, PartialEq, Eq)]
+pub struct Reading {
+    pub k: u16,
+    pub encoding: Encoding,
+}
+
+/// The byte at the place that a message tells, if it tells one.
+fn byte_told(encoding: Encoding, source: &[u8], message: &Value) -> Option<usize>
+    ensures byte { result ≡ byte_by encoding source.now (view message.now) }
+    ensures within { IfSome result (λ at. at ≤ length source.now) }
+{
+    Some(offset(encoding, source, place_at(message, "/params/position")?))
+}
+
+/// What stands at a place.
+fn hover(
+    alloc: Global,
+    reading: Reading,
+    source: &[u8],
+    message: &Value,
+) -> Result<Value, AllocError>
+    requires { reading.k ≤ 3 }
+    ensures { IfOk result (λ v. IsToldOf (IsHoverIf source.now (byte_by reading.encoding source.now (view message.now)))
+        source.now reading.k (view v)) }
+{
+    let at = byte_told(reading.encoding, source, message);
+    match compiled_of(alloc, reading.k, source)? {
+        Some(compiled) => hover_value(alloc, source, &compiled, at),
+        None => Ok(Value::Null),
+    }
+}
+
+/// The range at a place of a message.
+fn range_at(message: &Value, path: &str) -> Option<Range>
+    ensures { result ≡ option_and_then range_in_by (pointer path.now (view message.now)) }
+{
+    range_in(message.pointer(path)?)
+}
+
+/// The range for which hints are asked, if one is told.
+fn hinted_range(message: &Value) -> Option<Range>
+    ensures { result ≡ range_by (view message.now) }
+{
+    range_at(message, "/params/range")
+}
+
+/// The locks behind each `atomic`.
+fn hints(
+    alloc: Global,
+    reading: Reading,
+    source: &[u8],
+    message: &Value,
+) -> Result<Value, AllocError>
+    requires { reading.k ≤ 3 }
+    ensures { IfOk result (λ v. IsToldOf (AreHints source.now (range_by (view message.now))) source.now reading.k
+        (view v)) }
+{
+    let range = hinted_range(message);
+    match compiled_of(alloc, reading.k, source)? {
+        Some(compiled) => hints_value(alloc, source, &compiled, range),
+        None => Ok(Value::Null),
+    }
+}
+
+/// How many locks each `atomic` takes, and which sections it excludes.
+fn lenses(alloc: Global, reading: Reading, source: &[u8]) -> Result<Value, AllocError>
+    requires { reading.k ≤ 3 }
+    ensures { IfOk result (λ v. IsToldOf (AreLenses source.now) source.now reading.k (view v)) }
+{
+    match compiled_of(alloc, reading.k, source)? {
+        Some(compiled) => lenses_value(alloc, source, &compiled),
+        None => Ok(Value::Null),
+    }
+}
+
+/// What is answered to a message that asks something of a document.
+pub fn answer(
+    alloc: Global,
+    question: Question,
+    reading: Reading,
+    text: Text<'_>,
+    message: &Value,
+) -> Result<Reply, AllocError>
+    requires { reading.k ≤ 3 }
+    ensures { IfOk result (λ reply. IsReplyTo question reading (view message.now) text.entry.uri.now
+        text.entry.source.now (reply_view reply)) }
+{
+    let value = match question {
+        Question::Names(query) => {
+            return answer_query(alloc, query, reading.encoding, text, message);
+        }
+        Question::Hover => hover(alloc, reading, text.source, message)?,
+        Question::Hints => hints(alloc, reading, text.source, message)?,
+        Question::Lenses => lenses(alloc, reading, text.source)?,
+        Question::Completion => {
+            let at = byte_told(reading.encoding, text.source, message);
+            completion_value(alloc, text.source, at)?
+        }
+    };
+    Ok(Reply::Result(value))
+}

@@ -15,7 +15,8 @@ const BEGIN: &str =
     "{\"jsonrpc\":\"2.0\",\"id\":1,\"method\":\"initialize\",\"params\":{\"capabilities\":{}}}";
 
 /// What the server can do.
-const ABLE: &str = "{\"id\":1,\"jsonrpc\":\"2.0\",\"result\":{\"capabilities\":{\"codeLensProvider\":{},\
+const ABLE: &str =
+    "{\"id\":1,\"jsonrpc\":\"2.0\",\"result\":{\"capabilities\":{\"codeLensProvider\":{},\
     \"completionProvider\":{\"triggerCharacters\":[\".\"]},\"definitionProvider\":true,\
     \"documentHighlightProvider\":true,\"documentSymbolProvider\":true,\"hoverProvider\":true,\
     \"inlayHintProvider\":true,\"positionEncoding\":\"utf-16\",\"referencesProvider\":true,\

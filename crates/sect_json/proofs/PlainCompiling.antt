@@ -37,7 +37,8 @@ module _ (c : CompiledView) where
   plain_grip g = or_from _ _ (plain_key (program_of c) g.key) refl
 
   pub plain_set : (i : ℕ) → IsPlain (set_json c i)
-  plain_set i = plain_map (lock_json (program_of c).source) (plain_lock (program_of c).source) (slice_index_or c.sets i [])
+  plain_set i =
+      plain_map (lock_json (program_of c).source) (plain_lock (program_of c).source) (slice_index_or c.sets i [])
 
   pub plain_plan : (i : ℕ) → IsPlain (plan_json c i)
   plain_plan i = plain_map (grip_json (program_of c)) plain_grip (slice_index_or c.parts i [])

@@ -21,7 +21,8 @@ use Rattle.sect_emit.specs.Graphed.{graphed_nodes}
 use Rattle.sect_emit.specs.declared.graphs.GraphOf.TheVariants as graphed
 use Rattle.sect_types.specs.Sections.{sections_of}
 use Rattle.sect_json.specs.Values.{count, by_place}
-use Rattle.sect_json.specs.Sites.{bytes_json, place_of, call_of, may_hold, held_json, field_json, fields_json, local_json}
+use Rattle.sect_json.specs.Sites.{bytes_json, place_of, call_of, may_hold, held_json, field_json, fields_json}
+use Rattle.sect_json.specs.Sites.{local_json}
 use Rattle.sect_json.specs.Sites.{locals_json, global_json, made_json, sites_by, sites_at, section_sites}
 use Rattle.sect_json.specs.Sites.{sites_json, class_sites, class_json, AreClasses}
 use Rattle.sect_json.proofs.Plain.{IsPlain, ArePlain, plain_map, plain_append, plain_by_place}

@@ -1,6 +1,7 @@
 -- Lists of values that are made one by one.
 use Rattle.std.proofs.Common.{◌≡◌, ℕ, ◌+◌, List, [], ◌∷◌, ◌++◌, map, take, drop, Some, sym, ap, ◌∙◌}
-use Rattle.std.proofs.Common.{◌≤◌, length, length-append, refl, subst, arith, rules, inl, inr, Bool, true, false, if◌then◌else◌}
+use Rattle.std.proofs.Common.{◌≤◌, length, length-append, refl, subst, arith, rules, inl, inr, Bool, true, false}
+use Rattle.std.proofs.Common.{if◌then◌else◌}
 use Rattle.std.specs.Prelude.{slice_get, Vec}
 use Rattle.std.specs.declared.alloc.Global.{Global}
 use Rattle.std.proofs.lemmas.List.{map-append, map-id, take_all, take_more, append_assoc, append-nil, drop_all}

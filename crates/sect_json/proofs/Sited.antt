@@ -24,7 +24,8 @@ few : (names : List (List ℕ)) (rs : List Record) (i : ℕ)
     → length (slice_index_or (all_fields rs) i []) ≤ 16
 few names [] i h = omega arith
 few names (r ∷ rs) zero h =
-    let by_name : length (names_of_declared r.fields) ≡ length r.fields = length-map r.fields (λ (d : Declaration). d.name) in
+    let by_name : length (names_of_declared r.fields) ≡ length r.fields =
+    length-map r.fields (λ (d : Declaration). d.name) in
     let by_type : length (types_of names r.fields) ≡ length r.fields =
     length-map r.fields (λ (d : Declaration). type_of names d.kind) in
     let most : length (types_of names r.fields) ≤ 16 = h 0 [] (omega arith) in

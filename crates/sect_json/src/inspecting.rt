@@ -46,8 +46,8 @@ use serde_json::{Value, json};
 use std::alloc::{AllocError, Global};
 
 /// What is known of a compiled program, whose text this is: its sections and its threads with their nodes, where they
-/// stand, the locks that are needed at each node, and why; its classes, their sites and to which of these its locals and
-/// fields may refer; its procedures and calls.
+/// stand, the locks that are needed at each node, and why; its classes, their sites, and to which of these its locals
+/// and fields may refer; its procedures and calls.
 pub fn inspection_document(
     alloc: Global,
     source: &[u8],

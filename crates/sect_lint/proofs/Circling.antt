@@ -65,7 +65,8 @@ some_weaker (Some x) P Q f h = f x h
 -- the call stands in what is declared there
 pub stands_in : (d x : NameSpan) → nat_eq d.used.item x.used.scope ≡ true → is_call x.used.role ≡ true
     → is_call_in d.used.item x ≡ true
-stands_in d x same call = and_from _ _ (eq-eqb x.used.scope d.used.item (sym (eqb-true d.used.item x.used.scope same))) call
+stands_in d x same call =
+    and_from _ _ (eq-eqb x.used.scope d.used.item (sym (eqb-true d.used.item x.used.scope same))) call
 
 same_item_by : (n item : ℕ) (b : Bool) → (nat_eq n item && b) ≡ true → n ≡ item
 same_item_by n item b h = eqb-true n item ((and_parts (nat_eq n item) b h).0)

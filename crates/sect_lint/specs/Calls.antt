@@ -26,8 +26,8 @@ item_of named = option_map (λ n. n.used.item) named
 abbrev pub procedure_item : List NameSpan → List ℕ → Option ℕ
 procedure_item names x = item_of (found names (procedure_of names x))
 
--- these calls lead from one procedure to another, both by the names that declare them: the first stands in the one, each
--- later one in a procedure that the call before it calls, and the last calls the other
+-- these calls lead from one procedure to another, both by the names that declare them: the first stands in the one,
+-- each later one in a procedure that the call before it calls, and the last calls the other
 abbrev pub Leads : List NameSpan → NameSpan → NameSpan → List NameSpan → Type 0
 Leads names from to [] = from ≡ to
 Leads names from to (x ∷ xs) = Has names x × (is_call_in from.used.item x ≡ true)

@@ -88,7 +88,8 @@ put_calls-loop-named-preserved t c =
           let here : step x ≡ [] = ap (λ b. if b then called else []) (test ∙ w.if-is_call_in.false) in
           ap (λ (v : Vec Value Global). map view v.items) w.values-is
           ∙ (c.loop-named.invariant ∙ ap (λ xs. map view old ++ by_place told (length old) xs)
-          (sym (next ∙ (ap (λ ys. flat_map step (take n names) ++ ys) here ∙ append-nil (flat_map step (take n names)))))))
+          (sym (next ∙ (ap (λ ys. flat_map step (take n names) ++ ys) here
+          ∙ append-nil (flat_map step (take n names)))))))
     ]
 
 pub put_calls-returns : goal.put_calls-returns

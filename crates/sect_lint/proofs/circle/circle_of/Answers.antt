@@ -34,7 +34,8 @@ loop-step-preserved c =
     let x = c.in-Some.more in
     let was = c.loop-step.invariant in
     let at = c.loop-step.at in
-    let step = c.requires.next at x (read_some c.args.next.now at c.index-next-at.result x c.index-next-at.is c.in-Some.is
+    let step = c.requires.next at x
+    (read_some c.args.next.now at c.index-next-at.result x c.index-next-at.is c.in-Some.is
     (omega (arith, was.below, c.requires.many))) in
     let l = step.1 in
     let same : l.caller ≡ was.to =

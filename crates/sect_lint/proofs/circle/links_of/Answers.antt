@@ -11,7 +11,8 @@ loop-named-preserved c =
     let names = c.args.names.now in
     let declared = c.args.declared.now in
     let x = c.named-item.result in
-    let there = subst (Has names) (sym c.named-item.is) (Has-get_or names c.loop-named.named-index x c.loop-named-test.true) in
+    let there = subst (Has names) (sym c.named-item.is)
+    (Has-get_or names c.loop-named.named-index x c.loop-named-test.true) in
     elim c.match-link_of.branch [
       | in-Some+in_ok-push w ↦ (λ l h.
           let new = w.in-Some.link in

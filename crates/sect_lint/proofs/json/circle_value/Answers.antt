@@ -12,5 +12,5 @@ loop-called-preserved c =
 
 pub returns : goal.returns
 returns c =
-    told_all (call_json c.args.source.now) c.args.calls.now c.loop-called.called-index c.loop-called.values (omega arith)
-    c.loop-called.invariant
+    told_all (call_json c.args.source.now) c.args.calls.now c.loop-called.called-index c.loop-called.values
+    (omega arith) c.loop-called.invariant

@@ -1,6 +1,7 @@
 -- What may be written at a place of a text, whether or not it is one of the language.
 use Rattle.std.specs.Prelude.{◌≡◌, ℕ, ◌+◌, ◌-◌, ◌&&◌, Bool, true, false, if◌then◌else◌, nat_eq, List, [], ◌∷◌, ◌++◌}
-use Rattle.std.specs.Prelude.{Option, Some, None, option_and_then, length, take, map, filter, position, slice_get, codes}
+use Rattle.std.specs.Prelude.{Option, Some, None, option_and_then, length, take, map, filter, position, slice_get}
+use Rattle.std.specs.Prelude.{codes}
 use Rattle.std.specs.Prelude.{count_by}
 use Rattle.std.specs.Option.{option_or}
 use Rattle.std.specs.Cmp.Lexicographic.{pointwise}
@@ -76,7 +77,7 @@ declared_in ws = declared_from head.Nothing 0 ws
 abbrev pub scope_of : List Word → ℕ
 scope_of ws = count_by is_head ws
 
--- the name before the dot at the end, if the last words are a name and a dot, and perhaps the beginning of a field's name
+-- the name before the dot at the end, if the last words are a name and a dot, and perhaps the beginning of a field's
 abbrev pub base_by : Option Word → Option Word → Option Word → Option (List ℕ)
 base_by before (Some (word.Name x)) (Some word.Dot) = Some x
 base_by (Some (word.Name x)) (Some word.Dot) (Some (word.Name begun)) = Some x
@@ -119,7 +120,8 @@ record_named ds r = found_in ds (position (is_named thing.Record r) ds)
 
 -- the record of a variable's type
 abbrev pub record_of : List Declared → ℕ → List ℕ → Option Declared
-record_of ds scope x = option_and_then (record_named ds) (option_and_then (λ (d : Declared). d.of) (variable_of ds scope x))
+record_of ds scope x =
+    option_and_then (record_named ds) (option_and_then (λ (d : Declared). d.of) (variable_of ds scope x))
 
 abbrev pub is_field_of : ℕ → Declared → Bool
 is_field_of scope d = nat_eq d.scope scope && is_thing thing.Field d.what

@@ -1,5 +1,5 @@
--- What is told of the place under the pointer: of a name what it is, of an `atomic` its locks and why they are needed, of
--- a statement of a section the locks that are needed from there on.
+-- What is told of the place under the pointer: of a name what it is, of an `atomic` its locks and why they are needed,
+-- of a statement of a section the locks that are needed from there on.
 use Rattle.std.specs.Prelude.{◌≡◌, ◌<◌, ℕ, ◌-◌, ◌&&◌, Bool, true, false, if◌then◌else◌, nat_lt, nat_le, List, [], ◌∷◌}
 use Rattle.std.specs.Prelude.{◌++◌, Option, Some, None, length, slice_get, slice_index_or, codes}
 use Rattle.std.specs.Prelude.{zero, suc}

@@ -49,7 +49,8 @@ asked_by method =
     else if bytes_eq method (codes "textDocument/documentSymbol") then asked.Document (question.Names query.Symbols)
     else if bytes_eq method (codes "textDocument/definition") then asked.Document (question.Names query.Definition)
     else if bytes_eq method (codes "textDocument/references") then asked.Document (question.Names query.References)
-    else if bytes_eq method (codes "textDocument/documentHighlight") then asked.Document (question.Names query.Highlights)
+    else if bytes_eq method (codes "textDocument/documentHighlight")
+    then asked.Document (question.Names query.Highlights)
     else if bytes_eq method (codes "textDocument/rename") then asked.Document (question.Names query.Rename)
     else if bytes_eq method (codes "textDocument/hover") then asked.Document question.Hover
     else if bytes_eq method (codes "textDocument/inlayHint") then asked.Document question.Hints

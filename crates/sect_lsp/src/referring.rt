@@ -4,7 +4,8 @@ ghost use Rattle.std.specs.Prelude.{◌≡◌, ◌<◌, IfSome, IfOk, length, po
 ghost use Rattle.sect_lsp.specs.Referring.{found as found_by, variable as variable_by, base_record as base_record_by};
 ghost use Rattle.sect_lsp.specs.Referring.{base_by, type_by, record_by, field_by, declaration_of as declaration_by};
 ghost use Rattle.sect_lsp.specs.Referring.{touches as touches_by, name_at as name_at_by, is_there as is_there_by};
-ghost use Rattle.sect_lsp.specs.Referring.{declared_under as declared_under_by, refers as refers_by, uses_of as uses_by};
+ghost use Rattle.sect_lsp.specs.Referring.{declared_under as declared_under_by, refers as refers_by};
+ghost use Rattle.sect_lsp.specs.Referring.{uses_of as uses_by};
 
 use sect_front::{Name, Span};
 use sect_places::{

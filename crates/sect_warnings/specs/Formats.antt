@@ -31,7 +31,8 @@ abbrev pub printed : Format → List ℕ → List Placed → List ℕ
 printed format source [] = clean format
 printed format source (p ∷ ps) = told format source (p ∷ ps)
 
--- what is worth a second look in the program of that text, with its bytes: of its sections, and then of its declarations
+-- what is worth a second look in the program of that text, with its bytes: of its sections, and then of its
+-- declarations
 abbrev pub AreAllPlaced : List ℕ → CompiledView → List Placed → Type 0
 AreAllPlaced source c all =
     (ws : List Warning) × (ps : List Placed) × (names : List NameSpan) × (spares : List Placed) × AreWarnings c ws

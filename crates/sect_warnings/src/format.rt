@@ -109,8 +109,8 @@ fn printed(
     }
 }
 
-/// What is worth a second look in the compiled program of a source text, with the bytes that are marked: of its sections,
-/// and then of its declarations.
+/// What is worth a second look in the compiled program of a source text, with the bytes that are marked: of its
+/// sections, and then of its declarations.
 pub fn placed_warnings(
     alloc: Global,
     source: &[u8],

@@ -60,6 +60,44 @@ const EARLY: &str =
     "{\"error\":{\"code\":-32002,\"message\":\"the server waits for initialize\"},\"id\":\"last\",\
     \"jsonrpc\":\"2.0\"}";
 
+/// A text with a section is opened.
+const OPEN_SECTION: &str = "{\"method\":\"textDocument/didOpen\",\
+    \"params\":{\"textDocument\":{\"text\":\"record A { int n; \
+    } global A a; thread t { int x; atomic { x = a.n; a.n = x; } }\",\"uri\":\"u\"}}}";
+
+/// What stands at its `atomic`.
+const HOVER: &str =
+    "{\"id\":2,\"method\":\"textDocument/hover\",\"params\":{\"position\":{\"character\":50,\"line\":0},\
+    \"textDocument\":{\"uri\":\"u\"}}}";
+
+const HOVERED: &str =
+    "{\"id\":2,\"jsonrpc\":\"2.0\",\"result\":{\"contents\":{\"kind\":\"markdown\",\
+    \"value\":\"Locks: W a\\n\\n```\\nsection 0 in thread t\\nlock W a\
+    \\n  node 0: x = a.n  W a (line 1)\\n  node 1: a.n = x  W a (line 1)\\n```\\n\"}}}";
+
+/// Its locks.
+const HINTS: &str =
+    "{\"id\":3,\"method\":\"textDocument/inlayHint\",\"params\":{\"textDocument\":{\"uri\":\"u\"}}}";
+
+const HINTED: &str =
+    "{\"id\":3,\"jsonrpc\":\"2.0\",\"result\":[{\"label\":\"W a\",\"paddingLeft\":true,\
+    \"position\":{\"character\":56,\"line\":0}}]}";
+
+/// Which sections it excludes.
+const LENSES: &str =
+    "{\"id\":4,\"method\":\"textDocument/codeLens\",\"params\":{\"textDocument\":{\"uri\":\"u\"}}}";
+
+const LENSED: &str = "{\"id\":4,\"jsonrpc\":\"2.0\",\"result\":[{\"command\":{\"command\":\"\",\
+    \"title\":\"1 lock · excludes no section\"},\"range\":{\"end\":{\"character\":56,\"line\":0},\
+    \"start\":{\"character\":50,\"line\":0}}}]}";
+
+/// What may be written behind its first dot.
+const COMPLETION: &str =
+    "{\"id\":5,\"method\":\"textDocument/completion\",\"params\":{\"position\":{\"character\":65,\"line\":0},\
+    \"textDocument\":{\"uri\":\"u\"}}}";
+
+const COMPLETED: &str = "{\"id\":5,\"jsonrpc\":\"2.0\",\"result\":[{\"kind\":5,\"label\":\"n\"}]}";
+
 /// What is sent, what comes back, and the status.
 const SESSIONS: &[(&[&str], &[&str], u8)] = &[
     (&[BEGIN, SHUT_DOWN, EXIT], &[ABLE, DOWN], 0),
@@ -69,6 +107,20 @@ const SESSIONS: &[(&[&str], &[&str], u8)] = &[
     (
         &[BEGIN, OPEN, CHANGE, CLOSE, CHANGE, SHUT_DOWN, EXIT],
         &[ABLE, WRONG, CLEAN, CLEAN, DOWN],
+        0,
+    ),
+    (
+        &[
+            BEGIN,
+            OPEN_SECTION,
+            HOVER,
+            HINTS,
+            LENSES,
+            COMPLETION,
+            SHUT_DOWN,
+            EXIT,
+        ],
+        &[ABLE, CLEAN, HOVERED, HINTED, LENSED, COMPLETED, DOWN],
         0,
     ),
 ];

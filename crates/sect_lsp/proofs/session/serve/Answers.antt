@@ -40,7 +40,8 @@ loop-turn-preserved g c =
                 w.in-Message.message.items
                 w.answer.new.server new i.on taken.2 taken.3 answered));
             written = subst (λ (after : Option (List ℕ)). (sent : List ℕ) × Appends old after sent)
-                (sym (ap g.O.Write.contents w.output-is)) (writes_more old mid new c.loop-turn.server w.in-Message.message.items
+                (sym (ap g.O.Write.contents w.output-is))
+                (writes_more old mid new c.loop-turn.server w.in-Message.message.items
                 w.answer.new.server i.written answered);
             on = ap (λ s. is_ended s.phase) w.server-is ∙ (ap is_ended (sym w.phase.ensures)
                 ∙ (sym w.has_ended.ensures ∙ w.if-has_ended.false));

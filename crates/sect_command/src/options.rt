@@ -18,7 +18,7 @@ use std::alloc::{AllocError, AllocFailed, Global};
 use thiserror::Error;
 
 /// The version of the program, and the kit that it is proved by.
-const VERSION: &str = "1.0.0 (rattle-kit-13b)";
+const VERSION: &str = "1.0.0 (rattle-kit-13f)";
 
 /// The greatest number that the command line takes.
 pub const MOST: u32 = 65535;

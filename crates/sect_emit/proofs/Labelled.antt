@@ -1,9 +1,7 @@
 -- What the nodes of a sound text's graph name is there.
-use Rattle.std.proofs.Common.{◌≡◌, ◌<◌, ℕ, ◌+◌, List, [], ◌∷◌, ◌++◌, Option, Some, None, Bool, length, refl}
+use Rattle.std.proofs.Common.{◌≡◌, ◌<◌, ℕ, ◌+◌, List, [], ◌∷◌, ◌++◌, Option, Some, None, Bool, true, false, length, refl}
 use Rattle.std.specs.Prelude.{slice_get, slice_index_or}
 use Rattle.std.proofs.lemmas.Option.{slice_get_within}
-use Rattle.sect_front.specs.declared.tree.Comparison.{Comparison}
-use Rattle.sect_front.specs.declared.tree.Comparison.TheVariants as comparison
 use Rattle.sect_types.specs.declared.types.ValueType.{ValueType}
 use Rattle.sect_types.specs.declared.types.ValueType.TheVariants.{Int, Refers}
 use Rattle.sect_types.specs.declared.action.Base.{Base}
@@ -16,7 +14,8 @@ use Rattle.sect_types.specs.declared.action.Action.{Action}
 use Rattle.sect_types.specs.declared.action.Action.TheVariants.{Assign, Compute, New, Load, Store, Print}
 use Rattle.sect_types.specs.Programs.{ProgramView, environment_at}
 use Rattle.sect_types.specs.Sound.{reference_to, type_at, type_in, field_type, HasType, IsSoundAction, IsSoundCondition}
-use Rattle.sect_types.specs.Sound.{AreComparable, IsSound}
+use Rattle.sect_types.specs.Kinds.{compares_integers}
+use Rattle.sect_types.specs.Sound.{AreAlike, IsSound}
 use Rattle.sect_types.specs.Statements.{TextView, Stop, Do, Choose, Loop, Section}
 use Rattle.sect_types.specs.Traces.{node_count}
 use Rattle.sect_graph.specs.declared.flow.Node.{Node}
@@ -69,15 +68,12 @@ module _ (p : ProgramView) (u : ℕ) where
       (base_there b (Refers f.of) is.1, field_there f is.0 is.2, value_there v is.0 is.3)
   action_there (Print v) is = value_there v Int is
 
-  compared : (c : Comparison) (v w : Value) → AreComparable (environment_at p u) c v w
-      → IsValueOf p u v × IsValueOf p u w
-  compared comparison.Equal v w is = (value_there v is.0 is.1, value_there w is.0 is.2)
-  compared comparison.NotEqual v w is = (value_there v is.0 is.1, value_there w is.0 is.2)
-  compared comparison.Less v w is = (value_there v Int is.0, value_there w Int is.1)
-  compared comparison.LessOrEqual v w is = (value_there v Int is.0, value_there w Int is.1)
+  alike : (integers : Bool) (v w : Value) → AreAlike integers (environment_at p u) v w → IsValueOf p u v × IsValueOf p u w
+  alike true v w is = (value_there v Int is.0, value_there w Int is.1)
+  alike false v w is = (value_there v is.0 is.1, value_there w is.0 is.2)
 
   condition_there : (c : Condition) → IsSoundCondition (environment_at p u) c → IsConditionOf p u c
-  condition_there c is = compared c.comparison c.left c.right is
+  condition_there c is = alike (compares_integers c.comparison) c.left c.right is
 
   nodes_there : (inside : Bool) (text : TextView) → IsSound (environment_at p u) inside text → (n next : ℕ)
       → AreNodesOf p u (nodes_of text n next)

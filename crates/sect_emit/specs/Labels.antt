@@ -5,8 +5,7 @@ use Rattle.sect_front.specs.TreeView.{TreeView}
 use Rattle.sect_front.specs.declared.tree.Thread.{Thread}
 use Rattle.sect_front.specs.declared.tree.Operator.{Operator}
 use Rattle.sect_front.specs.declared.tree.Operator.TheVariants.{Add, Subtract, Multiply}
-use Rattle.sect_front.specs.declared.tree.Comparison.{Comparison}
-use Rattle.sect_front.specs.declared.tree.Comparison.TheVariants.{Equal, NotEqual, Less, LessOrEqual}
+use Rattle.sect_front.specs.Spelling.{comparison_spelling}
 use Rattle.sect_types.specs.Sight.{names_of_records}
 use Rattle.sect_types.specs.declared.action.Value.{Value}
 use Rattle.sect_types.specs.declared.action.Value.TheVariants as value
@@ -31,12 +30,6 @@ abbrev pub operator_text : Operator → List ℕ
 operator_text Add = codes "+"
 operator_text Subtract = codes "-"
 operator_text Multiply = codes "*"
-
-abbrev pub comparison_text : Comparison → List ℕ
-comparison_text Equal = codes "=="
-comparison_text NotEqual = codes "!="
-comparison_text Less = codes "<"
-comparison_text LessOrEqual = codes "<="
 
 -- a value as thread u calls it
 abbrev pub value_text : TreeView → ℕ → Value → List ℕ
@@ -70,7 +63,7 @@ action_text t u (Print v) = codes "print " ++ value_text t u v
 -- a test without its brackets
 abbrev pub condition_text : TreeView → ℕ → Condition → List ℕ
 condition_text t u c =
-    value_text t u c.left ++ codes " " ++ comparison_text c.comparison ++ codes " " ++ value_text t u c.right
+    value_text t u c.left ++ codes " " ++ comparison_spelling c.comparison ++ codes " " ++ value_text t u c.right
 
 -- what a node of a graph does; a section stands there by its number
 abbrev pub label_text : TreeView → ℕ → Label → List ℕ

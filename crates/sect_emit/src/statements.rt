@@ -5,11 +5,11 @@ ghost use Rattle.std.specs.String.{string_bytes};
 ghost use Rattle.sect_names.specs.Locks.{IsField};
 ghost use Rattle.sect_names.specs.Printing.{variable_text};
 ghost use Rattle.sect_points.specs.declared.holders.Variable.TheVariants as variable;
-ghost use Rattle.sect_emit.specs.Labels.{record_name, operator_text, comparison_text, value_text, access_text};
+ghost use Rattle.sect_emit.specs.Labels.{record_name, operator_text, value_text, access_text};
 ghost use Rattle.sect_emit.specs.Labels.{target_text, action_text, condition_text, label_text};
 ghost use Rattle.sect_emit.specs.steps.Naming.{IsLocalOf, IsValueOf, IsBaseOf, IsActionOf, IsConditionOf, IsLabelOf};
 
-use sect_front::{Comparison, Operator};
+use sect_front::Operator;
 use sect_names::field_name;
 use sect_types::{Action, Base, Condition, Field, Label, Program, Value};
 use std::alloc::AllocError;
@@ -88,7 +88,7 @@ fn put_condition(
         ≡ string_bytes text.old ++ condition_text program.now.source thread condition) }
 {
     put_value(text, program, thread, condition.left)?;
-    write!(text, " {} ", comparison_sign(condition.comparison))?;
+    write!(text, " {} ", condition.comparison.spelling())?;
     put_value(text, program, thread, condition.right)
 }
 
@@ -187,17 +187,5 @@ fn operator_sign(operator: Operator) -> &'static str
         Operator::Add => "+",
         Operator::Subtract => "-",
         Operator::Multiply => "*",
-    }
-}
-
-/// How a comparison is written.
-fn comparison_sign(comparison: Comparison) -> &'static str
-    ensures { result.now ≡ comparison_text comparison }
-{
-    match comparison {
-        Comparison::Equal => "==",
-        Comparison::NotEqual => "!=",
-        Comparison::Less => "<",
-        Comparison::LessOrEqual => "<=",
     }
 }

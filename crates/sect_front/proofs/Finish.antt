@@ -157,13 +157,13 @@ branch_end b head.AfterWord = record {
 branch_end b head.AfterOpen = record {
   form = branch_form b zero_test;
   more =
-      λ w. token.Number 0 ∷ token.Less ∷ token.Number 0 ∷ token.CloseParen ∷ no_block w;
+      λ w. token.Number 0 ∷ token.Comparison comparison.Less ∷ token.Number 0 ∷ token.CloseParen ∷ no_block w;
   is = branch_is b zero_test;
 }
 branch_end b (head.AfterLeft v) = let t = test_of v comparison.Less zero_operand in
     record {
       form = branch_form b t;
-      more = λ w. token.Less ∷ token.Number 0 ∷ token.CloseParen ∷ no_block w;
+      more = λ w. token.Comparison comparison.Less ∷ token.Number 0 ∷ token.CloseParen ∷ no_block w;
       is =
           branch_is b t;
     }

@@ -134,10 +134,7 @@ operator_law token.Star = refl
 operator_law _ = tt
 
 comparison_law : (t : Token) → IfSome (comparison_of t) (λ v. comparison_token v ≡ t)
-comparison_law token.Less = refl
-comparison_law token.LessEqual = refl
-comparison_law token.EqualEqual = refl
-comparison_law token.NotEqual = refl
+comparison_law (token.Comparison c) = refl
 comparison_law _ = tt
 
 -- a part of a statement, which is one token

@@ -15,6 +15,7 @@ use Rattle.sect_front.specs.steps.Recognition.{sign_token, spelled}
 use Rattle.sect_front.specs.steps.Lexeme.{with_length, longest, sign_at, lexeme_of, begins_name}
 use Rattle.sect_front.specs.Lexing.{stands, IsFirst, IsBad}
 use Rattle.sect_front.specs.declared.token.Token.{Token}
+use Rattle.sect_front.specs.declared.tree.Comparison.TheVariants as comparison
 use Rattle.sect_front.specs.declared.token.Token.TheVariants as token
 use Rattle.sect_front.proofs.Spellings.{spelling_back, spelled_proper}
 use Rattle.sect_front.proofs.Choices.{chosen, refused, if_some, if_some_so}
@@ -179,14 +180,14 @@ single_stands b rest equal less =
     if_some P (eqb b 46) token.Dot _ refl (if_some_so P (eqb b 61) token.Equal _ equal (
     if_some P (eqb b 43) token.Plus _ refl (
     if_some P (eqb b 45) token.Minus _ refl (if_some P (eqb b 42) token.Star _ refl (
-    if_some_so P (eqb b 60) token.Less _ less (λ u f. absurd (none_or_some u f)))))))))))))
+    if_some_so P (eqb b 60) (token.Comparison comparison.Less) _ less (λ u f. absurd (none_or_some u f)))))))))))))
 
 double_stands : (b : ℕ) (rest : List ℕ) (t : Token) → double_sign b ≡ Some t → stands t rest ≡ true
 double_stands b rest =
     let P : Token → Type 0 = λ u. stands u rest ≡ true in
-    if_some P (eqb b 61) token.EqualEqual _ refl
-    (if_some P (eqb b 33) token.NotEqual _ refl
-    (if_some P (eqb b 60) token.LessEqual _ refl (λ u f. absurd (none_or_some u f))))
+    if_some P (eqb b 61) (token.Comparison comparison.Equal) _ refl
+    (if_some P (eqb b 33) (token.Comparison comparison.NotEqual) _ refl
+    (if_some P (eqb b 60) (token.Comparison comparison.LessOrEqual) _ refl (λ u f. absurd (none_or_some u f))))
 
 -- a sign of one byte that may stand before `=` makes no other sign with it
 no_double : (b : ℕ) (rest : List ℕ) (t : Token) → single_sign b ≡ Some t → stands t rest ≡ true
@@ -200,10 +201,10 @@ no_double b rest t e free next = go (eqb b 61) (eqb b 33) (eqb b 60) refl refl r
         let no : not (begins_with 61 rest) ≡ false = ap not next in cc
 
     go : (p q r : Bool) → eqb b 61 ≡ p → eqb b 33 ≡ q → eqb b 60 ≡ r
-        → cond p (Some token.EqualEqual) (cond q (Some token.NotEqual) (cond r (Some token.LessEqual) None)) ≡ None
+        → cond p (Some (token.Comparison comparison.Equal)) (cond q (Some (token.Comparison comparison.NotEqual)) (cond r (Some (token.Comparison comparison.LessOrEqual)) None)) ≡ None
     go true q r f g h = absurd (clash token.Equal (ap single_sign (eqb-true b 61 f)) refl)
     go false true r f g h = absurd (none_or_some t (sym (ap single_sign (eqb-true b 33 g)) ∙ e))
-    go false false true f g h = absurd (clash token.Less (ap single_sign (eqb-true b 60 h)) refl)
+    go false false true f g h = absurd (clash (token.Comparison comparison.Less) (ap single_sign (eqb-true b 60 h)) refl)
     go false false false f g h = refl
 
 -- what a sign at the front spells
@@ -246,8 +247,8 @@ sign_first b bs t n h e = go (begins_with 61 bs) refl (double_sign b) refl (sing
     go true p (Some x) q u r e = is x 2 e (two x bs p q)
     go true p None q None r e = absurd (none_or_some (t, n) e)
     go true p None q (Some x) r e =
-        is x 1 e (one x r (λ k. absurd (not_double q 61 token.EqualEqual refl k))
-        (λ k. absurd (not_double q 60 token.LessEqual refl k)))
+        is x 1 e (one x r (λ k. absurd (not_double q 61 (token.Comparison comparison.Equal) refl k))
+        (λ k. absurd (not_double q 60 (token.Comparison comparison.LessOrEqual) refl k)))
     go false p o q None r e = absurd (none_or_some (t, n) e)
     go false p o q (Some x) r e = is x 1 e (one x r (λ k. ap not p) (λ k. ap not p))
 

@@ -21,7 +21,6 @@ use Rattle.sect_front.specs.declared.tree.Primitive as leaf
 use Rattle.sect_front.specs.declared.tree.Primitive.TheVariants as primitive
 use Rattle.sect_front.specs.declared.tree.Test.{Test}
 use Rattle.sect_front.specs.declared.tree.Comparison.{Comparison}
-use Rattle.sect_front.specs.declared.tree.Comparison.TheVariants as comparison
 use Rattle.sect_front.specs.declared.tree.Operator.{Operator}
 use Rattle.sect_front.specs.declared.tree.Operator.TheVariants as operator
 use Rattle.sect_front.specs.declared.tree.Kind.{Kind}
@@ -53,10 +52,7 @@ operand_back (operand.Name n) = refl
 operand_back operand.Null = refl
 
 comparison_back : (c : Comparison) → comparison_of (comparison_token c) ≡ Some c
-comparison_back comparison.Less = refl
-comparison_back comparison.LessOrEqual = refl
-comparison_back comparison.Equal = refl
-comparison_back comparison.NotEqual = refl
+comparison_back c = refl
 
 -- these statements and then those
 abbrev join : BlockView → BlockView → BlockView

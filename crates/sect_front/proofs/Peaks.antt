@@ -4,7 +4,7 @@ use Rattle.std.proofs.lemmas.List.{take-append-drop}
 use Rattle.sect_front.specs.Limits.{most_depth}
 use Rattle.sect_front.specs.Syntax.{StatementView, BlockView, Primitive, If, IfElse, While, Atomic, Call, End, Then}
 use Rattle.sect_front.specs.TreeView.{TreeView}
-use Rattle.sect_front.specs.Grammar.{operand_token, operator_token, comparison_token, kind_token, tokens_of}
+use Rattle.sect_front.specs.Grammar.{operand_token, operator_token, kind_token, tokens_of}
 use Rattle.sect_front.specs.Tokens.{primitive_tokens, test_tokens, more_operands, operands_tokens}
 use Rattle.sect_front.specs.Tokens.{statement_tokens, block_tokens, declarations_tokens, hints_tokens}
 use Rattle.sect_front.specs.Tokens.{record_tokens, more_parameters, parameters_tokens, records_tokens}
@@ -21,8 +21,6 @@ use Rattle.sect_front.specs.declared.tree.Operator.TheVariants as operator
 use Rattle.sect_front.specs.declared.tree.Primitive as leaf
 use Rattle.sect_front.specs.declared.tree.Primitive.TheVariants as primitive
 use Rattle.sect_front.specs.declared.tree.Test.{Test}
-use Rattle.sect_front.specs.declared.tree.Comparison.{Comparison}
-use Rattle.sect_front.specs.declared.tree.Comparison.TheVariants as comparison
 use Rattle.sect_front.specs.declared.tree.Declaration.{Declaration}
 use Rattle.sect_front.specs.declared.tree.Record.{Record}
 use Rattle.sect_front.specs.declared.tree.GlobalObject.{GlobalObject}
@@ -53,14 +51,8 @@ calm_operator operator.Add k f = refl
 calm_operator operator.Subtract k f = refl
 calm_operator operator.Multiply k f = refl
 
-calm_comparison : (c : Comparison) (k : ℕ) (f : ℕ → ℕ) → peak_with (comparison_token c) k f ≡ f k
-calm_comparison comparison.Less k f = refl
-calm_comparison comparison.LessOrEqual k f = refl
-calm_comparison comparison.Equal k f = refl
-calm_comparison comparison.NotEqual k f = refl
-
 calm_test : (k : ℕ) (t : Test) (w : List Token) → peak k (test_tokens t w) ≡ peak k w
-calm_test k t w = simp (calm_operand, calm_comparison)
+calm_test k t w = simp calm_operand
 
 calm_primitive : (k : ℕ) (p : leaf.Primitive) (w : List Token) → peak k (primitive_tokens p w) ≡ peak k w
 calm_primitive k (primitive.Assign x v) w = simp calm_operand

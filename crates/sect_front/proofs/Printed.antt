@@ -19,6 +19,7 @@ use Rattle.sect_front.specs.Front.{IsSpelled}
 use Rattle.sect_front.specs.Layout.{separator, layout_of, IsTextOf}
 use Rattle.sect_front.specs.steps.Spread.{spread}
 use Rattle.sect_front.specs.declared.token.Token.{Token}
+use Rattle.sect_front.specs.declared.tree.Comparison.TheVariants as comparison
 use Rattle.sect_front.specs.declared.token.Token.TheVariants as token
 use Rattle.sect_front.specs.TokenAt.{TokenAt}
 use Rattle.sect_front.specs.declared.tree.Record.{Record}
@@ -94,10 +95,10 @@ solid token.Equal h = record { first = _; others = _; is = refl; no_blank = refl
 solid token.Plus h = record { first = _; others = _; is = refl; no_blank = refl; no_slash = refl }
 solid token.Minus h = record { first = _; others = _; is = refl; no_blank = refl; no_slash = refl }
 solid token.Star h = record { first = _; others = _; is = refl; no_blank = refl; no_slash = refl }
-solid token.EqualEqual h = record { first = _; others = _; is = refl; no_blank = refl; no_slash = refl }
-solid token.NotEqual h = record { first = _; others = _; is = refl; no_blank = refl; no_slash = refl }
-solid token.Less h = record { first = _; others = _; is = refl; no_blank = refl; no_slash = refl }
-solid token.LessEqual h = record { first = _; others = _; is = refl; no_blank = refl; no_slash = refl }
+solid (token.Comparison comparison.Equal) h = record { first = _; others = _; is = refl; no_blank = refl; no_slash = refl }
+solid (token.Comparison comparison.NotEqual) h = record { first = _; others = _; is = refl; no_blank = refl; no_slash = refl }
+solid (token.Comparison comparison.Less) h = record { first = _; others = _; is = refl; no_blank = refl; no_slash = refl }
+solid (token.Comparison comparison.LessOrEqual) h = record { first = _; others = _; is = refl; no_blank = refl; no_slash = refl }
 
 -- each token may stand before what is printed behind it
 stands_before : (t : Token) (w : List ℕ) → stands t (separator t ∷ w) ≡ true
@@ -130,10 +131,10 @@ stands_before token.Equal w = refl
 stands_before token.Plus w = refl
 stands_before token.Minus w = refl
 stands_before token.Star w = refl
-stands_before token.EqualEqual w = refl
-stands_before token.NotEqual w = refl
-stands_before token.Less w = refl
-stands_before token.LessEqual w = refl
+stands_before (token.Comparison comparison.Equal) w = refl
+stands_before (token.Comparison comparison.NotEqual) w = refl
+stands_before (token.Comparison comparison.Less) w = refl
+stands_before (token.Comparison comparison.LessOrEqual) w = refl
 
 -- what is printed behind a token is a blank
 separator_blank : (t : Token) → is_blank (separator t) ≡ true

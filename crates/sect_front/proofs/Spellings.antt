@@ -13,6 +13,7 @@ use Rattle.sect_front.specs.Spelling.{spelling_of, is_proper, IsSpelling}
 use Rattle.sect_front.specs.steps.Recognition.{keyword_of, keyword_table, token_beside, or_name, word_token, number_of}
 use Rattle.sect_front.specs.steps.Recognition.{as_number, single_sign, double_sign, sign_token, spelled}
 use Rattle.sect_front.specs.declared.token.Token.{Token}
+use Rattle.sect_front.specs.declared.tree.Comparison.TheVariants as comparison
 use Rattle.sect_front.specs.declared.token.Token.TheVariants as token
 use Rattle.sect_front.proofs.Choices.{chosen, if_some_so}
 use Rattle.sect_front.proofs.NamesLemmas.{named, is_named, keyword_known}
@@ -91,10 +92,10 @@ spelled_proper token.Equal h = refl
 spelled_proper token.Plus h = refl
 spelled_proper token.Minus h = refl
 spelled_proper token.Star h = refl
-spelled_proper token.EqualEqual h = refl
-spelled_proper token.NotEqual h = refl
-spelled_proper token.Less h = refl
-spelled_proper token.LessEqual h = refl
+spelled_proper (token.Comparison comparison.Equal) h = refl
+spelled_proper (token.Comparison comparison.NotEqual) h = refl
+spelled_proper (token.Comparison comparison.Less) h = refl
+spelled_proper (token.Comparison comparison.LessOrEqual) h = refl
 
 -- a fact of each token of a table, where the bytes are those beside it
 abbrev EachSo : (Token → Type 0) → List ℕ → List (List ℕ × Token) → Type 0
@@ -194,17 +195,17 @@ single_back b =
     if_some_so P (eqb b 43) token.Plus _ (λ e. record { is = ap (λ x. x ∷ []) (eqb-true b 43 e); proper = refl }) (
     if_some_so P (eqb b 45) token.Minus _ (λ e. record { is = ap (λ x. x ∷ []) (eqb-true b 45 e); proper = refl }) (
     if_some_so P (eqb b 42) token.Star _ (λ e. record { is = ap (λ x. x ∷ []) (eqb-true b 42 e); proper = refl }) (
-    if_some_so P (eqb b 60) token.Less _ (λ e. record { is = ap (λ x. x ∷ []) (eqb-true b 60 e); proper = refl }) (
+    if_some_so P (eqb b 60) (token.Comparison comparison.Less) _ (λ e. record { is = ap (λ x. x ∷ []) (eqb-true b 60 e); proper = refl }) (
     λ t e. absurd (none_or_some t e)))))))))))))
 
 double_back : (b : ℕ) (t : Token) → double_sign b ≡ Some t → IsSpelling t (b ∷ 61 ∷ [])
 double_back b =
     let P : Token → Type 0 = λ u. IsSpelling u (b ∷ 61 ∷ []) in
-    if_some_so P (eqb b 61) token.EqualEqual _
+    if_some_so P (eqb b 61) (token.Comparison comparison.Equal) _
     (λ e. record { is = ap (λ x. x ∷ 61 ∷ []) (eqb-true b 61 e); proper = refl }) (
-    if_some_so P (eqb b 33) token.NotEqual _
+    if_some_so P (eqb b 33) (token.Comparison comparison.NotEqual) _
     (λ e. record { is = ap (λ x. x ∷ 61 ∷ []) (eqb-true b 33 e); proper = refl }) (
-    if_some_so P (eqb b 60) token.LessEqual _
+    if_some_so P (eqb b 60) (token.Comparison comparison.LessOrEqual) _
     (λ e. record { is = ap (λ x. x ∷ 61 ∷ []) (eqb-true b 60 e); proper = refl }) (
     λ t e. absurd (none_or_some t e))))
 

@@ -10,7 +10,6 @@ use Rattle.sect_front.specs.declared.tree.Operand.TheVariants as operand
 use Rattle.sect_front.specs.declared.tree.Primitive as leaf
 use Rattle.sect_front.specs.declared.tree.Primitive.TheVariants as primitive
 use Rattle.sect_front.specs.declared.tree.Comparison.{Comparison}
-use Rattle.sect_front.specs.declared.tree.Comparison.TheVariants as comparison
 use Rattle.sect_front.specs.declared.tree.Operator.{Operator}
 use Rattle.sect_front.specs.declared.tree.Operator.TheVariants as operator
 use Rattle.sect_front.specs.declared.tree.Test.{Test}
@@ -38,10 +37,7 @@ operator_token operator.Multiply = token.Star
 
 -- cmp = "==" | "!=" | "<" | "<="
 abbrev pub comparison_token : Comparison → Token
-comparison_token comparison.Equal = token.EqualEqual
-comparison_token comparison.NotEqual = token.NotEqual
-comparison_token comparison.Less = token.Less
-comparison_token comparison.LessOrEqual = token.LessEqual
+comparison_token c = token.Comparison c
 
 -- a statement without a block:
 -- name "=" operand ";" | name "=" operand op operand ";" | name "=" "new" name ";" | name "=" name "." name ";" | name

@@ -3,6 +3,7 @@ use Rattle.std.specs.Prelude.{◌≡◌, ◌≢◌, ℕ, ◌+◌, ◌<◌, ◌�
 use Rattle.sect_front.specs.Words.{is_name_byte, begins}
 use Rattle.sect_front.specs.Gaps.{equals_sign, begins_with, after_gap}
 use Rattle.sect_front.specs.Spelling.{IsSpelling}
+use Rattle.sect_front.specs.declared.tree.Comparison.TheVariants as comparison
 use Rattle.sect_front.specs.declared.token.Token.{Token}
 use Rattle.sect_front.specs.declared.token.Token.TheVariants as token
 use Rattle.sect_front.specs.TokenAt.{TokenAt}
@@ -20,11 +21,9 @@ stands token.Dot rest = true
 stands token.Plus rest = true
 stands token.Minus rest = true
 stands token.Star rest = true
-stands token.EqualEqual rest = true
-stands token.NotEqual rest = true
-stands token.LessEqual rest = true
 stands token.Equal rest = not (begins_with equals_sign rest)
-stands token.Less rest = not (begins_with equals_sign rest)
+stands (token.Comparison comparison.Less) rest = not (begins_with equals_sign rest)
+stands (token.Comparison _) rest = true
 stands _ rest = not (begins is_name_byte rest)
 
 -- the token stands at the front, in the first n bytes

@@ -2,8 +2,16 @@
 use Rattle.std.specs.Prelude.{◌≡◌, ℕ, Bool, true, nat_lt, List, codes}
 use Rattle.std.specs.Fmt.{decimal}
 use Rattle.sect_front.specs.Words.{is_name}
+use Rattle.sect_front.specs.declared.tree.Comparison.{Comparison}
+use Rattle.sect_front.specs.declared.tree.Comparison.TheVariants as comparison
 use Rattle.sect_front.specs.declared.token.Token.{Token}
 use Rattle.sect_front.specs.declared.token.Token.TheVariants as token
+
+abbrev pub comparison_spelling : Comparison → List ℕ
+comparison_spelling comparison.Equal = codes "=="
+comparison_spelling comparison.NotEqual = codes "!="
+comparison_spelling comparison.Less = codes "<"
+comparison_spelling comparison.LessOrEqual = codes "<="
 
 -- a name by its bytes, an integer in decimal digits without a leading zero, a keyword or sign by itself
 abbrev pub spelling_of : Token → List ℕ
@@ -36,10 +44,7 @@ spelling_of token.Equal = codes "="
 spelling_of token.Plus = codes "+"
 spelling_of token.Minus = codes "-"
 spelling_of token.Star = codes "*"
-spelling_of token.EqualEqual = codes "=="
-spelling_of token.NotEqual = codes "!="
-spelling_of token.Less = codes "<"
-spelling_of token.LessEqual = codes "<="
+spelling_of (token.Comparison c) = comparison_spelling c
 
 -- a name is a name, and an integer is at most 9223372036854775807
 abbrev pub is_proper : Token → Bool

@@ -13,6 +13,7 @@ use crate::limits::MOST_NAME_BYTES;
 use crate::literal::Literal;
 use crate::name::Name;
 use crate::token::Token;
+use crate::tree::Comparison;
 use crate::words::{is_digit, is_letter, is_name_byte, keyword, word_length};
 
 fn is_blank(byte: u8) -> bool
@@ -140,7 +141,7 @@ fn single(byte: u8) -> Option<Token>
         b'+' => Some(Token::Plus),
         b'-' => Some(Token::Minus),
         b'*' => Some(Token::Star),
-        b'<' => Some(Token::Less),
+        b'<' => Some(Token::Comparison(Comparison::Less)),
         _ => None,
     }
 }
@@ -150,9 +151,9 @@ fn double(byte: u8) -> Option<Token>
     ensures { result ≡ double_sign byte }
 {
     match byte {
-        b'=' => Some(Token::EqualEqual),
-        b'!' => Some(Token::NotEqual),
-        b'<' => Some(Token::LessEqual),
+        b'=' => Some(Token::Comparison(Comparison::Equal)),
+        b'!' => Some(Token::Comparison(Comparison::NotEqual)),
+        b'<' => Some(Token::Comparison(Comparison::LessOrEqual)),
         _ => None,
     }
 }

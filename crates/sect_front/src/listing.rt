@@ -2,7 +2,7 @@
 
 ghost use Rattle.std.specs.Prelude.{◌≡◌, ◌∷◌, ◌++◌, OnOk, IfOk};
 ghost use Rattle.sect_front.specs.Grammar.{tokens_of as grammar_tokens, operand_token, operator_token};
-ghost use Rattle.sect_front.specs.Grammar.{comparison_token, kind_token};
+ghost use Rattle.sect_front.specs.Grammar.{kind_token};
 ghost use Rattle.sect_front.specs.Tokens.{primitive_tokens, test_tokens, locking_tokens, statement_tokens};
 ghost use Rattle.sect_front.specs.Tokens.{block_tokens, declarations_tokens, hints_tokens, record_tokens};
 ghost use Rattle.sect_front.specs.Tokens.{global_tokens, thread_tokens, records_tokens, globals_tokens};
@@ -16,8 +16,8 @@ use crate::items::Items;
 use crate::name::Name;
 use crate::token::Token;
 use crate::tree::{
-    Block, Comparison, Declaration, Declarations, GlobalObject, Kind, Locking, Operand, Operator,
-    Primitive, Procedure, Record, Statement, Test, Thread, Tree,
+    Block, Declaration, Declarations, GlobalObject, Kind, Locking, Operand, Operator, Primitive,
+    Procedure, Record, Statement, Test, Thread, Tree,
 };
 use std::alloc::{AllocError, Global};
 
@@ -35,17 +35,6 @@ fn operand(v: Operand) -> Token
         Operand::Number(n) => Token::Number(n),
         Operand::Null => Token::Null,
         Operand::Name(n) => Token::Name(n),
-    }
-}
-
-fn comparison(c: Comparison) -> Token
-    ensures { result ≡ comparison_token c }
-{
-    match c {
-        Comparison::Equal => Token::EqualEqual,
-        Comparison::NotEqual => Token::NotEqual,
-        Comparison::Less => Token::Less,
-        Comparison::LessOrEqual => Token::LessEqual,
     }
 }
 
@@ -133,7 +122,7 @@ fn put_test(out: &mut Vec<Token>, word: Token, t: Test) -> Result<(), AllocError
             word,
             Token::OpenParen,
             operand(t.left),
-            comparison(t.comparison),
+            Token::Comparison(t.comparison),
             operand(t.right),
             Token::CloseParen,
         ],

@@ -117,10 +117,7 @@ fn comparison(token: &Token) -> Option<Comparison>
     ensures { result ≡ comparison_of token.now }
 {
     match token {
-        Token::EqualEqual => Some(Comparison::Equal),
-        Token::NotEqual => Some(Comparison::NotEqual),
-        Token::Less => Some(Comparison::Less),
-        Token::LessEqual => Some(Comparison::LessOrEqual),
+        Token::Comparison(comparison) => Some(*comparison),
         _ => None,
     }
 }

@@ -58,10 +58,7 @@ fn fixed_spelling(token: Token) -> &'static [u8]
         Token::Plus => b"+",
         Token::Minus => b"-",
         Token::Star => b"*",
-        Token::EqualEqual => b"==",
-        Token::NotEqual => b"!=",
-        Token::Less => b"<",
-        Token::LessEqual => b"<=",
+        Token::Comparison(comparison) => comparison.spelling().as_bytes(),
     }
 }
 

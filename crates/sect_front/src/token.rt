@@ -2,6 +2,7 @@
 
 use crate::literal::Literal;
 use crate::name::Name;
+use crate::tree::Comparison;
 
 /// A token of a source text. `class` is a keyword that stands in no rule of the grammar.
 #[derive(Clone, Copy)]
@@ -35,8 +36,5 @@ pub enum Token {
     Plus,
     Minus,
     Star,
-    EqualEqual,
-    NotEqual,
-    Less,
-    LessEqual,
+    Comparison(Comparison),
 }

@@ -27,6 +27,22 @@ pub enum Comparison {
     LessOrEqual,
 }
 
+impl Comparison {
+    ghost use Rattle.sect_front.specs.Spelling.{comparison_spelling};
+
+    /// How it is written.
+    pub fn spelling(self) -> &'static str
+        ensures { result.now ≡ comparison_spelling self }
+    {
+        match self {
+            Comparison::Equal => "==",
+            Comparison::NotEqual => "!=",
+            Comparison::Less => "<",
+            Comparison::LessOrEqual => "<=",
+        }
+    }
+}
+
 /// How a statement joins two integers.
 #[derive(Clone, Copy, PartialEq, Eq)]
 pub enum Operator {

@@ -9,7 +9,7 @@ use Rattle.sect_front.specs.Front.{IsSpelled}
 use Rattle.sect_front.specs.FaultPlaces.{token_span}
 use Rattle.sect_front.specs.Faults.{tokens_in}
 use Rattle.sect_front.specs.Syntax.{StatementView, BlockView, Primitive, If, IfElse, While, Atomic, Call, End, Then}
-use Rattle.sect_front.specs.Grammar.{tokens_of, operand_token, operator_token, comparison_token, kind_token}
+use Rattle.sect_front.specs.Grammar.{tokens_of, operand_token, operator_token, kind_token}
 use Rattle.sect_front.specs.Tokens.{primitive_tokens, test_tokens, locking_tokens, more_operands, operands_tokens}
 use Rattle.sect_front.specs.Tokens.{statement_tokens, block_tokens, declarations_tokens, hints_tokens, records_tokens}
 use Rattle.sect_front.specs.Tokens.{globals_tokens, more_parameters, parameters_tokens, procedures_tokens}
@@ -21,8 +21,6 @@ use Rattle.sect_front.specs.declared.tree.Operand.{Operand}
 use Rattle.sect_front.specs.declared.tree.Operand.TheVariants as operand
 use Rattle.sect_front.specs.declared.tree.Operator.{Operator}
 use Rattle.sect_front.specs.declared.tree.Operator.TheVariants as operator
-use Rattle.sect_front.specs.declared.tree.Comparison.{Comparison}
-use Rattle.sect_front.specs.declared.tree.Comparison.TheVariants as comparison
 use Rattle.sect_front.specs.declared.tree.Primitive as leaf
 use Rattle.sect_front.specs.declared.tree.Primitive.TheVariants as primitive
 use Rattle.sect_front.specs.declared.tree.Test.{Test}
@@ -73,13 +71,6 @@ operator_named operator.Add ts us h = h
 operator_named operator.Subtract ts us h = h
 operator_named operator.Multiply ts us h = h
 
-comparison_named : (c : Comparison) (ts : List Token) (us : List NameUse) → AreNames ts us
-    → AreNames (comparison_token c ∷ ts) us
-comparison_named comparison.Equal ts us h = h
-comparison_named comparison.NotEqual ts us h = h
-comparison_named comparison.Less ts us h = h
-comparison_named comparison.LessOrEqual ts us h = h
-
 kind_named : (m n : ℕ) (k : Kind) (ts : List Token) (us : List NameUse) → AreNames ts us
     → AreNames (kind_token k ∷ ts) (kind_uses m n k us)
 kind_named m n kind.Int ts us h = h
@@ -103,8 +94,8 @@ test_named : (m n : ℕ) (t : Test) (ts : List Token) (us : List NameUse) → Ar
     → AreNames (test_tokens t ts) (test_uses m n t us)
 test_named m n t ts us h =
     let rest : List Token = operand_token t.right ∷ token.CloseParen ∷ ts in
-    operand_named m n (role.Operand 0) t.left (comparison_token t.comparison ∷ rest) _
-    (comparison_named t.comparison rest _ (operand_named m n (role.Operand 1) t.right (token.CloseParen ∷ ts) us h))
+    operand_named m n (role.Operand 0) t.left (token.Comparison t.comparison ∷ rest) _
+    (operand_named m n (role.Operand 1) t.right (token.CloseParen ∷ ts) us h)
 
 more_named : (m n i : ℕ) (vs : List Operand) (ts : List Token) (us : List NameUse) → AreNames ts us
     → AreNames (more_operands vs ts) (argument_uses m n i vs us)

@@ -36,9 +36,9 @@ fn spelled_length(alloc: Global, token: &Token) -> Result<usize, AllocError>
         | Token::Equal
         | Token::Plus
         | Token::Minus
-        | Token::Star
-        | Token::Less => 1,
-        Token::If | Token::EqualEqual | Token::NotEqual | Token::LessEqual => 2,
+        | Token::Star => 1,
+        Token::Comparison(comparison) => comparison.spelling().len(),
+        Token::If => 2,
         Token::Int | Token::New | Token::All => 3,
         Token::Proc | Token::Null | Token::Else | Token::Call => 4,
         Token::Print | Token::While | Token::Class => 5,

@@ -1,7 +1,5 @@
 -- TextView whose variables are moved stay sound where the types are moved with them.
-use Rattle.std.proofs.Common.{◌≡◌, ℕ, ◌+◌, List, Some, slice_get}
-use Rattle.sect_front.specs.declared.tree.Comparison.{Comparison}
-use Rattle.sect_front.specs.declared.tree.Comparison.TheVariants as comparison
+use Rattle.std.proofs.Common.{◌≡◌, ℕ, ◌+◌, Bool, true, false, List, Some, slice_get}
 use Rattle.sect_types.specs.declared.types.ValueType.{ValueType}
 use Rattle.sect_types.specs.declared.types.ValueType.TheVariants.{Int, Refers}
 use Rattle.sect_types.specs.declared.action.Base.{Base}
@@ -12,7 +10,8 @@ use Rattle.sect_types.specs.declared.action.Condition.{Condition}
 use Rattle.sect_types.specs.declared.action.Action.{Action}
 use Rattle.sect_types.specs.declared.action.Action.TheVariants as action
 use Rattle.sect_types.specs.Environments.{Environment}
-use Rattle.sect_types.specs.Sound.{type_at, HasType, IsSoundAction, AreComparable, IsSoundCondition}
+use Rattle.sect_types.specs.Kinds.{compares_integers}
+use Rattle.sect_types.specs.Sound.{type_at, HasType, IsSoundAction, AreAlike, IsSoundCondition}
 use Rattle.sect_types.specs.Expanded.{moved_value, moved_base, moved_action, moved_condition}
 
 abbrev pub with_locals : Environment → List ValueType → Environment
@@ -48,17 +47,11 @@ moved_sound e n all h (action.Store b f v) p =
     (p.0, moved_at e n all h b (Refers f.of) p.1, p.2, moved_type e n all h v p.0 p.3)
 moved_sound e n all h (action.Print v) p = moved_type e n all h v Int p
 
-moved_comparable : (e : Environment) (n : ℕ) (all : List ValueType) → StandFrom n e.locals all
-    → (c : Comparison) (v w : Value) →
-    AreComparable e c v w → AreComparable (with_locals e all) c (moved_value n v) (moved_value n w)
-moved_comparable e n all h comparison.Equal v w p =
-    (p.0, moved_type e n all h v p.0 p.1, moved_type e n all h w p.0 p.2)
-moved_comparable e n all h comparison.NotEqual v w p =
-    (p.0, moved_type e n all h v p.0 p.1, moved_type e n all h w p.0 p.2)
-moved_comparable e n all h comparison.Less v w p = (moved_type e n all h v Int p.0, moved_type e n all h w Int p.1)
-moved_comparable e n all h comparison.LessOrEqual v w p =
-    (moved_type e n all h v Int p.0, moved_type e n all h w Int p.1)
+moved_alike : (e : Environment) (n : ℕ) (all : List ValueType) → StandFrom n e.locals all → (integers : Bool)
+    (v w : Value) → AreAlike integers e v w → AreAlike integers (with_locals e all) (moved_value n v) (moved_value n w)
+moved_alike e n all h true v w p = (moved_type e n all h v Int p.0, moved_type e n all h w Int p.1)
+moved_alike e n all h false v w p = (p.0, moved_type e n all h v p.0 p.1, moved_type e n all h w p.0 p.2)
 
 pub moved_holds : (e : Environment) (n : ℕ) (all : List ValueType) → StandFrom n e.locals all → (c : Condition) →
     IsSoundCondition e c → IsSoundCondition (with_locals e all) (moved_condition n c)
-moved_holds e n all h c p = moved_comparable e n all h c.comparison c.left c.right p
+moved_holds e n all h c p = moved_alike e n all h (compares_integers c.comparison) c.left c.right p

@@ -16,7 +16,6 @@ use Rattle.sect_front.specs.declared.tree.Operand.{Operand}
 use Rattle.sect_front.specs.declared.tree.Operand.TheVariants as operand
 use Rattle.sect_front.specs.declared.tree.Operator.{Operator}
 use Rattle.sect_front.specs.declared.tree.Comparison.{Comparison}
-use Rattle.sect_front.specs.declared.tree.Comparison.TheVariants as comparison
 use Rattle.sect_front.specs.declared.tree.Primitive as leaf
 use Rattle.sect_front.specs.declared.tree.Primitive.TheVariants as primitive
 use Rattle.sect_front.specs.declared.tree.Test.{Test}
@@ -38,13 +37,13 @@ use Rattle.sect_types.specs.Sight.{global_with, or_else, place, names_of_declare
 use Rattle.sect_types.specs.Sight.{field_with, field_at, field_in, field_of, field_of_number}
 use Rattle.sect_types.proofs.Typing.{well_typed, well_typed_test, assign_of, compute_of, new_of, load_at, load_of}
 use Rattle.sect_types.proofs.Typing.{store_at, store_of, print_of, compared_of, primitive_of, test_of}
-use Rattle.sect_types.specs.Kinds.{same_kind, is_reference, accepts, of_one_kind, comparable}
+use Rattle.sect_types.specs.Kinds.{same_kind, is_reference, accepts, of_one_kind, compares_integers, comparable}
 use Rattle.sect_types.specs.Numbered.{base_by, value_at, value_by}
 use Rattle.sect_types.specs.Sight.{field_looked, looked_in, looked_of}
 use Rattle.sect_types.specs.Items.{PrimitiveHead}
 use Rattle.sect_types.specs.Rules.{shares}
 use Rattle.sect_types.specs.Environments.{Environment, environment, record_number, type_of, types_of}
-use Rattle.sect_types.specs.Sound.{reference_to, type_at, type_in, field_type, HasType, IsSoundAction, AreComparable}
+use Rattle.sect_types.specs.Sound.{reference_to, type_at, type_in, field_type, HasType, IsSoundAction, AreAlike, AreComparable}
 use Rattle.sect_types.specs.Sound.{IsSoundCondition, is_shared, IsSound}
 use Rattle.sect_types.specs.Statements.{TextView, Stop, Do, Choose, Loop, Section, joined}
 use Rattle.std.proofs.lemmas.Bool.{and_parts}
@@ -349,10 +348,12 @@ integers_have s v w p q e = let h = and_parts (accepts kind.Int v) (accepts kind
 
 comparable_have : (s : Sight) (c : Comparison) (v w : Given) → IsGiven s v → IsGiven s w → comparable c v w ≡ true
     → AreComparable (environment s) c (value_by v) (value_by w)
-comparable_have s comparison.Equal v w p q e = of_one_kind_have s v w p q e
-comparable_have s comparison.NotEqual v w p q e = of_one_kind_have s v w p q e
-comparable_have s comparison.Less v w p q e = integers_have s v w p q e
-comparable_have s comparison.LessOrEqual v w p q e = integers_have s v w p q e
+comparable_have s c v w p q e = by (compares_integers c) e
+  where
+    by : (integers : Bool) → cond integers (accepts kind.Int v && accepts kind.Int w) (of_one_kind v w) ≡ true
+        → AreAlike integers (environment s) (value_by v) (value_by w)
+    by true h = integers_have s v w p q h
+    by false h = of_one_kind_have s v w p q h
 
 condition_sound : (s : Sight) (v : Option Given) (c : Comparison) (w : Option Given) → IfSome v (IsGiven s)
     → IfSome w (IsGiven s)

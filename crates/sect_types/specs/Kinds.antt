@@ -1,5 +1,5 @@
 -- Types as they are written: what can be set to what, and compared with what.
-use Rattle.std.specs.Prelude.{Bool, true, false, ◌&&◌}
+use Rattle.std.specs.Prelude.{Bool, true, false, ◌&&◌, if◌then◌else◌}
 use Rattle.sect_front.specs.declared.tree.Kind.{Kind}
 use Rattle.sect_front.specs.declared.tree.Kind.TheVariants as kind
 use Rattle.sect_front.specs.declared.tree.Comparison.{Comparison}
@@ -34,8 +34,12 @@ of_one_kind given.Null given.Null = true
 of_one_kind given.Null (given.Base d) = is_reference (kind_of d)
 of_one_kind (given.Base d) v = accepts (kind_of d) v
 
+-- `<` and `<=` compare integers alone
+abbrev pub compares_integers : Comparison → Bool
+compares_integers comparison.Equal = false
+compares_integers comparison.NotEqual = false
+compares_integers comparison.Less = true
+compares_integers comparison.LessOrEqual = true
+
 abbrev pub comparable : Comparison → Given → Given → Bool
-comparable comparison.Equal v w = of_one_kind v w
-comparable comparison.NotEqual v w = of_one_kind v w
-comparable comparison.Less v w = accepts kind.Int v && accepts kind.Int w
-comparable comparison.LessOrEqual v w = accepts kind.Int v && accepts kind.Int w
+comparable c v w = if compares_integers c then (accepts kind.Int v && accepts kind.Int w) else of_one_kind v w

@@ -1,7 +1,6 @@
 -- Statements that agree with the declarations by number.
 use Rattle.std.specs.Prelude.{◌≡◌, ◌<◌, ℕ, length, ⊤, Bool, true, false, List, [], ◌∷◌, Option, Some, None, slice_get}
 use Rattle.sect_front.specs.declared.tree.Comparison.{Comparison}
-use Rattle.sect_front.specs.declared.tree.Comparison.TheVariants as comparison
 use Rattle.sect_types.specs.declared.types.ValueType.{ValueType}
 use Rattle.sect_types.specs.declared.types.ValueType.TheVariants.{Int, Refers}
 use Rattle.sect_types.specs.declared.action.Base.{Base}
@@ -12,6 +11,7 @@ use Rattle.sect_types.specs.declared.action.Field.{Field}
 use Rattle.sect_types.specs.declared.action.Condition.{Condition}
 use Rattle.sect_types.specs.declared.action.Action.{Action}
 use Rattle.sect_types.specs.declared.action.Action.TheVariants as action
+use Rattle.sect_types.specs.Kinds.{compares_integers}
 use Rattle.sect_types.specs.Statements.{TextView, Stop, Do, Choose, Loop, Section}
 use Rattle.sect_types.specs.Environments.{Environment}
 
@@ -52,12 +52,14 @@ IsSoundAction e (action.Store b f v) =
     (t : ValueType) × (type_at e b ≡ Some (Refers f.of)) × (field_type e f ≡ Some t) × HasType e v t
 IsSoundAction e (action.Print v) = HasType e v Int
 
--- `==` and `!=` compare two values of one type, `<` and `<=` two integers
+-- two integers, or two values of one type
+abbrev pub AreAlike : Bool → Environment → Value → Value → Type 0
+AreAlike true e v w = HasType e v Int × HasType e w Int
+AreAlike false e v w = (t : ValueType) × HasType e v t × HasType e w t
+
+-- `<` and `<=` compare two integers, `==` and `!=` two values of one type
 abbrev pub AreComparable : Environment → Comparison → Value → Value → Type 0
-AreComparable e comparison.Equal v w = (t : ValueType) × HasType e v t × HasType e w t
-AreComparable e comparison.NotEqual v w = (t : ValueType) × HasType e v t × HasType e w t
-AreComparable e comparison.Less v w = HasType e v Int × HasType e w Int
-AreComparable e comparison.LessOrEqual v w = HasType e v Int × HasType e w Int
+AreComparable e c v w = AreAlike (compares_integers c) e v w
 
 abbrev pub IsSoundCondition : Environment → Condition → Type 0
 IsSoundCondition e c = AreComparable e c.comparison c.left c.right

@@ -9,7 +9,6 @@ use Rattle.sect_front.specs.declared.tree.Primitive.TheVariants as primitive
 use Rattle.sect_front.specs.declared.tree.Operator.{Operator}
 use Rattle.sect_front.specs.declared.tree.Operator.TheVariants as operator
 use Rattle.sect_front.specs.declared.tree.Comparison.{Comparison}
-use Rattle.sect_front.specs.declared.tree.Comparison.TheVariants as comparison
 use Rattle.sect_front.specs.declared.tree.Test.{Test}
 use Rattle.sect_front.specs.declared.tree.Locking.TheVariants as locking
 use Rattle.sect_front.specs.declared.partial.PartialAssign.{PartialAssign}
@@ -39,10 +38,7 @@ operator_of token.Star = Some operator.Multiply
 operator_of _ = None
 
 abbrev pub comparison_of : Token → Option Comparison
-comparison_of token.EqualEqual = Some comparison.Equal
-comparison_of token.NotEqual = Some comparison.NotEqual
-comparison_of token.Less = Some comparison.Less
-comparison_of token.LessEqual = Some comparison.LessOrEqual
+comparison_of (token.Comparison c) = Some c
 comparison_of _ = None
 
 -- goes on with a part, where there is one

@@ -6,6 +6,7 @@ use Rattle.std.specs.Str.{bytes_eq}
 use Rattle.sect_front.specs.Limits.{most_name_bytes}
 use Rattle.sect_front.specs.Spelling.{spelling_of}
 use Rattle.sect_front.specs.Words.{is_letter, is_digit, is_name_byte}
+use Rattle.sect_front.specs.declared.tree.Comparison.TheVariants as comparison
 use Rattle.sect_front.specs.declared.token.Token.{Token}
 use Rattle.sect_front.specs.declared.token.Token.TheVariants as token
 
@@ -79,14 +80,14 @@ single_sign b =
     if b == 43 then Some token.Plus else (
     if b == 45 then Some token.Minus else (
     if b == 42 then Some token.Star else (
-    if b == 60 then Some token.Less else None)))))))))))
+    if b == 60 then Some (token.Comparison comparison.Less) else None)))))))))))
 
 -- the sign that a byte and `=` are: == != <=
 abbrev pub double_sign : ℕ → Option Token
 double_sign b =
-    if b == 61 then Some token.EqualEqual else (
-    if b == 33 then Some token.NotEqual else (
-    if b == 60 then Some token.LessEqual else None))
+    if b == 61 then Some (token.Comparison comparison.Equal) else (
+    if b == 33 then Some (token.Comparison comparison.NotEqual) else (
+    if b == 60 then Some (token.Comparison comparison.LessOrEqual) else None))
 
 abbrev pub sign_token : ℕ → List ℕ → Option Token
 sign_token b [] = single_sign b

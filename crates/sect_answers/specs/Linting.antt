@@ -1,12 +1,12 @@
 -- What the commands `lint` and `inspect` answer to a source text. `findings` and `inspection` cite it.
-use Rattle.std.specs.Prelude.{◌≡◌, ◌<◌, ℕ, Some, List, ⊤}
+use Rattle.std.specs.Prelude.{◌≡◌, ◌<◌, ℕ, List, ⊤}
 use Rattle.std.specs.String.{string_bytes}
 use Rattle.sect_names.specs.declared.fault.SchemeFault.TheVariants as scheme
 use Rattle.sect_names.specs.declared.refusal.Refusal.TheVariants as source_refusal
 use Rattle.sect_lint.specs.declared.diagnostic.Diagnostic.{Diagnostic}
 use Rattle.sect_lint.specs.declared.format.Format.{Format}
 use Rattle.sect_lint.specs.Formats.{report_as}
-use Rattle.sect_lint.specs.Reports.{IsJudged}
+use Rattle.sect_lint.specs.Reports.{IsRefusedFor}
 use Rattle.sect_emit.specs.Compiled.{CompiledView, IsCompiledFrom}
 use Rattle.sect_json.specs.Inspecting.{IsInspectionDocument}
 use Rattle.sect_warnings.specs.Formats.{AreWarningsPrinted}
@@ -28,7 +28,7 @@ pub record IsInspection (source : List ℕ) (k : ℕ) (bytes : List ℕ) : Type 
 -- the bytes are the report of the mistake for which the text is refused
 abbrev pub IsReported : List ℕ → ℕ → Format → List ℕ → Type 0
 IsReported source k format bytes =
-    (d : Diagnostic) × IsJudged source k (Some d) × (bytes ≡ report_as format source d)
+    (d : Diagnostic) × IsRefusedFor source k d × (bytes ≡ report_as format source d)
 
 -- the refusal is due: the report of the text, or that no path may have so many fields
 abbrev pub IsLintDue : List ℕ → ℕ → Format → Refusal → Type 0

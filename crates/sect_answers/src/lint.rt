@@ -7,9 +7,9 @@ ghost use Rattle.sect_lint.specs.declared.format.Format.TheVariants.{Json};
 ghost use Rattle.sect_answers.specs.Linting.{IsUnblamed, IsInspection, IsLintDue};
 
 use crate::refusal::Refusal;
-use sect_emit::{Compiled, compile};
+use sect_emit::{Compiled, compile_scheme};
 use sect_json::inspection_document;
-use sect_lint::{Format, lint, report_as};
+use sect_lint::{Format, Judgment, lint, report_as};
 use sect_warnings::warnings_as;
 use std::alloc::Global;
 
@@ -48,11 +48,11 @@ fn compiled_or_report(
     ensures refuses { IfErr result (IsLintDue source.now k format) }
 {
     match lint(alloc, source, k)? {
-        None => match compile(alloc, source, k) {
-            Ok(compiled) => Ok(compiled),
-            Err(_) => Err(Refusal::Memory),
-        },
-        Some(diagnostic) => {
+        Judgment::Accepted(scheme) => {
+            let compiled = compile_scheme(alloc, scheme)?;
+            Ok(compiled)
+        }
+        Judgment::Refused(diagnostic) => {
             let report = report_as(alloc, source, &diagnostic, format)?;
             Err(Refusal::Report(report))
         }

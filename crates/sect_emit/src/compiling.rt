@@ -1,6 +1,6 @@
 //! Compilation.
 
-ghost use Rattle.std.specs.Prelude.{◌≡◌, ◌↔◌, map, IfOk, IfErr, IsErrOf, OnOk, IsOkUnless};
+ghost use Rattle.std.specs.Prelude.{◌≡◌, ◌↔◌, ℕ, List, map, IfOk, IfErr, IsErrOf, OnOk, IsOkUnless};
 ghost use Rattle.sect_names.specs.declared.refusal.Refusal.TheVariants.{Memory};
 ghost use Rattle.sect_names.specs.Schemes.{SchemeView};
 ghost use Rattle.sect_names.specs.Sources.{IsAccepted, IsDue};
@@ -34,8 +34,19 @@ pub fn compile(alloc: Global, source: &[u8], k: u16) -> Result<Compiled, Refusal
     ensures refuses { IfErr result (IsDue source.now k) }
 {
     let scheme = accept(alloc, source, k)?;
+    Ok(compile_scheme(alloc, scheme)?)
+}
+
+/// The compiled program of a scheme. It fails only where a growth was refused.
+pub fn compile_scheme(alloc: Global, scheme: Scheme) -> Result<Compiled, AllocError>
+    // It has the least set of each section.
+    ensures compiled { IfOk result (λ c. (c.scheme ≡ scheme) × IsCompiled c × AreSetsLeast c) }
+    // It is that of each source text that is accepted with this scheme.
+    ensures from { (source : List ℕ) (k : ℕ) → IsAccepted source k scheme
+        → IfOk result (IsCompiledFrom source k) }
+{
     let locks = all_locks(alloc, &scheme)?;
-    Ok(planned(alloc, scheme, locks)?)
+    planned(alloc, scheme, locks)
 }
 
 /// The compiled program of a source text, as `compile` gives it, where 1 to 16 workers infer the locks of its sections:

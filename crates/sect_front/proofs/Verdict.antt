@@ -30,7 +30,7 @@ tree_passes : (tree : TreeView) → after start (tokens_of tree) ≡ Some (readi
 tree_passes tree = ap (after start) (tokens_same tree) ∙ source_passes tree
 
 -- what is read from the start on is viable
-viable : (front : List Token) (r : ReaderView) → after start front ≡ Some r → IsViable front
+pub viable : (front : List Token) (r : ReaderView) → after start front ≡ Some r → IsViable front
 viable front r h = let e = finishes front r h in (e.0, e.1, tokens_same e.0 ∙ e.2)
 
 -- these tokens have been read, and so many braces are open
@@ -50,7 +50,7 @@ after_append r (t ∷ v) w = go v w (λ m. after_append m v w) (read_one r t)
     go v w h None = refl
     go v w h (Some m) = h m
 
-after_one : (front : List Token) (r : ReaderView) (t : Token) (rest : List Token) → after start front ≡ Some r →
+pub after_one : (front : List Token) (r : ReaderView) (t : Token) (rest : List Token) → after start front ≡ Some r →
     after start (front ++ t ∷ rest) ≡ option_and_then (λ m. after m rest) (read_one r t)
 after_one front r t rest h =
     after_append start front (t ∷ rest) ∙ ap (option_and_then (λ m. after m (t ∷ rest))) h

@@ -10,3 +10,5 @@ pub mod Spread
 pub mod Verdicts
 pub mod Lexeme
 pub mod Below
+pub mod Sample
+pub mod Taking

@@ -1,6 +1,7 @@
 //! The front end: bytes to tokens, tokens to a tree, and a tree back to text.
 #![tactic(auto)]
 
+mod expecting;
 mod innermost;
 mod items;
 mod lexer;
@@ -16,10 +17,12 @@ mod reading;
 mod same;
 mod span;
 mod token;
+mod token_kind;
 mod tree;
 mod within;
 mod words;
 
+pub use expecting::expected_kinds;
 pub use innermost::innermost_brace;
 pub use items::Items;
 pub use lexer::after_gap;
@@ -32,6 +35,7 @@ pub use printing::print;
 pub use same::is_same;
 pub use span::Span;
 pub use token::Token;
+pub use token_kind::TokenKind;
 pub use tree::{
     Block, Comparison, Declaration, Declarations, GlobalObject, Kind, Locking, Operand, Operator,
     Primitive, Procedure, Record, Statement, Test, Thread, Tree,

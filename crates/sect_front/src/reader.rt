@@ -188,6 +188,13 @@ impl Reader {
         }
     }
 
+    /// Where the next token stands.
+    pub fn stage(&self) -> &Stage
+        ensures { result.now ≡ self.now.stage }
+    {
+        &self.stage
+    }
+
     /// Sets where the next token stands.
     fn lead_to(&mut self, stage: Stage)
         ensures { self.new ≡ record { source = self.old.source; stage = stage } }

@@ -118,6 +118,13 @@ impl Within {
         }
     }
 
+    /// Where the next token stands.
+    pub fn place(&self) -> &Partial
+        ensures { result.now ≡ self.now.place }
+    {
+        &self.place
+    }
+
     /// Sets where the next token stands.
     fn lead_to(&mut self, place: Partial)
         ensures { self.new ≡ record { frames = self.old.frames; before = self.old.before; place = place } }

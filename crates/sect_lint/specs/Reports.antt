@@ -1,5 +1,5 @@
 -- What is reported of a text that is refused.
-use Rattle.std.specs.Prelude.{◌≡◌, ◌⊎◌, ◌<◌, ℕ, Option, Some, None, List, ◌++◌, length, map, codes}
+use Rattle.std.specs.Prelude.{◌≡◌, ◌⊎◌, ◌<◌, ℕ, Some, List, ◌++◌, length, map, codes}
 use Rattle.std.specs.Fmt.{decimal}
 use Rattle.sect_front.specs.Front.{line_of}
 use Rattle.sect_front.specs.FaultPlaces.{IsWithin, token_span}
@@ -7,7 +7,6 @@ use Rattle.sect_front.specs.TreeView.{TreeView}
 use Rattle.sect_front.specs.declared.span.Span.{Span}
 use Rattle.sect_places.specs.NameSpans.{AreNameSpans}
 use Rattle.sect_places.specs.declared.name_use.NameSpan.{NameSpan}
-use Rattle.sect_names.specs.Schemes.{SchemeView}
 use Rattle.sect_names.specs.Sources.{IsAccepted, IsDue}
 use Rattle.sect_names.specs.declared.fault.SchemeFault.TheVariants as scheme
 use Rattle.sect_names.specs.declared.refusal.Refusal.{Refusal}
@@ -15,6 +14,8 @@ use Rattle.sect_names.specs.declared.refusal.Refusal.TheVariants as refusal
 use Rattle.sect_lint.specs.declared.diagnostic.Detail.{Detail}
 use Rattle.sect_lint.specs.declared.diagnostic.Detail.TheVariants as detail
 use Rattle.sect_lint.specs.declared.diagnostic.Diagnostic.{Diagnostic}
+use Rattle.sect_lint.specs.declared.judge.Judgment.{Judgment}
+use Rattle.sect_lint.specs.declared.judge.Judgment.TheVariants as judgment
 use Rattle.sect_lint.specs.declared.mistake.Mistake.{Mistake}
 use Rattle.sect_lint.specs.Mistakes.{mistake_of, number_of, title_of, note_of}
 use Rattle.sect_lint.specs.Places.{IsPlaceOf}
@@ -36,10 +37,14 @@ pub record IsDiagnosisOf (source : List ℕ) (why : Refusal) (d : Diagnostic) : 
   pub detail : IsDetail source why d.span d.detail
   pub told_within : IsDetailWithin (length source) d.detail
 
--- nothing is said of a text that is accepted, and of one that is refused the mistake for which it is
-abbrev pub IsJudged : List ℕ → ℕ → Option Diagnostic → Type 0
-IsJudged source k None = (s : SchemeView) × IsAccepted source k s
-IsJudged source k (Some d) = (why : Refusal) × IsDue source k why × IsDiagnosisOf source why d
+-- the text is refused, and this is told of the mistake for which it is
+abbrev pub IsRefusedFor : List ℕ → ℕ → Diagnostic → Type 0
+IsRefusedFor source k d = (why : Refusal) × IsDue source k why × IsDiagnosisOf source why d
+
+-- the text is accepted with this scheme, or refused, and this is told of the mistake
+abbrev pub IsJudged : List ℕ → ℕ → Judgment → Type 0
+IsJudged source k (judgment.Accepted s) = IsAccepted source k s
+IsJudged source k (judgment.Refused d) = IsRefusedFor source k d
 
 -- memory ran out, or no path may have so many fields
 abbrev pub IsNotJudged : ℕ → Refusal → Type 0

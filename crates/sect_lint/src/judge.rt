@@ -25,10 +25,19 @@ use crate::naming::{declared_at, earlier_detail, found, unknown_name};
 use sect_front::{
     FrontFault, PlacedFault, Span, Token, Tree, innermost_brace, parse, parse_placed,
 };
-use sect_names::{Refusal, SchemeFault, check_k, scheme_of};
+use sect_names::{Refusal, Scheme, SchemeFault, check_k, scheme_of};
 use sect_places::{NameSpan, tree_names};
 use sect_types::{Program, TypeFault, check_types};
 use std::alloc::{AllocError, Global};
+
+/// What a source text is found to be.
+#[derive(Drop)]
+pub enum Judgment {
+    /// It is accepted, with this scheme.
+    Accepted(Scheme),
+    /// It is refused for this mistake.
+    Refused(Diagnostic),
+}
 
 /// What is said beside the carets of a text that spells no tree.
 fn front_detail(alloc: Global, source: &[u8], placed: &PlacedFault) -> Result<Detail, AllocError>
@@ -192,12 +201,7 @@ fn hints_diagnostic(
 }
 
 /// Judges a program of a source text.
-fn lint_program(
-    alloc: Global,
-    source: &[u8],
-    program: Program,
-    k: u16,
-) -> Result<Option<Diagnostic>, Refusal>
+fn lint_program(alloc: Global, source: &[u8], program: Program, k: u16) -> Result<Judgment, Refusal>
     requires text { IsTypedText source.now program }
     requires offered { k ≤ 3 }
     ensures judged { IfOk result (IsJudged source.now k) }
@@ -206,22 +210,17 @@ fn lint_program(
     match scheme_of(alloc, program, k) {
         Ok(scheme) => {
             scheme.facts();
-            Ok(None)
+            Ok(Judgment::Accepted(scheme))
         }
         Err(fault) => {
             let diagnostic = hints_diagnostic(alloc, source, &fault)?;
-            Ok(Some(diagnostic))
+            Ok(Judgment::Refused(diagnostic))
         }
     }
 }
 
 /// Judges a tree that a source text spells.
-fn lint_tree(
-    alloc: Global,
-    source: &[u8],
-    tree: Tree,
-    k: u16,
-) -> Result<Option<Diagnostic>, Refusal>
+fn lint_tree(alloc: Global, source: &[u8], tree: Tree, k: u16) -> Result<Judgment, Refusal>
     requires text { IsSpelled source.now tree }
     requires offered { k ≤ 3 }
     ensures judged { IfOk result (IsJudged source.now k) }
@@ -234,15 +233,15 @@ fn lint_tree(
         }
         Err(fault) => {
             let diagnostic = types_diagnostic(alloc, source, &fault)?;
-            Ok(Some(diagnostic))
+            Ok(Judgment::Refused(diagnostic))
         }
     }
 }
 
-/// Whether a source text is refused, for which mistake, and where that stands: nothing where it is accepted. How many
-/// fields a path may have is judged before the source. `Memory` is answered only where a growth was refused.
-pub fn lint(alloc: Global, source: &[u8], k: u16) -> Result<Option<Diagnostic>, Refusal>
-    // The text is accepted, or the mistake is that for which it is refused.
+/// Whether a source text is accepted, and with which scheme, or refused, for which mistake, and where that stands. How
+/// many fields a path may have is judged before the source. `Memory` is answered only where a growth was refused.
+pub fn lint(alloc: Global, source: &[u8], k: u16) -> Result<Judgment, Refusal>
+    // The text is accepted with the scheme, or the mistake is that for which it is refused.
     ensures judged { IfOk result (IsJudged source.now k) }
     // Nothing else is answered but that no path may have so many fields.
     ensures fails { IfErr result (IsNotJudged k) }
@@ -252,7 +251,7 @@ pub fn lint(alloc: Global, source: &[u8], k: u16) -> Result<Option<Diagnostic>, 
         Ok(tree) => lint_tree(alloc, source, tree, k),
         Err(placed) => {
             let diagnostic = front_diagnostic(alloc, source, &placed)?;
-            Ok(Some(diagnostic))
+            Ok(Judgment::Refused(diagnostic))
         }
     }
 }

@@ -1,5 +1,5 @@
 -- The mistake of a text that is refused, as an editor shows it.
-use Rattle.std.specs.Prelude.{◌≡◌, ℕ, List, [], ◌∷◌, ◌++◌, Some, codes}
+use Rattle.std.specs.Prelude.{◌≡◌, ℕ, List, [], ◌∷◌, ◌++◌, codes}
 use Rattle.serde_json.specs.Data.{Data, string, object, no_members, member}
 use Rattle.sect_front.specs.FaultPlaces.{span_from}
 use Rattle.sect_front.specs.declared.span.Span.{Span}
@@ -7,7 +7,7 @@ use Rattle.sect_lint.specs.declared.diagnostic.Detail.{Detail}
 use Rattle.sect_lint.specs.declared.diagnostic.Detail.TheVariants as detail
 use Rattle.sect_lint.specs.declared.diagnostic.Diagnostic.{Diagnostic}
 use Rattle.sect_lint.specs.Mistakes.{number_of, title_of, note_of}
-use Rattle.sect_lint.specs.Reports.{IsJudged}
+use Rattle.sect_lint.specs.Reports.{IsRefusedFor}
 use Rattle.sect_lsp.specs.Ranges.{count, list, range_json, location_json}
 
 -- another place of the document, and what is said of it
@@ -34,4 +34,4 @@ mistake_json uri source d =
 -- the mistake for which a text is refused
 abbrev pub IsMistake : List ℕ → List ℕ → ℕ → Data → Type 0
 IsMistake uri source k value =
-    (d : Diagnostic) × IsJudged source k (Some d) × (value ≡ list (mistake_json uri source d ∷ []))
+    (d : Diagnostic) × IsRefusedFor source k d × (value ≡ list (mistake_json uri source d ∷ []))

@@ -6,8 +6,8 @@ ghost use Rattle.sect_lsp.specs.Diagnosing.{AreDiagnostics};
 
 use crate::mistakes::mistake_value;
 use crate::warned::warnings_of;
-use sect_emit::compile;
-use sect_lint::lint;
+use sect_emit::compile_scheme;
+use sect_lint::{Judgment, lint};
 use serde_json::{Value, json};
 use std::alloc::{AllocError, Global};
 
@@ -17,18 +17,16 @@ pub fn diagnostics_of(alloc: Global, k: u16, uri: &str, text: &[u8]) -> Result<V
     requires { k ≤ 3 }
     ensures { IfOk result (λ v. AreDiagnostics k uri.now text.now (view v)) }
 {
-    let Ok(found) = lint(alloc, text, k) else {
+    let Ok(judgment) = lint(alloc, text, k) else {
         return Err(AllocError);
     };
-    match found {
-        Some(diagnostic) => {
+    match judgment {
+        Judgment::Refused(diagnostic) => {
             let value = mistake_value(alloc, uri, text, &diagnostic)?;
             json!(in alloc; [value])
         }
-        None => {
-            let Ok(compiled) = compile(alloc, text, k) else {
-                return Err(AllocError);
-            };
+        Judgment::Accepted(scheme) => {
+            let compiled = compile_scheme(alloc, scheme)?;
             warnings_of(alloc, text, &compiled)
         }
     }

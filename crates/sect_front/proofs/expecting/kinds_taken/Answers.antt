@@ -1,0 +1,29 @@
+use Rattle.std.proofs.Common.{Vec, Global, sym, ◌∙◌, ap}
+use Rattle.std.proofs.lemmas.List.{take_all}
+use Rattle.std.specs.Prelude.{is_some, filter}
+use Rattle.sect_front.specs.declared.token_kind.TokenKind.{TokenKind}
+use Rattle.sect_front.specs.steps.Read.{read_one}
+use Rattle.sect_front.specs.steps.Taking.{is_kind_taken}
+use Rattle.sect_front.proofs.Following.{filtered_kept, filtered_left}
+use Rattle.sect_front.proofs.expecting.kinds_taken.Goals.{then-takes+in_ok-push, else-takes}
+use Rattle.sect_front.proofs.expecting.kinds_taken.Goals as goal
+
+pub loop-kind-preserved : goal.loop-kind-preserved
+loop-kind-preserved c =
+    let r = c.args.reader.now in
+    let all = c.as_slice-kind-items.result.now in
+    let is = c.takes.ensures ∙ ap (λ t. is_some (read_one r t)) c.sample.ensures in
+    elim c.if-takes.branch [
+      | then-takes+in_ok-push w ↦ filtered_kept (is_kind_taken r) all c.loop-kind.kind-index _ c.loop-kind.kinds.items
+          c.if-takes.kinds.items c.loop-kind-test.true (sym is ∙ w.if-takes.true) c.loop-kind.invariant
+          (ap (λ (v : Vec TokenKind Global). v.items) w.kinds-is ∙ w.in_ok-push.ensures.items)
+      | else-takes w ↦ (ap (λ (v : Vec TokenKind Global). v.items) w.kinds-is
+          ∙ filtered_left (is_kind_taken r) all c.loop-kind.kind-index _ c.loop-kind.kinds.items c.loop-kind-test.true
+          (sym is ∙ w.if-takes.false) c.loop-kind.invariant)
+    ]
+
+pub returns : goal.returns
+returns c = c.loop-kind.invariant
+    ∙ ap (filter (is_kind_taken c.args.reader.now))
+    (take_all c.loop-kind.kind-index c.as_slice-kind-items.result.now c.loop-kind-test.false
+    ∙ (c.as_slice-kind-items.ensures ∙ c.all_kinds-all.ensures))

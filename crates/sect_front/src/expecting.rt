@@ -1,0 +1,237 @@
+//! Which tokens may follow those that have been read.
+
+ghost use Rattle.std.specs.Prelude.{◌≡◌, ℕ, List, IfOk, filter, is_some};
+ghost use Rattle.sect_front.specs.Lexing.{Spells};
+ghost use Rattle.sect_front.specs.TokenAt.{TokenAt};
+ghost use Rattle.sect_front.specs.TreeView.{TreeView};
+ghost use Rattle.sect_front.specs.Syntax.{BlockView};
+ghost use Rattle.sect_front.specs.declared.within.Frame.{Frame};
+ghost use Rattle.sect_front.specs.declared.reader.Owner.{Owner};
+ghost use Rattle.sect_front.specs.declared.tree.Declaration.{Declaration};
+ghost use Rattle.sect_front.specs.Expected.{AreExpected, tokens_before, all_kinds as all_kinds_by};
+ghost use Rattle.sect_front.specs.steps.Step.{start_step, call_step, step_of};
+ghost use Rattle.sect_front.specs.steps.Read.{begin_step, record_step, global_step, procedure_step, thread_step};
+ghost use Rattle.sect_front.specs.steps.Read.{body_step, read_outside, read_one};
+ghost use Rattle.sect_front.specs.steps.Taking.{is_taken, is_kind_taken};
+
+use crate::lexer::{after_gap, behind, lexeme};
+use crate::partial::{PartialCall, advance};
+use crate::reader::{
+    BodyStage, GlobalStage, Outside, Part, ProcedureStage, Reader, RecordStage, Stage, ThreadStage,
+};
+use crate::token::Token;
+use crate::token_kind::{TokenKind, all_kinds};
+use crate::tree::Kind;
+use crate::within::{Partial, StepError, Within};
+use std::alloc::{AllocError, Global};
+
+/// Whether a statement, or the end of a block, may begin with a token.
+fn starts_with(token: &Token) -> bool
+    ensures { (frames : List Frame) (before : BlockView)
+        → result ≡ is_taken (start_step frames before token.now) }
+{
+    matches!(
+        token,
+        Token::Name(_)
+            | Token::Print
+            | Token::If
+            | Token::While
+            | Token::Atomic
+            | Token::Call
+            | Token::CloseBrace
+    )
+}
+
+/// Whether a call goes on with a token.
+fn call_takes(call: &PartialCall, token: &Token) -> bool
+    ensures { (frames : List Frame) (before : BlockView)
+        → result ≡ is_taken (call_step frames before call.now token.now) }
+{
+    match call {
+        PartialCall::AfterWord => matches!(token, Token::Name(_)),
+        PartialCall::AfterName(_) => matches!(token, Token::OpenParen),
+        PartialCall::Open(_) => {
+            matches!(
+                token,
+                Token::CloseParen | Token::Name(_) | Token::Number(_) | Token::Null
+            )
+        }
+        PartialCall::AfterArgument(_, _, _) => matches!(token, Token::Comma | Token::CloseParen),
+        PartialCall::AfterComma(_, _) => {
+            matches!(token, Token::Name(_) | Token::Number(_) | Token::Null)
+        }
+        PartialCall::AfterClose(_, _) => matches!(token, Token::Semicolon),
+    }
+}
+
+/// Whether the statements go on with a token.
+fn within_takes(within: &Within, token: &Token) -> bool
+    ensures { result ≡ is_taken (step_of within.now token.now) }
+{
+    match within.place() {
+        Partial::Start => starts_with(token),
+        Partial::Inside(line) => advance(line, token).is_some(),
+        Partial::InCall(call) => call_takes(call, token),
+        Partial::AfterThen(_, _) => match token {
+            Token::Else => true,
+            _ => starts_with(token),
+        },
+        Partial::AfterElse(_, _) => matches!(token, Token::OpenBrace),
+    }
+}
+
+/// Whether a declaration may begin with a token.
+fn part_takes(part: Part, token: &Token) -> bool
+    ensures { (source : TreeView) → result ≡ is_some (begin_step source part token.now) }
+{
+    match token {
+        Token::Record => matches!(part, Part::Records),
+        Token::Global => matches!(part, Part::Records | Part::Globals),
+        Token::Proc => matches!(part, Part::Records | Part::Globals | Part::Procedures),
+        Token::Thread => true,
+        _ => false,
+    }
+}
+
+/// Whether a record goes on with a token.
+fn record_takes(stage: &RecordStage, token: &Token) -> bool
+    ensures { (source : TreeView) → result ≡ is_some (record_step source stage.now token.now) }
+{
+    match stage {
+        RecordStage::AfterWord => matches!(token, Token::Name(_)),
+        RecordStage::Head(_, _) => matches!(token, Token::ProtectedBy | Token::OpenBrace),
+        RecordStage::AfterProtectedBy(_, _) => matches!(token, Token::Name(_)),
+        RecordStage::Fields(_, _, _) => {
+            matches!(token, Token::Int | Token::Name(_) | Token::CloseBrace)
+        }
+        RecordStage::AfterKind(_, _, _, _) => matches!(token, Token::Name(_)),
+        RecordStage::AfterField(_, _, _, _, _) => matches!(token, Token::Semicolon),
+    }
+}
+
+/// Whether a global goes on with a token.
+fn global_takes(stage: &GlobalStage, token: &Token) -> bool
+    ensures { (source : TreeView) → result ≡ is_some (global_step source stage.now token.now) }
+{
+    match stage {
+        GlobalStage::AfterWord => matches!(token, Token::Name(_)),
+        GlobalStage::AfterRecord(_) => matches!(token, Token::Name(_)),
+        GlobalStage::AfterName(_, _) => matches!(token, Token::Semicolon),
+    }
+}
+
+/// Whether a procedure goes on with a token, up to its `{`.
+fn procedure_takes(stage: &ProcedureStage, token: &Token) -> bool
+    ensures { (source : TreeView) → result ≡ is_some (procedure_step source stage.now token.now) }
+{
+    match stage {
+        ProcedureStage::AfterWord => matches!(token, Token::Name(_)),
+        ProcedureStage::AfterName(_) => matches!(token, Token::OpenParen),
+        ProcedureStage::Open(_) => {
+            matches!(token, Token::CloseParen | Token::Int | Token::Name(_))
+        }
+        ProcedureStage::AfterKind(_, _, _) => matches!(token, Token::Name(_)),
+        ProcedureStage::AfterParameter(_, _, _, _) => {
+            matches!(token, Token::Comma | Token::CloseParen)
+        }
+        ProcedureStage::AfterComma(_, _) => matches!(token, Token::Int | Token::Name(_)),
+        ProcedureStage::AfterClose(_, _) => matches!(token, Token::OpenBrace),
+    }
+}
+
+/// Whether a thread goes on with a token, up to its `{`.
+fn thread_takes(stage: &ThreadStage, token: &Token) -> bool
+    ensures { (source : TreeView) → result ≡ is_some (thread_step source stage.now token.now) }
+{
+    match stage {
+        ThreadStage::AfterWord => matches!(token, Token::Name(_)),
+        ThreadStage::AfterName(_) => matches!(token, Token::OpenBrace),
+    }
+}
+
+/// Whether a token may follow what may be a local's type. No name there begins a statement.
+fn kind_takes(kind: &Kind, token: &Token) -> bool
+    ensures { (source : TreeView) (owner : Owner) (locals : List Declaration)
+        → result ≡ is_some (body_step source (BodyStage.AfterKind owner locals kind.now) token.now) }
+{
+    match kind {
+        Kind::Int => matches!(token, Token::Name(_)),
+        Kind::Record(_) => matches!(token, Token::Name(_) | Token::Equal | Token::Dot),
+    }
+}
+
+/// Whether the locals, or what may be one, go on with a token.
+fn body_takes(stage: &BodyStage, token: &Token) -> bool
+    ensures { (source : TreeView) → result ≡ is_some (body_step source stage.now token.now) }
+{
+    match stage {
+        BodyStage::Locals(_, _) => match token {
+            Token::Int => true,
+            _ => starts_with(token),
+        },
+        BodyStage::AfterKind(_, _, kind) => kind_takes(kind, token),
+        BodyStage::AfterLocal(_, _, _, _) => matches!(token, Token::Semicolon),
+    }
+}
+
+/// Whether a token may follow outside of statements.
+fn outside_takes(outside: &Outside, token: &Token) -> bool
+    ensures { (source : TreeView) → result ≡ is_some (read_outside source outside.now token.now) }
+{
+    match outside {
+        Outside::Between(part) => part_takes(*part, token),
+        Outside::Record(stage) => record_takes(stage, token),
+        Outside::Global(stage) => global_takes(stage, token),
+        Outside::Procedure(stage) => procedure_takes(stage, token),
+        Outside::Thread(stage) => thread_takes(stage, token),
+        Outside::Body(stage) => body_takes(stage, token),
+    }
+}
+
+/// Whether a reader takes a token.
+fn takes(reader: &Reader, token: &Token) -> bool
+    ensures { result ≡ is_some (read_one reader.now token.now) }
+{
+    match reader.stage() {
+        Stage::Outside(outside) => outside_takes(outside, token),
+        Stage::Inside(_, _, within) => within_takes(within, token),
+    }
+}
+
+/// The kinds of which a reader takes a token.
+fn kinds_taken(alloc: Global, reader: &Reader) -> Result<Vec<TokenKind>, AllocError>
+    ensures { IfOk result (λ kinds. kinds.items ≡ filter (is_kind_taken reader.now) all_kinds_by) }
+{
+    let all = all_kinds();
+    let mut kinds = Vec::new(alloc);
+    for kind in all.as_slice() {
+        if takes(reader, &kind.sample()) {
+            kinds.push(*kind)?;
+        }
+    }
+    Ok(kinds)
+}
+
+/// The kinds of tokens that may follow those that begin before a place of a text, in the order of the language's table
+/// of tokens.
+pub fn expected_kinds(alloc: Global, bytes: &[u8], at: usize) -> Result<Vec<TokenKind>, AllocError>
+    // A kind may follow if some tree's tokens begin so.
+    ensures { IfOk result (λ kinds. (places : List TokenAt) → Spells bytes.now places
+        → AreExpected (tokens_before at places) kinds.items) }
+{
+    let mut reader = Reader::new(alloc);
+    let mut here = after_gap(bytes);
+    while !here.is_empty() && bytes.len() - here.len() < at {
+        let Some((token, length)) = lexeme(here) else {
+            return Ok(Vec::new(alloc));
+        };
+        here = behind(here, length);
+        match reader.step(alloc, &token) {
+            Ok(()) => {}
+            Err(StepError::Memory) => return Err(AllocError),
+            Err(StepError::Unexpected) => return Ok(Vec::new(alloc)),
+        }
+    }
+    let kinds = kinds_taken(alloc, &reader)?;
+    Ok(kinds)
+}

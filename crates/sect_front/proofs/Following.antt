@@ -219,10 +219,7 @@ kind_of_sample of_token.Equal = refl
 kind_of_sample of_token.Plus = refl
 kind_of_sample of_token.Minus = refl
 kind_of_sample of_token.Star = refl
-kind_of_sample of_token.EqualEqual = refl
-kind_of_sample of_token.NotEqual = refl
-kind_of_sample of_token.Less = refl
-kind_of_sample of_token.LessEqual = refl
+kind_of_sample (of_token.Comparison c) = refl
 
 never : false ≡ true → ⊥
 never e = cc

@@ -4,6 +4,7 @@ use Rattle.sect_front.specs.TokenAt.{TokenAt}
 use Rattle.sect_front.specs.Faults.{tokens_in, IsViable}
 use Rattle.sect_front.specs.declared.token.Token.{Token}
 use Rattle.sect_front.specs.declared.token.Token.TheVariants as token
+use Rattle.sect_front.specs.declared.tree.Comparison.TheVariants as comparison
 use Rattle.sect_front.specs.declared.token_kind.TokenKind.{TokenKind}
 use Rattle.sect_front.specs.declared.token_kind.TokenKind.TheVariants as kind
 
@@ -38,10 +39,7 @@ kind_of token.Equal = kind.Equal
 kind_of token.Plus = kind.Plus
 kind_of token.Minus = kind.Minus
 kind_of token.Star = kind.Star
-kind_of token.EqualEqual = kind.EqualEqual
-kind_of token.NotEqual = kind.NotEqual
-kind_of token.Less = kind.Less
-kind_of token.LessEqual = kind.LessEqual
+kind_of (token.Comparison c) = kind.Comparison c
 
 -- all kinds, in the order of the language's table of tokens: names, keywords, integers, signs
 abbrev pub all_kinds : List TokenKind
@@ -49,8 +47,8 @@ all_kinds =
     kind.Name ∷ kind.Record ∷ kind.ProtectedBy ∷ kind.Global ∷ kind.Proc ∷ kind.Thread ∷ kind.Int ∷ kind.Null ∷
     kind.New ∷ kind.Print ∷ kind.If ∷ kind.Else ∷ kind.While ∷ kind.Atomic ∷ kind.All ∷ kind.Call ∷ kind.Class ∷
     kind.Number ∷ kind.OpenBrace ∷ kind.CloseBrace ∷ kind.OpenParen ∷ kind.CloseParen ∷ kind.Semicolon ∷ kind.Comma ∷
-    kind.Dot ∷ kind.Equal ∷ kind.Plus ∷ kind.Minus ∷ kind.Star ∷ kind.EqualEqual ∷ kind.NotEqual ∷ kind.Less ∷
-    kind.LessEqual ∷ []
+    kind.Dot ∷ kind.Equal ∷ kind.Plus ∷ kind.Minus ∷ kind.Star ∷ kind.Comparison comparison.Equal ∷
+    kind.Comparison comparison.NotEqual ∷ kind.Comparison comparison.Less ∷ kind.Comparison comparison.LessOrEqual ∷ []
 
 -- some tree's tokens begin with these and one of that kind
 abbrev pub MayFollow : List Token → TokenKind → Type 0

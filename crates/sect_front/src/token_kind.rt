@@ -7,6 +7,7 @@ ghost use Rattle.sect_front.specs.steps.Sample.{sample_of};
 use crate::literal::Literal;
 use crate::name::Name;
 use crate::token::Token;
+use crate::tree::Comparison;
 
 /// What a token is, where it makes no difference which name or which integer.
 #[derive(Clone, Copy, Debug, PartialEq, Eq)]
@@ -40,10 +41,7 @@ pub enum TokenKind {
     Plus,
     Minus,
     Star,
-    EqualEqual,
-    NotEqual,
-    Less,
-    LessEqual,
+    Comparison(Comparison),
 }
 
 impl TokenKind {
@@ -81,10 +79,7 @@ impl TokenKind {
             TokenKind::Plus => Token::Plus,
             TokenKind::Minus => Token::Minus,
             TokenKind::Star => Token::Star,
-            TokenKind::EqualEqual => Token::EqualEqual,
-            TokenKind::NotEqual => Token::NotEqual,
-            TokenKind::Less => Token::Less,
-            TokenKind::LessEqual => Token::LessEqual,
+            TokenKind::Comparison(comparison) => Token::Comparison(comparison),
         }
     }
 }
@@ -123,9 +118,9 @@ pub(crate) fn all_kinds() -> [TokenKind; 33]
         TokenKind::Plus,
         TokenKind::Minus,
         TokenKind::Star,
-        TokenKind::EqualEqual,
-        TokenKind::NotEqual,
-        TokenKind::Less,
-        TokenKind::LessEqual,
+        TokenKind::Comparison(Comparison::Equal),
+        TokenKind::Comparison(Comparison::NotEqual),
+        TokenKind::Comparison(Comparison::Less),
+        TokenKind::Comparison(Comparison::LessOrEqual),
     ]
 }

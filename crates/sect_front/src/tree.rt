@@ -19,7 +19,7 @@ pub enum Operand {
 }
 
 /// How a test compares its two operands.
-#[derive(Clone, Copy, PartialEq, Eq)]
+#[derive(Clone, Copy, Debug, PartialEq, Eq)]
 pub enum Comparison {
     Equal,
     NotEqual,

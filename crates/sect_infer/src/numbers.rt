@@ -49,6 +49,13 @@ fn make_room(marks: &mut Vec<bool>, number: usize) -> Result<(), AllocError>
     Ok(())
 }
 
+/// Whether a number is one of these.
+pub fn has(numbers: &[usize], number: usize) -> bool
+    ensures { result ≡ has_number numbers.now number }
+{
+    numbers.contains(&number)
+}
+
 impl Numbers {
     /// None.
     pub fn new(alloc: Global) -> Numbers

@@ -1,7 +1,7 @@
 -- A node is gone over.
 use Rattle.std.proofs.Common.{◌≡◌, ◌↔◌, ◌⊎◌, inl, inr, ℕ, zero, suc, ◌<◌, List, [], ◌∷◌, ◌++◌, Option, Some, None, Bool}
 use Rattle.std.proofs.Common.{true, false, not, ◌-◌, length, length-set, set, take, drop, refl, sym, ap}
-use Rattle.std.proofs.Common.{length-drop, ◌∙◌, subst, arith}
+use Rattle.std.proofs.Common.{length-drop, ◌∙◌, subst, arith, true≢false, ◌==◌, rules}
 use Rattle.std.specs.Prelude.{slice_get, slice_index_or}
 use Rattle.std.proofs.lemmas.Bool.{cases_eq}
 use Rattle.std.proofs.lemmas.List.{get_or-set_same, get_or-set_other, take_all}
@@ -105,6 +105,36 @@ module _ (s : SchemeView) (t : ℕ) (g : List Node) (j : ℕ) (y : Node) (at : s
     own_some a b ns ms l is f = finds_as s a b ns ms (λ x. x ≡ l) (λ x. IsSeed s t g (need j x))
         (λ x. (λ h. (let e = (seed_is x).0 h in cc), λ e. (seed_is x).1 (is ∙ ap (λ z. Some z) (sym e)))) f
 
+-- another list stands at one place
+module _ (lists after : List (List ℕ)) (j : ℕ) (list : List ℕ) (there : j < length lists) (is : after ≡ set lists j list)
+  where
+    pub here_is : slice_index_or after j [] ≡ list
+    here_is = ap (λ ls. slice_index_or ls j []) is ∙ get_or-set_same lists j list [] there
+
+    -- the other places keep theirs
+    pub other_is : (i : ℕ) → (i ≡ j → ⊥) → slice_index_or after i [] ≡ slice_index_or lists i []
+    other_is i n = ap (λ ls. slice_index_or ls i []) is ∙ get_or-set_other lists j i list [] n
+
+    -- what holds of that list and of the others
+    pub each_is : (P : List ℕ → Type 0) → P list → ((i : ℕ) → P (slice_index_or lists i [])) → (i : ℕ)
+        → P (slice_index_or after i [])
+    each_is P at_j at_other i = elim (cases_eq i j) [
+      | inl e ↦ subst P (sym (ap (λ k. slice_index_or after k []) e ∙ here_is)) at_j
+      | inr n ↦ subst P (sym (other_is i n)) (at_other i)
+    ]
+
+-- whether a list that was tested has any
+some_length : {X : Type 0} (xs : List X) → (suc (length xs) == 0) ≡ false
+some_length xs = search rules
+
+pub tested_none : {X : Type 0} (xs : List X) (b : Bool) → b ≡ (length xs == 0) → not b ≡ false → xs ≡ []
+tested_none [] b e off = refl
+tested_none (x ∷ xs) b e off = absurd (true≢false (sym (ap not (e ∙ some_length xs)) ∙ off))
+
+pub tested_some : {X : Type 0} (xs : List X) (b : Bool) → b ≡ (length xs == 0) → not b ≡ true → 0 < length xs
+tested_some [] b e on = absurd (true≢false (sym on ∙ ap not e))
+tested_some (x ∷ xs) b e on = omega arith
+
 -- a list without its front
 drop_front : {X : Type 0} (xs ys : List X) (k : ℕ) → k ≡ length xs → drop k (xs ++ ys) ≡ ys
 drop_front [] ys zero e = refl
@@ -189,19 +219,12 @@ module _ (s : SchemeView) (t : ℕ) (g : List Node) (j : ℕ) (a b d : Numbering
         (none : any ≡ false → fresh ≡ []) (some : any ≡ true → 0 < length fresh) where
       -- the node has its own and the fresh ones
       here : slice_index_or after j [] ≡ had ++ fresh
-      here = ap (λ ls. slice_index_or ls j []) is ∙ get_or-set_same lists j (had ++ fresh) [] there
-
-      -- the other nodes keep theirs
-      other : (i : ℕ) → (i ≡ j → ⊥) → slice_index_or after i [] ≡ slice_index_or lists i []
-      other i n = ap (λ ls. slice_index_or ls i []) is ∙ get_or-set_other lists j i (had ++ fresh) [] n
+      here = here_is lists after j (had ++ fresh) there is
 
       -- what holds of the numbers of node j and of those of the others
       each : (P : List ℕ → Type 0) → P (had ++ fresh) → ((i : ℕ) → P (slice_index_or lists i [])) → (i : ℕ)
           → P (slice_index_or after i [])
-      each P at_j at_other i = elim (cases_eq i j) [
-        | inl e ↦ subst P (sym (ap (λ k. slice_index_or after k []) e ∙ here)) at_j
-        | inr n ↦ subst P (sym (other i n)) (at_other i)
-      ]
+      each = each_is lists after j (had ++ fresh) there is
 
       -- the numbering tells of each of its numbers, and none is there twice
       numbers : AreNumbers d.keys (had ++ fresh)
@@ -231,7 +254,7 @@ module _ (s : SchemeView) (t : ℕ) (g : List Node) (j : ℕ) (a b d : Numbering
         longer = all.longer;
         more = fresh;
         changed = is;
-        others = other;
+        others = other_is lists after j (had ++ fresh) there is;
         here = here;
         none = none;
         some = some;

@@ -2,5 +2,7 @@
 pub mod Needs
 pub mod Working
 pub mod Listing
+pub mod Fronts
+pub mod Queued
 pub mod Found
 pub mod Sharing

@@ -8,6 +8,7 @@ mod numbering;
 mod numbers;
 mod order;
 mod section;
+mod waiting;
 mod work;
 mod workers;
 

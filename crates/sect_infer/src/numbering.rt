@@ -1,12 +1,13 @@
 //! Locks by their numbers.
 
-ghost use Rattle.std.specs.Prelude.{◌≡◌, ◌<◌, ◌++◌, ◌∷◌, length, slice_get, [], Some, IfOk, OnOk, MatchOption};
+ghost use Rattle.std.specs.Prelude.{◌≡◌, ◌<◌, ◌++◌, ◌∷◌, ◌||◌, length, slice_get, [], Some, IfOk, OnOk, MatchOption};
 ghost use Rattle.sect_lemmas.specs.Lists.{Has};
 ghost use Rattle.sect_names.specs.declared.lock.Lock.{Lock};
 ghost use Rattle.sect_names.specs.Climbing.{IsAbove, AreBehind};
+ghost use Rattle.sect_infer.specs.Numbers.{has_number};
 ghost use Rattle.sect_infer.specs.Numberings.{AreOf, AreAllPut, IsNumbering, IsNumbered, IsPut, is_under};
 
-use crate::numbers::Numbers;
+use crate::numbers::{Numbers, has};
 use indexmap::IndexSet;
 use sect_names::{Lock, Scheme};
 use std::alloc::{AllocError, Global};
@@ -80,6 +81,27 @@ impl Numbering {
             }
         }
         false
+    }
+
+    /// Whether another lock, whose number is one of these, covers the lock with this number.
+    fn is_below(&self, numbers: &[usize], number: usize) -> bool
+        requires { number < length self.now.above }
+        ensures { result ≡ is_under self.now.above numbers.now number }
+    {
+        for big in self.above[number].as_slice() {
+            if has(numbers, *big) {
+                return true;
+            }
+        }
+        false
+    }
+
+    /// Whether the lock with this number has one of these numbers, or another whose number is one of them covers it.
+    pub fn is_told(&self, numbers: &[usize], number: usize) -> bool
+        requires { number < length self.now.above }
+        ensures { result ≡ has_number numbers.now number || is_under self.now.above numbers.now number }
+    {
+        has(numbers, number) || self.is_below(numbers, number)
     }
 
     /// The number of a lock.

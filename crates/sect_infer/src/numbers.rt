@@ -24,6 +24,16 @@ impl Model for Numbers {
     ghost invariant = { λ n. AreMarked n.members.items n.marks.items };
 }
 
+/// Fills up the room that the marks have. No more numbers are marked.
+fn fill_room(marks: &mut Vec<bool>) -> Result<(), AllocError>
+    ensures more { length marks.old.items ≤ length marks.new.items }
+    ensures same { (n : ℕ) → slice_index_or marks.new.items n false ≡ slice_index_or marks.old.items n false }
+{
+    let room = marks.capacity();
+    marks.resize(room, false)?;
+    Ok(())
+}
+
 /// Makes room for the mark of a number behind all marks. No more numbers are marked.
 #[cold]
 #[inline(never)]
@@ -34,7 +44,7 @@ fn add_marks(marks: &mut Vec<bool>, number: usize) -> Result<(), AllocError>
 {
     marks.resize(number, false)?;
     marks.push(false)?;
-    Ok(())
+    fill_room(marks)
 }
 
 /// Makes room for the mark of a number. No more numbers are marked.
@@ -47,6 +57,13 @@ fn make_room(marks: &mut Vec<bool>, number: usize) -> Result<(), AllocError>
         add_marks(marks, number)?;
     }
     Ok(())
+}
+
+/// Whether a number is one of these.
+pub fn has(numbers: &[usize], number: usize) -> bool
+    ensures { result ≡ has_number numbers.now number }
+{
+    numbers.contains(&number)
 }
 
 impl Numbers {

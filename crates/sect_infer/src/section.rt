@@ -79,7 +79,7 @@ fn on_all_of(alloc: Global, scheme: &Scheme, flow: &Flow) -> Result<Locks, Alloc
     let number = numbering.number(alloc, scheme, &Lock::All)?;
     let mut lists = Lists::new(alloc, flow.exit() as usize + 1)?;
     for node in 0..flow.exit() + 1 {
-        lists.push(node, number)?;
+        lists.extend(alloc, node, &[number])?;
     }
     Locks::of(alloc, numbering, lists)
 }

@@ -1,22 +1,22 @@
 //! The worklist: what is needed at a node because of what is needed where control may go on (Kildall).
 
-ghost use Rattle.std.specs.Prelude.{◌≡◌, ◌↔◌, ◌<◌, ◌⊎◌, ◌++◌, ℕ, true, false, [], length, slice_index_or};
-ghost use Rattle.std.specs.Prelude.{slice_set, IfOk, OnOk};
-ghost use Rattle.std.specs.List.Sorted.{IsStrictlySortedBy};
-ghost use Rattle.std.specs.Ordering.{nat_cmp};
+ghost use Rattle.std.specs.Prelude.{◌≡◌, ◌<◌, ◌++◌, ℕ, [], length, slice_index_or, IfOk, IsTrue, MatchOption, OnOk, ⊤};
 ghost use Rattle.sect_lemmas.specs.Lists.{Has};
+ghost use Rattle.sect_graph.specs.Predecessors.{StaysWithin};
 ghost use Rattle.sect_infer.specs.steps.Needs.{need, IsSeed, AreLawful};
-ghost use Rattle.sect_infer.specs.Numberings.{IsFinding, Finds, fresh_from};
+ghost use Rattle.sect_infer.specs.Numberings.{AreNumbers, HasLock, IsNumbering, IsFinding, Finds, fresh_from};
 ghost use Rattle.sect_infer.specs.steps.Working.{AreNumbered, AreLawfulAt, IsCarried, IsVisit, IsBegun, IsSettled};
+ghost use Rattle.sect_infer.specs.steps.Working.{AllStay, IsPassedOn, IsOwnPut, IsGeneratedPut};
 
 use crate::carry::{carry, find};
 use crate::lists::Lists;
 use crate::numbering::Numbering;
 use crate::numbers::Numbers;
+use crate::waiting::Waiting;
 use sect_graph::{Flow, Successors, predecessors_of};
-use sect_names::Scheme;
+use sect_names::{Lock, Scheme, stays};
+use sect_types::Label;
 use std::alloc::{AllocError, Global};
-use std::collections::BTreeSet;
 
 /// Finds what is needed at a node for what is known where control may go on from it.
 fn find_after(
@@ -93,32 +93,26 @@ fn find_own(
     }
 }
 
-/// Puts those of the numbers behind a node's that no other that was found is above. Whether there are any.
-fn append(
+/// Those of the numbers that no other that was found is above.
+fn fresh(
+    alloc: Global,
     numbering: &Numbering,
     found: &Numbers,
     numbers: &[usize],
-    lists: &mut Lists,
-    node: u16,
-) -> Result<bool, AllocError>
-    requires node { node < length lists.old }
-    requires numbers { (n : ℕ) → Has numbers.now n → n < length numbering.now.above }
-    ensures lists { OnOk result (lists.new ≡ slice_set lists.old node
-        (slice_index_or lists.old node [] ++ fresh_from numbering.now.above found.now numbers.now)) }
-    ensures none { IfOk result (λ any. any ≡ false → fresh_from numbering.now.above found.now numbers.now ≡ []) }
-    ensures some { IfOk result (λ any. any ≡ true → 0 < length (fresh_from numbering.now.above found.now numbers.now)) }
+) -> Result<Vec<usize>, AllocError>
+    requires { (n : ℕ) → Has numbers.now n → n < length numbering.now.above }
+    ensures { IfOk result (λ fresh. fresh.items ≡ fresh_from numbering.now.above found.now numbers.now) }
 {
-    let mut any = false;
+    let mut fresh = Vec::with_capacity(alloc, numbers.len())?;
     for number in numbers {
         if !numbering.is_under(found, *number) {
-            lists.push(node, *number)?;
-            any = true;
+            fresh.push(*number)?;
         }
     }
-    Ok(any)
+    Ok(fresh)
 }
 
-/// Goes over a node: finds what it needs for what is known now. Whether there is more than was known.
+/// Goes over a node: finds what it needs for what is known now, beside what was known there. Whether there is more.
 fn visit(
     alloc: Global,
     scheme: &Scheme,
@@ -139,32 +133,133 @@ fn visit(
     let known = found.members().len();
     find_after(alloc, scheme, thread, flow, numbering, found, lists, node)?;
     find_own(alloc, scheme, thread, flow, numbering, found, node)?;
-    let more = append(numbering, found, &found.members()[known..], lists, node)?;
-    Ok(more)
+    let more = fresh(alloc, numbering, found, &found.members()[known..])?;
+    lists.extend(alloc, node, more.as_slice())?;
+    Ok(!more.is_empty())
 }
 
-/// The nodes before the exit.
-fn all_nodes(alloc: Global, exit: u16) -> Result<BTreeSet<u16>, AllocError>
-    ensures nodes { IfOk result (λ nodes. (i : ℕ) → Has nodes.keys i ↔ (i < exit)) }
-    ensures ordered { IfOk result (λ nodes. IsStrictlySortedBy nat_cmp nodes.keys) }
+/// Whether a node touches none of the locks with these numbers.
+fn all_stay(thread: u16, label: &Label, numbering: &Numbering, numbers: &[usize]) -> bool
+    requires { AreNumbers numbering.now.keys numbers.now }
+    ensures { IsTrue result → AllStay thread label.now (HasLock numbering.now.keys numbers.now) }
 {
-    let mut nodes = BTreeSet::new(alloc);
-    for node in 0..exit {
-        nodes.insert(node)?;
+    for number in numbers {
+        if !stays(thread, label, numbering.lock(*number)) {
+            return false;
+        }
     }
-    Ok(nodes)
+    true
 }
 
-/// These nodes wait too.
-fn wait(waiting: &mut BTreeSet<u16>, nodes: &[u16]) -> Result<(), AllocError>
-    requires { IsStrictlySortedBy nat_cmp waiting.old.keys }
-    ensures nodes { OnOk result ((i : ℕ) → Has waiting.new.keys i ↔ (Has waiting.old.keys i ⊎ Has nodes.now i)) }
-    ensures ordered { OnOk result (IsStrictlySortedBy nat_cmp waiting.new.keys) }
+/// The node behind this one, if nothing is known of this one yet, and it touches none of the locks that are known there.
+fn passed_on(
+    thread: u16,
+    flow: &Flow,
+    numbering: &Numbering,
+    lists: &Lists,
+    node: u16,
+) -> Option<u16>
+    requires node { node < length flow.now }
+    requires numbers { (j : ℕ) → AreNumbers numbering.now.keys (slice_index_or lists.now j []) }
+    ensures { MatchOption result ⊤ (IsPassedOn thread flow.now numbering.now.keys lists.now node) }
 {
-    for node in nodes {
-        waiting.insert(*node)?;
+    let Successors::Next(next) = flow.succ(node) else {
+        return None;
+    };
+    let label = flow.action(node);
+    if lists.of(node).is_empty() && all_stay(thread, &label, numbering, lists.of(next)) {
+        Some(next)
+    } else {
+        None
+    }
+}
+
+/// Puts the number of a lock behind a node's, unless it is there or that of one that covers it.
+fn put_own(
+    alloc: Global,
+    scheme: &Scheme,
+    numbering: &mut Numbering,
+    lists: &mut Lists,
+    node: u16,
+    lock: &Lock,
+) -> Result<(), AllocError>
+    requires node { node < length lists.old }
+    requires numbering { IsNumbering scheme.now numbering.old }
+    ensures { OnOk result (IsOwnPut scheme.now numbering.old lists.old numbering.new lists.new node lock.now) }
+{
+    let number = numbering.number(alloc, scheme, lock)?;
+    if !numbering.is_told(lists.of(node), number) {
+        lists.extend(alloc, node, &[number])?;
     }
     Ok(())
+}
+
+/// Puts the number of what a node generates behind the node's, unless it is there or that of a lock that covers it.
+fn put_generated(
+    alloc: Global,
+    scheme: &Scheme,
+    thread: u16,
+    flow: &Flow,
+    numbering: &mut Numbering,
+    lists: &mut Lists,
+    node: u16,
+) -> Result<(), AllocError>
+    requires node { node < length flow.now }
+    requires there { node < length lists.old }
+    requires numbering { IsNumbering scheme.now numbering.old }
+    ensures { OnOk result (IsGeneratedPut scheme.now thread flow.now numbering.old lists.old numbering.new lists.new
+        node) }
+{
+    match scheme.generate(alloc, thread, flow.action(node)) {
+        None => Ok(()),
+        Some(lock) => put_own(alloc, scheme, numbering, lists, node, &lock),
+    }
+}
+
+/// Goes over a node to which what is known behind it is passed on. Whether there is more than was known.
+fn pass_on(
+    alloc: Global,
+    scheme: &Scheme,
+    thread: u16,
+    flow: &Flow,
+    numbering: &mut Numbering,
+    lists: &mut Lists,
+    node: u16,
+    next: u16,
+) -> Result<bool, AllocError>
+    requires node { node < length flow.now }
+    requires next { next < length lists.old }
+    requires numbered { AreNumbered scheme.now flow.now numbering.old lists.old }
+    requires lawful { AreLawfulAt scheme.now thread numbering.old.keys lists.old }
+    requires passed { IsPassedOn thread flow.now numbering.old.keys lists.old node next }
+    ensures { IfOk result (IsVisit scheme.now thread flow.now numbering.old lists.old numbering.new lists.new node) }
+{
+    lists.share(node, next);
+    put_generated(alloc, scheme, thread, flow, numbering, lists, node)?;
+    Ok(!lists.of(node).is_empty())
+}
+
+/// Goes over a node: passes on to it what is known behind it, or finds what it needs. Whether there is more.
+fn go_over(
+    alloc: Global,
+    scheme: &Scheme,
+    thread: u16,
+    flow: &Flow,
+    numbering: &mut Numbering,
+    found: &mut Numbers,
+    lists: &mut Lists,
+    node: u16,
+) -> Result<bool, AllocError>
+    requires node { node < length flow.now }
+    requires within { StaysWithin flow.now }
+    requires numbered { AreNumbered scheme.now flow.now numbering.old lists.old }
+    requires lawful { AreLawfulAt scheme.now thread numbering.old.keys lists.old }
+    ensures { IfOk result (IsVisit scheme.now thread flow.now numbering.old lists.old numbering.new lists.new node) }
+{
+    match passed_on(thread, flow, numbering, lists, node) {
+        Some(next) => pass_on(alloc, scheme, thread, flow, numbering, lists, node, next),
+        None => visit(alloc, scheme, thread, flow, numbering, found, lists, node),
+    }
 }
 
 /// Finds the locks that are needed from each node of a section's graph on: those that a node generates, and those that
@@ -183,13 +278,13 @@ pub fn settle(
 {
     let predecessors = predecessors_of(alloc, flow)?;
     let mut found = Numbers::new(alloc);
-    let mut waiting = all_nodes(alloc, flow.exit())?;
+    let mut waiting = Waiting::new(alloc, flow.exit());
     while let Some(node) = waiting.pop_last() {
-        let any = visit(
+        let any = go_over(
             alloc, scheme, thread, flow, numbering, &mut found, lists, node,
         )?;
         if any {
-            wait(&mut waiting, predecessors.of(node))?;
+            waiting.insert_all(predecessors.of(node))?;
         }
     }
     Ok(())

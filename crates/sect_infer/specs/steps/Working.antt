@@ -1,12 +1,14 @@
 -- The worklist: the locks that are found at the nodes of a section's graph.
-use Rattle.std.specs.Prelude.{◌≡◌, ◌<◌, ◌+◌, ◌⊎◌, ℕ, Bool, true, false, List, [], ◌++◌, Some, length}
+use Rattle.std.specs.Prelude.{◌≡◌, ◌↔◌, ◌<◌, ◌+◌, ◌⊎◌, ℕ, Bool, true, false, List, [], ◌++◌, Some, length}
 use Rattle.std.specs.Prelude.{slice_get, slice_index_or, slice_set}
+use Rattle.sect_types.specs.declared.action.Label.{Label}
 use Rattle.sect_lemmas.specs.Lists.{Has}
 use Rattle.sect_graph.specs.declared.flow.Node.{Node}
+use Rattle.sect_graph.specs.declared.flow.Successors.TheVariants.{Next}
 use Rattle.sect_graph.specs.Paths.{LeadsTo}
 use Rattle.sect_names.specs.declared.lock.Lock.{Lock}
 use Rattle.sect_names.specs.Schemes.{SchemeView}
-use Rattle.sect_names.specs.Locks.{Covers, IsLockOf}
+use Rattle.sect_names.specs.Locks.{Covers, IsLockOf, IsOutdone}
 use Rattle.sect_names.specs.Carrying.{CarriedBack}
 use Rattle.sect_infer.specs.Numbers.{AreApart}
 use Rattle.sect_infer.specs.Numberings.{NumberingView, HasLock, AreNumbers, IsNumbering, Extends}
@@ -40,6 +42,44 @@ pub record AreNumbered (s : SchemeView) (g : List Node) (a : NumberingView) (lis
 -- what was found are locks of the program
 abbrev pub AreLawfulAt : SchemeView → ℕ → List Lock → List (List ℕ) → Type 0
 AreLawfulAt s t keys lists = (j : ℕ) (l : Lock) → IsFoundAt keys lists j l → IsLockOf s t l
+
+-- each of these locks is carried back over a node to itself alone, where it is the program's
+abbrev pub AllStay : ℕ → Label → (Lock → Type 0) → Type 0
+AllStay t label Given = (l : Lock) → Given l → (s : SchemeView) → IsLockOf s t l
+    → (r : Lock) → CarriedBack s t label l r ↔ (r ≡ l)
+
+-- nothing was found at node j; control goes on from it to the other alone, and all that was found there stays
+pub record IsPassedOn (t : ℕ) (g : List Node) (keys : List Lock) (lists : List (List ℕ)) (j next : ℕ) : Type 0 where
+  pub none : slice_index_or lists j [] ≡ []
+  pub goes : (y : Node) → slice_get g j ≡ Some y → y.next ≡ Next next
+  pub stay : (y : Node) → slice_get g j ≡ Some y → AllStay t y.label (HasLock keys (slice_index_or lists next []))
+
+-- the lock is one of those with these numbers, or another of them covers it
+abbrev pub IsToldBy : SchemeView → List Lock → List ℕ → Lock → Type 0
+IsToldBy s keys ns l = HasLock keys ns l ⊎ IsOutdone s (HasLock keys ns) l
+
+-- the number of the lock stands behind those of node j now, unless they told of it
+pub record IsOwnPut (s : SchemeView) (old : NumberingView) (before : List (List ℕ)) (new : NumberingView)
+    (after : List (List ℕ)) (j : ℕ) (l : Lock) : Type 0 where
+  pub numbering : IsNumbering s new
+  pub longer : Extends old new
+  pub own : List ℕ
+  pub changed : after ≡ slice_set before j (slice_index_or before j [] ++ own)
+  pub its : (n : ℕ) → Has own n → (slice_get new.keys n ≡ Some l) × (Has (slice_index_or before j []) n → ⊥)
+  pub apart : AreApart own
+  pub told : IsToldBy s new.keys (slice_index_or before j [] ++ own) l
+
+-- what node j generates was put behind its numbers, unless they told of it
+pub record IsGeneratedPut (s : SchemeView) (t : ℕ) (g : List Node) (old : NumberingView) (before : List (List ℕ))
+    (new : NumberingView) (after : List (List ℕ)) (j : ℕ) : Type 0 where
+  pub numbering : IsNumbering s new
+  pub longer : Extends old new
+  pub own : List ℕ
+  pub changed : after ≡ slice_set before j (slice_index_or before j [] ++ own)
+  pub its : (n : ℕ) → Has own n → (l : Lock) × (slice_get new.keys n ≡ Some l) × IsSeed s t g (need j l)
+  pub fresh : (n : ℕ) → Has own n → Has (slice_index_or before j []) n → ⊥
+  pub apart : AreApart own
+  pub told : (l : Lock) → IsSeed s t g (need j l) → IsToldBy s new.keys (slice_index_or before j [] ++ own) l
 
 -- node j was gone over: behind its list stands more, if there was more, and that covers what was due there
 pub record IsVisit (s : SchemeView) (t : ℕ) (g : List Node) (old : NumberingView) (before : List (List ℕ))

@@ -1,14 +1,9 @@
-use Rattle.std.specs.List.Sorted.{IsStrictlySortedBy}
-use Rattle.std.specs.Ordering.{nat_cmp}
 use Rattle.sect_infer.specs.steps.Working.{IsWorking}
 use Rattle.sect_infer.proofs.Bounding.{measure}
 use Rattle.sect_infer.proofs.work.settle.Given as goal
 
 abbrev pub invariant-loop-node : goal.invariant-loop-node
-invariant-loop-node l = record {
-  work : IsWorking l.scheme l.thread l.flow l.numbering l.lists l.waiting.keys;
-  ordered : IsStrictlySortedBy nat_cmp l.waiting.keys;
-}
+invariant-loop-node l = IsWorking l.scheme l.thread l.flow l.numbering l.lists l.waiting
 
 abbrev pub decreases-loop-node : goal.decreases-loop-node
-decreases-loop-node l = measure l.scheme l.flow l.lists l.waiting.keys
+decreases-loop-node l = measure l.scheme l.flow l.lists l.waiting

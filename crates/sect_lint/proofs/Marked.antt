@@ -101,6 +101,7 @@ module _ (total : ℕ) (names : List NameSpan) (proper : AreProper total (map (�
   circle_within item (detail.Types a b) h = subst (IsDetailWithin total) (sym h) tt
   circle_within item (detail.Limit l) h = subst (IsDetailWithin total) (sym h) tt
   circle_within item (detail.Counts c) h = subst (IsDetailWithin total) (sym h) tt
+  circle_within item (detail.Expected kinds) h = subst (IsDetailWithin total) (sym h) tt
 
   -- what is told lies in the text, where what is told of another mistake does
   pub told_within : (fault : TypeFault) (other told : Detail) → IsDetailWithin total other

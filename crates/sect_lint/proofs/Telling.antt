@@ -53,6 +53,7 @@ plain_json source d = by d.mistake d.span d.detail
     by m s (detail.Types a b) = refl
     by m s (detail.Limit l) = refl
     by m s (detail.Counts c) = refl
+    by m s (detail.Expected kinds) = refl
 
 pub plain_log : (source : List ℕ) (d : Diagnostic) → has_float (diagnostic_log source d) ≡ false
 plain_log source d = by d.mistake d.span d.detail
@@ -70,3 +71,4 @@ plain_log source d = by d.mistake d.span d.detail
     by m s (detail.Types a b) = refl
     by m s (detail.Limit l) = refl
     by m s (detail.Counts c) = refl
+    by m s (detail.Expected kinds) = refl

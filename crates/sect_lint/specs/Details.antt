@@ -26,6 +26,7 @@ use Rattle.sect_lint.specs.Limits.{words_of, item_limit}
 use Rattle.sect_lint.specs.Counting.{counts_detail}
 use Rattle.sect_lint.specs.Labels.{quoted, typed_text, types_text, counts_text, IsTypedWithin}
 use Rattle.sect_lint.specs.Calls.{IsCircleTold}
+use Rattle.sect_lint.specs.Kinds.{kinds_text, AreKindsTold}
 use Rattle.sect_lint.specs.declared.diagnostic.Detail.{Detail}
 use Rattle.sect_lint.specs.declared.diagnostic.Detail.TheVariants as detail
 
@@ -34,13 +35,14 @@ abbrev pub of_brace : Option ℕ → Detail
 of_brace None = detail.Nothing
 of_brace (Some at) = detail.OpenBrace at
 
--- of a name and of a text that are too long it is said how long they are, and of a text that ends too early which
--- brace is the innermost that is open
+-- of a name and of a text that are too long it is said how long they are, of a text that ends too early which brace is
+-- the innermost that is open, and of a token that can't stand where it does which kinds may
 abbrev pub IsFrontDetail : List ℕ → FrontFault → Span → Detail → Type 0
 IsFrontDetail source (front.LongName line) span told = told ≡ detail.Bytes (span.end - span.start)
 IsFrontDetail source front.TooLarge span told = told ≡ detail.Bytes (length source)
 IsFrontDetail source (front.UnexpectedEnd line) span told = (places : List TokenAt) → Spells source places
     → told ≡ of_brace (slice_get (open_braces places) (length (open_braces places) - 1))
+IsFrontDetail source (front.Unexpected line) span told = AreKindsTold source span told
 IsFrontDetail source _ span told = told ≡ detail.Nothing
 
 -- which tokens an item has
@@ -106,6 +108,7 @@ detail_text source (detail.Types a b) = codes " " ++ types_text source a b
 detail_text source (detail.Limit l) = codes " " ++ words_of l
 detail_text source (detail.Counts c) = codes " " ++ counts_text source c
 detail_text source (detail.Circle spans) = codes " " ++ circle_text source spans.items
+detail_text source (detail.Expected kinds) = codes " " ++ kinds_text kinds.items
 
 -- a place that is told is one of a text of so many bytes
 abbrev pub IsDetailWithin : ℕ → Detail → Type 0

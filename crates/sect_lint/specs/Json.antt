@@ -11,6 +11,7 @@ use Rattle.sect_lint.specs.declared.diagnostic.Detail.{Detail}
 use Rattle.sect_lint.specs.declared.diagnostic.Detail.TheVariants as detail
 use Rattle.sect_lint.specs.declared.diagnostic.Diagnostic.{Diagnostic}
 use Rattle.sect_lint.specs.Limits.{words_of}
+use Rattle.sect_lint.specs.Kinds.{kinds_text}
 use Rattle.sect_lint.specs.Labels.{quoted, typed_text, counts_text}
 use Rattle.sect_lint.specs.Mistakes.{number_of, title_of, note_of}
 
@@ -55,6 +56,7 @@ labels_json source d = told d.detail
     told (detail.Limit l) = list (label_json source (words_of l) d.span ∷ [])
     told (detail.Counts c) = list (label_json source (counts_text source c) c.procedure ∷ [])
     told (detail.Circle calls) = list (map (call_json source) calls.items)
+    told (detail.Expected kinds) = list (label_json source (kinds_text kinds.items) d.span ∷ [])
 
 abbrev pub diagnostic_json : List ℕ → Diagnostic → Data
 diagnostic_json source d =

@@ -7,6 +7,7 @@ pub mod Typing
 pub mod Calls
 pub mod Counting
 pub mod Arguments
+pub mod Kinds
 pub mod Labels
 pub mod Details
 pub mod Places

@@ -12,6 +12,7 @@ use Rattle.sect_lint.specs.declared.diagnostic.Diagnostic.{Diagnostic}
 use Rattle.sect_lint.specs.declared.mistake.Mistake.{Mistake}
 use Rattle.sect_lint.specs.Mistakes.{number_of, title_of, note_of}
 use Rattle.sect_lint.specs.Limits.{words_of}
+use Rattle.sect_lint.specs.Kinds.{kinds_text}
 use Rattle.sect_lint.specs.Labels.{quoted, typed_text, types_text, counts_text}
 use Rattle.sect_lint.specs.Json.{count, list}
 
@@ -64,6 +65,7 @@ aside_by source (detail.Types a b) = codes ": " ++ types_text source a b
 aside_by source (detail.Limit l) = codes ": " ++ words_of l
 aside_by source (detail.Counts c) = codes ": " ++ counts_text source c
 aside_by source (detail.Circle calls) = []
+aside_by source (detail.Expected kinds) = codes ": " ++ kinds_text kinds.items
 
 -- what is wrong, and what is said beside it
 abbrev pub said_by : List ℕ → Diagnostic → List ℕ

@@ -2,7 +2,7 @@
 
 use crate::limit::Limit;
 use crate::mistake::Mistake;
-use sect_front::Span;
+use sect_front::{Span, TokenKind};
 
 /// What is wrong with a source text, and where.
 #[derive(Debug, Drop)]
@@ -33,6 +33,8 @@ pub enum Detail {
     Counts(Counts),
     /// The names in the calls by which the first of them leads back.
     Circle(Vec<Span>),
+    /// The kinds of tokens that may stand there.
+    Expected(Vec<TokenKind>),
 }
 
 /// What a part of a text is, by its type.

@@ -4,13 +4,15 @@ ghost use Rattle.std.specs.Prelude.{◌≡◌, ◌≤◌, ◌∷◌, [], All, If
 ghost use Rattle.serde_json.specs.View.{view};
 ghost use Rattle.sect_front.specs.FaultPlaces.{IsWithin};
 ghost use Rattle.sect_lint.specs.Details.{IsDetailWithin};
+ghost use Rattle.sect_lint.specs.Kinds.{kinds_text};
 ghost use Rattle.sect_lint.specs.Labels.{typed_text, counts_text, IsTypedWithin};
 ghost use Rattle.sect_lint.specs.Json.{list, place_json, span_json, label_json, call_json, labels_json};
 ghost use Rattle.sect_lint.specs.Json.{diagnostic_json};
 
 use crate::diagnostic::{Counts, Detail, Diagnostic, Typed};
+use crate::kinds::put_kinds;
 use crate::label::{put_counts, put_quoted, put_typed};
-use sect_front::Span;
+use sect_front::{Span, TokenKind};
 use sect_places::position_of;
 use serde_json::{Value, json};
 use std::alloc::{AllocError, Global};
@@ -76,6 +78,21 @@ fn types_value(alloc: Global, source: &[u8], left: Typed, right: Typed) -> Resul
     json!(in alloc; [left, right])
 }
 
+/// Which kinds of tokens may stand somewhere.
+fn kinds_value(
+    alloc: Global,
+    source: &[u8],
+    kinds: &[TokenKind],
+    span: Span,
+) -> Result<Value, AllocError>
+    requires { IsWithin (length source.now) span }
+    ensures { IfOk result (λ v. view v ≡ label_json source.now (kinds_text kinds.now) span) }
+{
+    let mut text = String::new(alloc);
+    put_kinds(&mut text, kinds)?;
+    label_value(alloc, source, text.as_str(), span)
+}
+
 /// A call of a circle.
 fn call_value(alloc: Global, source: &[u8], called: Span) -> Result<Value, AllocError>
     requires { IsWithin (length source.now) called }
@@ -138,6 +155,10 @@ fn labels_value(alloc: Global, source: &[u8], diagnostic: &Diagnostic) -> Result
             json!(in alloc; [label])
         }
         Detail::Circle(calls) => circle_value(alloc, source, calls.as_slice()),
+        Detail::Expected(kinds) => {
+            let label = kinds_value(alloc, source, kinds.as_slice(), diagnostic.span)?;
+            json!(in alloc; [label])
+        }
     }
 }
 

@@ -18,16 +18,17 @@ use crate::call_counts::counts_detail;
 use crate::circle::circle_detail;
 use crate::culprit::Culprit;
 use crate::diagnostic::{Detail, Diagnostic};
-use crate::layout::{item_span, layout_of, own_words};
+use crate::layout::{item_span, layout_of, names_of, own_words};
 use crate::limit::Limit;
 use crate::mistake::Mistake;
 use crate::naming::{declared_at, earlier_detail, found, unknown_name};
 use sect_front::{
-    FrontFault, PlacedFault, Span, Token, Tree, innermost_brace, parse, parse_placed,
+    FrontFault, PlacedFault, Span, Token, Tree, expected_kinds, innermost_brace, parse,
+    parse_placed,
 };
 use sect_names::{Refusal, Scheme, SchemeFault, check_k, scheme_of};
-use sect_places::{NameSpan, tree_names};
-use sect_types::{Program, TypeFault, check_types};
+use sect_places::NameSpan;
+use sect_types::{Mistyped, Program, TypeFault, check_tree};
 use std::alloc::{AllocError, Global};
 
 /// What a source text is found to be.
@@ -52,6 +53,9 @@ fn front_detail(alloc: Global, source: &[u8], placed: &PlacedFault) -> Result<De
             Some(at) => Detail::OpenBrace(at),
             None => Detail::Nothing,
         },
+        FrontFault::Unexpected { .. } => {
+            Detail::Expected(expected_kinds(alloc, source, placed.span.start)?)
+        }
         _ => Detail::Nothing,
     };
     Ok(detail)
@@ -150,23 +154,28 @@ fn told_of(
 }
 
 /// What is told of a text whose tree breaks a rule on types.
-fn types_diagnostic(alloc: Global, source: &[u8], fault: &TypeFault) -> Result<Diagnostic, Refusal>
-    requires { (tree : TreeView) × IsSpelled source.now tree × types.Judges {A = ℕ} tree (Err fault.now) }
-    ensures told { IfOk result (IsDiagnosisOf source.now (refusal.Types fault.now)) }
-    ensures known { IfOk result (λ _. fault.now ≢ TypeFault.Memory) }
+fn types_diagnostic(
+    alloc: Global,
+    source: &[u8],
+    mistyped: &Mistyped,
+) -> Result<Diagnostic, Refusal>
+    requires spelled { IsSpelled source.now mistyped.now.tree }
+    requires judged { types.Judges {A = ℕ} mistyped.now.tree (Err mistyped.now.fault) }
+    ensures told { IfOk result (IsDiagnosisOf source.now (refusal.Types mistyped.now.fault)) }
+    ensures known { IfOk result (λ _. mistyped.now.fault ≢ TypeFault.Memory) }
     ensures fails { IfErr result (λ why. why ≡ refusal.Memory) }
 {
+    let Mistyped { fault, tree } = mistyped;
     let Some(mistake) = Mistake::of_types(fault) else {
         return Err(Refusal::Memory);
     };
-    let tree = tree_of(alloc, source)?;
-    let layout = layout_of(alloc, source, &tree)?;
-    let names = tree_names(alloc, source, &tree)?;
+    let layout = layout_of(alloc, source, tree)?;
+    let names = names_of(alloc, source, tree, &layout)?;
     let culprit = Culprit::of_types(fault);
-    let item = item_span(source, &tree, &layout, mistake, culprit);
+    let item = item_span(source, tree, &layout, mistake, culprit);
     let span = marked_span(names.as_slice(), fault, item);
-    let (tokens, spans) = own_words(source, &tree, &layout, culprit);
-    let other = item_detail(&tree, names.as_slice(), tokens, spans, fault);
+    let (tokens, spans) = own_words(source, tree, &layout, culprit);
+    let other = item_detail(tree, names.as_slice(), tokens, spans, fault);
     let detail = told_of(alloc, names.as_slice(), fault, other)?;
     Ok(Diagnostic {
         mistake,
@@ -226,13 +235,13 @@ fn lint_tree(alloc: Global, source: &[u8], tree: Tree, k: u16) -> Result<Judgmen
     ensures judged { IfOk result (IsJudged source.now k) }
     ensures fails { IfErr result (λ why. why ≡ refusal.Memory) }
 {
-    match check_types(alloc, tree) {
+    match check_tree(alloc, tree) {
         Ok(program) => {
             let _facts = program.tree();
             lint_program(alloc, source, program, k)
         }
-        Err(fault) => {
-            let diagnostic = types_diagnostic(alloc, source, &fault)?;
+        Err(mistyped) => {
+            let diagnostic = types_diagnostic(alloc, source, &mistyped)?;
             Ok(Judgment::Refused(diagnostic))
         }
     }

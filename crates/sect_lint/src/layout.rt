@@ -4,6 +4,7 @@ ghost use Rattle.std.specs.Prelude.{◌≡◌, ◌<◌, IfOk, length};
 ghost use Rattle.sect_front.specs.Front.{IsSpelled};
 ghost use Rattle.sect_front.specs.FaultPlaces.{IsWithin};
 ghost use Rattle.sect_types.specs.Items.{items};
+ghost use Rattle.sect_places.specs.NameSpans.{AreNameSpans};
 ghost use Rattle.sect_lint.specs.Details.{own_tokens, own_spans};
 ghost use Rattle.sect_lint.specs.Places.{IsItemSpan, item_number};
 ghost use Rattle.sect_lint.specs.steps.Laid.{IsLaidOut};
@@ -11,7 +12,7 @@ ghost use Rattle.sect_lint.specs.steps.Laid.{IsLaidOut};
 use crate::culprit::{Culprit, marked_range};
 use crate::mistake::Mistake;
 use sect_front::{Span, Token, Tree, tokens_of};
-use sect_places::{TokenRange, item_ranges, range_span, token_spans};
+use sect_places::{NameSpan, TokenRange, item_ranges, names_among, range_span, spans_of_tokens};
 use std::alloc::{AllocError, Global};
 
 /// The tokens of a text, the bytes of each, and which tokens each item has.
@@ -28,13 +29,32 @@ pub fn layout_of(alloc: Global, source: &[u8], tree: &Tree) -> Result<Layout, Al
     ensures { IfOk result (IsLaidOut source.now tree.now) }
 {
     let tokens = tokens_of(alloc, tree)?;
-    let spans = token_spans(alloc, source, tree)?;
+    let spans = spans_of_tokens(alloc, source, tree, tokens.as_slice())?;
     let ranges = item_ranges(alloc, tree)?;
     Ok(Layout {
         tokens,
         spans,
         ranges,
     })
+}
+
+/// The names of a tree that is laid out.
+pub fn names_of(
+    alloc: Global,
+    source: &[u8],
+    tree: &Tree,
+    layout: &Layout,
+) -> Result<Vec<NameSpan>, AllocError>
+    requires { IsLaidOut source.now tree.now layout.now }
+    ensures { IfOk result (λ names. AreNameSpans source.now tree.now names.items) }
+{
+    names_among(
+        alloc,
+        source,
+        tree,
+        layout.tokens.as_slice(),
+        layout.spans.as_slice(),
+    )
 }
 
 /// The bytes of the item at fault in a tree that the text spells, as far as they are marked for this mistake.

@@ -12,6 +12,7 @@ mod format;
 mod idle;
 mod json;
 mod judge;
+mod kinds;
 mod label;
 mod layout;
 mod limit;

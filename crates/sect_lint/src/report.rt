@@ -12,6 +12,7 @@ ghost use Rattle.sect_lint.specs.Reports.{heading, note_line, report};
 
 use crate::diagnostic::{Detail, Diagnostic};
 use crate::excerpt::{put_excerpt, put_margin};
+use crate::kinds::put_kinds;
 use crate::label::{put_counts, put_quoted, put_typed, put_types};
 use crate::mistake::Mistake;
 use sect_front::Span;
@@ -115,6 +116,10 @@ fn put_detail(text: &mut String, source: &[u8], detail: &Detail) -> Result<(), A
         Detail::Circle(calls) => {
             text.push_str(" ")?;
             put_circle(text, source, calls.as_slice())
+        }
+        Detail::Expected(kinds) => {
+            text.push_str(" ")?;
+            put_kinds(text, kinds.as_slice())
         }
     }
 }

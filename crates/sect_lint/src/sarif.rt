@@ -12,6 +12,7 @@ ghost use Rattle.sect_lint.specs.Sarif.{result_json, rule_json, tool_json};
 ghost use Rattle.sect_lint.specs.Sarif.{run_json, log_json, diagnostic_log as log_by, empty_log as empty_by};
 
 use crate::diagnostic::{Detail, Diagnostic};
+use crate::kinds::put_kinds;
 use crate::label::{put_counts, put_quoted, put_typed, put_types};
 use crate::mistake::Mistake;
 use sect_front::Span;
@@ -127,6 +128,10 @@ fn put_aside(text: &mut String, source: &[u8], detail: &Detail) -> Result<(), Al
         Detail::Counts(counts) => {
             text.push_str(": ")?;
             put_counts(text, source, *counts)
+        }
+        Detail::Expected(kinds) => {
+            text.push_str(": ")?;
+            put_kinds(text, kinds.as_slice())
         }
     }
 }

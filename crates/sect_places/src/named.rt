@@ -1,12 +1,15 @@
 //! Where the names of a text stand.
 
 ghost use Rattle.std.specs.Prelude.{◌≡◌, IfOk, MatchResult, length, map};
+ghost use Rattle.sect_front.specs.FaultPlaces.{token_span};
 ghost use Rattle.sect_front.specs.Front.{IsSpelled, IsFault};
+ghost use Rattle.sect_front.specs.Grammar.{tokens_of as tokens_by};
+ghost use Rattle.sect_places.specs.Spans.{AreInOrder};
 ghost use Rattle.sect_places.specs.NameSpans.{is_name_token, AreNameSpans, HasNameSpans};
 ghost use Rattle.sect_places.specs.steps.Named.{spans_named};
 
 use crate::name_use::{NameSpan, NameUse};
-use crate::spans::token_spans;
+use crate::spans::spans_of_tokens;
 use crate::uses::name_uses;
 use sect_front::{FrontFault, Span, Token, Tree, parse, tokens_of};
 use std::alloc::{AllocError, Global};
@@ -54,10 +57,28 @@ pub fn tree_names(alloc: Global, source: &[u8], tree: &Tree) -> Result<Vec<NameS
     ensures { IfOk result (λ names. AreNameSpans source.now tree.now names.items) }
 {
     let tokens = tokens_of(alloc, tree)?;
-    let all = token_spans(alloc, source, tree)?;
-    let spans = named_spans(alloc, tokens.as_slice(), all.as_slice())?;
+    let spans = spans_of_tokens(alloc, source, tree, tokens.as_slice())?;
+    names_among(alloc, source, tree, tokens.as_slice(), spans.as_slice())
+}
+
+/// The same, where the tokens of the tree are there with their bytes.
+pub fn names_among(
+    alloc: Global,
+    source: &[u8],
+    tree: &Tree,
+    tokens: &[Token],
+    spans: &[Span],
+) -> Result<Vec<NameSpan>, AllocError>
+    requires spelled { IsSpelled source.now tree.now }
+    requires tokens { tokens.now ≡ tokens_by tree.now }
+    requires spans { (spelled : IsSpelled source.now tree.now) → spans.now ≡ map token_span spelled.places }
+    requires many { length spans.now ≡ length tokens.now }
+    requires order { AreInOrder 0 (length source.now) spans.now }
+    ensures { IfOk result (λ names. AreNameSpans source.now tree.now names.items) }
+{
+    let named = named_spans(alloc, tokens, spans)?;
     let uses = name_uses(alloc, tree)?;
-    let names = joined(alloc, uses.as_slice(), spans.as_slice())?;
+    let names = joined(alloc, uses.as_slice(), named.as_slice())?;
     Ok(names)
 }
 

@@ -11,6 +11,8 @@ use Rattle.sect_front.specs.TreeView.{TreeView}
 use Rattle.std.specs.Result.{IsErrAnd, IsOkUnless}
 use Rattle.sect_types.specs.declared.rule.TypeFault.{TypeFault}
 use Rattle.sect_types.specs.declared.rule.TypeFault.TheVariants.{Memory}
+use Rattle.sect_types.specs.declared.rule.TypeFault.TheVariants as type
+use Rattle.sect_types.specs.First.{Judges}
 use Rattle.sect_types.specs.Faults.{type_fault}
 use Rattle.sect_types.specs.Items.{items, record_items, global_items, procedure_items, thread_items, Item, ARecord}
 use Rattle.sect_types.specs.Items.{AField, AGlobal, AProcedure, AThread, ALocal, AStatement, PrimitiveHead, TestHead}
@@ -166,6 +168,18 @@ pub refused_typed : (t : TreeView) (new : Counts) (f : Fault)
 refused_typed t new fault.Memory walks typed = refl
 refused_typed t new (fault.Broken i r) walks typed =
     absurd (typed i r (fault_says (declared_in t) (items t) i r (walks [])).broken)
+
+-- a refusal is right whatever would be given else
+pub refused_as : (A : Type 0) (t : TreeView) (e : TypeFault) → Judges {A = ℕ} t (Err e) → Judges {A = A} t (Err e)
+refused_as A t type.Memory h = h
+refused_as A t (type.Unknown i) h = h
+refused_as A t (type.Twice i) h = h
+refused_as A t (type.WrongType i) h = h
+refused_as A t (type.SharedOutside i) h = h
+refused_as A t (type.Nested i) h = h
+refused_as A t (type.TooMany i) h = h
+refused_as A t (type.Recursion i) h = h
+refused_as A t (type.Arguments i) h = h
 
 pub only_memory : {A : Type 0} (t : TreeView) (start new : Counts) (f : Fault) (r : Result A TypeFault)
     → start ≡ none_yet

@@ -3,7 +3,6 @@
 use Rattle.std.specs.Prelude.{ℕ, Bool, true, false, ◌&&◌, List, Option, Some, None, Result, Ok, Err}
 use Rattle.sect_front.specs.declared.tree.Kind.TheVariants as kind
 use Rattle.sect_front.specs.declared.tree.Comparison.{Comparison}
-use Rattle.sect_front.specs.declared.tree.Comparison.TheVariants as comparison
 use Rattle.sect_front.specs.declared.tree.Operator.{Operator}
 use Rattle.sect_front.specs.declared.tree.Primitive as leaf
 use Rattle.sect_front.specs.declared.tree.Primitive.TheVariants as primitive

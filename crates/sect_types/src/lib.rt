@@ -35,7 +35,7 @@ pub use limits::{
     MOST_STATEMENTS, MOST_THREADS, limits_of_programs,
 };
 pub use local_name::LocalName;
-pub use program::{Program, check_types};
+pub use program::{Mistyped, Program, check_tree, check_types};
 pub use rule::TypeFault;
 pub use section::Section;
 pub use store::{Datum, End, Fault, ObjectName};

@@ -1,6 +1,6 @@
 //! Typed programs.
 
-ghost use Rattle.std.specs.Prelude.{IsOkUnless, ◌≡◌, ◌≤◌, ◌<◌, ◌+◌, ◌++◌, ◌∷◌, [], true, false, IfOk, OnOk, Some};
+ghost use Rattle.std.specs.Prelude.{IsOkUnless, Err, IfErr, ℕ, ◌≡◌, ◌≤◌, ◌<◌, ◌+◌, ◌++◌, ◌∷◌, [], true, false, IfOk, OnOk, Some};
 ghost use Rattle.std.specs.Prelude.{length, map, slice_get, slice_index_or};
 ghost use Rattle.sect_front.specs.Depth.{block_depth, procedures_depth, threads_depth};
 ghost use Rattle.sect_front.specs.Limits.{most_depth};
@@ -526,25 +526,64 @@ impl Program {
     }
 }
 
-/// The program of a tree, or the first item at fault with the least rule that it breaks.
+/// What a program keeps beside its tree, or the first item at fault with the least rule that it breaks.
 #[tactic(auto, using(crate::proofs::FirstLemmas::fine_says, crate::proofs::FirstLemmas::fault_says))]
+fn parts_of(alloc: Global, tree: &Tree) -> Result<Parts, TypeFault>
+    ensures typed { OnOk result (IsTyped tree.now) }
+    ensures parts { IfOk result (λ p. IsWellNumbered (numbered_by tree.now
+        p.records.items p.globals.items p.locals.items p.texts.items p.lockings.items)
+        p.section_count p.site_count p.statement_count) }
+    ensures fresh { IfOk result (λ p. p.fresh.items ≡ map (fresh_in tree.now) tree.now.threads) }
+    ensures fault { IfErr result (λ e. Judges {A = ℕ} tree.now (Err e)) }
+    ensures only { IsTyped tree.now → IsOkUnless result Memory }
+{
+    let mut spot = Spot::start();
+    let parts = judge_tree(alloc, tree, &mut spot)?;
+    Ok(parts)
+}
+
+/// Why a tree has no program, and the tree.
+#[derive(Drop)]
+pub struct Mistyped {
+    pub fault: TypeFault,
+    pub tree: Tree,
+}
+
+/// The program of a tree. A tree that has none is given back, with its first item at fault and the least rule that it
+/// breaks.
+pub fn check_tree(alloc: Global, tree: Tree) -> Result<Program, Mistyped>
+    ensures typed { OnOk result (IsTyped tree) }
+    ensures same { IfOk result (λ p. p.source ≡ tree) }
+    ensures fault { IfErr result (λ m. Judges {A = ℕ} tree (Err m.fault)) }
+    ensures only { IfErr result (λ m. IsTyped tree → m.fault ≡ Memory) }
+    ensures back { IfErr result (λ m. m.tree ≡ tree) }
+{
+    match parts_of(alloc, &tree) {
+        Ok(parts) => Ok(Program {
+            tree,
+            records: parts.records,
+            globals: parts.globals,
+            locals: parts.locals,
+            fresh: parts.fresh,
+            texts: parts.texts,
+            lockings: parts.lockings,
+            section_count: parts.section_count,
+            site_count: parts.site_count,
+            statement_count: parts.statement_count,
+        }),
+        Err(fault) => Err(Mistyped { fault, tree }),
+    }
+}
+
+/// The program of a tree, or the first item at fault with the least rule that it breaks.
+#[tactic(auto, using(crate::proofs::FirstLemmas::refused_as))]
 pub fn check_types(alloc: Global, tree: Tree) -> Result<Program, TypeFault>
     ensures judges { Judges tree result }
     ensures only { IsTyped tree → IsOkUnless result Memory }
     ensures same { IfOk result (λ p. p.source ≡ tree) }
 {
-    let mut spot = Spot::start();
-    let parts = judge_tree(alloc, &tree, &mut spot)?;
-    Ok(Program {
-        tree,
-        records: parts.records,
-        globals: parts.globals,
-        locals: parts.locals,
-        fresh: parts.fresh,
-        texts: parts.texts,
-        lockings: parts.lockings,
-        section_count: parts.section_count,
-        site_count: parts.site_count,
-        statement_count: parts.statement_count,
-    })
+    match check_tree(alloc, tree) {
+        Ok(program) => Ok(program),
+        Err(mistyped) => Err(mistyped.fault),
+    }
 }

@@ -1,7 +1,5 @@
-use Rattle.std.proofs.Common.{◌≡◌, ◌<◌, length, subst, sym, ap, ◌∙◌}
-use Rattle.sect_front.specs.TreeView.{TreeView}
+use Rattle.std.proofs.Common.{◌≡◌, length, subst, sym, ap, ◌∙◌}
 use Rattle.sect_places.specs.Spans.{AreInOrder}
-use Rattle.sect_types.specs.Items.{items}
 use Rattle.sect_lint.specs.Places.{of_types, item_number}
 use Rattle.sect_lint.proofs.Faulty.{item_within, types_known}
 use Rattle.sect_lint.specs.declared.diagnostic.Detail.{Detail}
@@ -13,25 +11,23 @@ use Rattle.sect_lint.proofs.judge.types_diagnostic.Goals as goal
 
 pub item_span-item-requires-clause-there : goal.item_span-item-requires-clause-there
 item_span-item-requires-clause-there c =
-    let tree = c.requires.0 in
-    let fault = c.args.fault.now in
-    let same = c.in_ok-tree.ensures.same tree c.requires.1 in
-    rw c.of_types-culprit.ensures (subst (λ (t : TreeView). item_number t (of_types fault) < length (items t))
-    (sym same) (item_within tree fault (types_known fault c.in-Some.mistake c.in-Some.ensures) c.requires.2))
+    let fault = c.args.mistyped.now.fault in
+    rw c.of_types-culprit.ensures
+    (item_within c.args.mistyped.now.tree fault (types_known fault c.in-Some.mistake c.in-Some.ensures)
+    c.requires.judged)
 
 pub own_words-requires-clause-there : goal.own_words-requires-clause-there
 own_words-requires-clause-there c =
-    let tree = c.requires.0 in
-    let fault = c.args.fault.now in
-    let same = c.in_ok-tree.ensures.same tree c.requires.1 in
-    rw c.of_types-culprit.ensures (subst (λ (t : TreeView). item_number t (of_types fault) < length (items t))
-    (sym same) (item_within tree fault (types_known fault c.in-Some.mistake c.in-Some.ensures) c.requires.2))
+    let fault = c.args.mistyped.now.fault in
+    rw c.of_types-culprit.ensures
+    (item_within c.args.mistyped.now.tree fault (types_known fault c.in-Some.mistake c.in-Some.ensures)
+    c.requires.judged)
 
 pub returns-clause-told : goal.returns-clause-told
 returns-clause-told c =
     let source = c.args.source.now in
-    let fault = c.args.fault.now in
-    let tree = c.in_ok-tree.tree in
+    let fault = c.args.mistyped.now.fault in
+    let tree = c.args.mistyped.now.tree in
     let names = c.in_ok-names.names.items in
     let are = c.in_ok-names.ensures in
     let laid = c.in_ok-layout.ensures in

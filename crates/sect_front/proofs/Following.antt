@@ -18,7 +18,7 @@ use Rattle.sect_front.specs.Expected.{kind_of, all_kinds, MayFollow, AreExpected
 use Rattle.sect_front.specs.Trees.{append}
 use Rattle.sect_front.specs.steps.Advance.{advance_of}
 use Rattle.sect_front.specs.steps.Lexeme.{lexeme_of}
-use Rattle.sect_front.specs.steps.Sample.{sample_of}
+use Rattle.sect_front.specs.Samples.{sample_of}
 use Rattle.sect_front.specs.steps.Step.{Next, Stays, Ends, Stuck, start_step, after_then, call_step}
 use Rattle.sect_front.specs.steps.Step.{moved_if, step_at, step_of}
 use Rattle.sect_front.specs.steps.ReaderView.{ReaderView}

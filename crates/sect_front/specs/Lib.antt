@@ -16,6 +16,7 @@ pub mod TokenAt
 pub mod Lexing
 pub mod Braces
 pub mod Faults
+pub mod Samples
 pub mod Expected
 pub mod Front
 pub mod FaultPlaces

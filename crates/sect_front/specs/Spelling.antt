@@ -1,5 +1,5 @@
 -- How each token is spelled.
-use Rattle.std.specs.Prelude.{◌≡◌, ℕ, Bool, true, nat_lt, List, codes}
+use Rattle.std.specs.Prelude.{◌≡◌, ℕ, Bool, true, nat_lt, List, [], codes}
 use Rattle.std.specs.Fmt.{decimal}
 use Rattle.sect_front.specs.Words.{is_name}
 use Rattle.sect_front.specs.declared.tree.Comparison.{Comparison}
@@ -45,6 +45,12 @@ spelling_of token.Plus = codes "+"
 spelling_of token.Minus = codes "-"
 spelling_of token.Star = codes "*"
 spelling_of (token.Comparison c) = comparison_spelling c
+
+-- the spelling of a keyword or a sign, and nothing for a name or an integer
+abbrev pub fixed_of : Token → List ℕ
+fixed_of (token.Name n) = []
+fixed_of (token.Number n) = []
+fixed_of t = spelling_of t
 
 -- a name is a name, and an integer is at most 9223372036854775807
 abbrev pub is_proper : Token → Bool

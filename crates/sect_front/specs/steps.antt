@@ -10,5 +10,4 @@ pub mod Spread
 pub mod Verdicts
 pub mod Lexeme
 pub mod Below
-pub mod Sample
 pub mod Taking

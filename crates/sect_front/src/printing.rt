@@ -2,12 +2,11 @@
 
 ghost use Rattle.std.specs.Prelude.{◌≡◌, ◌++◌, ◌≤◌, ◌<◌, ◌^◌, true, OnOk, IfOk, length};
 ghost use Rattle.std.specs.Fmt.{decimal};
-ghost use Rattle.sect_front.specs.Spelling.{spelling_of, is_proper};
+ghost use Rattle.sect_front.specs.Spelling.{spelling_of, fixed_of, is_proper};
 ghost use Rattle.sect_front.specs.Layout.{separator as separator_of, layout_of, IsTextOf};
 ghost use Rattle.sect_front.specs.Grammar.{tokens_of as grammar_tokens};
 ghost use Rattle.sect_front.specs.Front.{IsSpelled};
 ghost use Rattle.sect_front.specs.Limits.{most_bytes};
-ghost use Rattle.sect_front.specs.steps.Recognition.{fixed_of};
 ghost use Rattle.sect_front.specs.steps.Spread.{spread};
 ghost use Rattle.std.specs.List.{list_all};
 
@@ -26,39 +25,39 @@ fn put_decimal(alloc: Global, text: &mut Vec<u8>, value: Literal) -> Result<(), 
 }
 
 /// How a keyword or a sign is spelled. A name and a number have no fixed spelling.
-fn fixed_spelling(token: Token) -> &'static [u8]
+pub fn fixed_spelling(token: Token) -> &'static str
     ensures { result.now ≡ fixed_of token }
 {
     match token {
-        Token::Name(_) | Token::Number(_) => b"",
-        Token::Record => b"record",
-        Token::ProtectedBy => b"protected_by",
-        Token::Global => b"global",
-        Token::Proc => b"proc",
-        Token::Thread => b"thread",
-        Token::Int => b"int",
-        Token::New => b"new",
-        Token::Null => b"null",
-        Token::Print => b"print",
-        Token::If => b"if",
-        Token::Else => b"else",
-        Token::While => b"while",
-        Token::Atomic => b"atomic",
-        Token::All => b"all",
-        Token::Call => b"call",
-        Token::Class => b"class",
-        Token::OpenBrace => b"{",
-        Token::CloseBrace => b"}",
-        Token::OpenParen => b"(",
-        Token::CloseParen => b")",
-        Token::Semicolon => b";",
-        Token::Comma => b",",
-        Token::Dot => b".",
-        Token::Equal => b"=",
-        Token::Plus => b"+",
-        Token::Minus => b"-",
-        Token::Star => b"*",
-        Token::Comparison(comparison) => comparison.spelling().as_bytes(),
+        Token::Name(_) | Token::Number(_) => "",
+        Token::Record => "record",
+        Token::ProtectedBy => "protected_by",
+        Token::Global => "global",
+        Token::Proc => "proc",
+        Token::Thread => "thread",
+        Token::Int => "int",
+        Token::New => "new",
+        Token::Null => "null",
+        Token::Print => "print",
+        Token::If => "if",
+        Token::Else => "else",
+        Token::While => "while",
+        Token::Atomic => "atomic",
+        Token::All => "all",
+        Token::Call => "call",
+        Token::Class => "class",
+        Token::OpenBrace => "{",
+        Token::CloseBrace => "}",
+        Token::OpenParen => "(",
+        Token::CloseParen => ")",
+        Token::Semicolon => ";",
+        Token::Comma => ",",
+        Token::Dot => ".",
+        Token::Equal => "=",
+        Token::Plus => "+",
+        Token::Minus => "-",
+        Token::Star => "*",
+        Token::Comparison(comparison) => comparison.spelling(),
     }
 }
 
@@ -70,7 +69,7 @@ fn put_spelling(alloc: Global, text: &mut Vec<u8>, token: Token) -> Result<(), A
     match token {
         Token::Name(name) => name.append_to(text),
         Token::Number(value) => put_decimal(alloc, text, value),
-        _ => text.extend_from_slice(fixed_spelling(token)),
+        _ => text.extend_from_slice(fixed_spelling(token).as_bytes()),
     }
 }
 

@@ -2,10 +2,11 @@
 
 ghost use Rattle.std.specs.Prelude.{◌≡◌, List};
 ghost use Rattle.sect_front.specs.Expected.{all_kinds as all_kinds_by};
-ghost use Rattle.sect_front.specs.steps.Sample.{sample_of};
+ghost use Rattle.sect_front.specs.Samples.{sample_of, kind_spelling};
 
 use crate::literal::Literal;
 use crate::name::Name;
+use crate::printing::fixed_spelling;
 use crate::token::Token;
 use crate::tree::Comparison;
 
@@ -45,6 +46,13 @@ pub enum TokenKind {
 }
 
 impl TokenKind {
+    /// How a keyword or a sign of this kind is spelled, and nothing for names and integers, which have many spellings.
+    pub fn spelling(self) -> &'static str
+        ensures { result.now ≡ kind_spelling self }
+    {
+        fixed_spelling(self.sample())
+    }
+
     /// A token of this kind.
     pub(crate) fn sample(self) -> Token
         ensures { result ≡ sample_of self }

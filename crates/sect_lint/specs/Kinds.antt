@@ -3,6 +3,7 @@ use Rattle.std.specs.Prelude.{ℕ, if◌then◌else◌, List, [], ◌∷◌, ◌
 use Rattle.std.specs.List.{flat_map}
 use Rattle.sect_front.specs.Lexing.{Spells}
 use Rattle.sect_front.specs.TokenAt.{TokenAt}
+use Rattle.sect_front.specs.Samples.{kind_spelling}
 use Rattle.sect_front.specs.Expected.{AreExpected, tokens_before}
 use Rattle.sect_front.specs.declared.span.Span.{Span}
 use Rattle.sect_front.specs.declared.token_kind.TokenKind.{TokenKind}
@@ -10,40 +11,18 @@ use Rattle.sect_front.specs.declared.token_kind.TokenKind.TheVariants as kind
 use Rattle.sect_lint.specs.declared.diagnostic.Detail.{Detail}
 use Rattle.sect_lint.specs.declared.diagnostic.Detail.TheVariants as detail
 
+-- a kind that has many spellings
+abbrev pub open_kind : TokenKind → List ℕ
+open_kind kind.Name = codes "a name"
+open_kind _ = codes "a number"
+
+abbrev pub words_by : TokenKind → List ℕ → List ℕ
+words_by k [] = open_kind k
+words_by k (b ∷ bs) = codes "`" ++ (b ∷ bs) ++ codes "`"
+
+-- keywords and signs are told by their spelling
 abbrev pub kind_words : TokenKind → List ℕ
-kind_words kind.Name = codes "a name"
-kind_words kind.Record = codes "`record`"
-kind_words kind.ProtectedBy = codes "`protected_by`"
-kind_words kind.Global = codes "`global`"
-kind_words kind.Proc = codes "`proc`"
-kind_words kind.Thread = codes "`thread`"
-kind_words kind.Int = codes "`int`"
-kind_words kind.Null = codes "`null`"
-kind_words kind.New = codes "`new`"
-kind_words kind.Print = codes "`print`"
-kind_words kind.If = codes "`if`"
-kind_words kind.Else = codes "`else`"
-kind_words kind.While = codes "`while`"
-kind_words kind.Atomic = codes "`atomic`"
-kind_words kind.All = codes "`all`"
-kind_words kind.Call = codes "`call`"
-kind_words kind.Class = codes "`class`"
-kind_words kind.Number = codes "a number"
-kind_words kind.OpenBrace = codes "`{`"
-kind_words kind.CloseBrace = codes "`}`"
-kind_words kind.OpenParen = codes "`(`"
-kind_words kind.CloseParen = codes "`)`"
-kind_words kind.Semicolon = codes "`;`"
-kind_words kind.Comma = codes "`,`"
-kind_words kind.Dot = codes "`.`"
-kind_words kind.Equal = codes "`=`"
-kind_words kind.Plus = codes "`+`"
-kind_words kind.Minus = codes "`-`"
-kind_words kind.Star = codes "`*`"
-kind_words kind.EqualEqual = codes "`==`"
-kind_words kind.NotEqual = codes "`!=`"
-kind_words kind.Less = codes "`<`"
-kind_words kind.LessEqual = codes "`<=`"
+kind_words k = words_by k (kind_spelling k)
 
 -- what stands before the first of more than two kinds, and between kinds, of which these are all but the first
 abbrev pub lead : List TokenKind → List ℕ

@@ -3,51 +3,33 @@
 ghost use Rattle.std.specs.Prelude.{◌≡◌, ◌++◌, OnOk, take};
 ghost use Rattle.std.specs.List.{flat_map};
 ghost use Rattle.std.specs.String.{string_bytes};
-ghost use Rattle.sect_lint.specs.Kinds.{kind_words, lead as lead_by, separator as separator_by, next_kind};
-ghost use Rattle.sect_lint.specs.Kinds.{rest_text, kinds_text};
+ghost use Rattle.sect_lint.specs.Kinds.{kind_words, open_kind as open_kind_by, lead as lead_by};
+ghost use Rattle.sect_lint.specs.Kinds.{separator as separator_by, next_kind, rest_text, kinds_text};
 
 use sect_front::TokenKind;
 use std::alloc::AllocError;
 
-/// How a kind of tokens is told.
-fn words(kind: TokenKind) -> &'static str
-    ensures { result.now ≡ kind_words kind }
+/// How a kind of tokens is told that has many spellings.
+fn open_kind(kind: TokenKind) -> &'static str
+    ensures { result.now ≡ open_kind_by kind }
 {
     match kind {
         TokenKind::Name => "a name",
-        TokenKind::Record => "`record`",
-        TokenKind::ProtectedBy => "`protected_by`",
-        TokenKind::Global => "`global`",
-        TokenKind::Proc => "`proc`",
-        TokenKind::Thread => "`thread`",
-        TokenKind::Int => "`int`",
-        TokenKind::Null => "`null`",
-        TokenKind::New => "`new`",
-        TokenKind::Print => "`print`",
-        TokenKind::If => "`if`",
-        TokenKind::Else => "`else`",
-        TokenKind::While => "`while`",
-        TokenKind::Atomic => "`atomic`",
-        TokenKind::All => "`all`",
-        TokenKind::Call => "`call`",
-        TokenKind::Class => "`class`",
-        TokenKind::Number => "a number",
-        TokenKind::OpenBrace => "`{`",
-        TokenKind::CloseBrace => "`}`",
-        TokenKind::OpenParen => "`(`",
-        TokenKind::CloseParen => "`)`",
-        TokenKind::Semicolon => "`;`",
-        TokenKind::Comma => "`,`",
-        TokenKind::Dot => "`.`",
-        TokenKind::Equal => "`=`",
-        TokenKind::Plus => "`+`",
-        TokenKind::Minus => "`-`",
-        TokenKind::Star => "`*`",
-        TokenKind::EqualEqual => "`==`",
-        TokenKind::NotEqual => "`!=`",
-        TokenKind::Less => "`<`",
-        TokenKind::LessEqual => "`<=`",
+        _ => "a number",
     }
+}
+
+/// Adds how a kind of tokens is told.
+fn put_kind(text: &mut String, kind: TokenKind) -> Result<(), AllocError>
+    ensures { OnOk result (string_bytes text.new ≡ string_bytes text.old ++ kind_words kind) }
+{
+    let spelling = kind.spelling();
+    if spelling.is_empty() {
+        return text.push_str(open_kind(kind));
+    }
+    text.push_str("`")?;
+    text.push_str(spelling)?;
+    text.push_str("`")
 }
 
 /// What stands before the first of more than two kinds, of which these are all but the first.
@@ -69,7 +51,7 @@ fn put_next(text: &mut String, between: &str, kind: TokenKind) -> Result<(), All
     ensures { OnOk result (string_bytes text.new ≡ string_bytes text.old ++ next_kind between.now kind) }
 {
     text.push_str(between)?;
-    text.push_str(words(kind))
+    put_kind(text, kind)
 }
 
 /// Adds kinds behind another.
@@ -113,7 +95,7 @@ pub fn put_kinds(text: &mut String, kinds: &[TokenKind]) -> Result<(), AllocErro
     };
     text.push_str("expected ")?;
     text.push_str(lead(others))?;
-    text.push_str(words(*first))?;
+    put_kind(text, *first)?;
     put_others(text, separator(others), first_five(others))?;
     put_rest(text, others)
 }

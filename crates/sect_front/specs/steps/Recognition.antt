@@ -101,9 +101,3 @@ spelled (b ∷ bs) =
     if is_letter b
     then (if list_all is_name_byte bs && nat_lt (length bs) most_name_bytes then Some (word_token (b ∷ bs)) else None)
     else (if is_digit b then as_number (number_of (b ∷ bs)) else sign_token b bs)
-
--- the spelling of a keyword or a sign, and nothing for a name or an integer
-abbrev pub fixed_of : Token → List ℕ
-fixed_of (token.Name n) = []
-fixed_of (token.Number n) = []
-fixed_of t = spelling_of t

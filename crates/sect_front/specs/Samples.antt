@@ -1,5 +1,6 @@
--- A token of each kind.
-use Rattle.std.specs.Prelude.{codes}
+-- A token of each kind, and how it is spelled.
+use Rattle.std.specs.Prelude.{ℕ, List, codes}
+use Rattle.sect_front.specs.Spelling.{fixed_of}
 use Rattle.sect_front.specs.declared.token.Token.{Token}
 use Rattle.sect_front.specs.declared.token.Token.TheVariants as token
 use Rattle.sect_front.specs.declared.token_kind.TokenKind.{TokenKind}
@@ -36,3 +37,7 @@ sample_of kind.Plus = token.Plus
 sample_of kind.Minus = token.Minus
 sample_of kind.Star = token.Star
 sample_of (kind.Comparison c) = token.Comparison c
+
+-- how keywords and signs of this kind are spelled; of names and integers nothing is told
+abbrev pub kind_spelling : TokenKind → List ℕ
+kind_spelling k = fixed_of (sample_of k)

@@ -151,7 +151,8 @@ fn all_stay(thread: u16, label: &Label, numbering: &Numbering, numbers: &[usize]
     true
 }
 
-/// The node behind this one, if nothing is known of this one yet, and it touches none of the locks that are known there.
+/// The node behind this one, if nothing is known of this one yet, and it touches none of the locks that are known
+/// there.
 fn passed_on(
     thread: u16,
     flow: &Flow,
@@ -239,8 +240,8 @@ fn pass_on(
     Ok(!lists.of(node).is_empty())
 }
 
-/// The node behind this one where its test doesn't hold, if nothing is known of this one yet, and it touches none of the
-/// locks that are known there.
+/// The node behind this one where its test doesn't hold, if nothing is known of this one yet, and it touches none of
+/// the locks that are known there.
 fn taken_over(
     thread: u16,
     flow: &Flow,

@@ -1,5 +1,5 @@
-use Rattle.std.proofs.Common.{◌≡◌, ◌<◌, ◌≤◌, ◌+◌, ◌-◌, List, ℕ, Bool, true, false, drop, take, length, arith, refl, sym, ap}
-use Rattle.std.proofs.Common.{◌∙◌, subst, true≢false, get_or}
+use Rattle.std.proofs.Common.{◌≡◌, ◌<◌, ◌≤◌, ◌+◌, ◌-◌, List, ℕ, Bool, true, false, drop, take, length, arith, refl}
+use Rattle.std.proofs.Common.{sym, ap, ◌∙◌, subst, true≢false, get_or}
 use Rattle.std.specs.Prelude.{codes, nat_eq}
 use Rattle.std.specs.Bool.{Decides}
 use Rattle.std.proofs.lemmas.Bool.{eqb-true}
@@ -20,7 +20,8 @@ tested : (line word : List ℕ) (b r : Bool) → b ≡ pointwise nat_eq line wor
 tested line word b r is e = subst (λ d. Decides d (line ≡ word)) (sym is ∙ e) (pointwise_decides Decides-eqb line word)
 
 -- what is sought in is all that follows the lines so far
-rest : (input : List ℕ) (start : ℕ) → start ≤ length input → take (length input - start) (drop start input) ≡ drop start input
+rest : (input : List ℕ) (start : ℕ) → start ≤ length input
+    → take (length input - start) (drop start input) ≡ drop start input
 rest input start within =
     take_all (length input - start) (drop start input) (omega (arith, length-drop start input, within))
 
@@ -28,7 +29,8 @@ found : (c : In-Some)
     → NoneBefore (Passes (is_byte 10) (drop c.loop-len.start c.args.input.now)) 0
     (length (drop c.loop-len.start c.args.input.now)) c.in-Some.len
     × Passes (is_byte 10) (drop c.loop-len.start c.args.input.now) c.in-Some.len
-found c = subst (λ h. NoneBefore (Passes (is_byte 10) h) 0 (length h) c.in-Some.len × Passes (is_byte 10) h c.in-Some.len)
+found c =
+    subst (λ h. NoneBefore (Passes (is_byte 10) h) 0 (length h) c.in-Some.len × Passes (is_byte 10) h c.in-Some.len)
     (rest c.args.input.now c.loop-len.start c.loop-len.invariant.within) c.in-Some.ensures
 
 -- the line feed that was found, and what stands before it

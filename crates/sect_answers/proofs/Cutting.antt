@@ -1,11 +1,13 @@
 -- The lines of an input, up to the first that is exactly `end`.
-use Rattle.std.proofs.Common.{◌≡◌, ℕ, ◌+◌, ◌-◌, ◌<◌, ◌≤◌, List, [], ◌∷◌, ◌++◌, take, drop, length, get_or, inl, inr}
+use Rattle.std.proofs.Common.{◌≡◌, ℕ, zero, suc, true, ◌+◌, ◌-◌, ◌<◌, ◌≤◌, List, [], ◌∷◌, ◌++◌, take, drop, length}
+use Rattle.std.proofs.Common.{get_or, inl, inr}
 use Rattle.std.proofs.Common.{refl, sym, ap, ◌∙◌, subst, arith, append_assoc}
 use Rattle.std.specs.Prelude.{codes}
 use Rattle.std.specs.List.{slice_range}
 use Rattle.std.proofs.Math.ListN.{drop_of_length-le}
 use Rattle.std.proofs.Math.Seq.{take-add}
 use Rattle.std.proofs.lemmas.List.{append-nil, get_or-drop, length-drop, take_all, take_more, take-append-drop}
+use Rattle.memchr.specs.Find.{is_byte}
 use Rattle.sect_lemmas.specs.Lists.{Has}
 use Rattle.sect_lemmas.proofs.Membership.{Has-cases, Has-right}
 use Rattle.sect_cert.specs.Texts.{fed}
@@ -145,6 +147,21 @@ module _ (input : List ℕ) (start at : ℕ) (within : at < length input) where
         first = c.none;
       });
     }
+
+-- bytes that are no line feed belong to the line that has begun
+pub cut_over : (input : List ℕ) (start n : ℕ) → start + n ≤ length input
+    → ((k : ℕ) → k < n → get_or (drop start input) k 0 ≡ 10 → ⊥) → IsCutSo input start start
+    → IsCutSo input start (start + n)
+cut_over input start zero within free c = subst (IsCutSo input start) (omega arith) c
+cut_over input start (suc n) within free c =
+    let before = cut_over input start n (omega (arith, within)) (λ k h. free k (omega (arith, h))) c in
+    let here : get_or (drop start input) n 0 ≡ get_or input (start + n) 0 = get_or-drop start input n 0 in
+    subst (IsCutSo input start) (omega arith)
+    (cut_on input start (start + n) (omega (arith, within)) (λ e. free n (omega arith) (here ∙ e)) before)
+
+-- a byte that was sought, and was not found before
+pub passed_over : (bytes : List ℕ) (k : ℕ) → ((is_byte 10 (get_or bytes k 0) ≡ true) → ⊥) → get_or bytes k 0 ≡ 10 → ⊥
+passed_over bytes k none e = none (ap (is_byte 10) e)
 
 -- no line was `end`
 pub cut_none : (input : List ℕ) (start at n : ℕ) → n ≡ length input → n ≤ at → at ≤ n → IsCutSo input start at

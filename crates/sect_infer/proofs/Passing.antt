@@ -1,5 +1,6 @@
 -- What is known behind a node is passed on to it.
-use Rattle.std.proofs.Common.{◌≡◌, inl, inr, ℕ, ◌<◌, List, [], ◌∷◌, ◌++◌, Option, Some, None, Bool, true, false, set, length}
+use Rattle.std.proofs.Common.{◌≡◌, inl, inr, ℕ, ◌<◌, List, [], ◌∷◌, ◌++◌, Option, Some, None, Bool, true, false, set}
+use Rattle.std.proofs.Common.{length}
 use Rattle.std.proofs.Common.{length-set, refl, sym, ap, ◌∙◌, ◌↔◌, subst, true≢false}
 use Rattle.std.specs.Prelude.{slice_get, slice_index_or, ◌||◌}
 use Rattle.std.proofs.lemmas.List.{append-nil, set-get_or, set-set}
@@ -73,7 +74,8 @@ module _ (s : SchemeView) (t : ℕ) (g : List Node) (j next : ℕ) (y : Node) (a
           count = ap length is ∙ length-set lists j (taken ++ own) ∙ known.count;
           numbers = each (AreNumbers d.keys) numbers
               (λ i. extends_numbers a d longer (slice_index_or lists i []) (known.numbers i));
-          apart = each AreApart (apart_join taken own (known.apart next) own_apart (λ n h k. (its n k).1 h)) known.apart;
+          apart = each AreApart (apart_join taken own (known.apart next) own_apart (λ n h k. (its n k).1 h))
+              known.apart;
         };
         longer = longer;
         more = taken ++ own;
@@ -106,7 +108,8 @@ module _ (s : SchemeView) (t : ℕ) (g : List Node) (j next : ℕ) (y : Node) (a
               let same = one_at g j c.0 y c.3 at in
               let goes : c.1 ≡ next =
               subst (λ o. IsSuccessor o c.1) (passed.goes y at) (subst (λ z. LeadsTo z c.1) same c.4) in
-              let was : HasLock a.keys taken c.2 = subst (λ m. HasLock a.keys (slice_index_or lists m []) c.2) goes c.5 in
+              let was : HasLock a.keys taken c.2 =
+              subst (λ m. HasLock a.keys (slice_index_or lists m []) c.2) goes c.5 in
               let it : l ≡ c.2 = ((passed.stay y at) c.2 was s (lawful next c.2 was) l).0
               (subst (λ z. CarriedBack s t z.label c.2 l) same c.6) in
               let now = extends_lock a d longer taken c.2 was in (

@@ -33,7 +33,10 @@ in_range a (suc n) i = (
         let x = r.0 in let y = r.1 in (omega (arith, x), omega (arith, y)))
   ],
   λ h. (let x = h.0 in let y = h.1 in
-      elim (cases_eq a i) [ inl e ↦ inl e | inr m ↦ inr ((in_range (a + 1) n i).1 (omega (arith, x, m), omega (arith, y))) ]),
+      elim (cases_eq a i) [
+        | inl e ↦ inl e
+        | inr m ↦ inr ((in_range (a + 1) n i).1 (omega (arith, x, m), omega (arith, y)))
+      ]),
 )
 
 -- numbers in order: a lesser one before others, and a range before those that are no less than its end
@@ -71,7 +74,8 @@ range_popped below less old new e none empty =
     ap (λ n. range_with_len 0 n ++ old) next ∙ ap (λ xs. range_with_len 0 (suc less) ++ xs) none
     ∙ append-nil (range_with_len 0 (suc less)) ∙ range_more 0 less
     ∙ ap (λ n. range_with_len 0 less ++ n ∷ []) (omega arith)
-    ∙ ap (λ xs. xs ++ less ∷ []) (sym (ap (λ xs. range_with_len 0 less ++ xs) empty ∙ append-nil (range_with_len 0 less)))
+    ∙ ap (λ xs. xs ++ less ∷ [])
+    (sym (ap (λ xs. range_with_len 0 less ++ xs) empty ∙ append-nil (range_with_len 0 less)))
 
 -- one number more behind a range
 pub put_behind : (below n : ℕ) (old new : List ℕ) → ((i : ℕ) → Has new i ↔ (Has old i ⊎ (i ≡ n))) → (i : ℕ)

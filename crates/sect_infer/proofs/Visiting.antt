@@ -106,7 +106,8 @@ module _ (s : SchemeView) (t : ℕ) (g : List Node) (j : ℕ) (y : Node) (at : s
         (λ x. (λ h. (let e = (seed_is x).0 h in cc), λ e. (seed_is x).1 (is ∙ ap (λ z. Some z) (sym e)))) f
 
 -- another list stands at one place
-module _ (lists after : List (List ℕ)) (j : ℕ) (list : List ℕ) (there : j < length lists) (is : after ≡ set lists j list)
+module _ (lists after : List (List ℕ)) (j : ℕ) (list : List ℕ) (there : j < length lists)
+    (is : after ≡ set lists j list)
   where
     pub here_is : slice_index_or after j [] ≡ list
     here_is = ap (λ ls. slice_index_or ls j []) is ∙ get_or-set_same lists j list [] there

@@ -6,7 +6,7 @@ ghost use Rattle.sect_graph.specs.Predecessors.{StaysWithin};
 ghost use Rattle.sect_infer.specs.steps.Needs.{need, IsSeed, AreLawful};
 ghost use Rattle.sect_infer.specs.Numberings.{AreNumbers, HasLock, IsNumbering, IsFinding, Finds, fresh_from};
 ghost use Rattle.sect_infer.specs.steps.Working.{AreNumbered, AreLawfulAt, IsCarried, IsVisit, IsBegun, IsSettled};
-ghost use Rattle.sect_infer.specs.steps.Working.{AllStay, IsPassedOn, IsOwnPut, IsGeneratedPut};
+ghost use Rattle.sect_infer.specs.steps.Working.{AllStay, IsPassedOn, IsTakenOver, IsOwnPut, IsGeneratedPut};
 
 use crate::carry::{carry, find};
 use crate::lists::Lists;
@@ -151,7 +151,8 @@ fn all_stay(thread: u16, label: &Label, numbering: &Numbering, numbers: &[usize]
     true
 }
 
-/// The node behind this one, if nothing is known of this one yet, and it touches none of the locks that are known there.
+/// The node behind this one, if nothing is known of this one yet, and it touches none of the locks that are known
+/// there.
 fn passed_on(
     thread: u16,
     flow: &Flow,
@@ -239,7 +240,83 @@ fn pass_on(
     Ok(!lists.of(node).is_empty())
 }
 
-/// Goes over a node: passes on to it what is known behind it, or finds what it needs. Whether there is more.
+/// The node behind this one where its test doesn't hold, if nothing is known of this one yet, and it touches none of
+/// the locks that are known there.
+fn taken_over(
+    thread: u16,
+    flow: &Flow,
+    numbering: &Numbering,
+    lists: &Lists,
+    node: u16,
+) -> Option<u16>
+    requires node { node < length flow.now }
+    requires numbers { (j : ℕ) → AreNumbers numbering.now.keys (slice_index_or lists.now j []) }
+    ensures { MatchOption result ⊤ (IsTakenOver thread flow.now numbering.now.keys lists.now node) }
+{
+    let Successors::Branch(_, fails) = flow.succ(node) else {
+        return None;
+    };
+    let label = flow.action(node);
+    if lists.of(node).is_empty() && all_stay(thread, &label, numbering, lists.of(fails)) {
+        Some(fails)
+    } else {
+        None
+    }
+}
+
+/// Goes over a node that takes over what is known behind it at one of two nodes. Whether there is more than was known.
+fn take_over(
+    alloc: Global,
+    scheme: &Scheme,
+    thread: u16,
+    flow: &Flow,
+    numbering: &mut Numbering,
+    found: &mut Numbers,
+    lists: &mut Lists,
+    node: u16,
+    next: u16,
+) -> Result<bool, AllocError>
+    requires node { node < length flow.now }
+    requires next { next < length lists.old }
+    requires numbered { AreNumbered scheme.now flow.now numbering.old lists.old }
+    requires lawful { AreLawfulAt scheme.now thread numbering.old.keys lists.old }
+    requires taken { IsTakenOver thread flow.now numbering.old.keys lists.old node next }
+    ensures { IfOk result (IsVisit scheme.now thread flow.now numbering.old lists.old numbering.new lists.new node) }
+{
+    lists.share(node, next);
+    visit(alloc, scheme, thread, flow, numbering, found, lists, node)?;
+    Ok(!lists.of(node).is_empty())
+}
+
+/// Goes over a node to which nothing is passed on: takes over what is known behind it where its test doesn't hold, or
+/// finds what it needs. Whether there is more.
+fn gather(
+    alloc: Global,
+    scheme: &Scheme,
+    thread: u16,
+    flow: &Flow,
+    numbering: &mut Numbering,
+    found: &mut Numbers,
+    lists: &mut Lists,
+    node: u16,
+) -> Result<bool, AllocError>
+    requires node { node < length flow.now }
+    requires within { StaysWithin flow.now }
+    requires numbered { AreNumbered scheme.now flow.now numbering.old lists.old }
+    requires lawful { AreLawfulAt scheme.now thread numbering.old.keys lists.old }
+    ensures { IfOk result (IsVisit scheme.now thread flow.now numbering.old lists.old numbering.new lists.new node) }
+{
+    match taken_over(thread, flow, numbering, lists, node) {
+        Some(next) => {
+            take_over(
+                alloc, scheme, thread, flow, numbering, found, lists, node, next,
+            )
+        }
+        None => visit(alloc, scheme, thread, flow, numbering, found, lists, node),
+    }
+}
+
+/// Goes over a node: passes on to it what is known behind it, or gathers what it needs. Whether there is more.
 fn go_over(
     alloc: Global,
     scheme: &Scheme,
@@ -258,7 +335,7 @@ fn go_over(
 {
     match passed_on(thread, flow, numbering, lists, node) {
         Some(next) => pass_on(alloc, scheme, thread, flow, numbering, lists, node, next),
-        None => visit(alloc, scheme, thread, flow, numbering, found, lists, node),
+        None => gather(alloc, scheme, thread, flow, numbering, found, lists, node),
     }
 }
 

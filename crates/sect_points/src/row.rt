@@ -48,8 +48,10 @@ impl Row {
     pub fn has(&self, placed: &ThreadAction) -> bool
         ensures { result ≡ true → Has self.now placed.now }
     {
-        for other in self.statements.as_slice() {
-            if is_same(other, placed) {
+        let count = self.statements.len();
+        // One that is there was mostly put not long ago.
+        for later in 0..count {
+            if is_same(&self.statements[count - 1 - later], placed) {
                 return true;
             }
         }

@@ -54,6 +54,12 @@ pub record IsPassedOn (t : ℕ) (g : List Node) (keys : List Lock) (lists : List
   pub goes : (y : Node) → slice_get g j ≡ Some y → y.next ≡ Next next
   pub stay : (y : Node) → slice_get g j ≡ Some y → AllStay t y.label (HasLock keys (slice_index_or lists next []))
 
+-- nothing was found at node j; control may go on from it to the other, and all that was found there stays
+pub record IsTakenOver (t : ℕ) (g : List Node) (keys : List Lock) (lists : List (List ℕ)) (j next : ℕ) : Type 0 where
+  pub none : slice_index_or lists j [] ≡ []
+  pub leads : (y : Node) → slice_get g j ≡ Some y → LeadsTo y next
+  pub stay : (y : Node) → slice_get g j ≡ Some y → AllStay t y.label (HasLock keys (slice_index_or lists next []))
+
 -- the lock is one of those with these numbers, or another of them covers it
 abbrev pub IsToldBy : SchemeView → List Lock → List ℕ → Lock → Type 0
 IsToldBy s keys ns l = HasLock keys ns l ⊎ IsOutdone s (HasLock keys ns) l

@@ -35,7 +35,10 @@ returns c =
     visit_is _ _ _ _ _ _ _ _ _ _ c.requires.numbered _ _ _ (starts (goal.at.returns c).After-members-known)
     c.members.ensures c.members-known.ensures c.in_ok-find_after.ensures c.in_ok-find_own.ensures
     (omega (arith, c.requires.node, c.requires.numbered.count)) c.extend.new.self (not c.is_empty.result)
-    (c.in_ok-extend.ensures ∙ ap (λ xs. set c.args.lists.now c.args.node (slice_index_or c.args.lists.now c.args.node [] ++ xs)) (c.as_slice.ensures.value ∙ c.in_ok-more.ensures))
-    (λ off. sym c.in_ok-more.ensures ∙ tested_none c.in_ok-more.more.items c.is_empty.result (tested (goal.at.returns c).After-is_empty) off)
+    (c.in_ok-extend.ensures
+    ∙ ap (λ xs. set c.args.lists.now c.args.node (slice_index_or c.args.lists.now c.args.node [] ++ xs))
+    (c.as_slice.ensures.value ∙ c.in_ok-more.ensures))
+    (λ off. sym c.in_ok-more.ensures
+    ∙ tested_none c.in_ok-more.more.items c.is_empty.result (tested (goal.at.returns c).After-is_empty) off)
     (λ on. subst (λ xs. 0 < length xs) c.in_ok-more.ensures
     (tested_some c.in_ok-more.more.items c.is_empty.result (tested (goal.at.returns c).After-is_empty) on))

@@ -1,0 +1,28 @@
+use Rattle.std.proofs.Common.{◌<◌, not, length, arith, sym, ◌∙◌, subst}
+use Rattle.sect_lemmas.proofs.Places.{at_of}
+use Rattle.sect_infer.proofs.TakingOver.{shared_numbered, shared_lawful, taken_visit}
+use Rattle.sect_infer.proofs.Visiting.{tested_none, tested_some}
+use Rattle.sect_infer.proofs.work.take_over.Goals as goal
+
+pub visit-requires-clause-numbered : goal.visit-requires-clause-numbered
+visit-requires-clause-numbered c =
+    shared_numbered c.args.scheme.now c.args.thread c.args.flow.now c.args.node c.args.next c.args.numbering.now
+    c.args.lists.now c.share.new.self c.requires.numbered c.requires.lawful c.requires.taken
+    (omega (arith, c.requires.node, c.requires.numbered.count)) c.share.ensures
+
+pub visit-requires-clause-lawful : goal.visit-requires-clause-lawful
+visit-requires-clause-lawful c =
+    shared_lawful c.args.scheme.now c.args.thread c.args.flow.now c.args.node c.args.next c.args.numbering.now
+    c.args.lists.now c.share.new.self c.requires.numbered c.requires.lawful c.requires.taken
+    (omega (arith, c.requires.node, c.requires.numbered.count)) c.share.ensures
+
+pub returns : goal.returns
+returns c =
+    let y = at_of c.args.flow.now c.args.node c.requires.node in
+    taken_visit c.args.scheme.now c.args.thread c.args.flow.now c.args.node c.args.next c.args.numbering.now
+    c.args.lists.now c.share.new.self c.requires.numbered c.requires.lawful c.requires.taken
+    (omega (arith, c.requires.node, c.requires.numbered.count)) c.share.ensures y.0 y.1 c.visit.new.numbering
+    c.visit.new.lists c.in_ok-visit.field-0 (not c.is_empty.result) c.in_ok-visit.ensures
+    (λ off. sym c.of.ensures ∙ tested_none c.of.result.now c.is_empty.result c.is_empty.ensures off)
+    (λ on. subst (λ xs. 0 < length xs) c.of.ensures
+    (tested_some c.of.result.now c.is_empty.result c.is_empty.ensures on))

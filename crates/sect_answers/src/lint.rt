@@ -27,9 +27,9 @@ pub fn findings(alloc: Global, source: &[u8], k: u16, format: Format) -> Result<
 
 /// What is known of a source text that is accepted, as a document. A text that is refused is reported on as by
 /// `findings`.
-pub fn inspection(alloc: Global, source: &[u8], k: u16) -> Result<String, Refusal>
+pub fn inspection(alloc: Global, source: &[u8], k: u16) -> Result<Vec<u8>, Refusal>
     // The text is accepted, and this is the document of its compiled program.
-    ensures answers { IfOk result (λ text. IsInspection source.now k (string_bytes text)) }
+    ensures answers { IfOk result (λ text. IsInspection source.now k text.items) }
     // The report is of the mistake for which the text is refused.
     ensures refuses { IfErr result (IsLintDue source.now k Json) }
 {

@@ -232,7 +232,7 @@ fn printed<R: Threads + Wait + Sync>(
         }
         Request::Graph { k, section } => program_graph(alloc, source, k, section),
         Request::Lint { k, format } => Ok(findings(alloc, source, k, format)?.into_bytes()),
-        Request::Inspect { k } => Ok(inspection(alloc, source, k)?.into_bytes()),
+        Request::Inspect { k } => inspection(alloc, source, k),
         Request::Check { k } => Ok(verdict(alloc, source, k)?.into_bytes()),
     }
 }

@@ -1,5 +1,6 @@
 mod Calling
 mod Holding
+mod LockTexts
 mod Plain
 mod PlainCalls
 mod PlainCompiling
@@ -12,7 +13,11 @@ mod PlainObjects
 mod PlainOutcomes
 mod PlainSites
 mod PlainTurns
+mod Programs
 mod Rows
 mod SameTold
+mod Sections
 mod Sited
+mod Stepped
 mod Telling
+mod Texts

@@ -43,7 +43,7 @@ module _ {A : Type 0} (xs : List A) (n : ℕ) (x : A) (at : slice_get xs n ≡ S
       ∙ (ap (λ ds. ds ++ of x ∷ []) had ∙ (sym (map-append of (take n xs) (x ∷ [])) ∙ ap (map of) (sym taken)))
 
   -- the value at a place, and then those behind it
-  rest_next : (of : ℕ → A → Data) → by_place of n (drop n xs) ≡ of n x ∷ by_place of (n + 1) (drop (n + 1) xs)
+  pub rest_next : (of : ℕ → A → Data) → by_place of n (drop n xs) ≡ of n x ∷ by_place of (n + 1) (drop (n + 1) xs)
   rest_next of =
       ap (by_place of n) (drop_next xs n x (slice_get_within xs n x at) (sym (get_or_from_slice_get xs n x x at)))
 

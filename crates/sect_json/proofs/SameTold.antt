@@ -1,22 +1,8 @@
--- Two sections, threads, sites or programs of which the same is told are told alike.
+-- Two threads or sites of which the same is told are told alike.
 use Rattle.std.proofs.Common.{◌≡◌, ℕ, List, ap, ◌∙◌}
 use Rattle.serde_json.specs.Data.{Data}
-use Rattle.sect_json.specs.Inspecting.{SectionTold, section_with, ThreadTold, thread_with, ProgramTold, inspection_with}
+use Rattle.sect_json.specs.Inspecting.{ThreadTold, thread_with}
 use Rattle.sect_json.specs.Sites.{SiteTold, site_with}
-
-abbrev told : Data → Data → Data → Data → Data → Data → SectionTold
-told a b c d e f = record { all = a; chains = b; locks = c; nodes = d; place = e; plan = f }
-
-pub same_told : (s t : SectionTold) (i n m : ℕ) → s.all ≡ t.all → s.chains ≡ t.chains → s.locks ≡ t.locks
-    → s.nodes ≡ t.nodes → s.place ≡ t.place → s.plan ≡ t.plan → n ≡ m → section_with s i n ≡ section_with t i m
-same_told s t i n m all chains locks nodes place plan thread =
-    ap (λ x. section_with (told x s.chains s.locks s.nodes s.place s.plan) i n) all
-    ∙ (ap (λ x. section_with (told t.all x s.locks s.nodes s.place s.plan) i n) chains
-    ∙ (ap (λ x. section_with (told t.all t.chains x s.nodes s.place s.plan) i n) locks
-    ∙ (ap (λ x. section_with (told t.all t.chains t.locks x s.place s.plan) i n) nodes
-    ∙ (ap (λ x. section_with (told t.all t.chains t.locks t.nodes x s.plan) i n) place
-    ∙ (ap (λ x. section_with (told t.all t.chains t.locks t.nodes t.place x) i n) plan
-    ∙ ap (section_with t i) thread)))))
 
 abbrev threaded : Data → Data → List ℕ → Data → ThreadTold
 threaded a b c d = record { calls = a; locals = b; name = c; nodes = d }
@@ -40,17 +26,3 @@ same_site s t n call fields global place shape =
     ∙ (ap (λ x. site_with (sited t.call t.fields x s.place s.shape) n) global
     ∙ (ap (λ x. site_with (sited t.call t.fields t.global x s.shape) n) place
     ∙ ap (λ x. site_with (sited t.call t.fields t.global t.place x) n) shape)))
-
-abbrev parted : List Data → List Data → List Data → List Data → List Data → ProgramTold
-parted a b c d e = record { classes = a; procedures = b; sections = c; sites = d; threads = e }
-
-pub same_program : (s t : ProgramTold) (k l : ℕ) → s.classes ≡ t.classes → s.procedures ≡ t.procedures
-    → s.sections ≡ t.sections → s.sites ≡ t.sites → s.threads ≡ t.threads → k ≡ l
-    → inspection_with k s ≡ inspection_with l t
-same_program s t k l classes procedures sections sites threads most =
-    ap (λ x. inspection_with k (parted x s.procedures s.sections s.sites s.threads)) classes
-    ∙ (ap (λ x. inspection_with k (parted t.classes x s.sections s.sites s.threads)) procedures
-    ∙ (ap (λ x. inspection_with k (parted t.classes t.procedures x s.sites s.threads)) sections
-    ∙ (ap (λ x. inspection_with k (parted t.classes t.procedures t.sections x s.threads)) sites
-    ∙ (ap (λ x. inspection_with k (parted t.classes t.procedures t.sections t.sites x)) threads
-    ∙ ap (λ x. inspection_with x t) most))))

@@ -1,12 +1,13 @@
 //! What a document of a whole program is made of.
 
+use crate::placed_text::PlacedText;
 use sect_emit::Compiled;
 use sect_places::{NameSpan, NodeSpans};
 
 /// A compiled program, its text, where its nodes come from, and the names of the text.
 #[derive(Clone, Copy)]
 pub struct Inspected<'a> {
-    pub source: &'a [u8],
+    pub source: &'a PlacedText<'a>,
     pub compiled: &'a Compiled,
     pub spans: &'a NodeSpans,
     pub names: &'a [NameSpan],

@@ -6,13 +6,18 @@ mod compiling;
 mod conflicts;
 mod context;
 mod explaining;
+mod inspected_sections;
 mod inspecting;
 mod keys;
+mod lock_texts;
 mod locks;
 mod nodes;
 mod objects;
 mod outcomes;
+mod placed_nodes;
+mod placed_text;
 mod sites;
+mod step_texts;
 mod turns;
 mod writing;
 

@@ -23,9 +23,9 @@ ghost use Rattle.sect_json.specs.Sites.{sites_json, class_json, AreClasses};
 ghost use Rattle.sect_json.specs.steps.Inspected.{IsInspected, AreNamesWithin, site_told, made_at};
 
 use crate::context::Inspected;
+use crate::placed_text::{PlacedText, span_value};
 use sect_emit::{GraphOf, graphed_flow};
 use sect_front::{Declaration, GlobalObject, Name, Span, Tree};
-use sect_lint::span_value;
 use sect_places::{NameSpan, NodeSpan, NodeSpans, global_of};
 use sect_points::{Classes, Holder, PointsTo};
 use sect_store::Printer;
@@ -35,7 +35,11 @@ use std::alloc::{AllocError, Global};
 use std::fmt::Write;
 
 /// Bytes of the text, where there are some.
-pub fn bytes_value(alloc: Global, source: &[u8], span: Option<Span>) -> Result<Value, AllocError>
+pub fn bytes_value(
+    alloc: Global,
+    source: &PlacedText<'_>,
+    span: Option<Span>,
+) -> Result<Value, AllocError>
     requires { IsCallWithin (length source.now) span }
     ensures { IfOk result (λ v. view v ≡ bytes_json source.now span) }
 {
@@ -236,7 +240,11 @@ fn record_name(alloc: Global, tree: &Tree, number: u16) -> Result<String, AllocE
 }
 
 /// The bytes of the call that a node is of.
-fn call_value(alloc: Global, source: &[u8], from: Option<NodeSpan>) -> Result<Value, AllocError>
+fn call_value(
+    alloc: Global,
+    source: &PlacedText<'_>,
+    from: Option<NodeSpan>,
+) -> Result<Value, AllocError>
     requires { IfSome from (IsNodeWithin (length source.now)) }
     ensures { IfOk result (λ v. view v ≡ bytes_json source.now (call_of from)) }
 {
@@ -247,7 +255,11 @@ fn call_value(alloc: Global, source: &[u8], from: Option<NodeSpan>) -> Result<Va
 }
 
 /// The bytes of a node's statement.
-fn place_value(alloc: Global, source: &[u8], from: Option<NodeSpan>) -> Result<Value, AllocError>
+fn place_value(
+    alloc: Global,
+    source: &PlacedText<'_>,
+    from: Option<NodeSpan>,
+) -> Result<Value, AllocError>
     requires { IfSome from (IsNodeWithin (length source.now)) }
     ensures { IfOk result (λ v. view v ≡ bytes_json source.now (place_of from)) }
 {

@@ -1,8 +1,9 @@
 -- What a document is made of. The private functions that make it cite this.
-use Rattle.std.specs.Prelude.{◌≡◌, ℕ, List, Option, Some, None, length, map}
+use Rattle.std.specs.Prelude.{◌≡◌, ℕ, List, [], ◌∷◌, ◌++◌, Option, Some, None, codes, length, map}
 use Rattle.std.specs.String.{string_bytes}
 use Rattle.serde_json.specs.Data.{Data}
 use Rattle.serde_json.specs.View.{view}
+use Rattle.serde_json.specs.Written.{compact_text}
 use Rattle.sect_types.specs.Sections.{sections_of}
 use Rattle.sect_types.specs.declared.action.Action.TheVariants as action
 use Rattle.sect_types.specs.declared.action.Label.{Label}
@@ -11,15 +12,15 @@ use Rattle.sect_places.specs.NodeSpans.{AreNodeSpans}
 use Rattle.sect_places.specs.Spans.{AreProper}
 use Rattle.sect_places.specs.declared.name_use.NameSpan.{NameSpan}
 use Rattle.sect_emit.specs.Compiled.{program_of}
-use Rattle.sect_json.specs.Values.{AreTold}
-use Rattle.sect_json.specs.Inspecting.{SectionTold, ThreadTold, ProgramTold, IsSectionInspected, inspection_json}
+use Rattle.sect_json.specs.Values.{count, list, record_of, AreTold}
+use Rattle.sect_json.specs.Calls.{procedure_json}
+use Rattle.sect_json.specs.Inspecting.{ThreadTold, IsSectionInspected, inspection_json}
 use Rattle.sect_json.specs.Sites.{SiteTold, AreClasses}
 use Rattle.sect_json.specs.declared.context.Inspected.{Inspected}
-use Rattle.sect_json.specs.declared.inspecting.Told.{Told}
 use Rattle.sect_json.specs.declared.inspecting.Threaded.{Threaded}
-use Rattle.sect_json.specs.declared.inspecting.Parts.{Parts}
 use Rattle.sect_json.specs.declared.sites.Sited.{Sited}
 use Rattle.sect_json.specs.declared.sites.Made.{Made}
+use Rattle.sect_json.specs.steps.Writes.{member_text}
 
 -- these names stand in a text of so many bytes
 abbrev pub AreNamesWithin : ℕ → List NameSpan → Type 0
@@ -30,17 +31,7 @@ pub record IsInspected (of : Inspected) : Type 0 where
   pub placed : AreNodeSpans of.source.now (program_of of.compiled.now) of.spans.now
   pub named : AreNamesWithin (length of.source.now) of.names.now
 
--- what is told of a section, of a thread, of a site and of a program
-abbrev pub section_told : Told → SectionTold
-section_told t = record {
-  all = view t.all;
-  chains = view t.chains;
-  locks = view t.locks;
-  nodes = view t.nodes;
-  place = view t.place;
-  plan = view t.plan;
-}
-
+-- what is told of a thread and of a site
 abbrev pub thread_told : Threaded → ThreadTold
 thread_told t = record {
   calls = view t.calls;
@@ -58,26 +49,30 @@ site_told t = record {
   shape = string_bytes t.shape;
 }
 
-abbrev pub program_told : Parts → ProgramTold
-program_told t = record {
-  classes = map view t.classes.items;
-  procedures = map view t.procedures.items;
-  sections = map view t.sections.items;
-  sites = map view t.sites.items;
-  threads = map view t.threads.items;
-}
-
 -- what a node makes that does this
 abbrev pub made_at : Label → Option Made
 made_at (label.Act (action.New x r s)) = Some (record { shape = r; site = s })
 made_at _ = None
 
--- this is told of the program
-pub record IsProgramTold (of : Inspected) (value : Data) : Type 0 where
+-- what is told of a program before its sections stands behind what was there
+pub record IsHeadPut (of : Inspected) (old new : List ℕ) : Type 0 where
+  pub classes : List Data
+  pub parted : AreClasses of.compiled.now.scheme.classes.numbers classes
+  pub written : new ≡ old ++ (member_text 123 (codes "classes") (list classes)
+      ++ (member_text 44 (codes "k") (count of.compiled.now.scheme.most)
+      ++ member_text 44 (codes "procedures") (list (map (procedure_json of.source.now of.names.now)
+      (program_of of.compiled.now).source.procedures))))
+
+-- what is told behind them
+abbrev pub rest_with : List Data → List Data → Data
+rest_with sites threads = record_of ((codes "sites", list sites) ∷ (codes "threads", list threads) ∷ [])
+
+-- what is known of the program stands behind what was there
+pub record IsProgramPut (of : Inspected) (old new : List ℕ) : Type 0 where
   pub classes : List Data
   pub parted : AreClasses of.compiled.now.scheme.classes.numbers classes
   pub sections : List Data
   pub inspected : AreTold (IsSectionInspected of.compiled.now of.source.now of.spans.now)
       (length (sections_of (program_of of.compiled.now).texts)) sections
-  pub told : value
-      ≡ inspection_json of.compiled.now of.source.now of.spans.now of.names.now classes sections
+  pub written : new ≡ old ++ compact_text
+      (inspection_json of.compiled.now of.source.now of.spans.now of.names.now classes sections)

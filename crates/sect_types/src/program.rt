@@ -1,7 +1,7 @@
 //! Typed programs.
 
-ghost use Rattle.std.specs.Prelude.{IsOkUnless, Err, IfErr, ℕ, ◌≡◌, ◌≤◌, ◌<◌, ◌+◌, ◌++◌, ◌∷◌, [], true, false, IfOk, OnOk, Some};
-ghost use Rattle.std.specs.Prelude.{length, map, slice_get, slice_index_or};
+ghost use Rattle.std.specs.Prelude.{IsOkUnless, Err, IfErr, ℕ, ◌≡◌, ◌≤◌, ◌<◌, ◌+◌, ◌++◌, ◌∷◌, [], true, false, IfOk};
+ghost use Rattle.std.specs.Prelude.{OnOk, Some, length, map, slice_get, slice_index_or};
 ghost use Rattle.sect_front.specs.Depth.{block_depth, procedures_depth, threads_depth};
 ghost use Rattle.sect_front.specs.Limits.{most_depth};
 ghost use Rattle.sect_types.specs.Limits.{most_locals, most_procedures, most_records};

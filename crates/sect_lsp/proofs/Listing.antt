@@ -56,6 +56,14 @@ module _ (of : ℕ → List Data) where
   numbers_all n count values all had =
       view-Array values ∙ ap list (had ∙ ap (λ m. flat_map of (range_with_len 0 m)) all)
 
+  -- the same behind others
+  pub numbers_behind : (n : ℕ) (old had more : List Data) → had ≡ old ++ flat_map of (range_with_len 0 n)
+      → more ≡ had ++ of n → more ≡ old ++ flat_map of (range_with_len 0 (n + 1))
+  numbers_behind n old had more e added =
+      added ∙ ap (λ ds. ds ++ of n) e ∙ append_assoc old (flat_map of (range_with_len 0 n)) (of n)
+      ∙ ap (λ ds. old ++ ds) (sym (ap (flat_map of) (counting n) ∙ flat_map-append of (range_with_len 0 n) (n ∷ [])
+      ∙ ap (λ ds. flat_map of (range_with_len 0 n) ++ ds) (append-nil (of n))))
+
 -- one element more, behind those that had come
 pub one_more : {A : Type 0} (old come mid new : List A) (x : A) → mid ≡ old ++ come → new ≡ mid ++ x ∷ []
     → new ≡ old ++ (come ++ x ∷ [])

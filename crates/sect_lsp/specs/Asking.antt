@@ -13,6 +13,7 @@ use Rattle.sect_lsp.specs.Marks.{AreHints, AreLenses, hinted_range}
 use Rattle.sect_lsp.specs.Positions.{offset}
 use Rattle.sect_lsp.specs.Protocol.{ReplyView, Result, Error}
 use Rattle.sect_lsp.specs.Queries.{IsReply, place_of}
+use Rattle.sect_lsp.specs.Symbols.{AreSymbols}
 
 -- the byte at the place that a message tells, if it tells one
 abbrev pub byte_told : Encoding → List ℕ → Data → Option ℕ
@@ -26,6 +27,7 @@ IsValue IsRight (Error why) = ⊥
 -- what is answered of the text of a document, which is read so
 abbrev pub IsReplyTo : Question → Reading → Data → List ℕ → List ℕ → ReplyView → Type 0
 IsReplyTo (question.Names q) r d uri source reply = IsReply q r.encoding d uri source reply
+IsReplyTo question.Symbols r d uri source reply = IsValue (AreSymbols source r.k) reply
 IsReplyTo question.Hover r d uri source reply =
     IsValue (IsToldOf (IsHoverIf source (byte_told r.encoding source d)) source r.k) reply
 IsReplyTo question.Hints r d uri source reply = IsValue (IsToldOf (AreHints source (hinted_range d)) source r.k) reply

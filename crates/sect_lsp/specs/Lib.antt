@@ -12,6 +12,7 @@ pub mod Referring
 pub mod Queries
 pub mod Accepted
 pub mod Marks
+pub mod Symbols
 pub mod Hovering
 pub mod Words
 pub mod Completing

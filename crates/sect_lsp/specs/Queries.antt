@@ -33,30 +33,6 @@ AreNamesOf source names =
     HasNameSpans source names
     ⊎ ((names ≡ []) × ((why : FrontFault) × (why ≢ front.Memory) × IsFault source why))
 
--- ---- symbols
-
--- how the protocol calls what is listed: a struct, a variable, a function, and a module for a thread
-abbrev pub symbol_kind : Role → Option ℕ
-symbol_kind (role.Declared thing.Record) = Some 23
-symbol_kind (role.Declared thing.Global) = Some 13
-symbol_kind (role.Declared thing.Procedure) = Some 12
-symbol_kind (role.Declared thing.Thread) = Some 2
-symbol_kind _ = None
-
-abbrev pub symbol_json : List ℕ → NameSpan → ℕ → Data
-symbol_json source n kind =
-    object (member (codes "kind") (count kind) (member (codes "name") (string n.used.name)
-    (member (codes "range") (range_json source n.span) (member (codes "selectionRange") (range_json source n.span)
-    no_members))))
-
-abbrev pub symbol_by : List ℕ → NameSpan → Option ℕ → List Data
-symbol_by source n None = []
-symbol_by source n (Some kind) = symbol_json source n kind ∷ []
-
--- the records, globals, procedures and threads, in text order
-abbrev pub symbols_of : List ℕ → List NameSpan → List Data
-symbols_of source names = flat_map (λ n. symbol_by source n (symbol_kind n.used.role)) names
-
 -- ---- a name and its declaration
 
 -- the place that a message tells
@@ -121,7 +97,6 @@ new_name d = option_and_then as_str (pointer (codes "/params/newName") d)
 
 -- what is answered of a text with these names, where a message tells a place whose name has that declaration
 abbrev pub reply_by : Query → List ℕ → List ℕ → List NameSpan → Option NameSpan → Option (List ℕ) → ReplyView
-reply_by query.Symbols uri source names declared name = Result (list (symbols_of source names))
 reply_by query.Definition uri source names declared name = Result (definition_json uri source declared)
 reply_by query.References uri source names declared name =
     Result (list (map (location_json uri source) (uses_by names declared)))

@@ -46,7 +46,7 @@ abbrev pub asked_by : List ℕ → Asked
 asked_by method =
     if bytes_eq method (codes "initialize") then asked.Initialize
     else if bytes_eq method (codes "shutdown") then asked.Shutdown
-    else if bytes_eq method (codes "textDocument/documentSymbol") then asked.Document (question.Names query.Symbols)
+    else if bytes_eq method (codes "textDocument/documentSymbol") then asked.Document question.Symbols
     else if bytes_eq method (codes "textDocument/definition") then asked.Document (question.Names query.Definition)
     else if bytes_eq method (codes "textDocument/references") then asked.Document (question.Names query.References)
     else if bytes_eq method (codes "textDocument/documentHighlight")

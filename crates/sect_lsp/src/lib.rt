@@ -22,6 +22,7 @@ mod referring;
 mod reply;
 mod server;
 mod session;
+mod symbols;
 mod warned;
 mod words;
 

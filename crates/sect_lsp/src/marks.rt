@@ -30,14 +30,14 @@ use std::fmt::Write;
 
 /// A compiled program, its text, and where its nodes come from.
 #[derive(Clone, Copy)]
-struct Marked<'a> {
-    source: &'a [u8],
-    compiled: &'a Compiled,
-    spans: &'a NodeSpans,
+pub struct Marked<'a> {
+    pub source: &'a [u8],
+    pub compiled: &'a Compiled,
+    pub spans: &'a NodeSpans,
 }
 
 /// The bytes of the `atomic` of a section.
-fn head_of(marked: &Marked<'_>, section: u16) -> Span
+pub fn head_of(marked: &Marked<'_>, section: u16) -> Span
     requires marked { IsMarked marked.now }
     requires section { section < length (sections_of (program_of marked.now.compiled.now).texts) }
     ensures head { result ≡ head_at marked.now.spans.now section }

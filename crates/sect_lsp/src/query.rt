@@ -1,10 +1,9 @@
 //! What is asked of an open document.
 
-ghost use Rattle.std.specs.Prelude.{◌≡◌, ◌++◌, Some, IfOk, OnOk, length, map, option_map, option_and_then};
+ghost use Rattle.std.specs.Prelude.{◌≡◌, Some, IfOk, length, map, option_map, option_and_then};
 ghost use Rattle.serde_json.specs.View.{view};
 ghost use Rattle.sect_front.specs.FaultPlaces.{IsWithin};
-ghost use Rattle.sect_lsp.specs.Queries.{AreNamesOf, symbol_kind as symbol_kind_by, symbol_by, symbols_of};
-ghost use Rattle.sect_lsp.specs.Queries.{symbol_json};
+ghost use Rattle.sect_lsp.specs.Queries.{AreNamesOf};
 ghost use Rattle.sect_lsp.specs.Changes.{place_in as place_in_by};
 ghost use Rattle.serde_json.specs.Find.{pointer as pointer_by, as_str};
 ghost use Rattle.std.specs.List.{list_any};
@@ -29,8 +28,6 @@ use std::alloc::{AllocError, Global};
 /// What may be asked of a document that its names tell.
 #[derive(Clone, Copy, Debug, PartialEq, Eq)]
 pub enum Query {
-    /// What it declares.
-    Symbols,
     /// Where the name at a place is declared.
     Definition,
     /// Where what is declared so is named.
@@ -57,7 +54,7 @@ struct Subject<'a> {
 }
 
 /// The names of a text. One that spells no tree has none.
-fn names_of(alloc: Global, source: &[u8]) -> Result<Vec<NameSpan>, AllocError>
+pub fn names_of(alloc: Global, source: &[u8]) -> Result<Vec<NameSpan>, AllocError>
     ensures names { IfOk result (λ names. AreNamesOf source.now names.items) }
     ensures within { IfOk result (λ names. AreNamesWithin (length source.now) names.items) }
 {
@@ -66,68 +63,6 @@ fn names_of(alloc: Global, source: &[u8]) -> Result<Vec<NameSpan>, AllocError>
         Err(FrontFault::Memory) => Err(AllocError),
         Err(_) => Ok(Vec::new(alloc)),
     }
-}
-
-/// How the protocol calls what is listed.
-fn symbol_kind(role: Role) -> Option<u32>
-    ensures { result ≡ symbol_kind_by role }
-{
-    match role {
-        Role::Declared(Thing::Record) => Some(23),
-        Role::Declared(Thing::Global) => Some(13),
-        Role::Declared(Thing::Procedure) => Some(12),
-        Role::Declared(Thing::Thread) => Some(2),
-        _ => None,
-    }
-}
-
-/// A name that is listed as what the protocol calls so.
-fn symbol_value(
-    alloc: Global,
-    source: &[u8],
-    named: &NameSpan,
-    kind: u32,
-) -> Result<Value, AllocError>
-    requires { IsWithin (length source.now) named.now.span }
-    ensures { IfOk result (λ v. view v ≡ symbol_json source.now named.now kind) }
-{
-    let name = format!(in alloc; "{}", named.used.name)?;
-    let range = range_value(alloc, source, named.span)?;
-    let selection = range_value(alloc, source, named.span)?;
-    json!(in alloc; {"kind": kind, "name": name, "range": range, "selectionRange": selection})
-}
-
-/// Adds a name to what is listed, if it is.
-fn put_symbol(
-    alloc: Global,
-    values: &mut Vec<Value>,
-    source: &[u8],
-    named: &NameSpan,
-) -> Result<(), AllocError>
-    requires { IsWithin (length source.now) named.now.span }
-    ensures { OnOk result (map view values.new.items ≡ map view values.old.items
-        ++ symbol_by source.now named.now (symbol_kind_by named.now.used.role)) }
-{
-    match symbol_kind(named.used.role) {
-        Some(kind) => {
-            let value = symbol_value(alloc, source, named, kind)?;
-            values.push(value)?;
-            Ok(())
-        }
-        None => Ok(()),
-    }
-}
-
-/// What a text declares.
-fn symbols_value(alloc: Global, source: &[u8], names: &[NameSpan]) -> Result<Value, AllocError>
-    requires { AreNamesWithin (length source.now) names.now }
-    ensures { IfOk result (λ v. view v ≡ list (symbols_of source.now names.now)) }
-{
-    let mut values = Vec::new(alloc);
-    for named in names {
-        put_symbol(alloc, &mut values, source, named)?;
-    }
-    Ok(Value::Array(values))
 }
 
 /// The position at a place of a message.
@@ -362,7 +297,6 @@ fn reply_to(
 {
     let (uri, source) = (subject.uri, subject.source);
     let value = match query {
-        Query::Symbols => symbols_value(alloc, source, subject.names)?,
         Query::Definition => definition_value(alloc, uri, source, declared)?,
         Query::References => {
             let spans = uses(alloc, source, subject.names, declared)?;

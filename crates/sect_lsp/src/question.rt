@@ -18,6 +18,7 @@ use crate::marks::{hints_value, lenses_value};
 use crate::position::{Encoding, Range, offset};
 use crate::query::{Query, Text, answer_query, place_at};
 use crate::reply::Reply;
+use crate::symbols::symbols_value;
 use serde_json::Value;
 use std::alloc::{AllocError, Global};
 
@@ -26,6 +27,8 @@ use std::alloc::{AllocError, Global};
 pub enum Question {
     /// Something that its names tell.
     Names(Query),
+    /// What it declares, and its sections.
+    Symbols,
     /// What stands at a place.
     Hover,
     /// The locks behind each `atomic`.
@@ -128,6 +131,7 @@ pub fn answer(
         Question::Names(query) => {
             return answer_query(alloc, query, reading.encoding, text, message);
         }
+        Question::Symbols => symbols_value(alloc, reading.k, text.source)?,
         Question::Hover => hover(alloc, reading, text.source, message)?,
         Question::Hints => hints(alloc, reading, text.source, message)?,
         Question::Lenses => lenses(alloc, reading, text.source)?,

@@ -72,7 +72,7 @@ fn asked_of(method: &str) -> Asked
     match method {
         "initialize" => Asked::Initialize,
         "shutdown" => Asked::Shutdown,
-        "textDocument/documentSymbol" => Asked::Document(Question::Names(Query::Symbols)),
+        "textDocument/documentSymbol" => Asked::Document(Question::Symbols),
         "textDocument/definition" => Asked::Document(Question::Names(Query::Definition)),
         "textDocument/references" => Asked::Document(Question::Names(Query::References)),
         "textDocument/documentHighlight" => Asked::Document(Question::Names(Query::Highlights)),

@@ -3,8 +3,8 @@ use Rattle.std.proofs.Common.{◌≡◌, ◌<◌, ◌∷◌, ◌++◌, ℕ, List
 use Rattle.sect_lemmas.specs.Lists.{Has}
 use Rattle.sect_lemmas.proofs.Membership.{Has-right}
 use Rattle.sect_names.specs.Sources as sources
-use Rattle.sect_names.specs.declared.refusal.Refusal.{Refusal}
-use Rattle.sect_names.specs.declared.refusal.Refusal.TheVariants as source
+use Rattle.sect_names.specs.declared.refusal.SourceRefusal.{SourceRefusal}
+use Rattle.sect_names.specs.declared.refusal.SourceRefusal.TheVariants as source
 use Rattle.sect_types.specs.Whole.{SerialEndView}
 use Rattle.sect_serial.specs.Judging as serial
 use Rattle.sect_serial.specs.declared.whole.SerialFault.{SerialFault}
@@ -29,7 +29,7 @@ use Rattle.sect_world.specs.declared.turned.WorldFault.TheVariants as world_faul
 use Rattle.sect_world.specs.Schedules.{IsUnrun}
 
 -- a refusal of the source that is due is due of `locks`
-pub due : (bytes : List ℕ) (k : ℕ) (why : Refusal) → sources.IsDue bytes k why → IsDue bytes k (of_source why)
+pub due : (bytes : List ℕ) (k : ℕ) (why : SourceRefusal) → sources.IsDue bytes k why → IsDue bytes k (of_source why)
 due bytes k source.Memory h = h.0
 due bytes k (source.Front fault) h = (λ e. cc, h)
 due bytes k (source.Types fault) h = (λ e. cc, h)
@@ -75,7 +75,7 @@ check_due input cert source k (check_fault.NoChain i n) split h =
     (λ e. cc, record { cert = cert; source = source; split = split; holds = h })
 
 -- and of `schedule`
-pub schedule_source_due : (bytes : List ℕ) (k : ℕ) (schedule : List ℕ) (why : Refusal) → sources.IsDue bytes k why
+pub schedule_source_due : (bytes : List ℕ) (k : ℕ) (schedule : List ℕ) (why : SourceRefusal) → sources.IsDue bytes k why
     → IsScheduleDue bytes k schedule (of_source why)
 schedule_source_due bytes k schedule source.Memory h = h.0
 schedule_source_due bytes k schedule (source.Front fault) h = (λ e. cc, h)

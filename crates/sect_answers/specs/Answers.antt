@@ -3,8 +3,8 @@ use Rattle.std.specs.Prelude.{◌≢◌, ◌≤◌, ℕ, List}
 use Rattle.sect_names.specs.Schemes.{SchemeView}
 use Rattle.sect_names.specs.Sources as sources
 use Rattle.sect_names.specs.Sources.{IsAccepted}
-use Rattle.sect_names.specs.declared.refusal.Refusal as source
-use Rattle.sect_names.specs.declared.refusal.Refusal.TheVariants as source_refusal
+use Rattle.sect_names.specs.declared.refusal.SourceRefusal as source
+use Rattle.sect_names.specs.declared.refusal.SourceRefusal.TheVariants as source_refusal
 use Rattle.sect_answers.specs.declared.format.Format.{Format}
 use Rattle.sect_answers.specs.declared.refusal.Refusal.{Refusal}
 use Rattle.sect_answers.specs.declared.refusal.Refusal.TheVariants as refusal
@@ -17,7 +17,7 @@ pub record IsAnswer (bytes : List ℕ) (k : ℕ) (format : Format) (text : List 
   pub printed : AreSetsPrinted s format text
 
 -- a refusal of the source is the program's; want of memory is never inside another
-abbrev pub of_source : source.Refusal → Refusal
+abbrev pub of_source : source.SourceRefusal → Refusal
 of_source source_refusal.Memory = refusal.Memory
 of_source why = refusal.Source why
 

@@ -2,7 +2,7 @@
 use Rattle.std.specs.Prelude.{◌≡◌, ◌<◌, ℕ, List, ⊤}
 use Rattle.std.specs.String.{string_bytes}
 use Rattle.sect_names.specs.declared.fault.SchemeFault.TheVariants as scheme
-use Rattle.sect_names.specs.declared.refusal.Refusal.TheVariants as source_refusal
+use Rattle.sect_names.specs.declared.refusal.SourceRefusal.TheVariants as source_refusal
 use Rattle.sect_lint.specs.declared.diagnostic.Diagnostic.{Diagnostic}
 use Rattle.sect_lint.specs.declared.format.Format.{Format}
 use Rattle.sect_lint.specs.Formats.{report_as}

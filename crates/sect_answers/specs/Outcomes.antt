@@ -20,7 +20,7 @@ use Rattle.sect_answers.specs.declared.format.Format.TheVariants.{Text, Json}
 use Rattle.sect_answers.specs.declared.refusal.Refusal.{Refusal}
 use Rattle.sect_answers.specs.declared.refusal.Refusal.TheVariants as refusal
 use Rattle.sect_names.specs.Sources.{IsTypedText, IsRefused}
-use Rattle.sect_names.specs.declared.refusal.Refusal.TheVariants as source_refusal
+use Rattle.sect_names.specs.declared.refusal.SourceRefusal.TheVariants as source_refusal
 
 -- so many things of this name
 abbrev pub count_text : ℕ → List ℕ → List ℕ

@@ -8,8 +8,8 @@ use Rattle.sect_types.specs.declared.rule.TypeFault.{TypeFault}
 use Rattle.sect_types.specs.declared.rule.TypeFault.TheVariants as types
 use Rattle.sect_names.specs.declared.fault.SchemeFault.{SchemeFault}
 use Rattle.sect_names.specs.declared.fault.SchemeFault.TheVariants as scheme
-use Rattle.sect_names.specs.declared.refusal.Refusal as source
-use Rattle.sect_names.specs.declared.refusal.Refusal.TheVariants as source_refusal
+use Rattle.sect_names.specs.declared.refusal.SourceRefusal as source
+use Rattle.sect_names.specs.declared.refusal.SourceRefusal.TheVariants as source_refusal
 use Rattle.sect_infer.specs.declared.workers.InferFault.{InferFault}
 use Rattle.sect_infer.specs.declared.workers.InferFault.TheVariants as infer
 use Rattle.sect_serial.specs.declared.whole.SerialFault.{SerialFault}
@@ -59,7 +59,7 @@ scheme_text (scheme.NoSuchGlobal record_number) = codes "20 NoSuchGlobal record 
 scheme_text (scheme.GuardIsGuarded record_number) = codes "21 GuardIsGuarded record " ++ decimal record_number
 scheme_text (scheme.HintTwice record_number) = codes "22 HintTwice record " ++ decimal record_number
 
-abbrev pub source_text : source.Refusal → List ℕ
+abbrev pub source_text : source.SourceRefusal → List ℕ
 source_text source_refusal.Memory = no_memory
 source_text (source_refusal.Front why) = front_text why
 source_text (source_refusal.Types why) = type_text why

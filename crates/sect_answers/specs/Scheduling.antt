@@ -4,7 +4,7 @@ use Rattle.sect_lemmas.specs.Lists.{Has}
 use Rattle.sect_names.specs.Schemes.{SchemeView}
 use Rattle.sect_names.specs.Sources as sources
 use Rattle.sect_names.specs.Sources.{IsAccepted}
-use Rattle.sect_names.specs.declared.refusal.Refusal.TheVariants as source_refusal
+use Rattle.sect_names.specs.declared.refusal.SourceRefusal.TheVariants as source_refusal
 use Rattle.sect_emit.specs.Compiled.{CompiledView, IsCompiledFrom, program_of}
 use Rattle.sect_emit.specs.State.{State, start}
 use Rattle.sect_world.specs.Runs.{order_of}

@@ -10,7 +10,7 @@ use Rattle.sect_answers.specs.declared.format.Format.{Format}
 use Rattle.sect_answers.specs.declared.refusal.Refusal.{Refusal}
 use Rattle.sect_answers.specs.declared.refusal.Refusal.TheVariants as refusal
 use Rattle.sect_names.specs.Sources.{IsTypedText, IsRefused}
-use Rattle.sect_names.specs.declared.refusal.Refusal.TheVariants as source_refusal
+use Rattle.sect_names.specs.declared.refusal.SourceRefusal.TheVariants as source_refusal
 
 -- the text has a program that runs by whole sections in this order to an end, and this is the outcome
 pub record IsOutcome (bytes : List ℕ) (fuel : ℕ) (order : List ℕ) (format : Format) (text : List ℕ) : Type 0 where

@@ -11,7 +11,7 @@ use sect_cert::CertFault;
 use sect_check::CheckFault;
 use sect_front::FrontFault;
 use sect_infer::InferFault;
-use sect_names::{Refusal as SourceRefusal, SchemeFault};
+use sect_names::{SchemeFault, SourceRefusal};
 use sect_serial::{OutcomesFault, SerialFault};
 use sect_types::TypeFault;
 use sect_world::WorldFault;

@@ -12,7 +12,7 @@ ghost use Rattle.sect_answers.specs.Outcomes.{of_outcomes};
 use sect_check::CheckFault;
 use sect_emit::CompileFault;
 use sect_infer::InferFault;
-use sect_names::Refusal as SourceRefusal;
+use sect_names::SourceRefusal;
 use sect_run::RunFault;
 use sect_serial::{OutcomesFault, SerialFault};
 use sect_world::WorldFault;

@@ -2,7 +2,7 @@
 
 use sect_cert::CertFault;
 use sect_front::FrontFault;
-use sect_names::Refusal;
+use sect_names::SourceRefusal;
 use sect_table::TableFault;
 use sect_types::TypeFault;
 use std::alloc::AllocError;
@@ -77,10 +77,10 @@ impl From<TypeFault> for Failure {
     }
 }
 
-impl From<Refusal> for Failure {
-    fn from(refusal: Refusal) -> Failure {
+impl From<SourceRefusal> for Failure {
+    fn from(refusal: SourceRefusal) -> Failure {
         match refusal {
-            Refusal::Memory => Failure::Memory,
+            SourceRefusal::Memory => Failure::Memory,
             _ => Failure::Source,
         }
     }

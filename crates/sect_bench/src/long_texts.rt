@@ -2,8 +2,8 @@
 
 use crate::failure::Failure;
 use sect_cert::{
-    Cert, CertBase, CertFault, CertLock, CertPath, CertSection, CertStep, Chain, ChainSteps, Runs,
-    read_cert, write_cert,
+    Cert, CertBase, CertChain, CertFault, CertLock, CertPath, CertSection, CertStep, ChainSteps,
+    Runs, read_cert, write_cert,
 };
 use sect_front::{Items, Name};
 use std::alloc::{AllocError, Global};
@@ -64,10 +64,10 @@ fn list(alloc: Global, count: u32) -> Result<Items<CertLock>, AllocError> {
 }
 
 /// A chain for each lock of a list.
-fn chains(alloc: Global, count: u32) -> Result<Items<Chain>, AllocError> {
+fn chains(alloc: Global, count: u32) -> Result<Items<CertChain>, AllocError> {
     let mut chains = Items::new(alloc);
     for number in 0..count {
-        chains.push(Chain {
+        chains.push(CertChain {
             lock: number,
             steps: steps(alloc, number)?,
         })?;

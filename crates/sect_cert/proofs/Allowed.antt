@@ -16,7 +16,7 @@ use Rattle.sect_cert.specs.steps.Stages.{Goes, Bad, Odd, open_with, begin_of, cl
 use Rattle.sect_cert.specs.Verdicts.{GoesOn, EndsInChain, IsAllowed}
 use Rattle.sect_cert.specs.declared.lock.CertLock.{CertLock}
 use Rattle.sect_cert.specs.declared.lock.CertLock.TheVariants as lock
-use Rattle.sect_cert.specs.declared.certificate.Chain.{Chain}
+use Rattle.sect_cert.specs.declared.certificate.CertChain.{CertChain}
 use Rattle.sect_cert.specs.declared.certificate.CertSection.{CertSection}
 use Rattle.sect_cert.specs.declared.line.CertLine.{CertLine}
 use Rattle.sect_cert.specs.declared.line.CertLine.TheVariants as line
@@ -148,10 +148,10 @@ begin_allowed front s o r next last small _ h = cc
 -- the last of chains is a line at the end
 record LastChain (xs : List CertLine) : Type 0 where
   before : List CertLine
-  chain : Chain
+  chain : CertChain
   split : xs ≡ before ++ line.Chain chain ∷ []
 
-last_chain : (c : Chain) (cs : List Chain) → LastChain (chains_lines (c ∷ cs) [])
+last_chain : (c : CertChain) (cs : List CertChain) → LastChain (chains_lines (c ∷ cs) [])
 last_chain c [] = record { before = []; chain = c; split = refl }
 last_chain c (d ∷ cs) = let l : LastChain (chains_lines (d ∷ cs) []) = last_chain d cs in
     record { before = line.Chain c ∷ l.before; chain = l.chain; split = ap (λ x. line.Chain c ∷ x) l.split }
@@ -182,14 +182,14 @@ chains_end front o s r l =
     }
 
 -- a chain of one step, which may be the first of a section
-abbrev first_chain : Chain
+abbrev first_chain : CertChain
 first_chain = chain_with 0 (step_with 0 (lock.MakeClass 0) ∷ [])
 
 chain_allowed : (front : List (List ℕ)) (o : Open) (s : CertSection) → Reads front (stage.Chains o s)
     → IsAllowed front ChainForm
 chain_allowed front o s r = go s.chains refl
   where
-    go : (cs : List Chain) → s.chains ≡ cs → IsAllowed front ChainForm
+    go : (cs : List CertChain) → s.chains ≡ cs → IsAllowed front ChainForm
     go [] e = inl (goes_on front (stage.Chains o s)
         (stage.Chains o (section_with s.nodes s.entry (s.chains ++ first_chain ∷ []))) (line.Chain first_chain) r
         (omega arith, (λ k. cc), ((omega arith, omega arith), tt))

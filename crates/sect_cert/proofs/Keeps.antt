@@ -10,7 +10,7 @@ use Rattle.sect_cert.specs.steps.Certificates.{section_with, cert_with, is_risin
 use Rattle.sect_cert.specs.Texts.{nodes_lines, chains_lines, section_lines, sections_lines}
 use Rattle.sect_cert.specs.steps.Stages.{Next, Goes, Bad, Odd, begin_of, close_of, stage_of, node_of, chain_of}
 use Rattle.sect_cert.specs.declared.lock.CertLock.{CertLock}
-use Rattle.sect_cert.specs.declared.certificate.Chain.{Chain}
+use Rattle.sect_cert.specs.declared.certificate.CertChain.{CertChain}
 use Rattle.sect_cert.specs.declared.line.CertLine.{CertLine}
 use Rattle.sect_cert.specs.declared.line.CertLine.TheVariants as line
 use Rattle.sect_cert.specs.declared.stage.Open.{Open}
@@ -58,7 +58,7 @@ nodes_more : (ns : List (List CertLock)) (i j : ℕ) (ls : List CertLock) (w : L
 nodes_more [] i j ls w h = ap (λ n. line.Node n ls ∷ w) (omega arith)
 nodes_more (n ∷ ns) i j ls w h = ap (λ x. line.Node i n ∷ x) (nodes_more ns (i + 1) j ls w (omega (arith, h)))
 
-chains_more : (cs : List Chain) (c : Chain) (w : List CertLine)
+chains_more : (cs : List CertChain) (c : CertChain) (w : List CertLine)
     → chains_lines (cs ++ c ∷ []) w ≡ chains_lines cs (line.Chain c ∷ w)
 chains_more [] c w = refl
 chains_more (d ∷ cs) c w = ap (λ x. line.Chain d ∷ x) (chains_more cs c w)
@@ -69,7 +69,7 @@ sections_more [] i j s w h = ap (λ n. line.Section n (length s.nodes) ∷ secti
 sections_more (t ∷ ss) i j s w h =
     ap (λ x. line.Section i (length t.nodes) ∷ section_lines t x) (sections_more ss (i + 1) j s w (omega (arith, h)))
 
-rising_more : (before cs : List Chain) (c : Chain) → RiseAfter before cs → is_rising (before ++ cs) c.lock ≡ true
+rising_more : (before cs : List CertChain) (c : CertChain) → RiseAfter before cs → is_rising (before ++ cs) c.lock ≡ true
     → RiseAfter before (cs ++ c ∷ [])
 rising_more before [] c h e = (ap (λ d. is_rising d c.lock) (sym (append-nil before)) ∙ e, tt)
 rising_more before (d ∷ cs) c h e =
@@ -176,7 +176,7 @@ pub nodes_split : (ns : List (List CertLock)) (i : ℕ) (v w : List CertLine)
 nodes_split [] i v w = refl
 nodes_split (n ∷ ns) i v w = ap (λ x. line.Node i n ∷ x) (nodes_split ns (i + 1) v w)
 
-pub chains_split : (cs : List Chain) (v w : List CertLine) → chains_lines cs (v ++ w) ≡ chains_lines cs v ++ w
+pub chains_split : (cs : List CertChain) (v w : List CertLine) → chains_lines cs (v ++ w) ≡ chains_lines cs v ++ w
 chains_split [] v w = refl
 chains_split (c ∷ cs) v w = ap (λ x. line.Chain c ∷ x) (chains_split cs v w)
 

@@ -9,7 +9,7 @@ use Rattle.sect_cert.specs.declared.certificate.Cert.{Cert}
 use Rattle.sect_cert.specs.Texts.{nodes_lines, chains_lines, section_lines, sections_lines, body_lines}
 use Rattle.sect_cert.specs.steps.Stages.{Next, Goes, Bad, Odd, open_with, close_of, stage_of}
 use Rattle.sect_cert.specs.declared.lock.CertLock.{CertLock}
-use Rattle.sect_cert.specs.declared.certificate.Chain.{Chain}
+use Rattle.sect_cert.specs.declared.certificate.CertChain.{CertChain}
 use Rattle.sect_cert.specs.declared.line.CertLine.{CertLine}
 use Rattle.sect_cert.specs.declared.line.CertLine.TheVariants as line
 use Rattle.sect_cert.specs.declared.stage.Open.{Open}
@@ -35,7 +35,7 @@ nodes_pass o m (ls ∷ ns) done w h =
     ∙ (nodes_pass o m ns (done ++ ls ∷ []) w (omega (arith, h, one_more done ls))
     ∙ ap (λ d. run (stage.Nodes o m d) w) (append_assoc done (ls ∷ []) ns)))
 
-chains_pass : (o : Open) (ns : List (List CertLock)) (e : List CertLock) (cs done : List Chain) (w : List CertLine)
+chains_pass : (o : Open) (ns : List (List CertLock)) (e : List CertLock) (cs done : List CertChain) (w : List CertLine)
     → RiseAfter done cs →
     run (stage.Chains o (section_with ns e done)) (chains_lines cs w) ≡ run
     (stage.Chains o (section_with ns e (done ++ cs))) w

@@ -8,14 +8,14 @@ use Rattle.sect_cert.specs.steps.Certificates.{is_rising}
 use Rattle.sect_cert.specs.Texts.{nodes_lines, chains_lines, sections_lines, body_lines, IsLock, IsChain, IsLine}
 use Rattle.sect_cert.specs.Texts.{AreRising, IsSection, HasText}
 use Rattle.sect_cert.specs.declared.lock.CertLock.{CertLock}
-use Rattle.sect_cert.specs.declared.certificate.Chain.{Chain}
+use Rattle.sect_cert.specs.declared.certificate.CertChain.{CertChain}
 use Rattle.sect_cert.specs.declared.certificate.CertSection.{CertSection}
 use Rattle.sect_cert.specs.declared.certificate.Cert.{Cert}
 use Rattle.sect_cert.specs.declared.line.CertLine.{CertLine}
 use Rattle.sect_cert.specs.declared.line.CertLine.TheVariants as line
 
 -- the numbers of these chains rise, after these before them
-abbrev pub RiseAfter : List Chain → List Chain → Type 0
+abbrev pub RiseAfter : List CertChain → List CertChain → Type 0
 RiseAfter before [] = ⊤
 RiseAfter before (c ∷ cs) = (is_rising before c.lock ≡ true) × RiseAfter (before ++ c ∷ []) cs
 
@@ -31,25 +31,25 @@ last_at : {A : Type 0} (xs : List A) (x : A) → slice_get (xs ++ x ∷ []) (len
 last_at [] x = refl
 last_at (y ∷ xs) x = last_at xs x
 
-after_last : (before : List Chain) (d : Chain) (n : ℕ) → is_rising (before ++ d ∷ []) n ≡ nat_lt d.lock n
+after_last : (before : List CertChain) (d : CertChain) (n : ℕ) → is_rising (before ++ d ∷ []) n ≡ nat_lt d.lock n
 after_last before d n = let last : length (before ++ d ∷ []) - 1 ≡ length before =
     omega (arith, length-append before (d ∷ [])) in rw (last, last_at before d) refl
 
-rise_after : (before : List Chain) (d : Chain) (cs : List Chain) → AreRising (d ∷ cs) → RiseAfter (before ++ d ∷ []) cs
+rise_after : (before : List CertChain) (d : CertChain) (cs : List CertChain) → AreRising (d ∷ cs) → RiseAfter (before ++ d ∷ []) cs
 rise_after before d [] h = tt
 rise_after before d (c ∷ cs) h =
     (after_last before d c.lock ∙ less d.lock c.lock h.0, rise_after (before ++ d ∷ []) c cs h.1)
 
-rise_all : (cs : List Chain) → AreRising cs → RiseAfter [] cs
+rise_all : (cs : List CertChain) → AreRising cs → RiseAfter [] cs
 rise_all [] h = tt
 rise_all (c ∷ cs) h = (refl, rise_after [] c cs h)
 
-rise_back : (before : List Chain) (d : Chain) (cs : List Chain) → RiseAfter (before ++ d ∷ []) cs → AreRising (d ∷ cs)
+rise_back : (before : List CertChain) (d : CertChain) (cs : List CertChain) → RiseAfter (before ++ d ∷ []) cs → AreRising (d ∷ cs)
 rise_back before d [] h = tt
 rise_back before d (c ∷ cs) h =
     (is_less d.lock c.lock (sym (after_last before d c.lock) ∙ h.0), rise_back (before ++ d ∷ []) c cs h.1)
 
-are_rising : (cs : List Chain) → RiseAfter [] cs → AreRising cs
+are_rising : (cs : List CertChain) → RiseAfter [] cs → AreRising cs
 are_rising [] h = tt
 are_rising (c ∷ cs) h = rise_back [] c cs h.1
 
@@ -59,7 +59,7 @@ nodes_good : (ns : List (List CertLock)) (j : ℕ) (w : List CertLine)
 nodes_good [] j w h low g = g
 nodes_good (ls ∷ ns) j w h low g = ((omega (arith, low), h.0), nodes_good ns (j + 1) w h.1 (omega (arith, low)) g)
 
-chains_good : (cs : List Chain) (w : List CertLine) → AllByRecursion IsChain cs → AllByRecursion IsLine w
+chains_good : (cs : List CertChain) (w : List CertLine) → AllByRecursion IsChain cs → AllByRecursion IsLine w
     → AllByRecursion IsLine (chains_lines cs w)
 chains_good [] w h g = g
 chains_good (c ∷ cs) w h g = (h.0, chains_good cs w h.1 g)
@@ -97,7 +97,7 @@ behind_nodes : (ns : List (List CertLock)) (j : ℕ) (w : List CertLine) → All
 behind_nodes [] j w h = h
 behind_nodes (n ∷ ns) j w h = behind_nodes ns (j + 1) w h.1
 
-behind_chains : (cs : List Chain) (w : List CertLine) → AllByRecursion IsLine (chains_lines cs w)
+behind_chains : (cs : List CertChain) (w : List CertLine) → AllByRecursion IsLine (chains_lines cs w)
     → AllByRecursion IsLine w
 behind_chains [] w h = h
 behind_chains (c ∷ cs) w h = behind_chains cs w h.1
@@ -115,7 +115,7 @@ nodes_back : (ns : List (List CertLock)) (j : ℕ) (w : List CertLine) → AllBy
 nodes_back [] j w h = tt
 nodes_back (ls ∷ ns) j w h = (h.0.1, nodes_back ns (j + 1) w h.1)
 
-chains_back : (cs : List Chain) (w : List CertLine) → AllByRecursion IsLine (chains_lines cs w)
+chains_back : (cs : List CertChain) (w : List CertLine) → AllByRecursion IsLine (chains_lines cs w)
     → AllByRecursion IsChain cs
 chains_back [] w h = tt
 chains_back (c ∷ cs) w h = (h.0, chains_back cs w h.1)

@@ -20,7 +20,7 @@ use Rattle.sect_cert.specs.declared.lock.CertPath.{CertPath}
 use Rattle.sect_cert.specs.declared.lock.CertLock.{CertLock}
 use Rattle.sect_cert.specs.declared.lock.CertLock.TheVariants as lock
 use Rattle.sect_cert.specs.declared.certificate.CertStep.{CertStep}
-use Rattle.sect_cert.specs.declared.certificate.Chain.{Chain}
+use Rattle.sect_cert.specs.declared.certificate.CertChain.{CertChain}
 use Rattle.sect_cert.specs.declared.certificate.CertSection.{CertSection}
 use Rattle.sect_cert.specs.declared.certificate.Cert.{Cert}
 use Rattle.sect_cert.specs.declared.line.CertLine.{CertLine}
@@ -121,7 +121,7 @@ pub node_written : (old : List ℕ) (j : ℕ) (ls : List CertLock)
     ++ fed_line (line.Node j ls)
 node_written old j ls = numbered old (codes "node") (decimal j) (list_words ls)
 
-pub chain_written : (old : List ℕ) (c : Chain) →
+pub chain_written : (old : List ℕ) (c : CertChain) →
     ((((old ++ codes "chain") ++ 32 ∷ decimal c.lock) ++ 58 ∷ []) ++ spaced (chain_words c.steps)) ++ 10 ∷ [] ≡ old
     ++ chain_text c
 chain_written old c = numbered old (codes "chain") (decimal c.lock) (chain_words c.steps)
@@ -145,7 +145,7 @@ nodes_written (ls ∷ ns) j w =
     ∙ (ap (λ x. fed_line (line.Node j ls) ++ x) (nodes_written ns (j + 1) w)
     ∙ sym (append_assoc (fed_line (line.Node j ls)) (nodes_text (j + 1) ns) (fed (map line_text w))))
 
-chains_written : (cs : List Chain) (w : List CertLine)
+chains_written : (cs : List CertChain) (w : List CertLine)
     → fed (map line_text (chains_lines cs w)) ≡ flat_map chain_text cs ++ fed (map line_text w)
 chains_written [] w = refl
 chains_written (c ∷ cs) w =

@@ -9,7 +9,7 @@ use Rattle.sect_cert.specs.declared.lock.CertPath.{CertPath}
 use Rattle.sect_cert.specs.declared.lock.CertLock.{CertLock}
 use Rattle.sect_cert.specs.declared.lock.CertLock.TheVariants as lock
 use Rattle.sect_cert.specs.declared.certificate.CertStep.{CertStep}
-use Rattle.sect_cert.specs.declared.certificate.Chain.{Chain}
+use Rattle.sect_cert.specs.declared.certificate.CertChain.{CertChain}
 use Rattle.sect_cert.specs.declared.certificate.CertSection.{CertSection}
 use Rattle.sect_cert.specs.declared.certificate.Cert.{Cert}
 use Rattle.sect_cert.specs.declared.line.CertLine.{CertLine}
@@ -21,7 +21,7 @@ nodes_lines j [] w = w
 nodes_lines j (ls ∷ ns) w = line.Node j ls ∷ nodes_lines (j + 1) ns w
 
 -- the lines of chains, before the lines that follow
-abbrev pub chains_lines : List Chain → List CertLine → List CertLine
+abbrev pub chains_lines : List CertChain → List CertLine → List CertLine
 chains_lines [] w = w
 chains_lines (c ∷ cs) w = line.Chain c ∷ chains_lines cs w
 
@@ -80,7 +80,7 @@ abbrev pub IsStep : CertStep → Type 0
 IsStep s = IsNumber s.node × IsLock s.lock
 
 -- a chain has a step
-abbrev pub IsChain : Chain → Type 0
+abbrev pub IsChain : CertChain → Type 0
 IsChain c = IsNumber c.lock × (c.steps ≢ []) × AllByRecursion IsStep c.steps
 
 abbrev pub IsLine : CertLine → Type 0
@@ -93,7 +93,7 @@ IsLine (line.Chain c) = IsChain c
 IsLine line.End = ⊤
 
 -- the numbers of chains rise
-abbrev pub AreRising : List Chain → Type 0
+abbrev pub AreRising : List CertChain → Type 0
 AreRising [] = ⊤
 AreRising (c ∷ []) = ⊤
 AreRising (c ∷ d ∷ cs) = (c.lock < d.lock) × AreRising (d ∷ cs)

@@ -16,7 +16,7 @@ pub struct CertStep {
 
 /// Why a lock of the entry list, by its number there, is needed: steps from the entry to where it is generated.
 #[derive(Drop)]
-pub struct Chain {
+pub struct CertChain {
     /// The lock, by its number in the entry list.
     pub lock: u32,
     /// At least one where the certificate has a text.
@@ -31,7 +31,7 @@ pub struct CertSection {
     /// The locks to take at the entry.
     pub entry: Items<CertLock>,
     /// The chains, by rising numbers where the certificate has a text.
-    pub chains: Items<Chain>,
+    pub chains: Items<CertChain>,
 }
 
 /// A certificate: what was inferred for each section, and why.

@@ -29,7 +29,7 @@ mod subject;
 mod writing;
 mod zeros;
 
-pub use certificate::{Cert, CertSection, CertStep, Chain};
+pub use certificate::{Cert, CertChain, CertSection, CertStep};
 pub use chain_steps::ChainSteps;
 pub use fault::CertFault;
 pub use lock::{CertBase, CertLock, CertPath};

@@ -9,7 +9,7 @@ ghost use Rattle.sect_cert.specs.steps.Reading.{section_line as section_at, node
 ghost use Rattle.sect_cert.specs.steps.Reading.{chain_line as chain_at, end_line as end_at};
 ghost use Rattle.sect_cert.specs.steps.Reading.{colon_number as colon_number_at};
 
-use crate::certificate::Chain;
+use crate::certificate::CertChain;
 use crate::chain::steps_of;
 use crate::fault::LineFault;
 use crate::list::locks_of;
@@ -33,7 +33,7 @@ pub enum CertLine {
     /// `entry: LIST`
     Entry(Items<CertLock>),
     /// `chain L: STEP > STEP ..`
-    Chain(Chain),
+    Chain(CertChain),
     /// `end`
     End,
 }
@@ -86,7 +86,7 @@ fn chain_line(alloc: Global, mut words: Parts<'_>) -> Result<CertLine, LineFault
     let word = words.next().ok_or(LineFault::Bad)?;
     let lock = colon_number(word).ok_or(LineFault::Bad)?;
     let steps = steps_of(alloc, words)?;
-    Ok(CertLine::Chain(Chain { lock, steps }))
+    Ok(CertLine::Chain(CertChain { lock, steps }))
 }
 
 /// The last line, by the words after `end`, of which there are none.

@@ -7,7 +7,7 @@ ghost use Rattle.sect_cert.specs.steps.Stages.{GoesTo, ClosesTo, begin_of, close
 ghost use Rattle.sect_cert.specs.steps.Stages.{later_of, header_of, read_of, is_header_due};
 
 use crate::again::{Lines, is_next};
-use crate::certificate::{Cert, CertSection, Chain};
+use crate::certificate::{Cert, CertChain, CertSection};
 use crate::fault::LineFault;
 use crate::line::{CertLine, line_of};
 use crate::lock::CertLock;
@@ -124,7 +124,7 @@ fn node(
 }
 
 /// Whether a chain of this number may come after these.
-fn rises(chains: &[Chain], lock: u32) -> bool
+fn rises(chains: &[CertChain], lock: u32) -> bool
     ensures { result ≡ is_rising chains.now lock }
 {
     match chains.last() {

@@ -13,7 +13,7 @@ ghost use Rattle.sect_cert.specs.steps.Writes.{fed_line, chain_text, nodes_text,
 ghost use Rattle.sect_cert.specs.declared.lock.CertLock.TheVariants as lock;
 ghost use Rattle.sect_cert.specs.declared.line.CertLine.TheVariants as line;
 
-use crate::certificate::{Cert, CertSection, Chain};
+use crate::certificate::{Cert, CertChain, CertSection};
 use crate::chain_steps::ChainSteps;
 use crate::fault::CertFault;
 use crate::lock::{CertBase, CertLock, CertPath};
@@ -28,6 +28,15 @@ fn put_word(out: &mut Vec<u8>, word: &[u8]) -> Result<(), AllocError>
 {
     out.push(b' ')?;
     out.extend_from_slice(word)
+}
+
+/// Writes a word of one letter, or a sign, behind a blank.
+#[inline(always)]
+fn put_letter(out: &mut Vec<u8>, letter: u8) -> Result<(), AllocError>
+    ensures { OnOk result (out.new.items ≡ out.old.items ++ 32 ∷ letter ∷ []) }
+{
+    out.push(b' ')?;
+    Ok(out.push(letter)?)
 }
 
 /// Writes a number.
@@ -80,18 +89,18 @@ fn put_path(out: &mut Vec<u8>, path: &CertPath) -> Result<(), AllocError>
 }
 
 /// Writes the words of a lock of a path, each behind a blank.
-fn put_path_lock(out: &mut Vec<u8>, mode: &[u8], path: &CertPath) -> Result<(), AllocError>
-    ensures { OnOk result (out.new.items ≡ out.old.items ++ spaced (mode.now ∷ path_text path.now ∷ [])) }
+fn put_path_lock(out: &mut Vec<u8>, mode: u8, path: &CertPath) -> Result<(), AllocError>
+    ensures { OnOk result (out.new.items ≡ out.old.items ++ spaced ((mode ∷ []) ∷ path_text path.now ∷ [])) }
 {
-    put_word(out, mode)?;
+    put_letter(out, mode)?;
     put_path(out, path)
 }
 
 /// Writes the words of a lock of a class, each behind a blank.
-fn put_class_lock(out: &mut Vec<u8>, mode: &[u8], class: u32) -> Result<(), AllocError>
-    ensures { OnOk result (out.new.items ≡ out.old.items ++ spaced (mode.now ∷ codes "class" ∷ decimal class ∷ [])) }
+fn put_class_lock(out: &mut Vec<u8>, mode: u8, class: u32) -> Result<(), AllocError>
+    ensures { OnOk result (out.new.items ≡ out.old.items ++ spaced ((mode ∷ []) ∷ codes "class" ∷ decimal class ∷ [])) }
 {
-    put_word(out, mode)?;
+    put_letter(out, mode)?;
     put_word(out, b"class")?;
     put_number(out, class as usize)
 }
@@ -100,7 +109,7 @@ fn put_class_lock(out: &mut Vec<u8>, mode: &[u8], class: u32) -> Result<(), Allo
 fn put_all_lock(out: &mut Vec<u8>) -> Result<(), AllocError>
     ensures { OnOk result (out.new.items ≡ out.old.items ++ lock_text lock.WriteAll) }
 {
-    put_word(out, b"W")?;
+    put_letter(out, b'W')?;
     put_word(out, b"all")
 }
 
@@ -110,11 +119,11 @@ fn put_lock(out: &mut Vec<u8>, lock: &CertLock) -> Result<(), AllocError>
 {
     match lock {
         CertLock::WriteAll => put_all_lock(out),
-        CertLock::ReadPath(path) => put_path_lock(out, b"R", path),
-        CertLock::WritePath(path) => put_path_lock(out, b"W", path),
-        CertLock::ReadClass(class) => put_class_lock(out, b"R", *class),
-        CertLock::WriteClass(class) => put_class_lock(out, b"W", *class),
-        CertLock::MakeClass(class) => put_class_lock(out, b"M", *class),
+        CertLock::ReadPath(path) => put_path_lock(out, b'R', path),
+        CertLock::WritePath(path) => put_path_lock(out, b'W', path),
+        CertLock::ReadClass(class) => put_class_lock(out, b'R', *class),
+        CertLock::WriteClass(class) => put_class_lock(out, b'W', *class),
+        CertLock::MakeClass(class) => put_class_lock(out, b'M', *class),
     }
 }
 
@@ -160,7 +169,7 @@ fn put_arrow(out: &mut Vec<u8>, index: usize) -> Result<(), AllocError>
     if index == 0 {
         return Ok(());
     }
-    put_word(out, b">")
+    put_letter(out, b'>')
 }
 
 /// Writes a step, each word behind a blank, by the text of its lock.
@@ -239,7 +248,7 @@ fn put_entry(out: &mut Vec<u8>, locks: &[CertLock]) -> Result<(), AllocError>
 }
 
 /// Writes the line of a chain.
-fn put_chain(alloc: Global, out: &mut Vec<u8>, chain: &Chain) -> Result<(), AllocError>
+fn put_chain(alloc: Global, out: &mut Vec<u8>, chain: &CertChain) -> Result<(), AllocError>
     ensures { OnOk result (out.new.items ≡ out.old.items ++ chain_text chain.now) }
 {
     out.extend_from_slice(b"chain")?;
@@ -250,7 +259,7 @@ fn put_chain(alloc: Global, out: &mut Vec<u8>, chain: &Chain) -> Result<(), Allo
 }
 
 /// Writes the lines of chains.
-fn put_chains(alloc: Global, out: &mut Vec<u8>, chains: &[Chain]) -> Result<(), AllocError>
+fn put_chains(alloc: Global, out: &mut Vec<u8>, chains: &[CertChain]) -> Result<(), AllocError>
     ensures { OnOk result (out.new.items ≡ out.old.items ++ flat_map chain_text chains.now) }
 {
     for chain in chains {

@@ -3,8 +3,8 @@ use Rattle.std.proofs.Common.{◌≡◌, ℕ, List, Result, Ok, Err, IfOk, IsErr
 use Rattle.std.specs.Prelude.{IsOkUnless}
 use Rattle.sect_names.specs.Schemes.{SchemeView}
 use Rattle.sect_names.specs.Sources.{IsAccepted, IsDue}
-use Rattle.sect_names.specs.declared.refusal.Refusal.{Refusal}
-use Rattle.sect_names.specs.declared.refusal.Refusal.TheVariants as refusal
+use Rattle.sect_names.specs.declared.refusal.SourceRefusal.{SourceRefusal}
+use Rattle.sect_names.specs.declared.refusal.SourceRefusal.TheVariants as refusal
 use Rattle.sect_cert.specs.declared.certificate.Cert.{Cert}
 use Rattle.sect_cert.specs.declared.fault.CertFault.{CertFault}
 use Rattle.sect_cert.specs.declared.fault.CertFault.TheVariants as text
@@ -25,14 +25,14 @@ module _ (A : Type 0) (source : List ℕ) (k : ℕ) (bytes : List ℕ) where
   passed (Err x) f is h = subst (λ z. Judges {A = A} source k bytes (Err z)) (sym is) h
 
   -- a refusal of the source that is due is the fault
-  source_judged : (f : Refusal) → IsDue source k f → Judges {A = A} source k bytes (Err (of_source f))
+  source_judged : (f : SourceRefusal) → IsDue source k f → Judges {A = A} source k bytes (Err (of_source f))
   source_judged refusal.Memory h = h.0
   source_judged (refusal.Front x) h = (λ e. cc, h)
   source_judged (refusal.Types x) h = (λ e. cc, h)
   source_judged (refusal.Scheme x) h = (λ e. cc, h)
 
   -- so is the answer that passes it on
-  pub source_refused : (r : Result A CheckFault) (f : Refusal) → IsErrAnd r (λ x. x ≡ of_source f) → IsDue source k f
+  pub source_refused : (r : Result A CheckFault) (f : SourceRefusal) → IsErrAnd r (λ x. x ≡ of_source f) → IsDue source k f
       → Judges source k bytes r
   source_refused r f is h = passed r (of_source f) is (source_judged f h)
 

@@ -12,7 +12,7 @@ use Rattle.sect_names.specs.Chains.{link}
 use Rattle.sect_names.specs.Laws.{AreOneScheme}
 use Rattle.sect_cert.specs.declared.lock.CertLock.{CertLock}
 use Rattle.sect_cert.specs.declared.certificate.CertStep.{CertStep}
-use Rattle.sect_cert.specs.declared.certificate.Chain.{Chain}
+use Rattle.sect_cert.specs.declared.certificate.CertChain.{CertChain}
 use Rattle.sect_cert.specs.declared.certificate.CertSection.{CertSection}
 use Rattle.sect_cert.specs.declared.certificate.Cert.{Cert}
 use Rattle.sect_check.specs.declared.claims.Claims.{Claims}
@@ -43,7 +43,7 @@ module _ (s : SchemeView) (a b : PointsToView)
     step_to x l h = (h.0, denotes_to x.lock l.lock h.1)
 
     -- so do chains
-    chain_claim_to : (x : Chain) (c : ChainClaim) → DenotesChain (scheme_with s a) t x c
+    chain_claim_to : (x : CertChain) (c : ChainClaim) → DenotesChain (scheme_with s a) t x c
         → DenotesChain (scheme_with s b) t x c
     chain_claim_to x c h = (
       h.0,

@@ -11,7 +11,7 @@ use Rattle.sect_lemmas.proofs.Membership.{Has-slice_get}
 use Rattle.sect_types.specs.Sections.{SectionView}
 use Rattle.sect_graph.specs.declared.flow.Node.{Node}
 use Rattle.sect_names.specs.Schemes.{SchemeView}
-use Rattle.sect_cert.specs.declared.certificate.Chain.{Chain}
+use Rattle.sect_cert.specs.declared.certificate.CertChain.{CertChain}
 use Rattle.sect_cert.specs.declared.certificate.Cert.{Cert}
 use Rattle.sect_cert.specs.Texts.{AreRising, IsSection, HasText}
 use Rattle.sect_check.specs.declared.claims.Claims.{Claims}
@@ -115,18 +115,18 @@ stray c y rise below at = record {
 }
 
 -- the numbers of a certificate's chains rise, by their places
-first_rises : (x y : Chain) (xs : List Chain) (j : ℕ) → AreRising (x ∷ xs) → slice_get xs j ≡ Some y → x.lock < y.lock
+first_rises : (x y : CertChain) (xs : List CertChain) (j : ℕ) → AreRising (x ∷ xs) → slice_get xs j ≡ Some y → x.lock < y.lock
 first_rises x y [] j h at = absurd cc
 first_rises x y (z ∷ xs) zero h at = let same : z ≡ y = cc in subst (λ w. x.lock < w.lock) same h.0
 first_rises x y (z ∷ xs) (suc j) h at = let r = first_rises z y xs j h.1 at in omega (arith, r, h.0)
 
 -- so they do behind the first
-rest_rises : (x : Chain) (xs : List Chain) → AreRising (x ∷ xs) → AreRising xs
+rest_rises : (x : CertChain) (xs : List CertChain) → AreRising (x ∷ xs) → AreRising xs
 rest_rises x [] h = tt
 rest_rises x (y ∷ xs) h = h.1
 
 -- a chain at a later place has a greater number
-rises_by_place : (xs : List Chain) → AreRising xs → (i j : ℕ) (x y : Chain) → i < j → slice_get xs i ≡ Some x
+rises_by_place : (xs : List CertChain) → AreRising xs → (i j : ℕ) (x y : CertChain) → i < j → slice_get xs i ≡ Some x
     → slice_get xs j ≡ Some y → x.lock < y.lock
 rises_by_place [] h i j x y lt at_x at_y = absurd cc
 rises_by_place (z ∷ xs) h zero zero x y lt at_x at_y = absurd (omega (arith, lt))
@@ -137,7 +137,7 @@ rises_by_place (z ∷ xs) h (suc i) (suc j) x y lt at_x at_y =
     rises_by_place xs (rest_rises z xs h) i j x y (omega (arith, lt)) at_x at_y
 
 -- so do those of the chains that are claimed
-claims_rise : (s : SchemeView) (t : ℕ) (xs : List Chain) (ys : List ChainClaim) → AreRising xs
+claims_rise : (s : SchemeView) (t : ℕ) (xs : List CertChain) (ys : List ChainClaim) → AreRising xs
     → AllZip (DenotesChain s t) xs ys → DoRise ys
 claims_rise s t xs ys rising zipped i j x y lt at_x at_y =
     let a = zipped_at (DenotesChain s t) xs ys zipped i x at_x in

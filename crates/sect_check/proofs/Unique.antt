@@ -13,7 +13,7 @@ use Rattle.sect_names.specs.Needed.{end_of}
 use Rattle.sect_names.specs.Chains.{link}
 use Rattle.sect_cert.specs.declared.lock.CertLock.{CertLock}
 use Rattle.sect_cert.specs.declared.certificate.CertStep.{CertStep}
-use Rattle.sect_cert.specs.declared.certificate.Chain.{Chain}
+use Rattle.sect_cert.specs.declared.certificate.CertChain.{CertChain}
 use Rattle.sect_cert.specs.declared.certificate.CertSection.{CertSection}
 use Rattle.sect_cert.specs.declared.certificate.Cert.{Cert}
 use Rattle.sect_cert.specs.Texts.{HasText}
@@ -67,7 +67,7 @@ module _ (s : SchemeView) (t : ℕ) where
   claim n links = record { lock = n; links = links }
 
   -- a chain stands for one chain
-  one_chain : (p : Chain) (x y : ChainClaim) → DenotesChain s t p x → DenotesChain s t p y → x ≡ y
+  one_chain : (p : CertChain) (x y : ChainClaim) → DenotesChain s t p x → DenotesChain s t p y → x ≡ y
   unfolding claim
   one_chain p x y a b = ap (λ n. claim n x.links) (sym a.0 ∙ b.0)
       ∙ ap (claim y.lock) (zip_one (DenotesStep s t) one_step p.steps x.links y.links a.1 b.1)

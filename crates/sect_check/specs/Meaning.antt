@@ -6,7 +6,7 @@ use Rattle.sect_graph.specs.declared.flow.Node.{Node}
 use Rattle.sect_names.specs.declared.link.Link.{Link}
 use Rattle.sect_names.specs.Schemes.{SchemeView}
 use Rattle.sect_cert.specs.declared.certificate.CertStep.{CertStep}
-use Rattle.sect_cert.specs.declared.certificate.Chain.{Chain}
+use Rattle.sect_cert.specs.declared.certificate.CertChain.{CertChain}
 use Rattle.sect_cert.specs.declared.certificate.CertSection.{CertSection}
 use Rattle.sect_cert.specs.declared.certificate.Cert.{Cert}
 use Rattle.sect_check.specs.declared.claims.Claims.{Claims}
@@ -16,7 +16,7 @@ use Rattle.sect_check.specs.Names.{Denotes}
 abbrev pub DenotesStep : SchemeView → ℕ → CertStep → Link → Type 0
 DenotesStep s t a b = (a.node ≡ b.node) × Denotes s t a.lock b.lock
 
-abbrev pub DenotesChain : SchemeView → ℕ → Chain → ChainClaim → Type 0
+abbrev pub DenotesChain : SchemeView → ℕ → CertChain → ChainClaim → Type 0
 DenotesChain s t a b = (a.lock ≡ b.lock) × AllZip (DenotesStep s t) a.steps b.links
 
 -- what a certificate says of a section of thread t with this graph: a list for each node, the exit counted

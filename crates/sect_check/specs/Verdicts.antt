@@ -2,8 +2,8 @@
 use Rattle.std.specs.Prelude.{◌≡◌, ◌≢◌, ◌≤◌, ℕ, List, Result, Ok, Err}
 use Rattle.sect_names.specs.Schemes.{SchemeView}
 use Rattle.sect_names.specs.Sources.{IsAccepted, IsDue}
-use Rattle.sect_names.specs.declared.refusal.Refusal.{Refusal}
-use Rattle.sect_names.specs.declared.refusal.Refusal.TheVariants as refusal
+use Rattle.sect_names.specs.declared.refusal.SourceRefusal.{SourceRefusal}
+use Rattle.sect_names.specs.declared.refusal.SourceRefusal.TheVariants as refusal
 use Rattle.sect_cert.specs.declared.certificate.Cert.{Cert}
 use Rattle.sect_cert.specs.declared.fault.CertFault.{CertFault}
 use Rattle.sect_cert.specs.declared.fault.CertFault.TheVariants as text
@@ -20,7 +20,7 @@ use Rattle.sect_check.specs.Faults.{IsFaultAt}
 
 -- a refusal of the source is the checker's fault, and so is a fault of the certificate's text; want of memory is never
 -- inside another
-abbrev pub of_source : Refusal → CheckFault
+abbrev pub of_source : SourceRefusal → CheckFault
 of_source refusal.Memory = fault.Memory
 of_source r = fault.Source r
 

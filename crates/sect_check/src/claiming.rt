@@ -11,7 +11,7 @@ use crate::claims::{ChainClaim, Claims};
 use crate::locks::lock_of;
 use crate::naming::Naming;
 use crate::unresolved::Unresolved;
-use sect_cert::{CertLock, CertSection, Chain, ChainSteps, Runs};
+use sect_cert::{CertChain, CertLock, CertSection, ChainSteps, Runs};
 use sect_front::Items;
 use sect_graph::Flow;
 use sect_names::Lock;
@@ -99,7 +99,7 @@ fn links_of(alloc: Global, naming: &Naming, steps: &ChainSteps) -> Result<Claime
 }
 
 /// A chain.
-fn chain_claim(alloc: Global, naming: &Naming, chain: &Chain) -> Result<ChainClaim, Unresolved>
+fn chain_claim(alloc: Global, naming: &Naming, chain: &CertChain) -> Result<ChainClaim, Unresolved>
     ensures { Resolves result (DenotesChain naming.now.scheme naming.now.thread chain.now) }
 {
     let links = links_of(alloc, naming, &chain.steps)?;
@@ -114,7 +114,7 @@ fn chain_claim(alloc: Global, naming: &Naming, chain: &Chain) -> Result<ChainCla
 fn chain_claims(
     alloc: Global,
     naming: &Naming,
-    chains: &[Chain],
+    chains: &[CertChain],
 ) -> Result<Items<ChainClaim>, Unresolved>
     ensures { Resolves result (AllZip (DenotesChain naming.now.scheme naming.now.thread) chains.now) }
 {

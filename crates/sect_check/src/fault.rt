@@ -5,7 +5,7 @@ ghost use Rattle.sect_check.specs.declared.fault.SectionFault.TheVariants.{Memor
 ghost use Rattle.sect_check.specs.Verdicts.{of_source, of_text, of_section as in_section};
 
 use sect_cert::CertFault;
-use sect_names::Refusal;
+use sect_names::SourceRefusal;
 use std::alloc::AllocError;
 use thiserror::Error;
 
@@ -45,7 +45,7 @@ pub enum CheckFault {
     Memory,
     /// The source text is refused, or paths of so many fields.
     #[error("40 Source {0}")]
-    Source(Refusal),
+    Source(SourceRefusal),
     /// The bytes are the text of no certificate.
     #[error("41 Text {0}")]
     Text(CertFault),
@@ -90,12 +90,12 @@ pub enum CheckFault {
     },
 }
 
-impl From<Refusal> for CheckFault {
+impl From<SourceRefusal> for CheckFault {
     ghost from_gives = { λ refusal fault. fault ≡ of_source refusal };
 
-    fn from(refusal: Refusal) -> CheckFault {
+    fn from(refusal: SourceRefusal) -> CheckFault {
         match refusal {
-            Refusal::Memory => CheckFault::Memory,
+            SourceRefusal::Memory => CheckFault::Memory,
             other => CheckFault::Source(other),
         }
     }

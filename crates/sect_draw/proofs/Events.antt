@@ -16,7 +16,7 @@ use Rattle.sect_world.specs.Worlds.{Does, MayFollow, kind_of}
 use Rattle.sect_world.specs.declared.event.Deed.{Deed}
 use Rattle.sect_world.specs.declared.event.Deed.TheVariants.{Local, Enter, Take, Begin, Again, Act, Leave}
 use Rattle.sect_world.specs.declared.event.Event.{Event}
-use Rattle.sect_world.specs.declared.turned.Kind.{Kind}
+use Rattle.sect_world.specs.declared.turned.EventKind.{EventKind}
 use Rattle.sect_world.specs.declared.turned.Turned.{Turned}
 use Rattle.sect_world.specs.declared.turned.Turned.TheVariants.{Moved, Waits, Ended}
 use Rattle.sect_draw.specs.steps.Turning.{HasEntered, WantsSome}
@@ -123,7 +123,7 @@ wants_some c s t es after does =
     (grip blocked.key blocked.mode, ap wish_in does.2.1 ∙ wants)
 
 -- who moves makes an event
-pub moved_some : (c : CompiledView) (s : State) (t : ℕ) (k : Kind) (es : List Event) (after : State)
+pub moved_some : (c : CompiledView) (s : State) (t : ℕ) (k : EventKind) (es : List Event) (after : State)
     → Does c s t (Moved k) es after → es ≢ []
 moved_some c s t k [] after does none = does
 moved_some c s t k (e ∷ es) after does none = cc
@@ -131,7 +131,7 @@ moved_some c s t k (e ∷ es) after does none = cc
 -- what is told of a turn
 pub record AreTold (s after : State) (t : ℕ) (turned : Turned) (es : List Event) : Type 0 where
   pub waits : turned ≡ Waits → WantsSome after t
-  pub moved : (k : Kind) → turned ≡ Moved k → es ≢ []
+  pub moved : (k : EventKind) → turned ≡ Moved k → es ≢ []
   pub entered : (e : Event) (rest : List Event) → es ≡ e ∷ rest → e.deed ≡ Enter → HasEntered after t
   pub keep : Keep s after es
 

@@ -14,7 +14,7 @@ use Rattle.sect_infer.specs.Sets.{AreNeeded}
 use Rattle.sect_chains.specs.Chains.{AreChains}
 use Rattle.sect_chains.proofs.shared.Uniqueness.{chains_one}
 use Rattle.sect_cert.specs.declared.lock.CertLock.{CertLock}
-use Rattle.sect_cert.specs.declared.certificate.Chain.{Chain}
+use Rattle.sect_cert.specs.declared.certificate.CertChain.{CertChain}
 use Rattle.sect_cert.specs.declared.certificate.CertSection.{CertSection}
 use Rattle.sect_cert.specs.declared.certificate.Cert.{Cert}
 use Rattle.sect_emit.specs.Certificates.{SaysOf, IsCertificateOf}
@@ -40,7 +40,7 @@ needed_one s t last body g xs ys a b = same_by_place xs ys (a.count ∙ sym b.co
     same_lists ls ms m.in_order n.in_order (λ l h. (n.kept_are l).1 ((m.kept_are l).0 h))
     (λ l h. (m.kept_are l).1 ((n.kept_are l).0 h)))
 
-abbrev section_of : List (List CertLock) → List CertLock → List Chain → CertSection
+abbrev section_of : List (List CertLock) → List CertLock → List CertChain → CertSection
 section_of nodes entry chains = record { nodes = nodes; entry = entry; chains = chains }
 
 -- a certificate says one thing of a section

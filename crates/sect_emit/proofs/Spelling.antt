@@ -10,7 +10,7 @@ use Rattle.sect_front.specs.TreeView.{TreeView}
 use Rattle.sect_names.specs.declared.link.Link.{Link}
 use Rattle.sect_names.specs.declared.lock.Lock.{Lock}
 use Rattle.sect_cert.specs.declared.lock.CertLock.{CertLock}
-use Rattle.sect_cert.specs.declared.certificate.Chain.{Chain}
+use Rattle.sect_cert.specs.declared.certificate.CertChain.{CertChain}
 use Rattle.sect_cert.specs.declared.certificate.CertSection.{CertSection}
 use Rattle.sect_cert.specs.Texts.{IsSection, AreRising}
 use Rattle.sect_names.specs.Schemes.{SchemeView}
@@ -37,8 +37,8 @@ chains_more t n (d ∷ cs) c =
     ap (λ ws. chain_words t n d ∷ ws)
     (chains_more t (n + 1) cs c ∙ ap (λ m. chains_words t (n + 1) cs ++ chain_words t m c ∷ []) e)
 
-pub next_chain : (t : TreeView) (chains : List (List Link)) (i : ℕ) (c : List Link) (made : Chain)
-    (old new : List Chain) → i < length chains → c ≡ get_or chains i c
+pub next_chain : (t : TreeView) (chains : List (List Link)) (i : ℕ) (c : List Link) (made : CertChain)
+    (old new : List CertChain) → i < length chains → c ≡ get_or chains i c
     → made ≡ chain_words t i c → old ≡ chains_words t 0 (take i chains) → new ≡ old ++ made ∷ []
     → new ≡ chains_words t 0 (take (i + 1) chains)
 next_chain t chains i c made old new within is words before pushed =

@@ -1,8 +1,8 @@
 -- Why several workers refuse to compile a text.
 use Rattle.std.proofs.Common.{◌≡◌, ℕ, List, inl, inr, refl, arith}
 use Rattle.sect_names.specs.Sources.{IsDue}
-use Rattle.sect_names.specs.declared.refusal.Refusal.{Refusal}
-use Rattle.sect_names.specs.declared.refusal.Refusal.TheVariants as refusal
+use Rattle.sect_names.specs.declared.refusal.SourceRefusal.{SourceRefusal}
+use Rattle.sect_names.specs.declared.refusal.SourceRefusal.TheVariants as refusal
 use Rattle.sect_infer.specs.Workers.{AreOffered, AreRefused}
 use Rattle.sect_infer.specs.declared.workers.InferFault.{InferFault}
 use Rattle.sect_infer.specs.declared.workers.InferFault.TheVariants as infer
@@ -29,7 +29,7 @@ workers_due workers bytes k infer.Memory bad refused = absurd (let e : infer.Mem
 workers_due workers bytes k infer.BadWorkers bad refused = (refl, refused)
 
 -- what is due of a text is due of it by so many workers as are offered
-pub source_due : (workers : ℕ) (bytes : List ℕ) (k : ℕ) (why : Refusal) → AreOffered workers → IsDue bytes k why
+pub source_due : (workers : ℕ) (bytes : List ℕ) (k : ℕ) (why : SourceRefusal) → AreOffered workers → IsDue bytes k why
     → IsDueBy workers bytes k (of_source why)
 source_due workers bytes k refusal.Memory offered due = (offered, due)
 source_due workers bytes k (refusal.Front f) offered due = (offered, λ e. cc, due)

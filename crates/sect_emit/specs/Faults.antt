@@ -1,8 +1,8 @@
 -- Which refusal is due of a text that is compiled by several workers. `compile_with` cites it.
 use Rattle.std.specs.Prelude.{◌≡◌, ◌≢◌, ℕ, List}
 use Rattle.sect_names.specs.Sources.{IsDue}
-use Rattle.sect_names.specs.declared.refusal.Refusal.{Refusal}
-use Rattle.sect_names.specs.declared.refusal.Refusal.TheVariants as refusal
+use Rattle.sect_names.specs.declared.refusal.SourceRefusal.{SourceRefusal}
+use Rattle.sect_names.specs.declared.refusal.SourceRefusal.TheVariants as refusal
 use Rattle.sect_infer.specs.Workers.{AreOffered, AreRefused}
 use Rattle.sect_infer.specs.declared.workers.InferFault.{InferFault}
 use Rattle.sect_infer.specs.declared.workers.InferFault.TheVariants as infer
@@ -14,7 +14,7 @@ abbrev pub of_workers : InferFault → CompileFault
 of_workers infer.Memory = fault.Memory
 of_workers why = fault.Workers why
 
-abbrev pub of_source : Refusal → CompileFault
+abbrev pub of_source : SourceRefusal → CompileFault
 of_source refusal.Memory = fault.Memory
 of_source why = fault.Source why
 

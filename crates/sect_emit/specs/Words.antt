@@ -15,7 +15,7 @@ use Rattle.sect_cert.specs.declared.lock.CertPath.{CertPath}
 use Rattle.sect_cert.specs.declared.lock.CertLock.{CertLock}
 use Rattle.sect_cert.specs.declared.lock.CertLock.TheVariants as named
 use Rattle.sect_cert.specs.declared.certificate.CertStep.{CertStep}
-use Rattle.sect_cert.specs.declared.certificate.Chain.{Chain}
+use Rattle.sect_cert.specs.declared.certificate.CertChain.{CertChain}
 use Rattle.sect_cert.specs.declared.certificate.CertSection.{CertSection}
 use Rattle.sect_infer.specs.Sets.{LocksView}
 
@@ -37,11 +37,11 @@ abbrev pub step_words : TreeView → Link → CertStep
 step_words t a = record { node = a.node; lock = lock_words t a.lock }
 
 -- the chain of the lock of that number
-abbrev pub chain_words : TreeView → ℕ → List Link → Chain
+abbrev pub chain_words : TreeView → ℕ → List Link → CertChain
 chain_words t n links = record { lock = n; steps = map (step_words t) links }
 
 -- the chains, by number from this one
-abbrev pub chains_words : TreeView → ℕ → List (List Link) → List Chain
+abbrev pub chains_words : TreeView → ℕ → List (List Link) → List CertChain
 chains_words t n [] = []
 chains_words t n (c ∷ cs) = chain_words t n c ∷ chains_words t (n + 1) cs
 

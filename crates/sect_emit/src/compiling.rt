@@ -1,7 +1,7 @@
 //! Compilation.
 
 ghost use Rattle.std.specs.Prelude.{◌≡◌, ◌↔◌, ℕ, List, map, IfOk, IfErr, IsErrOf, OnOk, IsOkUnless};
-ghost use Rattle.sect_names.specs.declared.refusal.Refusal.TheVariants.{Memory};
+ghost use Rattle.sect_names.specs.declared.refusal.SourceRefusal.TheVariants.{Memory};
 ghost use Rattle.sect_names.specs.Schemes.{SchemeView};
 ghost use Rattle.sect_names.specs.Sources.{IsAccepted, IsDue};
 ghost use Rattle.sect_infer.specs.Sets.{AreAllInferred};
@@ -17,7 +17,7 @@ use crate::fault::CompileFault;
 use crate::fixed::fixed_part;
 use crate::plan::Grip;
 use sect_infer::{InferFault, Locks, Seen, check_workers, infer, infer_all};
-use sect_names::{Refusal, Scheme, accept};
+use sect_names::{Scheme, SourceRefusal, accept};
 use std::alloc::{AllocError, Global};
 use std::sync::Wait;
 use std::thread::Threads;
@@ -25,7 +25,7 @@ use std::thread::Threads;
 /// The compiled program of a source text, for paths of at most `k` fields. How many fields a path may have is judged
 /// before the source; then the first fault of the text, of its types or of its hints is answered. `Memory` is answered
 /// only where a growth was refused.
-pub fn compile(alloc: Global, source: &[u8], k: u16) -> Result<Compiled, Refusal>
+pub fn compile(alloc: Global, source: &[u8], k: u16) -> Result<Compiled, SourceRefusal>
     // The text is accepted, and this is its compiled program, with the least set of each section.
     ensures compiled { IfOk result (IsCompiledFrom source.now k) }
     // A text that is accepted is compiled, unless memory runs out.

@@ -5,7 +5,7 @@ ghost use Rattle.sect_emit.specs.declared.fault.CompileFault.TheVariants.{Memory
 ghost use Rattle.sect_emit.specs.Faults.{of_workers, of_source};
 
 use sect_infer::InferFault;
-use sect_names::Refusal;
+use sect_names::SourceRefusal;
 use std::alloc::AllocError;
 use thiserror::Error;
 
@@ -20,7 +20,7 @@ pub enum CompileFault {
     Workers(InferFault),
     /// The source text is refused.
     #[error("{0}")]
-    Source(Refusal),
+    Source(SourceRefusal),
 }
 
 impl From<AllocError> for CompileFault {
@@ -42,12 +42,12 @@ impl From<InferFault> for CompileFault {
     }
 }
 
-impl From<Refusal> for CompileFault {
+impl From<SourceRefusal> for CompileFault {
     ghost from_gives = { λ why r. r ≡ of_source why };
 
-    fn from(why: Refusal) -> CompileFault {
+    fn from(why: SourceRefusal) -> CompileFault {
         match why {
-            Refusal::Memory => CompileFault::Memory,
+            SourceRefusal::Memory => CompileFault::Memory,
             other => CompileFault::Source(other),
         }
     }

@@ -165,7 +165,7 @@ fn chain_of(
     program: &Program,
     lock: u32,
     chain: &Chain,
-) -> Result<sect_cert::Chain, AllocError>
+) -> Result<sect_cert::CertChain, AllocError>
     requires { IsChainNamed program.now chain.now }
     ensures words { IfOk result (λ words. words ≡ chain_words program.now.source lock chain.now) }
     ensures good { IfOk result IsChain }
@@ -175,7 +175,7 @@ fn chain_of(
     for index in 0..links.len() {
         next_step(alloc, program, links, index, &mut steps)?;
     }
-    Ok(sect_cert::Chain { lock, steps })
+    Ok(sect_cert::CertChain { lock, steps })
 }
 
 /// The chains of locks, in order, by their names.
@@ -183,7 +183,7 @@ pub fn chains_of(
     alloc: Global,
     program: &Program,
     chains: &[Chain],
-) -> Result<Items<sect_cert::Chain>, AllocError>
+) -> Result<Items<sect_cert::CertChain>, AllocError>
     requires few { length chains.now ≤ 4294967296 }
     requires named { (links : List Link) → Has chains.now links → IsChainNamed program.now links }
     ensures words { IfOk result (λ list. list ≡ chains_words program.now.source 0 chains.now) }

@@ -32,8 +32,8 @@ use Rattle.sect_front.specs.declared.partial.PartialHead.TheVariants as line
 use Rattle.sect_front.specs.declared.partial.PartialCall.{PartialCall}
 use Rattle.sect_front.specs.declared.partial.PartialCall.TheVariants as call
 use Rattle.sect_front.specs.declared.tree.Kind.TheVariants as kind
-use Rattle.sect_front.specs.declared.within.Frame.{Frame}
-use Rattle.sect_front.specs.declared.within.Frame.TheVariants as frame
+use Rattle.sect_front.specs.declared.within.OpenBlock.{OpenBlock}
+use Rattle.sect_front.specs.declared.within.OpenBlock.TheVariants as open_block
 use Rattle.sect_front.specs.declared.within.Partial.{Partial}
 use Rattle.sect_front.specs.declared.within.Partial.TheVariants as place
 use Rattle.sect_front.specs.declared.reader.Part.TheVariants as part
@@ -252,7 +252,7 @@ place_end b (place.AfterElse t a) =
     record { body = append b (IfElse t a End); more = no_block; is = body_tokens_append b (IfElse t a End) }
 
 -- the innermost block becomes a statement of the one around it
-closed : (fs : List Frame) (b : BlockView) (s : StatementView) (kept : List Token → List Token)
+closed : (fs : List OpenBlock) (b : BlockView) (s : StatementView) (kept : List Token → List Token)
     → ((w : List Token) → statement_tokens s w ≡ kept (token.CloseBrace ∷ w)) →
     BodyEnd (λ w. frames_tokens fs (block_tokens (append b s) w))
     → BodyEnd (λ w. frames_tokens fs (block_tokens b (kept w)))
@@ -264,22 +264,22 @@ closed fs b s kept h e =
           λ w. e.is w ∙ ap (frames_tokens fs) (body_tokens_append b s (e.more w) ∙ ap (block_tokens b) (h (e.more w)));
     }
 
-frames_end : (fs : List Frame) (b : BlockView) → BodyEnd (λ w. frames_tokens fs (block_tokens b w))
+frames_end : (fs : List OpenBlock) (b : BlockView) → BodyEnd (λ w. frames_tokens fs (block_tokens b w))
 frames_end [] b = record { body = b; more = λ w. w; is = λ w. refl }
-frames_end (frame.Atomic c l ∷ fs) b =
+frames_end (open_block.Atomic c l ∷ fs) b =
     closed fs c (Atomic l b) (λ w. token.Atomic ∷ locking_tokens l (token.OpenBrace ∷ block_tokens b w)) (λ w. refl)
     (frames_end fs (append c (Atomic l b)))
-frames_end (frame.While c t ∷ fs) b =
+frames_end (open_block.While c t ∷ fs) b =
     closed fs c (While t b) (λ w. token.While ∷ test_tokens t (token.OpenBrace ∷ block_tokens b w)) (λ w. refl)
     (frames_end fs (append c (While t b)))
-frames_end (frame.Then c t ∷ fs) b =
+frames_end (open_block.Then c t ∷ fs) b =
     closed fs c (If t b) (λ w. token.If ∷ test_tokens t (token.OpenBrace ∷ block_tokens b w)) (λ w. refl)
     (frames_end fs (append c (If t b)))
-frames_end (frame.Else c t a ∷ fs) b =
+frames_end (open_block.Else c t a ∷ fs) b =
     closed fs c (IfElse t a b) (λ w. statement_tokens (If t a) (token.Else ∷ token.OpenBrace ∷ block_tokens b w))
     (λ w. refl) (frames_end fs (append c (IfElse t a b)))
 
-stand_end : (fs : List Frame) (b : BlockView) (p : Partial)
+stand_end : (fs : List OpenBlock) (b : BlockView) (p : Partial)
     → BodyEnd (λ w. frames_tokens fs (block_tokens b (place_tokens p w)))
 stand_end fs b p = let e = place_end b p in let f = frames_end fs e.body in
     record { body = f.body; more = λ w. e.more (f.more w); is = λ w. f.is w ∙ ap (frames_tokens fs) (e.is (f.more w)) }
@@ -432,7 +432,7 @@ outside_end s (outside.Body b) h = body_stage_end s b h
 
 source_end : (s : TreeView) (g : Stage) → Fits (part_in g) s → SourceEnd (λ w. source_tokens s (stage_tokens g w))
 source_end s (stage.Outside g) h = outside_end s g h
-source_end s (stage.Inside o ls x) h = let e = stand_end x.frames x.before x.place in
+source_end s (stage.Inside o ls x) h = let e = stand_end x.open_blocks x.before x.place in
     owner_end s o ls e.body (stage_tokens (stage.Inside o ls x)) (e.more (token.CloseBrace ∷ [])) h
     (ap (opened o ls) (e.is (token.CloseBrace ∷ [])))
 

@@ -40,7 +40,7 @@ use Rattle.sect_front.specs.declared.partial.PartialStore.TheVariants as store
 use Rattle.sect_front.specs.declared.partial.PartialBranch.TheVariants as head
 use Rattle.sect_front.specs.declared.partial.PartialCall.{PartialCall}
 use Rattle.sect_front.specs.declared.partial.PartialCall.TheVariants as call
-use Rattle.sect_front.specs.declared.within.Frame.{Frame}
+use Rattle.sect_front.specs.declared.within.OpenBlock.{OpenBlock}
 use Rattle.sect_front.specs.declared.within.Partial.{Partial}
 use Rattle.sect_front.specs.declared.within.Partial.TheVariants as place
 use Rattle.sect_front.specs.declared.reader.Owner.{Owner}
@@ -83,7 +83,7 @@ local_or_statement s o ls token.CloseBrace other = goes_on_taken s o ls (step_of
 local_or_statement s o ls _ other = refl
 
 -- behind an `if` all but `else` is taken as where a statement may stand
-pub then_or_statement : (fs : List Frame) (b : BlockView) (s : StatementView) (p : Partial) (t : Token)
+pub then_or_statement : (fs : List OpenBlock) (b : BlockView) (s : StatementView) (p : Partial) (t : Token)
     → t ≢ token.Else → is_taken (start_step fs (append b s) t) ≡ is_taken (after_then fs b s p t)
 then_or_statement fs b s p token.Else other = absurd (other refl)
 then_or_statement fs b s p _ other = refl
@@ -120,7 +120,7 @@ head_alike (line.Branch b (head.AfterClose t)) = (λ n m. refl, λ i j. refl)
 head_alike line.AfterAtomic = (λ n m. refl, λ i j. refl)
 head_alike line.AfterAll = (λ n m. refl, λ i j. refl)
 
-moves : (fs : List Frame) (b : BlockView) (o : Option Move) → is_taken (moved_if fs b o) ≡ is_some o
+moves : (fs : List OpenBlock) (b : BlockView) (o : Option Move) → is_taken (moved_if fs b o) ≡ is_some o
 moves fs b None = refl
 moves fs b (Some (move.To l)) = refl
 moves fs b (Some (move.Whole p)) = refl
@@ -128,7 +128,7 @@ moves fs b (Some (move.OpensThen t)) = refl
 moves fs b (Some (move.OpensWhile t)) = refl
 moves fs b (Some (move.OpensAtomic l)) = refl
 
-call_alike : (fs : List Frame) (b : BlockView) (c : PartialCall) → TakesAlike (call_step fs b c) is_taken
+call_alike : (fs : List OpenBlock) (b : BlockView) (c : PartialCall) → TakesAlike (call_step fs b c) is_taken
 call_alike fs b call.AfterWord = (λ n m. refl, λ i j. refl)
 call_alike fs b (call.AfterName f) = (λ n m. refl, λ i j. refl)
 call_alike fs b (call.Open f) = (λ n m. refl, λ i j. refl)
@@ -136,7 +136,7 @@ call_alike fs b (call.AfterArgument f vs v) = (λ n m. refl, λ i j. refl)
 call_alike fs b (call.AfterComma f vs) = (λ n m. refl, λ i j. refl)
 call_alike fs b (call.AfterClose f vs) = (λ n m. refl, λ i j. refl)
 
-step_alike : (fs : List Frame) (b : BlockView) (p : Partial) → TakesAlike (step_at fs b p) is_taken
+step_alike : (fs : List OpenBlock) (b : BlockView) (p : Partial) → TakesAlike (step_at fs b p) is_taken
 step_alike fs b place.Start = (λ n m. refl, λ i j. refl)
 step_alike fs b (place.Inside l) = (
   λ n m. moves fs b (advance_of l (token.Name n)) ∙ (head_alike l).0 n m ∙ sym (moves fs b (advance_of l (token.Name m))),
@@ -179,9 +179,9 @@ stage_alike : (s : TreeView) (g : Stage) → TakesAlike (read_at s g) is_some
 stage_alike s (stage.Outside g) = outside_alike s g
 stage_alike s (stage.Inside o ls x) = (
   λ n m. sym (goes_on_taken s o ls (step_of x (token.Name n)))
-      ∙ (step_alike x.frames x.before x.place).0 n m ∙ goes_on_taken s o ls (step_of x (token.Name m)),
+      ∙ (step_alike x.open_blocks x.before x.place).0 n m ∙ goes_on_taken s o ls (step_of x (token.Name m)),
   λ i j. sym (goes_on_taken s o ls (step_of x (token.Number i)))
-      ∙ (step_alike x.frames x.before x.place).1 i j ∙ goes_on_taken s o ls (step_of x (token.Number j)),
+      ∙ (step_alike x.open_blocks x.before x.place).1 i j ∙ goes_on_taken s o ls (step_of x (token.Number j)),
 )
 
 sampled : (r : ReaderView) (t : Token) → is_some (read_one r t) ≡ is_kind_taken r (kind_of t)

@@ -47,8 +47,8 @@ use Rattle.sect_front.specs.declared.partial.PartialCall.{PartialCall}
 use Rattle.sect_front.specs.declared.partial.PartialCall.TheVariants as call
 use Rattle.sect_front.specs.declared.partial.Move.{Move}
 use Rattle.sect_front.specs.declared.partial.Move.TheVariants as move
-use Rattle.sect_front.specs.declared.within.Frame.{Frame}
-use Rattle.sect_front.specs.declared.within.Frame.TheVariants as frame
+use Rattle.sect_front.specs.declared.within.OpenBlock.{OpenBlock}
+use Rattle.sect_front.specs.declared.within.OpenBlock.TheVariants as open_block
 use Rattle.sect_front.specs.declared.within.Partial.{Partial}
 use Rattle.sect_front.specs.declared.within.Partial.TheVariants as place
 use Rattle.sect_front.specs.declared.reader.Part.{Part}
@@ -268,18 +268,18 @@ place_tokens (place.AfterThen t a) w = statement_tokens (If t a) w
 place_tokens (place.AfterElse t a) w = statement_tokens (If t a) (token.Else ∷ w)
 
 -- the open blocks, the innermost first
-abbrev pub frames_tokens : List Frame → List Token → List Token
+abbrev pub frames_tokens : List OpenBlock → List Token → List Token
 frames_tokens [] w = w
-frames_tokens (frame.Atomic b l ∷ fs) w =
+frames_tokens (open_block.Atomic b l ∷ fs) w =
     frames_tokens fs (block_tokens b (token.Atomic ∷ locking_tokens l (token.OpenBrace ∷ w)))
-frames_tokens (frame.While b t ∷ fs) w =
+frames_tokens (open_block.While b t ∷ fs) w =
     frames_tokens fs (block_tokens b (token.While ∷ test_tokens t (token.OpenBrace ∷ w)))
-frames_tokens (frame.Then b t ∷ fs) w =
+frames_tokens (open_block.Then b t ∷ fs) w =
     frames_tokens fs (block_tokens b (token.If ∷ test_tokens t (token.OpenBrace ∷ w)))
-frames_tokens (frame.Else b t a ∷ fs) w =
+frames_tokens (open_block.Else b t a ∷ fs) w =
     frames_tokens fs (block_tokens b (statement_tokens (If t a) (token.Else ∷ token.OpenBrace ∷ w)))
 
-abbrev pub stand_tokens : List Frame → BlockView → Partial → List Token → List Token
+abbrev pub stand_tokens : List OpenBlock → BlockView → Partial → List Token → List Token
 stand_tokens fs b p w = frames_tokens fs (block_tokens b (place_tokens p w))
 
 pub body_tokens_append : (b : BlockView) (s : StatementView) (w : List Token)
@@ -289,23 +289,23 @@ body_tokens_append (Then t b) s w = ap (statement_tokens t) (body_tokens_append 
 
 -- what was read leads to what is read now
 abbrev pub Keeps : List Token → Next → List Token → Type 0
-Keeps old (Stays s) w = old ≡ stand_tokens s.frames s.before s.place w
+Keeps old (Stays s) w = old ≡ stand_tokens s.open_blocks s.before s.place w
 Keeps old (Ends b) w = old ≡ block_tokens b (token.CloseBrace ∷ w)
 Keeps old Stuck w = Unit {0}
 
-appended : (fs : List Frame) (b : BlockView) (s : StatementView) (w : List Token)
+appended : (fs : List OpenBlock) (b : BlockView) (s : StatementView) (w : List Token)
     → frames_tokens fs (block_tokens b (statement_tokens s w)) ≡ frames_tokens fs (block_tokens (append b s) w)
 appended fs b s w = ap (frames_tokens fs) (sym (body_tokens_append b s w))
 
-close_law : (fs : List Frame) (b : BlockView) (w : List Token)
+close_law : (fs : List OpenBlock) (b : BlockView) (w : List Token)
     → Keeps (frames_tokens fs (block_tokens b (token.CloseBrace ∷ w))) (close_step fs b) w
 close_law [] b w = refl
-close_law (frame.Atomic c l ∷ fs) b w = appended fs c (Atomic l b) w
-close_law (frame.While c t ∷ fs) b w = appended fs c (While t b) w
-close_law (frame.Then c t ∷ fs) b w = refl
-close_law (frame.Else c t a ∷ fs) b w = appended fs c (IfElse t a b) w
+close_law (open_block.Atomic c l ∷ fs) b w = appended fs c (Atomic l b) w
+close_law (open_block.While c t ∷ fs) b w = appended fs c (While t b) w
+close_law (open_block.Then c t ∷ fs) b w = refl
+close_law (open_block.Else c t a ∷ fs) b w = appended fs c (IfElse t a b) w
 
-start_law : (fs : List Frame) (b : BlockView) (t : Token) (w : List Token)
+start_law : (fs : List OpenBlock) (b : BlockView) (t : Token) (w : List Token)
     → Keeps (frames_tokens fs (block_tokens b (t ∷ w))) (start_step fs b t) w
 start_law fs b (token.Name x) w = refl
 start_law fs b token.Print w = refl
@@ -316,7 +316,7 @@ start_law fs b token.Call w = refl
 start_law fs b token.CloseBrace w = close_law fs b w
 start_law fs b _ w = tt
 
-moved_law : (fs : List Frame) (b : BlockView) (m : Move) (w : List Token)
+moved_law : (fs : List OpenBlock) (b : BlockView) (m : Move) (w : List Token)
     → Keeps (frames_tokens fs (block_tokens b (move_tokens m w))) (moved fs b m) w
 moved_law fs b (move.To l) w = refl
 moved_law fs b (move.Whole p) w = appended fs b (Primitive p) w
@@ -324,20 +324,20 @@ moved_law fs b (move.OpensThen t) w = refl
 moved_law fs b (move.OpensWhile t) w = refl
 moved_law fs b (move.OpensAtomic l) w = refl
 
-moved_if_law : (fs : List Frame) (b : BlockView) (o : Option Move) (u w : List Token)
+moved_if_law : (fs : List OpenBlock) (b : BlockView) (o : Option Move) (u w : List Token)
     → IfSome o (λ m. u ≡ move_tokens m w) → Keeps (frames_tokens fs (block_tokens b u)) (moved_if fs b o) w
 moved_if_law fs b None u w h = tt
 moved_if_law fs b (Some m) u w h =
     subst (λ x. Keeps (frames_tokens fs (block_tokens b x)) (moved fs b m) w) (sym h) (moved_law fs b m w)
 
-argument_law : (fs : List Frame) (b : BlockView) (f : List ℕ) (vs : List Operand) (t : Token) (w : List Token)
+argument_law : (fs : List OpenBlock) (b : BlockView) (f : List ℕ) (vs : List Operand) (t : Token) (w : List Token)
     (o : Option Operand) → IfSome o (λ v. operand_token v ≡ t) →
     Keeps (frames_tokens fs (block_tokens b (called f vs (behind vs (t ∷ w))))) (argument_step fs b f vs o) w
 argument_law fs b f vs t w None h = tt
 argument_law fs b f vs t w (Some v) h =
     ap (λ x. frames_tokens fs (block_tokens b (called f vs (behind vs (x ∷ w))))) (sym h)
 
-call_law : (fs : List Frame) (b : BlockView) (c : PartialCall) (t : Token) (w : List Token) →
+call_law : (fs : List OpenBlock) (b : BlockView) (c : PartialCall) (t : Token) (w : List Token) →
     Keeps (frames_tokens fs (block_tokens b (call_stage_tokens c (t ∷ w)))) (call_step fs b c t) w
 call_law fs b call.AfterWord (token.Name f) w = refl
 call_law fs b (call.AfterName f) token.OpenParen w = refl
@@ -353,7 +353,7 @@ call_law fs b (call.AfterComma f vs) t w = argument_law fs b f vs t w (operand_o
 call_law fs b (call.AfterClose f vs) token.Semicolon w = appended fs b (Call f vs) w
 call_law fs b _ _ w = tt
 
-pub stand_law : (fs : List Frame) (b : BlockView) (p : Partial) (t : Token) (w : List Token)
+pub stand_law : (fs : List OpenBlock) (b : BlockView) (p : Partial) (t : Token) (w : List Token)
     → Keeps (stand_tokens fs b p (t ∷ w)) (step_at fs b p t) w
 stand_law fs b place.Start t w = start_law fs b t w
 stand_law fs b (place.Inside l) t w = moved_if_law fs b (advance_of l t) (line_tokens l (t ∷ w)) w (line_law l t w)
@@ -427,7 +427,7 @@ outside_tokens (outside.Body b) w = body_stage_tokens b w
 
 abbrev pub stage_tokens : Stage → List Token → List Token
 stage_tokens (stage.Outside g) w = outside_tokens g w
-stage_tokens (stage.Inside o ls s) w = opened o ls (stand_tokens s.frames s.before s.place w)
+stage_tokens (stage.Inside o ls s) w = opened o ls (stand_tokens s.open_blocks s.before s.place w)
 
 abbrev pub reading_tokens : ReaderView → List Token → List Token
 reading_tokens r w = source_tokens r.source (stage_tokens r.stage w)
@@ -660,8 +660,8 @@ pub read_law : (s : TreeView) (g : Stage) (t : Token) (w : List Token) → Fits 
     → IfSome (read_at s g t) (IsKept (source_tokens s (stage_tokens g (t ∷ w))) w)
 read_law s (stage.Outside g) t w h = outside_law s g t w h
 read_law s (stage.Inside o ls x) t w h =
-    goes_law s o ls (step_of x t) (stand_tokens x.frames x.before x.place (t ∷ w)) w h
-    (stand_law x.frames x.before x.place t w)
+    goes_law s o ls (step_of x t) (stand_tokens x.open_blocks x.before x.place (t ∷ w)) w h
+    (stand_law x.open_blocks x.before x.place t w)
 
 IfSome_weaker : (o : Option ReaderView) (P Q : ReaderView → Type 0) → ((x : ReaderView) → P x → Q x) → IfSome o P
     → IfSome o Q

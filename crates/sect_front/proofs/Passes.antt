@@ -31,8 +31,8 @@ use Rattle.sect_front.specs.declared.tree.GlobalObject.{GlobalObject}
 use Rattle.sect_front.specs.declared.tree.Procedure.{Procedure}
 use Rattle.sect_front.specs.declared.tree.Thread.{Thread}
 use Rattle.sect_front.specs.declared.partial.PartialCall.TheVariants as call
-use Rattle.sect_front.specs.declared.within.Frame.{Frame}
-use Rattle.sect_front.specs.declared.within.Frame.TheVariants as frame
+use Rattle.sect_front.specs.declared.within.OpenBlock.{OpenBlock}
+use Rattle.sect_front.specs.declared.within.OpenBlock.TheVariants as open_block
 use Rattle.sect_front.specs.declared.within.Partial.{Partial}
 use Rattle.sect_front.specs.declared.within.Partial.TheVariants as place
 use Rattle.sect_front.specs.declared.reader.Part.{Part}
@@ -80,11 +80,11 @@ join_end : (b : BlockView) → join End b ≡ b
 join_end b = join_cat End b
 
 module _ (s : TreeView) (o : Owner) (ls : List Declaration) where
-  abbrev at : List Frame → BlockView → Partial → ReaderView
-  at fs b p = among s o ls (record { frames = fs; before = b; place = p })
+  abbrev at : List OpenBlock → BlockView → Partial → ReaderView
+  at fs b p = among s o ls (record { open_blocks = fs; before = b; place = p })
 
   -- where a statement leads
-  abbrev ended : List Frame → BlockView → StatementView → ReaderView
+  abbrev ended : List OpenBlock → BlockView → StatementView → ReaderView
   ended fs b (Primitive p) = at fs (append b (Primitive p)) place.Start
   ended fs b (If t a) = at fs b (place.AfterThen t a)
   ended fs b (While t a) = at fs (append b (While t a)) place.Start
@@ -92,14 +92,14 @@ module _ (s : TreeView) (o : Owner) (ls : List Declaration) where
   ended fs b (Atomic l a) = at fs (append b (Atomic l a)) place.Start
   ended fs b (Call f vs) = at fs (append b (Call f vs)) place.Start
 
-  assign_passes : (fs : List Frame) (b : BlockView) (x : List ℕ) (v : Operand) (w : List Token)
+  assign_passes : (fs : List OpenBlock) (b : BlockView) (x : List ℕ) (v : Operand) (w : List Token)
       → after (at fs b place.Start) (primitive_tokens (primitive.Assign x v) w) ≡ after
       (at fs (append b (Primitive (primitive.Assign x v))) place.Start) w
   assign_passes fs b x (operand.Number n) w = refl
   assign_passes fs b x operand.Null w = refl
   assign_passes fs b x (operand.Name n) w = refl
 
-  compute_passes : (fs : List Frame) (b : BlockView) (x : List ℕ) (v : Operand) (o : Operator) (u : Operand)
+  compute_passes : (fs : List OpenBlock) (b : BlockView) (x : List ℕ) (v : Operand) (o : Operator) (u : Operand)
       (w : List Token) → after (at fs b place.Start) (primitive_tokens (primitive.Compute x v o u) w) ≡ after
       (at fs (append b (Primitive (primitive.Compute x v o u))) place.Start) w
   compute_passes fs b x (operand.Number n) operator.Add u w = simp operand_back
@@ -112,7 +112,7 @@ module _ (s : TreeView) (o : Owner) (ls : List Declaration) where
   compute_passes fs b x (operand.Name n) operator.Subtract u w = simp operand_back
   compute_passes fs b x (operand.Name n) operator.Multiply u w = simp operand_back
 
-  primitive_passes : (fs : List Frame) (b : BlockView) (p : leaf.Primitive) (w : List Token)
+  primitive_passes : (fs : List OpenBlock) (b : BlockView) (p : leaf.Primitive) (w : List Token)
       → after (at fs b place.Start) (primitive_tokens p w) ≡ after (at fs (append b (Primitive p)) place.Start) w
   primitive_passes fs b (primitive.Assign x v) w = assign_passes fs b x v w
   primitive_passes fs b (primitive.Compute x v o u) w = compute_passes fs b x v o u w
@@ -121,31 +121,31 @@ module _ (s : TreeView) (o : Owner) (ls : List Declaration) where
   primitive_passes fs b (primitive.Store y f v) w = simp operand_back
   primitive_passes fs b (primitive.Print v) w = simp operand_back
 
-  test_passes : (fs : List Frame) (b : BlockView) (t : Test) (w : List Token) →
+  test_passes : (fs : List OpenBlock) (b : BlockView) (t : Test) (w : List Token) →
       after (at fs b place.Start) (token.If ∷ test_tokens t (token.OpenBrace ∷ w)) ≡ after
-      (at (frame.Then b t ∷ fs) End place.Start) w
+      (at (open_block.Then b t ∷ fs) End place.Start) w
   test_passes fs b t w = simp (operand_back, comparison_back)
 
-  while_passes : (fs : List Frame) (b : BlockView) (t : Test) (w : List Token) →
+  while_passes : (fs : List OpenBlock) (b : BlockView) (t : Test) (w : List Token) →
       after (at fs b place.Start) (token.While ∷ test_tokens t (token.OpenBrace ∷ w)) ≡ after
-      (at (frame.While b t ∷ fs) End place.Start) w
+      (at (open_block.While b t ∷ fs) End place.Start) w
   while_passes fs b t w = simp (operand_back, comparison_back)
 
-  first_argument_passes : (fs : List Frame) (b : BlockView) (f : List ℕ) (v : Operand) (w : List Token) →
+  first_argument_passes : (fs : List OpenBlock) (b : BlockView) (f : List ℕ) (v : Operand) (w : List Token) →
       after (at fs b (place.InCall (call.Open f))) (operand_token v ∷ w) ≡
       after (at fs b (place.InCall (call.AfterArgument f [] v))) w
   first_argument_passes fs b f (operand.Number n) w = refl
   first_argument_passes fs b f operand.Null w = refl
   first_argument_passes fs b f (operand.Name n) w = refl
 
-  argument_passes : (fs : List Frame) (b : BlockView) (f : List ℕ) (vs : List Operand) (v : Operand) (w : List Token) →
+  argument_passes : (fs : List OpenBlock) (b : BlockView) (f : List ℕ) (vs : List Operand) (v : Operand) (w : List Token) →
       after (at fs b (place.InCall (call.AfterComma f vs))) (operand_token v ∷ w) ≡
       after (at fs b (place.InCall (call.AfterArgument f vs v))) w
   argument_passes fs b f vs (operand.Number n) w = refl
   argument_passes fs b f vs operand.Null w = refl
   argument_passes fs b f vs (operand.Name n) w = refl
 
-  arguments_pass : (fs : List Frame) (b : BlockView) (f : List ℕ) (us vs : List Operand) (v : Operand)
+  arguments_pass : (fs : List OpenBlock) (b : BlockView) (f : List ℕ) (us vs : List Operand) (v : Operand)
       (w : List Token) →
       after (at fs b (place.InCall (call.AfterArgument f vs v)))
       (more_operands us (token.CloseParen ∷ token.Semicolon ∷ w)) ≡
@@ -156,7 +156,7 @@ module _ (s : TreeView) (o : Owner) (ls : List Declaration) where
       (arguments_pass fs b f us (vs ++ v ∷ []) u w ∙
       ap (λ x. after (at fs (append b (Call f x)) place.Start) w) (append_assoc vs (v ∷ []) (u ∷ us)))
 
-  call_passes : (fs : List Frame) (b : BlockView) (f : List ℕ) (vs : List Operand) (w : List Token) →
+  call_passes : (fs : List OpenBlock) (b : BlockView) (f : List ℕ) (vs : List Operand) (w : List Token) →
       after (at fs b place.Start) (call_tokens f vs w) ≡ after (at fs (append b (Call f vs)) place.Start) w
   call_passes fs b f [] w = refl
   call_passes fs b f (v ∷ vs) w =
@@ -164,7 +164,7 @@ module _ (s : TreeView) (o : Owner) (ls : List Declaration) where
       arguments_pass fs b f vs [] v w
 
   -- after a choice with no else-part the next statement starts as after any other
-  settled_next : (fs : List Frame) (b : BlockView) (t : Test) (a : BlockView) (s : StatementView) (w : List Token) →
+  settled_next : (fs : List OpenBlock) (b : BlockView) (t : Test) (a : BlockView) (s : StatementView) (w : List Token) →
       after (at fs b (place.AfterThen t a)) (statement_tokens s w) ≡ after (at fs (append b (If t a)) place.Start)
       (statement_tokens s w)
   settled_next fs b t a (Primitive (primitive.Assign x v)) w = refl
@@ -179,7 +179,7 @@ module _ (s : TreeView) (o : Owner) (ls : List Declaration) where
   settled_next fs b t a (Atomic l c) w = refl
   settled_next fs b t a (Call f vs) w = refl
 
-  settled : (fs : List Frame) (b : BlockView) (s : StatementView) (r : BlockView) (w : List Token) →
+  settled : (fs : List OpenBlock) (b : BlockView) (s : StatementView) (r : BlockView) (w : List Token) →
       after (ended fs b s) (block_tokens r (token.CloseBrace ∷ w)) ≡ after (at fs (append b s) place.Start)
       (block_tokens r (token.CloseBrace ∷ w))
   settled fs b (Primitive p) r w = refl
@@ -191,30 +191,30 @@ module _ (s : TreeView) (o : Owner) (ls : List Declaration) where
   settled fs b (Call f vs) r w = refl
 
   mutual
-    form_passes : (s : StatementView) (fs : List Frame) (b : BlockView) (w : List Token)
+    form_passes : (s : StatementView) (fs : List OpenBlock) (b : BlockView) (w : List Token)
         → after (at fs b place.Start) (statement_tokens s w) ≡ after (ended fs b s) w
     form_passes (Primitive p) fs b w = primitive_passes fs b p w
     form_passes (If t a) fs b w =
-        test_passes fs b t _ ∙ (body_passes a (frame.Then b t ∷ fs) End w
+        test_passes fs b t _ ∙ (body_passes a (open_block.Then b t ∷ fs) End w
         ∙ ap (λ x. after (at fs b (place.AfterThen t x)) w) (join_end a))
     form_passes (IfElse t a c) fs b w =
-        test_passes fs b t _ ∙ (body_passes a (frame.Then b t ∷ fs) End _ ∙
+        test_passes fs b t _ ∙ (body_passes a (open_block.Then b t ∷ fs) End _ ∙
         (ap (λ x. after (at fs b (place.AfterThen t x))
         (token.Else ∷ token.OpenBrace ∷ block_tokens c (token.CloseBrace ∷ w))) (join_end a) ∙
-        (body_passes c (frame.Else b t a ∷ fs) End w
+        (body_passes c (open_block.Else b t a ∷ fs) End w
         ∙ ap (λ x. after (at fs (append b (IfElse t a x)) place.Start) w) (join_end c))))
     form_passes (While t a) fs b w =
-        while_passes fs b t _ ∙ (body_passes a (frame.While b t ∷ fs) End w
+        while_passes fs b t _ ∙ (body_passes a (open_block.While b t ∷ fs) End w
         ∙ ap (λ x. after (at fs (append b (While t x)) place.Start) w) (join_end a))
     form_passes (Atomic locking.Inferred a) fs b w =
-        body_passes a (frame.Atomic b locking.Inferred ∷ fs) End w
+        body_passes a (open_block.Atomic b locking.Inferred ∷ fs) End w
         ∙ ap (λ x. after (at fs (append b (Atomic locking.Inferred x)) place.Start) w) (join_end a)
     form_passes (Atomic locking.All a) fs b w =
-        body_passes a (frame.Atomic b locking.All ∷ fs) End w
+        body_passes a (open_block.Atomic b locking.All ∷ fs) End w
         ∙ ap (λ x. after (at fs (append b (Atomic locking.All x)) place.Start) w) (join_end a)
     form_passes (Call f vs) fs b w = call_passes fs b f vs w
 
-    body_passes : (c : BlockView) (fs : List Frame) (b : BlockView) (w : List Token) →
+    body_passes : (c : BlockView) (fs : List OpenBlock) (b : BlockView) (w : List Token) →
         after (at fs b place.Start) (block_tokens c (token.CloseBrace ∷ w)) ≡ after (at fs (join b c) place.Start)
         (token.CloseBrace ∷ w)
     body_passes End fs b w = refl

@@ -5,7 +5,7 @@ ghost use Rattle.sect_front.specs.Lexing.{Spells};
 ghost use Rattle.sect_front.specs.TokenAt.{TokenAt};
 ghost use Rattle.sect_front.specs.TreeView.{TreeView};
 ghost use Rattle.sect_front.specs.Syntax.{BlockView};
-ghost use Rattle.sect_front.specs.declared.within.Frame.{Frame};
+ghost use Rattle.sect_front.specs.declared.within.OpenBlock.{OpenBlock};
 ghost use Rattle.sect_front.specs.declared.reader.Owner.{Owner};
 ghost use Rattle.sect_front.specs.declared.tree.Declaration.{Declaration};
 ghost use Rattle.sect_front.specs.Expected.{AreExpected, tokens_before, all_kinds as all_kinds_by};
@@ -27,8 +27,8 @@ use std::alloc::{AllocError, Global};
 
 /// Whether a statement, or the end of a block, may begin with a token.
 fn starts_with(token: &Token) -> bool
-    ensures { (frames : List Frame) (before : BlockView)
-        → result ≡ is_taken (start_step frames before token.now) }
+    ensures { (open_blocks : List OpenBlock) (before : BlockView)
+        → result ≡ is_taken (start_step open_blocks before token.now) }
 {
     matches!(
         token,
@@ -44,8 +44,8 @@ fn starts_with(token: &Token) -> bool
 
 /// Whether a call goes on with a token.
 fn call_takes(call: &PartialCall, token: &Token) -> bool
-    ensures { (frames : List Frame) (before : BlockView)
-        → result ≡ is_taken (call_step frames before call.now token.now) }
+    ensures { (open_blocks : List OpenBlock) (before : BlockView)
+        → result ≡ is_taken (call_step open_blocks before call.now token.now) }
 {
     match call {
         PartialCall::AfterWord => matches!(token, Token::Name(_)),

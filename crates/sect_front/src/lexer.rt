@@ -15,6 +15,7 @@ use crate::name::Name;
 use crate::token::Token;
 use crate::tree::Comparison;
 use crate::words::{is_digit, is_letter, is_name_byte, keyword, word_length};
+use memchr::memchr;
 
 fn is_blank(byte: u8) -> bool
     ensures { result ≡ blank_of byte }
@@ -31,19 +32,15 @@ fn begins_with(bytes: &[u8], byte: u8) -> bool
     }
 }
 
-/// What follows a comment that has been opened, up to its line feed.
+/// What follows a comment that has been opened, behind its line feed.
 fn after_comment(bytes: &[u8]) -> &[u8]
     ensures same { skip false result.now ≡ skip true bytes.now }
     ensures less { length result.now ≤ length bytes.now }
 {
-    let mut rest = bytes;
-    while let Some((first, others)) = rest.split_first() {
-        rest = others;
-        if *first == b'\n' {
-            return rest;
-        }
+    match memchr(b'\n', bytes) {
+        Some(at) => &bytes[at + 1..],
+        None => &[],
     }
-    rest
 }
 
 /// What follows the blanks and comments at the front.

@@ -14,7 +14,7 @@ use std::mem;
 
 /// A block that stands open: the statements before the one that it belongs to, and what has been read of that one.
 #[derive(Drop)]
-pub enum Frame {
+pub enum OpenBlock {
     Atomic(Block, Locking),
     Then(Block, Test),
     Else(Block, Test, Block),
@@ -72,7 +72,7 @@ impl<T: Drop> From<AllocFailed<T>> for StepError {
 /// The statements of a procedure or a thread that have been read so far.
 #[derive(Drop)]
 pub struct Within {
-    frames: Vec<Frame>,
+    open_blocks: Vec<OpenBlock>,
     before: Block,
     place: Partial,
 }
@@ -87,7 +87,7 @@ impl Model for Within {
 
     ghost coded = { Prim.hlevel (codes, block_code) };
 
-    ghost view = { λ w. record { frames = reverse w.frames.items; before = w.before; place = w.place } };
+    ghost view = { λ w. record { open_blocks = reverse w.open_blocks.items; before = w.before; place = w.place } };
 }
 
 impl Within {
@@ -98,10 +98,10 @@ impl Within {
 
     /// No statements.
     pub fn new(alloc: Global) -> Within
-        ensures { result ≡ record { frames = []; before = End; place = Partial.Start } }
+        ensures { result ≡ record { open_blocks = []; before = End; place = Partial.Start } }
     {
         Within {
-            frames: Vec::new(alloc),
+            open_blocks: Vec::new(alloc),
             before: Block::new(alloc),
             place: Partial::Start,
         }
@@ -109,10 +109,10 @@ impl Within {
 
     /// The statements of which the first has begun so.
     pub fn begun(alloc: Global, line: PartialHead) -> Within
-        ensures { result ≡ record { frames = []; before = End; place = Partial.Inside line } }
+        ensures { result ≡ record { open_blocks = []; before = End; place = Partial.Inside line } }
     {
         Within {
-            frames: Vec::new(alloc),
+            open_blocks: Vec::new(alloc),
             before: Block::new(alloc),
             place: Partial::Inside(line),
         }
@@ -127,7 +127,7 @@ impl Within {
 
     /// Sets where the next token stands.
     fn lead_to(&mut self, place: Partial)
-        ensures { self.new ≡ record { frames = self.old.frames; before = self.old.before; place = place } }
+        ensures { self.new ≡ record { open_blocks = self.old.open_blocks; before = self.old.before; place = place } }
     {
         self.place = place;
     }
@@ -170,7 +170,7 @@ impl Within {
         then: Block,
         token: &Token,
     ) -> Result<Option<Block>, StepError>
-        ensures { Steps result self.new (after_then self.old.frames self.old.before (If test then)
+        ensures { Steps result self.new (after_then self.old.open_blocks self.old.before (If test then)
             (Partial.AfterElse test then) token.now) }
     {
         match token {
@@ -194,12 +194,12 @@ impl Within {
         token: &Token,
     ) -> Result<Option<Block>, StepError>
         ensures { Steps result self.new
-            (after_else (Frame.Else self.old.before test then ∷ self.old.frames) End token.now) }
+            (after_else (OpenBlock.Else self.old.before test then ∷ self.old.open_blocks) End token.now) }
     {
         match token {
             Token::OpenBrace => {
                 let before = mem::replace(&mut self.before, Block::new(alloc));
-                self.open(Frame::Else(before, test, then))
+                self.open(OpenBlock::Else(before, test, then))
             }
             _ => Err(StepError::Unexpected),
         }
@@ -208,25 +208,25 @@ impl Within {
     /// Adds a statement that has been read whole.
     fn add(&mut self, statement: Statement) -> Result<Option<Block>, StepError>
         ensures { Steps result self.new
-            (stays self.old.frames (append self.old.before (statement_of statement)) Partial.Start) }
+            (stays self.old.open_blocks (append self.old.before (statement_of statement)) Partial.Start) }
     {
         self.before.push(statement)?;
         self.lead_to(Partial::Start);
         Ok(None)
     }
 
-    /// Opens a block, whose statement stands in this frame.
-    fn open(&mut self, frame: Frame) -> Result<Option<Block>, StepError>
-        ensures { Steps result self.new (stays (frame ∷ self.old.frames) self.old.before Partial.Start) }
+    /// Opens this block.
+    fn open(&mut self, open_block: OpenBlock) -> Result<Option<Block>, StepError>
+        ensures { Steps result self.new (stays (open_block ∷ self.old.open_blocks) self.old.before Partial.Start) }
     {
-        self.frames.push(frame)?;
+        self.open_blocks.push(open_block)?;
         self.lead_to(Partial::Start);
         Ok(None)
     }
 
     /// A token where a statement may start.
     fn start(&mut self, alloc: Global, token: &Token) -> Result<Option<Block>, StepError>
-        ensures { Steps result self.new (start_step self.old.frames self.old.before token.now) }
+        ensures { Steps result self.new (start_step self.old.open_blocks self.old.before token.now) }
     {
         let next = match token {
             Token::Name(x) => Partial::Inside(PartialHead::AfterName(*x)),
@@ -252,7 +252,7 @@ impl Within {
         call: PartialCall,
         token: &Token,
     ) -> Result<Option<Block>, StepError>
-        ensures { Steps result self.new (call_step self.old.frames self.old.before call token.now) }
+        ensures { Steps result self.new (call_step self.old.open_blocks self.old.before call token.now) }
     {
         let next = match call {
             PartialCall::AfterWord => match token {
@@ -285,7 +285,7 @@ impl Within {
         token: &Token,
     ) -> Result<Option<Block>, StepError>
         ensures { Steps result self.new
-            (argument_step self.old.frames self.old.before callee values (operand_of token.now)) }
+            (argument_step self.old.open_blocks self.old.before callee values (operand_of token.now)) }
     {
         let Some(value) = operand(token) else {
             return Err(StepError::Unexpected);
@@ -302,7 +302,7 @@ impl Within {
         value: Operand,
         token: &Token,
     ) -> Result<Option<Block>, StepError>
-        ensures { Steps result self.new (call_step self.old.frames self.old.before
+        ensures { Steps result self.new (call_step self.old.open_blocks self.old.before
             (PartialCall.AfterArgument callee values value) token.now) }
     {
         let next = match token {
@@ -328,7 +328,7 @@ impl Within {
         token: &Token,
     ) -> Result<Option<Block>, StepError>
         ensures { Steps result self.new
-            (call_step self.old.frames self.old.before (PartialCall.AfterClose callee values) token.now) }
+            (call_step self.old.open_blocks self.old.before (PartialCall.AfterClose callee values) token.now) }
     {
         match token {
             Token::Semicolon => self.add(Statement::Call(callee, values)),
@@ -338,26 +338,26 @@ impl Within {
 
     /// A closing brace.
     fn close(&mut self, alloc: Global) -> Result<Option<Block>, StepError>
-        ensures { Steps result self.new (close_step self.old.frames self.old.before) }
+        ensures { Steps result self.new (close_step self.old.open_blocks self.old.before) }
     {
-        let Some(frame) = self.frames.pop() else {
+        let Some(open_block) = self.open_blocks.pop() else {
             return Ok(Some(mem::replace(&mut self.before, Block::new(alloc))));
         };
-        match frame {
-            Frame::Atomic(before, locking) => {
+        match open_block {
+            OpenBlock::Atomic(before, locking) => {
                 let block = mem::replace(&mut self.before, before);
                 self.add(Statement::Atomic(locking, block))
             }
-            Frame::While(before, test) => {
+            OpenBlock::While(before, test) => {
                 let block = mem::replace(&mut self.before, before);
                 self.add(Statement::While(test, block))
             }
-            Frame::Then(before, test) => {
+            OpenBlock::Then(before, test) => {
                 let block = mem::replace(&mut self.before, before);
                 self.lead_to(Partial::AfterThen(test, block));
                 Ok(None)
             }
-            Frame::Else(before, test, then) => {
+            OpenBlock::Else(before, test, then) => {
                 let block = mem::replace(&mut self.before, before);
                 self.add(Statement::IfElse(test, then, block))
             }
@@ -366,7 +366,7 @@ impl Within {
 
     /// What follows a token inside a statement.
     fn go(&mut self, alloc: Global, to: Move) -> Result<Option<Block>, StepError>
-        ensures { Steps result self.new (moved self.old.frames self.old.before to) }
+        ensures { Steps result self.new (moved self.old.open_blocks self.old.before to) }
     {
         match to {
             Move::To(line) => {
@@ -376,15 +376,15 @@ impl Within {
             Move::Whole(primitive) => self.add(Statement::Primitive(primitive)),
             Move::OpensThen(test) => {
                 let before = mem::replace(&mut self.before, Block::new(alloc));
-                self.open(Frame::Then(before, test))
+                self.open(OpenBlock::Then(before, test))
             }
             Move::OpensWhile(test) => {
                 let before = mem::replace(&mut self.before, Block::new(alloc));
-                self.open(Frame::While(before, test))
+                self.open(OpenBlock::While(before, test))
             }
             Move::OpensAtomic(locking) => {
                 let before = mem::replace(&mut self.before, Block::new(alloc));
-                self.open(Frame::Atomic(before, locking))
+                self.open(OpenBlock::Atomic(before, locking))
             }
         }
     }

@@ -1,24 +1,20 @@
 -- Numberings that are extended.
-use Rattle.std.proofs.Common.{◌≡◌, ◌↔◌, inl, inr, ℕ, zero, suc, ◌+◌, ◌<◌, List, [], ◌∷◌, ◌++◌, Some, Bool, true, false}
-use Rattle.std.proofs.Common.{length, get_or, take, refl, sym, ap, ◌∙◌, subst, length-append, arith}
-use Rattle.std.specs.Prelude.{slice_get, slice_index_or, if◌then◌else◌, Result, Ok, Err, OnOk, IfOk}
+use Rattle.std.proofs.Common.{◌≡◌, inl, inr, ℕ, zero, suc, ◌+◌, ◌<◌, List, [], ◌∷◌, ◌++◌, Some, Bool, true, false}
+use Rattle.std.proofs.Common.{length, refl, sym, ap, ◌∙◌, subst, length-append, true≢false, arith}
+use Rattle.std.specs.Prelude.{slice_get, slice_index_or, if◌then◌else◌, Result, Ok, Err, IfOk, not}
 use Rattle.std.specs.List.{list_any}
+use Rattle.std.proofs.lemmas.List.{append-nil}
 use Rattle.std.proofs.lemmas.Option.{slice_get_within}
 use Rattle.sect_lemmas.specs.Lists.{Has}
-use Rattle.sect_lemmas.proofs.Membership.{Has-left, Has-slice_get}
 use Rattle.sect_lemmas.proofs.Places.{pushed_at}
+use Rattle.sect_lemmas.proofs.Finding.{any_tells}
 use Rattle.sect_names.specs.declared.lock.Lock.{Lock}
 use Rattle.sect_names.specs.contracts.lock.LockPartialEq.TheImpl.{ghosts as the_lock_eq}
 use Rattle.sect_names.specs.Schemes.{SchemeView}
-use Rattle.sect_names.specs.Climbing.{IsAbove, AreCoverers}
-use Rattle.sect_lemmas.proofs.Making.{last_of, so_far}
-use Rattle.sect_lemmas.proofs.Inserting.{behind}
+use Rattle.sect_names.specs.Climbing.{AreCoverers}
 use Rattle.sect_names.proofs.shared.Telling.{lock_tells}
-use Rattle.sect_lemmas.proofs.Finding.{any_tells}
 use Rattle.sect_infer.specs.Numbers.{AreApart}
-use Rattle.sect_infer.specs.Numberings.{NumberingView, HasLock, AreOf, AreAbove, IsNumbering, Extends, IsNumbered}
-use Rattle.sect_infer.specs.Numberings.{IsPut}
-use Rattle.sect_infer.specs.Numberings.{AreAllPut}
+use Rattle.sect_infer.specs.Numberings.{NumberingView, HasLock, AreAbove, IsNumbering, Extends, IsNumbered}
 use Rattle.sect_infer.proofs.shared.Apart.{apart_push}
 use Rattle.sect_infer.proofs.shared.Extending.{get_left, extends_none, extends_then, extends_at}
 
@@ -35,53 +31,50 @@ get_before [] x d i within = absurd (omega (arith, within))
 get_before (z ∷ xs) x d zero within = refl
 get_before (z ∷ xs) x d (suc i) within = get_before xs x d i (omega (arith, within))
 
--- the next lock of a list has a number, or none
-module _ (keys locks : List Lock) (i : ℕ) (l : Lock) (ns : List ℕ) (within : i < length locks)
-    (is : l ≡ get_or locks i l) (before : AreOf keys (take i locks) ns) where
-  pub of_next : (m : ℕ) → slice_get keys m ≡ Some l → AreOf keys (take (i + 1) locks) (ns ++ m ∷ [])
-  of_next m at = record {
-    only = λ n h. elim ((behind ns m n).0 h) [
-      | inl a ↦ (let r = before.only n a in (r.0, so_far locks i l r.0 within is (inl r.1), r.2))
-      | inr e ↦ (l, so_far locks i l l within is (inr refl), ap (slice_get keys) e ∙ at)
-    ];
-    each = λ k h there. elim (last_of locks i l k within is h) [
-      | inl a ↦ (let r = before.each k a there in (r.0, (behind ns m r.0).1 (inl r.1), r.2))
-      | inr e ↦ (m, (behind ns m m).1 (inr refl), at ∙ ap (λ x. Some x) (sym e))
-    ];
-  }
-
-  pub of_skip : (Has keys l → ⊥) → AreOf keys (take (i + 1) locks) ns
-  of_skip absent = record {
-    only = λ n h. (let r = before.only n h in (r.0, so_far locks i l r.0 within is (inl r.1), r.2));
-    each = λ k h there. elim (last_of locks i l k within is h) [
-      | inl a ↦ before.each k a there
-      | inr e ↦ absurd (absent (subst (Has keys) e there))
-    ];
-  }
-
-pub get_end : {X : Type 0} (xs : List X) (x : X) (i : ℕ) → i ≡ length xs → slice_get (xs ++ x ∷ []) i ≡ Some x
-get_end [] x zero e = refl
-get_end [] x (suc i) e = absurd (omega (arith, e))
-get_end (z ∷ xs) x zero e = absurd (omega (arith, e))
-get_end (z ∷ xs) x (suc i) e = get_end xs x i (omega (arith, e))
-
--- a lock that isn't there comes last
-pub put_last : (keys : List Lock) (l : Lock) → (Has keys l → ⊥)
-    → (if list_any (the_lock_eq.eq l) keys then keys else keys ++ l ∷ []) ≡ keys ++ l ∷ []
-put_last keys l absent = go (list_any (the_lock_eq.eq l) keys) (any_tells the_lock_eq.eq lock_tells keys l)
-  where
-    go : (b : Bool) → ((b ≡ true) ↔ Has keys l) → (if b then keys else keys ++ l ∷ []) ≡ keys ++ l ∷ []
-    go true tells = absurd (absent (tells.0 refl))
-    go false tells = refl
-
-pub extends_has : (old new : NumberingView) → Extends old new → (l : Lock) → Has old.keys l → Has new.keys l
-extends_has old new e l h = subst (λ ks. Has ks l) (sym e.1) (Has-left old.keys e.0 l h)
+-- what is added was absent
+pub added_is : (added there b : Bool) → added ≡ not there → added ≡ b → there ≡ not b
+added_is added true b is e = sym (ap not (sym e ∙ is))
+added_is added false b is e = sym (ap not (sym e ∙ is))
 
 pub extends_lock : (old new : NumberingView) → Extends old new → (ns : List ℕ) (l : Lock) → HasLock old.keys ns l
     → HasLock new.keys ns l
 extends_lock old new e ns l h = (h.0, h.1, extends_at old new e h.0 l h.2)
 
+-- these locks have these numbers, one by one
+abbrev pub ArePlaced : List Lock → List Lock → List ℕ → Type 0
+ArePlaced keys [] [] = Unit {0}
+ArePlaced keys [] (n ∷ ns) = ⊥
+ArePlaced keys (l ∷ ls) [] = ⊥
+ArePlaced keys (l ∷ ls) (n ∷ ns) = (slice_get keys n ≡ Some l) × ArePlaced keys ls ns
+
+placed_only : (keys ls : List Lock) (ns : List ℕ) → ArePlaced keys ls ns → (n : ℕ) → Has ns n
+    → (l : Lock) × Has ls l × (slice_get keys n ≡ Some l)
+placed_only keys [] [] p n h = absurd h
+placed_only keys [] (m ∷ ns) p n h = absurd p
+placed_only keys (l ∷ ls) [] p n h = absurd p
+placed_only keys (l ∷ ls) (m ∷ ns) p n h = elim h [
+  | inl e ↦ (l, inl refl, ap (slice_get keys) (sym e) ∙ p.0)
+  | inr k ↦ (let r = placed_only keys ls ns p.1 n k in (r.0, inr r.1, r.2))
+]
+
+placed_each : (keys ls : List Lock) (ns : List ℕ) → ArePlaced keys ls ns → (l : Lock) → Has ls l → HasLock keys ns l
+placed_each keys [] [] p l h = absurd h
+placed_each keys [] (m ∷ ns) p l h = absurd p
+placed_each keys (k ∷ ls) [] p l h = absurd p
+placed_each keys (k ∷ ls) (m ∷ ns) p l h = elim h [
+  | inl e ↦ (m, inl refl, p.0 ∙ ap (λ x. Some x) e)
+  | inr there ↦ (let r = placed_each keys ls ns p.1 l there in (r.0, inr r.1, r.2))
+]
+
 module _ (s : SchemeView) where
+  -- the numbers of the coverers of a lock are those of the locks above it
+  pub above_placed : (keys : List Lock) (l : Lock) (coverers : List Lock) (ns : List ℕ) → AreCoverers s l coverers
+      → ArePlaced keys coverers ns → AreAbove s keys l ns
+  above_placed keys l coverers ns are placed = record {
+    cover = λ n h. (let c = placed_only keys coverers ns placed n h in (c.0, c.2, (are.all c.0).0 c.1));
+    all = λ big h. placed_each keys coverers ns placed big ((are.all big).1 h);
+  }
+
   -- what is above a lock stays so
   above_more : (keys more : List Lock) (l : Lock) (ns : List ℕ) → AreAbove s keys l ns → AreAbove s (keys ++ more) l ns
   above_more keys more l ns a = record {
@@ -90,12 +83,10 @@ module _ (s : SchemeView) where
   }
 
   -- one lock more, whose coverers are there
-  pub numbering_put : (t new : NumberingView) (l : Lock) (coverers : List Lock) (ns : List ℕ)
-      → new.keys ≡ t.keys ++ l ∷ []
-      → new.above ≡ t.above ++ ns ∷ [] → IsNumbering s t → (Has t.keys l → ⊥)
-      → AreCoverers s l coverers → ((big : Lock) → IsAbove s big l → Has t.keys big) → AreOf t.keys coverers ns
+  numbering_put : (t new : NumberingView) (l : Lock) (ns : List ℕ) → new.keys ≡ t.keys ++ l ∷ []
+      → new.above ≡ t.above ++ ns ∷ [] → IsNumbering s t → (Has t.keys l → ⊥) → AreAbove s t.keys l ns
       → IsNumbering s new
-  numbering_put t new l coverers ns keys above is absent are there of = record {
+  numbering_put t new l ns keys above is absent fresh = record {
     count = ap length above ∙ length-append t.above (ns ∷ []) ∙ ap (λ n. n + 1) is.count
         ∙ sym (ap length keys ∙ length-append t.keys (l ∷ []));
     apart = subst (λ ks. AreApart ks) (sym keys) (apart_push t.keys l is.apart absent);
@@ -115,37 +106,46 @@ module _ (s : SchemeView) where
               (above_more t.keys (l ∷ []) k (slice_index_or t.above n []) (is.told n k old))
         ]));
   }
-    where
-      fresh : AreAbove s t.keys l ns
-      fresh = record {
-        cover = λ n h. (let c = of.only n h in (c.0, c.2, (are.all c.0).0 c.1));
-        all = λ big h. of.each big ((are.all big).1 h) (there big h);
-      }
+
+  -- no lock more
+  numbering_same : (t new : NumberingView) → new.keys ≡ t.keys → new.above ≡ t.above → IsNumbering s t
+      → IsNumbering s new
+  numbering_same t new keys above is = record {
+    count = ap length above ∙ is.count ∙ sym (ap length keys);
+    apart = subst (λ ks. AreApart ks) (sym keys) is.apart;
+    told = λ n l at. subst (λ ks. AreAbove s ks l (slice_index_or new.above n [])) (sym keys)
+        (subst (λ ms. AreAbove s t.keys l (slice_index_or ms n [])) (sym above)
+        (is.told n l (subst (λ ks. slice_get ks n ≡ Some l) keys at)));
+  }
 
   -- a lock that is there has its number
   pub numbered_there : (t : NumberingView) (l : Lock) (n : ℕ) → IsNumbering s t → slice_get t.keys n ≡ Some l
       → IsNumbered s t t l n
   numbered_there t l n is at = record { numbering = is; longer = extends_none t; there = at }
 
-  pub put_there : (t : NumberingView) (l : Lock) (n : ℕ) → IsNumbering s t → slice_get t.keys n ≡ Some l
-      → IsPut s t t l n
-  put_there t l n is at = record { numbered = numbered_there t l n is at; only = λ k h. inl h }
+  -- a lock that is put behind the others unless it is there
+  pub numbered_put : (t new : NumberingView) (l : Lock) (ns : List ℕ) (n : ℕ) → IsNumbering s t
+      → AreAbove s t.keys l ns
+      → new.keys ≡ (if list_any (the_lock_eq.eq l) t.keys then t.keys else t.keys ++ l ∷ [])
+      → new.above ≡ (if list_any (the_lock_eq.eq l) t.keys then t.above else t.above ++ ns ∷ [])
+      → slice_get new.keys n ≡ Some l → IsNumbered s t new l n
+  numbered_put t new l ns n is fresh keys above at =
+      go (list_any (the_lock_eq.eq l) t.keys) (any_tells the_lock_eq.eq lock_tells t.keys l).1 keys above
+    where
+      go : (b : Bool) → (Has t.keys l → b ≡ true) → new.keys ≡ (if b then t.keys else t.keys ++ l ∷ [])
+          → new.above ≡ (if b then t.above else t.above ++ ns ∷ []) → IsNumbered s t new l n
+      go true tells k a = record {
+        numbering = numbering_same t new k a is;
+        longer = ([], k ∙ sym (append-nil t.keys));
+        there = at;
+      }
+      go false tells k a = record {
+        numbering = numbering_put t new l ns k a is (λ h. true≢false (sym (tells h))) fresh;
+        longer = (l ∷ [], k);
+        there = at;
+      }
 
-  -- a lock that comes last has the next number
-  pub numbered_last : (t new : NumberingView) (l : Lock) (coverers : List Lock) (ns : List ℕ) (n : ℕ)
-      → new.keys ≡ t.keys ++ l ∷ [] → new.above ≡ t.above ++ ns ∷ [] → n ≡ length t.keys → IsNumbering s t
-      → (Has t.keys l → ⊥) → AreCoverers s l coverers → ((big : Lock) → IsAbove s big l → Has t.keys big)
-      → AreOf t.keys coverers ns → IsPut s t new l n
-  numbered_last t new l coverers ns n keys above number is absent are there of = record {
-    numbered = record {
-      numbering = numbering_put t new l coverers ns keys above is absent are there of;
-      longer = (l ∷ [], keys);
-      there = subst (λ ks. slice_get ks n ≡ Some l) (sym keys) (get_end t.keys l n number);
-    };
-    only = λ k h. (behind t.keys l k).0 (subst (λ ks. Has ks k) keys h);
-  }
-
-  -- a lock that is put after others
+  -- a lock that is put after another
   pub numbered_after : (a b c : NumberingView) (l : Lock) (n : ℕ) → Extends a b → IsNumbered s b c l n
       → IsNumbered s a c l n
   numbered_after a b c l n e k = record {
@@ -154,57 +154,22 @@ module _ (s : SchemeView) where
     there = k.there;
   }
 
-  -- no lock has been put
-  pub put_none : (t : NumberingView) → IsNumbering s t → AreAllPut s t t [] []
-  put_none t is = record {
-    numbering = is;
-    longer = extends_none t;
-    there = λ l h. absurd h;
-    numbers = record { only = λ n h. absurd h; each = λ l h. absurd h };
-    only = λ l h. inl h;
+  -- one that is put before another keeps its number
+  pub numbered_before : (a b c : NumberingView) (l k : Lock) (n m : ℕ) → IsNumbered s a b l n → IsNumbered s b c k m
+      → IsNumbered s a c l n
+  numbered_before a b c l k n m first next = record {
+    numbering = next.numbering;
+    longer = extends_then a b c first.longer next.longer;
+    there = extends_at b c next.longer n l first.there;
   }
 
-  -- the next lock of a list is put
-  pub put_next : (a b c : NumberingView) (locks : List Lock) (ns : List ℕ) (i : ℕ) (l : Lock) (n : ℕ)
-      → i < length locks → l ≡ get_or locks i l → AreAllPut s a b (take i locks) ns → IsPut s b c l n
-      → AreAllPut s a c (take (i + 1) locks) (ns ++ n ∷ [])
-  put_next a b c locks ns i l n within is before put =
-      let k = put.numbered in
-      record {
-        numbering = k.numbering;
-        longer = extends_then a b c before.longer k.longer;
-        there = λ x h. elim (last_of locks i l x within is h) [
-          | inl old ↦ extends_has b c k.longer x (before.there x old)
-          | inr e ↦ subst (Has c.keys) (sym e) (Has-slice_get c.keys n l k.there)
-        ];
-        numbers = of_next c.keys locks i l ns within is (record {
-          only = λ m h. (let r = before.numbers.only m h in (r.0, r.1, extends_at b c k.longer m r.0 r.2));
-          each = λ x h there. extends_lock b c k.longer ns x (before.numbers.each x h (before.there x h));
-        }) n k.there;
-        only = λ x h. elim (put.only x h) [
-          | inl old ↦ elim (before.only x old) [
-            | inl first ↦ inl first
-            | inr has ↦ inr (so_far locks i l x within is (inl has))
-          ]
-          | inr e ↦ inr (so_far locks i l x within is (inr e))
-        ];
-      }
+  -- and what is answered is its number
+  pub put_after : {E : Type 0} (a b c : NumberingView) (l : Lock) (r : Result ℕ E) → Extends a b
+      → IfOk r (IsNumbered s b c l) → IfOk r (IsNumbered s a c l)
+  put_after a b c l (Ok n) e h = numbered_after a b c l n e h
+  put_after a b c l (Err x) e h = tt
 
-  -- a lock that comes after the locks above it
-  module _ (old mid : NumberingView) (l : Lock) (coverers : List Lock) (ns : List ℕ) (are : AreCoverers s l coverers)
-      (put : AreAllPut s old mid coverers ns) (absent : Has old.keys l → ⊥) where
-    -- it isn't one of them
-    pub absent_still : Has mid.keys l → ⊥
-    absent_still h = elim (put.only l h) [ inl k ↦ absent k | inr c ↦ ((are.all l).0 c).1 refl ]
-
-    pub numbered_over : (new : NumberingView) (n : ℕ) → new.keys ≡ mid.keys ++ l ∷ [] → new.above ≡ mid.above ++ ns ∷ []
-        → n ≡ length mid.keys → IsNumbered s old new l n
-    numbered_over new n keys above number = numbered_after old mid new l n put.longer
-        (numbered_last mid new l coverers ns n keys above number put.numbering absent_still are
-        (λ big h. put.there big ((are.all big).1 h)) put.numbers).numbered
-
--- what three clauses say of one result
-pub from_three : {T E : Type 0} {A B : Type 0} {Q P : T → Type 0} (r : Result T E) → OnOk r A → OnOk r B → IfOk r Q
-    → ((x : T) → A → B → Q x → P x) → IfOk r P
-from_three (Ok x) a b q f = f x a b q
-from_three (Err e) a b q f = tt
+  -- what is put for a lock that is equal
+  pub put_equal : (keys : List Lock) (ns : List ℕ) (l k : Lock) (P : Lock → Type 0) → l ≡ k
+      → (AreAbove s keys l ns → P l) → AreAbove s keys k ns → P k
+  put_equal keys ns l k P e put above = subst P e (put (subst (λ x. AreAbove s keys x ns) (sym e) above))

@@ -23,11 +23,6 @@ HasLock keys ns l = (n : ℕ) × Has ns n × (slice_get keys n ≡ Some l)
 abbrev pub AreNumbers : List Lock → List ℕ → Type 0
 AreNumbers keys ns = (n : ℕ) → Has ns n → n < length keys
 
--- the numbers of those of these locks that are among the keys
-pub record AreOf (keys locks : List Lock) (ns : List ℕ) : Type 0 where
-  pub only : (n : ℕ) → Has ns n → (l : Lock) × Has locks l × (slice_get keys n ≡ Some l)
-  pub each : (l : Lock) → Has locks l → Has keys l → HasLock keys ns l
-
 -- these are the numbers of all locks above one
 pub record AreAbove (s : SchemeView) (keys : List Lock) (l : Lock) (ns : List ℕ) : Type 0 where
   pub cover : (n : ℕ) → Has ns n → (big : Lock) × (slice_get keys n ≡ Some big) × IsAbove s big l
@@ -52,19 +47,6 @@ pub record IsNumbered (s : SchemeView) (old new : NumberingView) (l : Lock) (n :
   pub numbering : IsNumbering s new
   pub longer : Extends old new
   pub there : slice_get new.keys n ≡ Some l
-
--- the numbering has been extended so that the lock has the number, and by nothing else
-pub record IsPut (s : SchemeView) (old new : NumberingView) (l : Lock) (n : ℕ) : Type 0 where
-  pub numbered : IsNumbered s old new l n
-  pub only : (k : Lock) → Has new.keys k → Has old.keys k ⊎ (k ≡ l)
-
--- the numbering has been extended so that it has these locks, which have these numbers, and by nothing else
-pub record AreAllPut (s : SchemeView) (old new : NumberingView) (locks : List Lock) (ns : List ℕ) : Type 0 where
-  pub numbering : IsNumbering s new
-  pub longer : Extends old new
-  pub there : (l : Lock) → Has locks l → Has new.keys l
-  pub numbers : AreOf new.keys locks ns
-  pub only : (l : Lock) → Has new.keys l → Has old.keys l ⊎ Has locks l
 
 -- numbers of locks that were found: the numbering tells of each, and none is there twice
 pub record IsFinding (s : SchemeView) (t : NumberingView) (ns : List ℕ) : Type 0 where

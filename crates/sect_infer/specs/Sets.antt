@@ -1,5 +1,5 @@
 -- The locks of a section, and of all sections. `infer` and `infer_all` say so of what they give.
-use Rattle.std.specs.Prelude.{◌≡◌, ℕ, ◌+◌, List, Some, slice_get, length}
+use Rattle.std.specs.Prelude.{◌≡◌, ℕ, ◌+◌, List, [], Some, slice_get, length}
 use Rattle.sect_lemmas.specs.Lists.{Has}
 use Rattle.sect_types.specs.Statements.{TextView}
 use Rattle.sect_types.specs.Sections.{SectionView, sections_of}
@@ -44,6 +44,12 @@ abbrev pub AreInferredAt : SchemeView → ℕ → LocksView → Type 0
 AreInferredAt s i locks =
     (of : SectionView) (g : List Node) → slice_get (sections_of s.program.texts) i ≡ Some of
     → slice_get s.graphs.sections i ≡ Some g → AreLocksOf s (end_of s i) of g locks × AreOfProgram s of.thread locks
+
+-- these would be the locks of section i if it weren't marked `all`, and are locks of the program
+abbrev pub AreUnmarkedAt : SchemeView → ℕ → LocksView → Type 0
+AreUnmarkedAt s i locks =
+    (of : SectionView) (g : List Node) → slice_get (sections_of s.program.texts) i ≡ Some of
+    → slice_get s.graphs.sections i ≡ Some g → AreLocksOf s [] of g locks × AreOfProgram s of.thread locks
 
 -- those of all sections
 pub record AreAllInferred (s : SchemeView) (all : List LocksView) : Type 0 where

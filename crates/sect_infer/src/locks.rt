@@ -92,7 +92,7 @@ fn list(
     requires { IsListable numbering.now order.now }
     ensures { IfOk result (λ locks. locks.items ≡ listed numbering.now order.now numbers.now) }
 {
-    let mut found = Numbers::new(alloc);
+    let mut found = Numbers::with_room(alloc, numbers.len(), numbering.len())?;
     found.insert_all(numbers)?;
     let mut locks = Vec::with_capacity(alloc, numbers.len())?;
     for number in order {

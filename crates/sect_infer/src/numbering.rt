@@ -1,23 +1,28 @@
 //! Locks by their numbers.
 
-ghost use Rattle.std.specs.Prelude.{◌≡◌, ◌<◌, ◌++◌, ◌∷◌, ◌||◌, length, slice_get, [], Some, IfOk, OnOk, MatchOption};
+ghost use Rattle.std.specs.Prelude.{◌≡◌, ◌↔◌, ◌<◌, ◌||◌, ℕ, length, slice_get, [], Some, IfOk, MatchOption};
 ghost use Rattle.sect_lemmas.specs.Lists.{Has};
+ghost use Rattle.sect_points.specs.Partitions.{HasClass};
+ghost use Rattle.sect_names.specs.declared.lock.Effect.TheVariants as effect;
+ghost use Rattle.sect_names.specs.declared.lock.Right.TheVariants as right;
 ghost use Rattle.sect_names.specs.declared.lock.Lock.{Lock};
-ghost use Rattle.sect_names.specs.Climbing.{IsAbove, AreBehind};
+ghost use Rattle.sect_names.specs.declared.lock.Lock.TheVariants as lock;
+ghost use Rattle.sect_names.specs.Schemes.{SchemeView};
 ghost use Rattle.sect_infer.specs.Numbers.{has_number};
-ghost use Rattle.sect_infer.specs.Numberings.{AreOf, AreAllPut, IsNumbering, IsNumbered, IsPut, is_under};
+ghost use Rattle.sect_infer.specs.Numberings.{AreAbove, IsNumbering, IsNumbered, is_under};
 
 use crate::numbers::{Numbers, has};
 use indexmap::IndexSet;
-use sect_names::{Lock, Scheme};
+use sect_names::{Effect, Lock, Path, Right, Scheme};
+use smallvec::SmallVec;
 use std::alloc::{AllocError, Global};
 use std::marker::Model;
 
 /// Locks, numbered from 0 in the order in which they came, and for each the numbers of the other locks that cover it,
-/// which have come before it.
+/// which have come before it. These are at most four, so they are kept inline.
 pub struct Numbering {
     locks: IndexSet<Lock>,
-    above: Vec<Vec<usize>>,
+    above: Vec<SmallVec<usize, 4>>,
 }
 
 impl Drop for Numbering {
@@ -40,6 +45,13 @@ impl Model for Numbering {
       keys = t.locks.keys;
       above = map (λ v. v.items) t.above.items;
     } };
+}
+
+/// The numbers of the locks over all that is of a class: that on all, and that to write all objects of the class.
+#[derive(Clone, Copy)]
+struct OverClass {
+    all: usize,
+    write: usize,
 }
 
 impl Numbering {
@@ -112,19 +124,6 @@ impl Numbering {
         self.locks.get_index_of(lock)
     }
 
-    /// The numbers of those of these locks that are there.
-    fn find_all(&self, alloc: Global, locks: &[Lock]) -> Result<Vec<usize>, AllocError>
-        ensures { IfOk result (λ numbers. AreOf self.now.keys locks.now numbers.items) }
-    {
-        let mut numbers = Vec::with_capacity(alloc, locks.len())?;
-        for lock in locks {
-            if let Some(number) = self.find(lock) {
-                numbers.push(number)?;
-            }
-        }
-        Ok(numbers)
-    }
-
     /// The number of a lock, which comes now unless it is there, and before it the locks above it.
     pub fn number(
         &mut self,
@@ -138,55 +137,133 @@ impl Numbering {
         if let Some(number) = self.find(lock) {
             return Ok(number);
         }
-        let coverers = scheme.coverers(alloc, lock)?;
-        let above = self.put_all(alloc, scheme, coverers.as_slice())?;
-        self.push(lock, above)
+        match lock {
+            Lock::All => self.put(alloc, Lock::All, &[]),
+            Lock::Class(class, right) => self.put_class(alloc, *class, *right),
+            Lock::Path(path, effect) => self.put_path(alloc, scheme, path, *effect),
+        }
     }
 
-    /// The numbers of these locks, each of which comes now unless it is there: those above each are there or stand
-    /// before it.
-    fn put_all(
+    /// The number of a lock on a path, which comes now unless it is there, and before it the locks above it.
+    fn put_path(
         &mut self,
         alloc: Global,
         scheme: &Scheme,
-        locks: &[Lock],
-    ) -> Result<Vec<usize>, AllocError>
-        requires numbering { IsNumbering scheme.now self.old }
-        requires behind { AreBehind scheme.now locks.now }
-        ensures { IfOk result (λ numbers. AreAllPut scheme.now self.old self.new locks.now numbers.items) }
+        path: &Path,
+        effect: Effect,
+    ) -> Result<usize, AllocError>
+        requires { IsNumbering scheme.now self.old }
+        ensures { IfOk result (IsNumbered scheme.now self.old self.new (lock.Path path.now effect)) }
     {
-        let mut numbers = Vec::with_capacity(alloc, locks.len())?;
-        for lock in locks {
-            let number = self.put(alloc, scheme, lock)?;
-            numbers.push(number)?;
+        match scheme.class_of(path) {
+            None => self.put_bare(alloc, path, effect),
+            Some(class) => self.put_classed(alloc, class, path, effect),
         }
-        Ok(numbers)
     }
 
-    /// The number of a lock, which comes now unless it is there. Those above it are there.
-    fn put(&mut self, alloc: Global, scheme: &Scheme, lock: &Lock) -> Result<usize, AllocError>
-        requires numbering { IsNumbering scheme.now self.old }
-        requires above { (big : Lock) → IsAbove scheme.now big lock.now → Has self.old.keys big }
-        ensures { IfOk result (IsPut scheme.now self.old self.new lock.now) }
+    /// The number of a lock on a path that has no class, as `put_path` gives it.
+    fn put_bare(&mut self, alloc: Global, path: &Path, effect: Effect) -> Result<usize, AllocError>
+        ensures { (s : SchemeView) → IsNumbering s self.old → ((n : ℕ) → HasClass s.classes path.now n → ⊥)
+            → IfOk result (IsNumbered s self.old self.new (lock.Path path.now effect)) }
     {
-        if let Some(number) = self.find(lock) {
-            return Ok(number);
+        let all = self.put(alloc, Lock::All, &[])?;
+        let write = self.put(alloc, Lock::Path(path.try_clone()?, Effect::Write), &[all])?;
+        match effect {
+            Effect::Write => Ok(write),
+            Effect::Read => self.put(
+                alloc,
+                Lock::Path(path.try_clone()?, Effect::Read),
+                &[all, write],
+            ),
         }
-        let coverers = scheme.coverers(alloc, lock)?;
-        let above = self.find_all(alloc, coverers.as_slice())?;
-        self.push(lock, above)
     }
 
-    /// The number of a lock that isn't there, which comes now. The numbers of those above it are these.
-    fn push(&mut self, lock: &Lock, above: Vec<usize>) -> Result<usize, AllocError>
-        requires { Has self.old.keys lock.now → ⊥ }
-        ensures keys { OnOk result (self.new.keys ≡ self.old.keys ++ lock.now ∷ []) }
-        ensures above { OnOk result (self.new.above ≡ self.old.above ++ above.items ∷ []) }
-        ensures number { IfOk result (λ number. number ≡ length self.old.keys) }
+    /// The number of a lock on a path of this class, as `put_path` gives it.
+    fn put_classed(
+        &mut self,
+        alloc: Global,
+        class: u16,
+        path: &Path,
+        effect: Effect,
+    ) -> Result<usize, AllocError>
+        ensures { (s : SchemeView) → IsNumbering s self.old
+            → ((n : ℕ) → (Some class ≡ Some n) ↔ HasClass s.classes path.now n)
+            → IfOk result (IsNumbered s self.old self.new (lock.Path path.now effect)) }
     {
-        let number = self.locks.len();
-        self.locks.insert(lock.try_clone()?)?;
-        self.above.push(above)?;
+        let over = self.over_class(alloc, class)?;
+        match effect {
+            Effect::Write => self.put(
+                alloc,
+                Lock::Path(path.try_clone()?, Effect::Write),
+                &[over.all, over.write],
+            ),
+            Effect::Read => self.put_read(alloc, class, path, over),
+        }
+    }
+
+    /// The number of the lock to read a path of a class, as `put_path` gives it.
+    fn put_read(
+        &mut self,
+        alloc: Global,
+        class: u16,
+        path: &Path,
+        over: OverClass,
+    ) -> Result<usize, AllocError>
+        ensures { (s : SchemeView) → IsNumbering s self.old
+            → ((n : ℕ) → (Some class ≡ Some n) ↔ HasClass s.classes path.now n)
+            → slice_get self.old.keys over.all ≡ Some lock.All
+            → slice_get self.old.keys over.write ≡ Some (lock.Class class right.Write)
+            → IfOk result (IsNumbered s self.old self.new (lock.Path path.now effect.Read)) }
+    {
+        let OverClass { all, write } = over;
+        let read = self.put(alloc, Lock::Class(class, Right::Read), &[all, write])?;
+        let path_write = self.put(
+            alloc,
+            Lock::Path(path.try_clone()?, Effect::Write),
+            &[all, write],
+        )?;
+        self.put(
+            alloc,
+            Lock::Path(path.try_clone()?, Effect::Read),
+            &[all, write, read, path_write],
+        )
+    }
+
+    /// The number of a lock on a class, which comes now unless it is there, and before it the locks above it.
+    fn put_class(&mut self, alloc: Global, class: u16, right: Right) -> Result<usize, AllocError>
+        ensures { (s : SchemeView) → IsNumbering s self.old
+            → IfOk result (IsNumbered s self.old self.new (lock.Class class right)) }
+    {
+        let over = self.over_class(alloc, class)?;
+        let above = [over.all, over.write];
+        match right {
+            Right::Write => Ok(over.write),
+            Right::Read => self.put(alloc, Lock::Class(class, Right::Read), &above),
+            Right::Make => self.put(alloc, Lock::Class(class, Right::Make), &above),
+        }
+    }
+
+    /// The numbers of the lock on all and of that to write all objects of a class, which come now unless they are
+    /// there.
+    fn over_class(&mut self, alloc: Global, class: u16) -> Result<OverClass, AllocError>
+        ensures { (s : SchemeView) → IsNumbering s self.old → IfOk result (λ over.
+            IsNumbered s self.old self.new lock.All over.all
+            × IsNumbered s self.old self.new (lock.Class class right.Write) over.write) }
+    {
+        let all = self.put(alloc, Lock::All, &[])?;
+        let write = self.put(alloc, Lock::Class(class, Right::Write), &[all])?;
+        Ok(OverClass { all, write })
+    }
+
+    /// The number of a lock, which comes now unless it is there. The numbers of those above it are these.
+    fn put(&mut self, alloc: Global, lock: Lock, above: &[usize]) -> Result<usize, AllocError>
+        ensures { (s : SchemeView) → IsNumbering s self.old → AreAbove s self.old.keys lock above.now
+            → IfOk result (IsNumbered s self.old self.new lock) }
+    {
+        let (number, is_new) = self.locks.insert_full(lock)?;
+        if is_new {
+            self.above.push(SmallVec::from_slice(alloc, above)?)?;
+        }
         Ok(number)
     }
 }

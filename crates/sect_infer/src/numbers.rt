@@ -1,6 +1,6 @@
 //! Sets of numbers.
 
-ghost use Rattle.std.specs.Prelude.{◌≡◌, ◌<◌, ◌≤◌, ℕ, ◌++◌, ◌∷◌, [], false, length, slice_index_or, OnOk};
+ghost use Rattle.std.specs.Prelude.{◌≡◌, ◌<◌, ◌≤◌, ℕ, ◌++◌, ◌∷◌, [], false, length, slice_index_or, IfOk, OnOk};
 ghost use Rattle.sect_infer.specs.Numbers.{has_number, with_number, with_numbers};
 
 use std::alloc::{AllocError, Global};
@@ -75,6 +75,18 @@ impl Numbers {
             members: Vec::new(alloc),
             marks: Vec::new(alloc),
         }
+    }
+
+    /// None, with room for so many, and for the marks of all that are below a number.
+    pub fn with_room(alloc: Global, count: usize, below: usize) -> Result<Numbers, AllocError>
+        ensures { IfOk result (λ n. n ≡ []) }
+    {
+        let mut marks = Vec::with_capacity(alloc, below)?;
+        marks.resize(below, false)?;
+        Ok(Numbers {
+            members: Vec::with_capacity(alloc, count)?,
+            marks,
+        })
     }
 
     /// Whether a number is there.

@@ -9,7 +9,7 @@ ghost use Rattle.sect_names.specs.Locks.{IsLockOf};
 ghost use Rattle.sect_names.specs.Needed.{end_of};
 ghost use Rattle.sect_infer.specs.steps.Needs.{AreLawful};
 ghost use Rattle.sect_infer.specs.steps.Found.{IsFound, IsOnAll};
-ghost use Rattle.sect_infer.specs.Sets.{AreLocksOf};
+ghost use Rattle.sect_infer.specs.Sets.{AreLocksOf, AreUnmarkedAt};
 
 use crate::lists::Lists;
 use crate::locks::Locks;
@@ -45,6 +45,20 @@ pub fn infer(alloc: Global, scheme: &Scheme, section: u16) -> Result<Locks, Allo
         None => found(alloc, scheme, thread, flow),
         Some(_) => on_all_of(alloc, scheme, flow),
     }
+}
+
+/// The locks of a section as if it weren't marked `all`: those that its nodes need, at each node and at its entry, as
+/// `infer` gives them of a section without the mark. `AllocError` is answered only where a growth was refused.
+pub fn infer_unmarked(alloc: Global, scheme: &Scheme, section: u16) -> Result<Locks, AllocError>
+    requires { section < length (sections_of scheme.now.program.texts) }
+    ensures { IfOk result (AreUnmarkedAt scheme.now section) }
+{
+    scheme.facts();
+    scheme.program().facts();
+    only_the_programs(scheme, section);
+    let thread = scheme.program().section(section).thread;
+    let flow = scheme.graph().section(section);
+    found(alloc, scheme, thread, flow)
 }
 
 /// What the nodes of a section's graph generate and carry back are locks of the program, which the clause says.

@@ -6,8 +6,8 @@ use Rattle.sect_types.specs.declared.rule.TypeFault.{TypeFault}
 use Rattle.sect_types.specs.declared.rule.TypeFault.TheVariants as types
 use Rattle.sect_names.specs.declared.fault.SchemeFault.{SchemeFault}
 use Rattle.sect_names.specs.declared.fault.SchemeFault.TheVariants as scheme
-use Rattle.sect_names.specs.declared.refusal.Refusal.{Refusal}
-use Rattle.sect_names.specs.declared.refusal.Refusal.TheVariants as refusal
+use Rattle.sect_names.specs.declared.refusal.SourceRefusal.{SourceRefusal}
+use Rattle.sect_names.specs.declared.refusal.SourceRefusal.TheVariants as refusal
 use Rattle.sect_lint.specs.declared.mistake.Mistake.{Mistake}
 use Rattle.sect_lint.specs.declared.mistake.Mistake.TheVariants as mistake
 
@@ -41,7 +41,7 @@ of_scheme (scheme.GuardIsGuarded r) = Some mistake.GuardIsGuarded
 of_scheme (scheme.HintTwice r) = Some mistake.HintTwice
 
 -- the mistake of a text that is refused so
-abbrev pub mistake_of : Refusal → Option Mistake
+abbrev pub mistake_of : SourceRefusal → Option Mistake
 mistake_of refusal.Memory = None
 mistake_of (refusal.Front why) = of_front why
 mistake_of (refusal.Types why) = of_types why

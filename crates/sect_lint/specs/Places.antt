@@ -11,8 +11,8 @@ use Rattle.sect_types.specs.declared.rule.TypeFault.{TypeFault}
 use Rattle.sect_types.specs.declared.rule.TypeFault.TheVariants as types
 use Rattle.sect_names.specs.declared.fault.SchemeFault.{SchemeFault}
 use Rattle.sect_names.specs.declared.fault.SchemeFault.TheVariants as scheme
-use Rattle.sect_names.specs.declared.refusal.Refusal.{Refusal}
-use Rattle.sect_names.specs.declared.refusal.Refusal.TheVariants as refusal
+use Rattle.sect_names.specs.declared.refusal.SourceRefusal.{SourceRefusal}
+use Rattle.sect_names.specs.declared.refusal.SourceRefusal.TheVariants as refusal
 use Rattle.sect_places.specs.declared.range.TokenRange.{TokenRange}
 use Rattle.sect_places.specs.Ranges.{range, item_tokens}
 use Rattle.sect_places.specs.Spans.{span_in}
@@ -81,7 +81,7 @@ marked_name names (types.Unknown item) = unknown_name names item
 marked_name names _ = None
 
 -- the mistake of a text that is refused so stands at these bytes
-abbrev pub IsPlaceOf : List ℕ → Refusal → Mistake → Span → Type 0
+abbrev pub IsPlaceOf : List ℕ → SourceRefusal → Mistake → Span → Type 0
 IsPlaceOf source refusal.Memory m span = ⊤
 IsPlaceOf source (refusal.Front why) m span = IsFaultSpan source why span
 IsPlaceOf source (refusal.Types why) m span =

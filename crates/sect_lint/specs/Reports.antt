@@ -9,8 +9,8 @@ use Rattle.sect_places.specs.NameSpans.{AreNameSpans}
 use Rattle.sect_places.specs.declared.name_use.NameSpan.{NameSpan}
 use Rattle.sect_names.specs.Sources.{IsAccepted, IsDue}
 use Rattle.sect_names.specs.declared.fault.SchemeFault.TheVariants as scheme
-use Rattle.sect_names.specs.declared.refusal.Refusal.{Refusal}
-use Rattle.sect_names.specs.declared.refusal.Refusal.TheVariants as refusal
+use Rattle.sect_names.specs.declared.refusal.SourceRefusal.{SourceRefusal}
+use Rattle.sect_names.specs.declared.refusal.SourceRefusal.TheVariants as refusal
 use Rattle.sect_lint.specs.declared.diagnostic.Detail.{Detail}
 use Rattle.sect_lint.specs.declared.diagnostic.Detail.TheVariants as detail
 use Rattle.sect_lint.specs.declared.diagnostic.Diagnostic.{Diagnostic}
@@ -22,7 +22,7 @@ use Rattle.sect_lint.specs.Places.{IsPlaceOf}
 use Rattle.sect_lint.specs.Details.{IsFrontDetail, IsDetailWithin, IsDetailBy, detail_text}
 use Rattle.sect_lint.specs.Excerpts.{excerpt, margin}
 
-abbrev pub IsDetail : List ℕ → Refusal → Span → Detail → Type 0
+abbrev pub IsDetail : List ℕ → SourceRefusal → Span → Detail → Type 0
 IsDetail source (refusal.Front why) span told = IsFrontDetail source why span told
 IsDetail source (refusal.Types why) span told =
     (tree : TreeView) × (names : List NameSpan) × (are : AreNameSpans source tree names)
@@ -30,7 +30,7 @@ IsDetail source (refusal.Types why) span told =
 IsDetail source _ span told = told ≡ detail.Nothing
 
 -- the diagnostic names the mistake of a text that is refused so, and its bytes. All places are the text's
-pub record IsDiagnosisOf (source : List ℕ) (why : Refusal) (d : Diagnostic) : Type 0 where
+pub record IsDiagnosisOf (source : List ℕ) (why : SourceRefusal) (d : Diagnostic) : Type 0 where
   pub mistake : mistake_of why ≡ Some d.mistake
   pub place : IsPlaceOf source why d.mistake d.span
   pub within : IsWithin (length source) d.span
@@ -39,7 +39,7 @@ pub record IsDiagnosisOf (source : List ℕ) (why : Refusal) (d : Diagnostic) : 
 
 -- the text is refused, and this is told of the mistake for which it is
 abbrev pub IsRefusedFor : List ℕ → ℕ → Diagnostic → Type 0
-IsRefusedFor source k d = (why : Refusal) × IsDue source k why × IsDiagnosisOf source why d
+IsRefusedFor source k d = (why : SourceRefusal) × IsDue source k why × IsDiagnosisOf source why d
 
 -- the text is accepted with this scheme, or refused, and this is told of the mistake
 abbrev pub IsJudged : List ℕ → ℕ → Judgment → Type 0
@@ -47,7 +47,7 @@ IsJudged source k (judgment.Accepted s) = IsAccepted source k s
 IsJudged source k (judgment.Refused d) = IsRefusedFor source k d
 
 -- memory ran out, or no path may have so many fields
-abbrev pub IsNotJudged : ℕ → Refusal → Type 0
+abbrev pub IsNotJudged : ℕ → SourceRefusal → Type 0
 IsNotJudged k why = (why ≡ refusal.Memory) ⊎ ((why ≡ refusal.Scheme scheme.BadK) × (3 < k))
 
 -- the number and the title of a mistake

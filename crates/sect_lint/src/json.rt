@@ -38,7 +38,12 @@ pub fn span_value(alloc: Global, source: &[u8], span: Span) -> Result<Value, All
 }
 
 /// What is said of a span.
-fn label_value(alloc: Global, source: &[u8], message: &str, span: Span) -> Result<Value, AllocError>
+pub fn label_value(
+    alloc: Global,
+    source: &[u8],
+    message: &str,
+    span: Span,
+) -> Result<Value, AllocError>
     requires { IsWithin (length source.now) span }
     ensures { IfOk result (λ v. view v ≡ label_json source.now message.now span) }
 {

@@ -8,7 +8,7 @@ ghost use Rattle.sect_types.specs.First as types;
 ghost use Rattle.sect_types.specs.Programs.{ProgramView};
 ghost use Rattle.sect_names.specs.Sources.{IsTypedText};
 ghost use Rattle.sect_names.specs.Verdicts as schemes;
-ghost use Rattle.sect_names.specs.declared.refusal.Refusal.TheVariants as refusal;
+ghost use Rattle.sect_names.specs.declared.refusal.SourceRefusal.TheVariants as refusal;
 ghost use Rattle.sect_lint.specs.Places.{marked_name};
 ghost use Rattle.sect_lint.specs.Details.{IsFrontDetail, IsDetailWithin, IsToldOf, item_detail as item_detail_by};
 ghost use Rattle.sect_lint.specs.Reports.{IsDiagnosisOf, IsJudged, IsNotJudged};
@@ -26,7 +26,7 @@ use sect_front::{
     FrontFault, PlacedFault, Span, Token, Tree, expected_kinds, innermost_brace, parse,
     parse_placed,
 };
-use sect_names::{Refusal, Scheme, SchemeFault, check_k, scheme_of};
+use sect_names::{Scheme, SchemeFault, SourceRefusal, check_k, scheme_of};
 use sect_places::NameSpan;
 use sect_types::{Mistyped, Program, TypeFault, check_tree};
 use std::alloc::{AllocError, Global};
@@ -66,7 +66,7 @@ fn front_diagnostic(
     alloc: Global,
     source: &[u8],
     placed: &PlacedFault,
-) -> Result<Diagnostic, Refusal>
+) -> Result<Diagnostic, SourceRefusal>
     requires span { IsFaultSpan source.now placed.now.fault placed.now.span }
     requires within { placed.now.fault ≢ FrontFault.Memory → IsWithin (length source.now) placed.now.span }
     ensures told { IfOk result (IsDiagnosisOf source.now (refusal.Front placed.now.fault)) }
@@ -82,12 +82,12 @@ fn front_diagnostic(
                 detail,
             })
         }
-        None => Err(Refusal::Memory),
+        None => Err(SourceRefusal::Memory),
     }
 }
 
 /// The tree of a text that spells one.
-fn tree_of(alloc: Global, source: &[u8]) -> Result<Tree, Refusal>
+fn tree_of(alloc: Global, source: &[u8]) -> Result<Tree, SourceRefusal>
     requires { (tree : TreeView) × IsSpelled source.now tree }
     ensures spelled { IfOk result (IsSpelled source.now) }
     ensures same { (tree : TreeView) → IsSpelled source.now tree → IfOk result (λ given. given ≡ tree) }
@@ -95,7 +95,7 @@ fn tree_of(alloc: Global, source: &[u8]) -> Result<Tree, Refusal>
 {
     match parse(alloc, source) {
         Ok(tree) => Ok(tree),
-        Err(_) => Err(Refusal::Memory),
+        Err(_) => Err(SourceRefusal::Memory),
     }
 }
 
@@ -158,7 +158,7 @@ fn types_diagnostic(
     alloc: Global,
     source: &[u8],
     mistyped: &Mistyped,
-) -> Result<Diagnostic, Refusal>
+) -> Result<Diagnostic, SourceRefusal>
     requires spelled { IsSpelled source.now mistyped.now.tree }
     requires judged { types.Judges {A = ℕ} mistyped.now.tree (Err mistyped.now.fault) }
     ensures told { IfOk result (IsDiagnosisOf source.now (refusal.Types mistyped.now.fault)) }
@@ -167,7 +167,7 @@ fn types_diagnostic(
 {
     let Mistyped { fault, tree } = mistyped;
     let Some(mistake) = Mistake::of_types(fault) else {
-        return Err(Refusal::Memory);
+        return Err(SourceRefusal::Memory);
     };
     let layout = layout_of(alloc, source, tree)?;
     let names = names_of(alloc, source, tree, &layout)?;
@@ -189,7 +189,7 @@ fn hints_diagnostic(
     alloc: Global,
     source: &[u8],
     fault: &SchemeFault,
-) -> Result<Diagnostic, Refusal>
+) -> Result<Diagnostic, SourceRefusal>
     requires known { fault.now ≢ SchemeFault.BadK }
     requires refused { (k : ℕ) × (p : ProgramView) × IsTypedText source.now p × schemes.Judges p k (Err fault.now) }
     ensures told { IfOk result (IsDiagnosisOf source.now (refusal.Scheme fault.now)) }
@@ -197,7 +197,7 @@ fn hints_diagnostic(
     ensures fails { IfErr result (λ why. why ≡ refusal.Memory) }
 {
     let Some(mistake) = Mistake::of_scheme(fault) else {
-        return Err(Refusal::Memory);
+        return Err(SourceRefusal::Memory);
     };
     let tree = tree_of(alloc, source)?;
     let layout = layout_of(alloc, source, &tree)?;
@@ -210,7 +210,12 @@ fn hints_diagnostic(
 }
 
 /// Judges a program of a source text.
-fn lint_program(alloc: Global, source: &[u8], program: Program, k: u16) -> Result<Judgment, Refusal>
+fn lint_program(
+    alloc: Global,
+    source: &[u8],
+    program: Program,
+    k: u16,
+) -> Result<Judgment, SourceRefusal>
     requires text { IsTypedText source.now program }
     requires offered { k ≤ 3 }
     ensures judged { IfOk result (IsJudged source.now k) }
@@ -229,7 +234,7 @@ fn lint_program(alloc: Global, source: &[u8], program: Program, k: u16) -> Resul
 }
 
 /// Judges a tree that a source text spells.
-fn lint_tree(alloc: Global, source: &[u8], tree: Tree, k: u16) -> Result<Judgment, Refusal>
+fn lint_tree(alloc: Global, source: &[u8], tree: Tree, k: u16) -> Result<Judgment, SourceRefusal>
     requires text { IsSpelled source.now tree }
     requires offered { k ≤ 3 }
     ensures judged { IfOk result (IsJudged source.now k) }
@@ -249,7 +254,7 @@ fn lint_tree(alloc: Global, source: &[u8], tree: Tree, k: u16) -> Result<Judgmen
 
 /// Whether a source text is accepted, and with which scheme, or refused, for which mistake, and where that stands. How
 /// many fields a path may have is judged before the source. `Memory` is answered only where a growth was refused.
-pub fn lint(alloc: Global, source: &[u8], k: u16) -> Result<Judgment, Refusal>
+pub fn lint(alloc: Global, source: &[u8], k: u16) -> Result<Judgment, SourceRefusal>
     // The text is accepted with the scheme, or the mistake is that for which it is refused.
     ensures judged { IfOk result (IsJudged source.now k) }
     // Nothing else is answered but that no path may have so many fields.

@@ -1,9 +1,12 @@
 -- The texts of documents that were opened and closed.
 use Rattle.std.proofs.Common.{◌≡◌, ◌≢◌, ℕ, List, [], ◌∷◌, ◌++◌, Some, None, Bool, true, false, not, cond}
-use Rattle.std.proofs.Common.{refl, ap, sym, ◌∙◌}
+use Rattle.std.proofs.Common.{refl, ap, sym, ◌∙◌, Bor, Option, IfSome, filter, map}
+use Rattle.std.specs.Prelude.{All, option_map}
 use Rattle.std.specs.Str.{bytes_eq}
+use Rattle.std.proofs.lemmas.List.Elements.{All-head, All-tail}
 use Rattle.std.proofs.lemmas.Slice.Eq.{bytes_eq-Decides}
 use Rattle.sect_lsp.specs.Documents.{DocumentView, text_of, closed, opened}
+use Rattle.sect_lsp.specs.steps.Keeping.{KeptView, document_of, kept_of}
 
 is_same : (a : List ℕ) → bytes_eq a a ≡ true
 is_same a = (bytes_eq-Decides a a).1 refl
@@ -62,3 +65,52 @@ module _ (uri : List ℕ) where
 
   pub found : (text : List ℕ) (ds : List DocumentView) → text_of uri (opened uri text ds) ≡ Some text
   found text ds = last text (closed uri ds) (forgotten ds)
+
+  -- ---- with what they are compiled to
+
+  text_by : (d : KeptView) (ds : List KeptView) (b : Bool)
+      → option_map (λ e. e.text) (kept_of uri ds) ≡ text_of uri (map document_of ds)
+      → option_map (λ e. e.text) (cond b (Some d) (kept_of uri ds))
+      ≡ cond b (Some d.text) (text_of uri (map document_of ds))
+  text_by d ds true h = refl
+  text_by d ds false h = h
+
+  pub text_kept : (ds : List KeptView)
+      → option_map (λ e. e.text) (kept_of uri ds) ≡ text_of uri (map document_of ds)
+  text_kept [] = refl
+  text_kept (d ∷ ds) = text_by d ds (bytes_eq d.uri uri) (text_kept ds)
+
+  closed_by : (d : KeptView) (ds : List KeptView) (b : Bool)
+      → map document_of (filter (λ e. not (bytes_eq e.uri uri)) ds) ≡ closed uri (map document_of ds)
+      → map document_of (cond b (d ∷ filter (λ e. not (bytes_eq e.uri uri)) ds)
+      (filter (λ e. not (bytes_eq e.uri uri)) ds))
+      ≡ cond b (document_of d ∷ closed uri (map document_of ds)) (closed uri (map document_of ds))
+  closed_by d ds true h = ap (λ es. document_of d ∷ es) h
+  closed_by d ds false h = h
+
+  pub closed_kept : (ds : List KeptView)
+      → map document_of (filter (λ e. not (bytes_eq e.uri uri)) ds) ≡ closed uri (map document_of ds)
+  closed_kept [] = refl
+  closed_kept (d ∷ ds) = closed_by d ds (not (bytes_eq d.uri uri)) (closed_kept ds)
+
+  module _ (P : KeptView → Type 0) where
+    found_by : (d : KeptView) (ds : List KeptView) (b : Bool) → P d → IfSome (kept_of uri ds) P
+        → IfSome (cond b (Some d) (kept_of uri ds)) P
+    found_by d ds true p h = p
+    found_by d ds false p h = h
+
+    pub found_kept : (ds : List KeptView) → All P ds → IfSome (kept_of uri ds) P
+    found_kept [] all = tt
+    found_kept (d ∷ ds) all =
+        found_by d ds (bytes_eq d.uri uri) (All-head P d ds all) (found_kept ds (All-tail P d ds all))
+
+-- what is lent is what it refers to
+pub lent_text : (o : Option (Bor KeptView)) → option_map (λ d. d.now.text) o
+    ≡ option_map (λ e. e.text) (option_map (λ d. d.now) o)
+lent_text None = refl
+lent_text (Some d) = refl
+
+pub lent_kept : (P : KeptView → Type 0) (o : Option (Bor KeptView)) → IfSome (option_map (λ d. d.now) o) P
+    → IfSome o (λ d. P d.now)
+lent_kept P None h = tt
+lent_kept P (Some d) h = h

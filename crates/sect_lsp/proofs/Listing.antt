@@ -40,6 +40,15 @@ counting n =
     sym (map-id (range_with_len 0 (n + 1))) ∙ map-range_with_len_more (λ k. k) 0 n n (omega arith)
     ∙ ap (λ ks. ks ++ n ∷ []) (map-id (range_with_len 0 n))
 
+module _ {A : Type 0} (of : ℕ → List A) where
+  -- what is listed of the first numbers, behind others, and that of the next
+  pub numbers_behind : (n : ℕ) (old had more : List A) → had ≡ old ++ flat_map of (range_with_len 0 n)
+      → more ≡ had ++ of n → more ≡ old ++ flat_map of (range_with_len 0 (n + 1))
+  numbers_behind n old had more e added =
+      added ∙ ap (λ ds. ds ++ of n) e ∙ append_assoc old (flat_map of (range_with_len 0 n)) (of n)
+      ∙ ap (λ ds. old ++ ds) (sym (ap (flat_map of) (counting n) ∙ flat_map-append of (range_with_len 0 n) (n ∷ [])
+      ∙ ap (λ ds. flat_map of (range_with_len 0 n) ++ ds) (append-nil (of n))))
+
 module _ (of : ℕ → List Data) where
   -- the values of the first numbers, and those of the next
   pub numbers_more : (n : ℕ) (values more : List Value) → map view values ≡ flat_map of (range_with_len 0 n)
@@ -55,14 +64,6 @@ module _ (of : ℕ → List Data) where
       → view (Array values) ≡ list (flat_map of (range_with_len 0 count))
   numbers_all n count values all had =
       view-Array values ∙ ap list (had ∙ ap (λ m. flat_map of (range_with_len 0 m)) all)
-
-  -- the same behind others
-  pub numbers_behind : (n : ℕ) (old had more : List Data) → had ≡ old ++ flat_map of (range_with_len 0 n)
-      → more ≡ had ++ of n → more ≡ old ++ flat_map of (range_with_len 0 (n + 1))
-  numbers_behind n old had more e added =
-      added ∙ ap (λ ds. ds ++ of n) e ∙ append_assoc old (flat_map of (range_with_len 0 n)) (of n)
-      ∙ ap (λ ds. old ++ ds) (sym (ap (flat_map of) (counting n) ∙ flat_map-append of (range_with_len 0 n) (n ∷ [])
-      ∙ ap (λ ds. flat_map of (range_with_len 0 n) ++ ds) (append-nil (of n))))
 
 -- one element more, behind those that had come
 pub one_more : {A : Type 0} (old come mid new : List A) (x : A) → mid ≡ old ++ come → new ≡ mid ++ x ∷ []

@@ -2,13 +2,13 @@
 use Rattle.std.specs.Prelude.{◌≡◌, ◌≢◌, ◌⊎◌, ℕ, List, Option, Some, None}
 use Rattle.serde_json.specs.Data.{Data, null}
 use Rattle.sect_names.specs.Sources.{IsDue}
-use Rattle.sect_names.specs.declared.refusal.Refusal.{Refusal}
-use Rattle.sect_names.specs.declared.refusal.Refusal.TheVariants as refusal
+use Rattle.sect_names.specs.declared.refusal.SourceRefusal.{SourceRefusal}
+use Rattle.sect_names.specs.declared.refusal.SourceRefusal.TheVariants as refusal
 use Rattle.sect_emit.specs.Compiled.{CompiledView, IsCompiledFrom}
 
 -- the text is refused
 abbrev pub IsRefused : List ℕ → ℕ → Type 0
-IsRefused source k = (why : Refusal) × (why ≢ refusal.Memory) × IsDue source k why
+IsRefused source k = (why : SourceRefusal) × (why ≢ refusal.Memory) × IsDue source k why
 
 -- the text is refused, or this is its compiled program
 abbrev pub IsCompiledIf : List ℕ → ℕ → Option CompiledView → Type 0

@@ -5,7 +5,7 @@ use Rattle.sect_lsp.specs.declared.position.Encoding.{Encoding}
 use Rattle.sect_lsp.specs.declared.position.Place.{Place}
 use Rattle.sect_lsp.specs.declared.question.Question.{Question}
 use Rattle.sect_lsp.specs.declared.question.Question.TheVariants as question
-use Rattle.sect_lsp.specs.declared.question.Reading.{Reading}
+use Rattle.sect_lsp.specs.declared.text.Reading.{Reading}
 use Rattle.sect_lsp.specs.Accepted.{IsToldOf}
 use Rattle.sect_lsp.specs.Completing.{IsCompletion}
 use Rattle.sect_lsp.specs.Hovering.{IsHoverIf}

@@ -1,16 +1,17 @@
 -- What is told of the place under the pointer: of a name what it is, of an `atomic` its locks and why they are needed,
 -- of a statement of a section the locks that are needed from there on.
 use Rattle.std.specs.Prelude.{◌≡◌, ◌<◌, ℕ, ◌-◌, ◌&&◌, Bool, true, false, if◌then◌else◌, nat_lt, nat_le, List, [], ◌∷◌}
-use Rattle.std.specs.Prelude.{◌++◌, Option, Some, None, length, slice_get, slice_index_or, codes}
+use Rattle.std.specs.Prelude.{nat_eq}
+use Rattle.std.specs.Prelude.{◌++◌, Option, Some, None, filter, length, slice_get, slice_index_or, codes}
 use Rattle.std.specs.Prelude.{zero, suc}
 use Rattle.std.specs.List.{flat_map, list_any, count_by, range_with_len}
 use Rattle.std.specs.Fmt.{decimal}
 use Rattle.serde_json.specs.Data.{Data, null, string, object, no_members, member}
 use Rattle.sect_front.specs.declared.span.Span.{Span}
+use Rattle.sect_types.specs.Programs.{sites_of}
 use Rattle.sect_types.specs.Sections.{sections_of}
 use Rattle.sect_graph.specs.Layout.{flow_nodes}
 use Rattle.sect_points.specs.declared.holders.Holder.TheVariants as holder
-use Rattle.sect_points.specs.Partitions.{ClassesView}
 use Rattle.sect_points.specs.Sets.{PointsToView, InSets}
 use Rattle.sect_infer.specs.Sets.{AreNeeded}
 use Rattle.sect_names.specs.declared.link.Link.{Link}
@@ -23,7 +24,7 @@ use Rattle.sect_places.specs.declared.name_use.Role.{Role}
 use Rattle.sect_places.specs.declared.name_use.Role.TheVariants as role
 use Rattle.sect_places.specs.declared.name_use.Thing.TheVariants as thing
 use Rattle.sect_places.specs.declared.origin_spans.NodeSpan.{NodeSpan}
-use Rattle.sect_places.specs.Declarations.{is_global, is_thread, does_in}
+use Rattle.sect_places.specs.Declarations.{is_record, is_global, is_thread, does_in}
 use Rattle.sect_places.specs.NameSpans.{AreNameSpans}
 use Rattle.sect_places.specs.NodeLines.{AreNodeLines}
 use Rattle.sect_places.specs.NodeSpans.{NodeSpansView, AreNodeSpans}
@@ -70,42 +71,57 @@ declaration_line names d = kind_text names d d.used.role ++ codes " " ++ d.used.
 abbrev pub declared_before : (Role → Bool) → ℕ → List NameSpan → ℕ
 declared_before does item names = count_by (λ n. does n.used.role && nat_lt n.used.item item) names
 
--- a global is called by its number, and a local of a thread by both of theirs; nothing else refers to objects
+-- a global is called by its number, a field of a record and a local of a thread by both of theirs; nothing else refers
+-- to objects
 abbrev pub referrer_by : List NameSpan → NameSpan → Role → Referrer
 referrer_by names d (role.Declared thing.Global) = referrer.Global (declared_before is_global d.used.item names)
+referrer_by names d (role.Declared thing.Field) =
+    referrer.Field (declared_before is_record d.used.scope names) (d.used.item - d.used.scope - 1)
 referrer_by names d (role.Declared thing.Local) =
     if list_any (does_in is_thread d.used.scope) names
     then referrer.Local (declared_before is_thread d.used.scope names) (d.used.item - d.used.scope - 1)
     else referrer.Nothing
 referrer_by names d r = referrer.Nothing
 
--- it may refer to objects of this site: a global to its own, a local to those of its set
-abbrev pub RefersTo : PointsToView → Referrer → ℕ → Type 0
-RefersTo sets (referrer.Global g) s = s ≡ g
-RefersTo sets (referrer.Local u x) s = InSets sets (holder.Local u x) s
-RefersTo sets referrer.Nothing s = ⊥
+-- the record of each site
+abbrev pub record_numbers : CompiledView → List ℕ
+record_numbers c = sites_of (program_of c).globals (program_of c).texts
+
+-- it may refer to objects of this site: a global to its own, a local to those of its set, and a field of a record to
+-- those of its set at any site of that record
+abbrev pub RefersTo : List ℕ → PointsToView → Referrer → ℕ → Type 0
+RefersTo records sets (referrer.Global g) s = s ≡ g
+RefersTo records sets (referrer.Local u x) s = InSets sets (holder.Local u x) s
+RefersTo records sets (referrer.Field r f) s =
+    (o : ℕ) × (slice_get records o ≡ Some r) × InSets sets (holder.Slot o f) s
+RefersTo records sets referrer.Nothing s = ⊥
 
 -- those sites, in their order
-abbrev pub AreSitesOf : ClassesView → Referrer → List ℕ → Type 0
-AreSitesOf classes r sites = Selects (RefersTo classes.sets r) (range_with_len 0 classes.sets.sites) sites
+abbrev pub AreSitesOf : List ℕ → PointsToView → Referrer → List ℕ → Type 0
+AreSitesOf records sets r sites = Selects (RefersTo records sets r) (range_with_len 0 sets.sites) sites
 
--- a class and its sites
-abbrev pub class_line : ℕ → ℕ → List ℕ → List ℕ
-class_line class s ss =
-    codes "class " ++ decimal class ++ codes ", sites " ++ decimal s ++ flat_map (λ n. codes ", " ++ decimal n) ss
+-- those of them that are in class n
+abbrev pub sites_in : List ℕ → ℕ → List ℕ → List ℕ
+sites_in numbers n sites = filter (λ s. nat_eq (slice_index_or numbers s 0) n) sites
+
+-- a class and its sites, where there are some
+abbrev pub class_line : ℕ → List ℕ → List ℕ
+class_line n [] = []
+class_line n (s ∷ ss) =
+    codes "class " ++ decimal n ++ codes ", sites " ++ decimal s ++ flat_map (λ m. codes ", " ++ decimal m) ss
     ++ codes "\n"
 
--- the class of sites, which they have in common, and the sites
-abbrev pub sites_line : List ℕ → List ℕ → List ℕ
-sites_line numbers [] = []
-sites_line numbers (s ∷ ss) = class_line (slice_index_or numbers s 0) s ss
+-- the sites by their classes, of which there are no more than sites
+abbrev pub class_lines : List ℕ → List ℕ → List ℕ
+class_lines numbers sites =
+    flat_map (λ n. class_line n (sites_in numbers n sites)) (range_with_len 0 (length numbers))
 
 -- what is told of the declaration that a name refers to, if there is one
-abbrev pub IsNameTold : ClassesView → List NameSpan → Option NameSpan → List ℕ → Type 0
-IsNameTold classes names None text = text ≡ []
-IsNameTold classes names (Some d) text =
-    (sites : List ℕ) × AreSitesOf classes (referrer_by names d d.used.role) sites
-    × (text ≡ fenced (declaration_line names d ++ sites_line classes.numbers sites))
+abbrev pub IsNameTold : CompiledView → List NameSpan → Option NameSpan → List ℕ → Type 0
+IsNameTold c names None text = text ≡ []
+IsNameTold c names (Some d) text =
+    (sites : List ℕ) × AreSitesOf (record_numbers c) c.scheme.classes.sets (referrer_by names d d.used.role) sites
+    × (text ≡ fenced (declaration_line names d ++ class_lines c.scheme.classes.numbers sites))
 
 -- ---- sections
 
@@ -184,7 +200,7 @@ pub record IsHover (source : List ℕ) (at : ℕ) (c : CompiledView) (value : Da
   pub spans : NodeSpansView
   pub placed : AreNodeSpans source (program_of c) spans
   pub name : List ℕ
-  pub name_told : IsNameTold c.scheme.classes names (declared_under names at) name
+  pub name_told : IsNameTold c names (declared_under names at) name
   pub found : Option ℕ
   pub under : IsFirst (is_head_under spans at) (section_count c) found
   pub section : List ℕ

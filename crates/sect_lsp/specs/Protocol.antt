@@ -5,8 +5,8 @@ use Rattle.serde_json.specs.Data.{Data, unsigned, negative, number, string, obje
 use Rattle.serde_json.specs.Data.{no_members, member}
 use Rattle.serde_json.specs.Find.{get, as_str}
 use Rattle.serde_json.specs.Read.{read}
-use Rattle.sect_lsp.specs.declared.protocol.Fault.{Fault}
-use Rattle.sect_lsp.specs.declared.protocol.Fault.TheVariants as fault
+use Rattle.sect_lsp.specs.declared.protocol.RequestError.{RequestError}
+use Rattle.sect_lsp.specs.declared.protocol.RequestError.TheVariants as fault
 
 -- the bytes of a message are this value, or no JSON
 abbrev pub IsRead : List ℕ → Option Data → Type 0
@@ -36,14 +36,14 @@ kind_by None None = Invalid
 abbrev pub kind_of : Data → Kind
 kind_of d = kind_by (get (codes "id") d) (option_and_then as_str (get (codes "method") d))
 
-abbrev pub code_of : Fault → ℤ
+abbrev pub code_of : RequestError → ℤ
 code_of fault.ParseError = negsuc 32699
 code_of fault.InvalidRequest = negsuc 32599
 code_of fault.MethodNotFound = negsuc 32600
 code_of fault.InvalidParams = negsuc 32601
 code_of fault.ServerNotInitialized = negsuc 32001
 
-abbrev pub words_of : Fault → List ℕ
+abbrev pub words_of : RequestError → List ℕ
 words_of fault.ParseError = codes "the message is no JSON"
 words_of fault.InvalidRequest = codes "the request isn't one that may come now"
 words_of fault.MethodNotFound = codes "there is no such method"
@@ -53,9 +53,9 @@ words_of fault.ServerNotInitialized = codes "the server waits for initialize"
 -- what a request is answered: a value, or a fault
 pub data ReplyView : Type 0 where
   Result : (value : Data) → ReplyView
-  Error : (why : Fault) → ReplyView
+  Error : (why : RequestError) → ReplyView
 
-abbrev pub error_json : Fault → Data
+abbrev pub error_json : RequestError → Data
 error_json why =
     object (member (codes "code") (number (negative (code_of why))) (member (codes "message") (string (words_of why))
     no_members))

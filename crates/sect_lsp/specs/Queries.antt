@@ -18,7 +18,7 @@ use Rattle.sect_places.specs.declared.name_use.Role.TheVariants as role
 use Rattle.sect_places.specs.Declarations.{is_record, is_field, is_global, is_procedure, is_thread, is_local}
 use Rattle.sect_lsp.specs.declared.position.Encoding.{Encoding}
 use Rattle.sect_lsp.specs.declared.position.Place.{Place}
-use Rattle.sect_lsp.specs.declared.protocol.Fault.TheVariants as fault
+use Rattle.sect_lsp.specs.declared.protocol.RequestError.TheVariants as fault
 use Rattle.sect_lsp.specs.declared.query.Query.{Query}
 use Rattle.sect_lsp.specs.declared.query.Query.TheVariants as query
 use Rattle.sect_lsp.specs.Changes.{place_in}

@@ -7,19 +7,20 @@ use Rattle.serde_json.specs.Data.{no_members, member}
 use Rattle.serde_json.specs.Find.{pointer, as_str, as_array, as_number, as_u64}
 use Rattle.sect_lsp.specs.declared.position.Encoding.{Encoding}
 use Rattle.sect_lsp.specs.declared.position.Encoding.TheVariants.{Utf8, Utf16}
-use Rattle.sect_lsp.specs.declared.protocol.Fault.{Fault}
-use Rattle.sect_lsp.specs.declared.protocol.Fault.TheVariants as fault
+use Rattle.sect_lsp.specs.declared.protocol.RequestError.{RequestError}
+use Rattle.sect_lsp.specs.declared.protocol.RequestError.TheVariants as fault
 use Rattle.sect_lsp.specs.declared.query.Query.TheVariants as query
 use Rattle.sect_lsp.specs.declared.question.Question.{Question}
 use Rattle.sect_lsp.specs.declared.question.Question.TheVariants as question
-use Rattle.sect_lsp.specs.declared.question.Reading.{Reading}
+use Rattle.sect_lsp.specs.declared.text.Reading.{Reading}
 use Rattle.sect_lsp.specs.declared.server.Phase.{Phase}
 use Rattle.sect_lsp.specs.declared.server.Phase.TheVariants as phase
 use Rattle.sect_lsp.specs.declared.server.Asked.{Asked}
 use Rattle.sect_lsp.specs.declared.server.Asked.TheVariants as asked
 use Rattle.sect_lsp.specs.declared.server.Told.{Told}
 use Rattle.sect_lsp.specs.declared.server.Told.TheVariants as told
-use Rattle.sect_lsp.specs.declared.server.TheConstants.{DEFAULT_K, MOST_K}
+use Rattle.sect_lsp.specs.declared.documents.TheConstants.{MOST_K}
+use Rattle.sect_lsp.specs.declared.server.TheConstants.{DEFAULT_K}
 use Rattle.sect_lsp.specs.Changes.{after_changes}
 use Rattle.sect_lsp.specs.Diagnosing.{AreDiagnostics}
 use Rattle.sect_lsp.specs.Documents.{DocumentView, text_of, closed, opened}
@@ -128,7 +129,7 @@ Begins s d (Some k) reply t =
     × (t ≡ record { phase = phase.Serving; k = k; encoding = encoding_of d; documents = s.documents })
 
 -- a fault, and nothing changes
-abbrev pub Refuses : ServerView → ReplyView → ServerView → Fault → Type 0
+abbrev pub Refuses : ServerView → ReplyView → ServerView → RequestError → Type 0
 Refuses s reply t why = (reply ≡ Error why) × (t ≡ s)
 
 -- what is asked before `initialize`

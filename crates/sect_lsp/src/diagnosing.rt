@@ -1,21 +1,30 @@
-//! The diagnostics of a text.
+//! What is found of a text when it is opened or changed.
 
 ghost use Rattle.std.specs.Prelude.{◌≤◌, IfOk};
 ghost use Rattle.serde_json.specs.View.{view};
+ghost use Rattle.sect_lsp.specs.Accepted.{IsCompiledIf};
 ghost use Rattle.sect_lsp.specs.Diagnosing.{AreDiagnostics};
 
 use crate::mistakes::mistake_value;
 use crate::warned::warnings_of;
-use sect_emit::compile_scheme;
+use sect_emit::{Compiled, compile_scheme};
 use sect_lint::{Judgment, lint};
 use serde_json::{Value, json};
 use std::alloc::{AllocError, Global};
 
-/// The diagnostics of a text: those of `lint`.
+/// What is found of a text: its diagnostics, and its compiled program, unless it is refused.
+#[derive(Drop)]
+pub struct Judged {
+    pub diagnostics: Value,
+    pub compiled: Option<Compiled>,
+}
+
+/// The diagnostics of a text, those of `lint`, and what it is compiled to.
 #[tactic(auto, unfolding(crate::specs::Diagnosing::AreDiagnostics))]
-pub fn diagnostics_of(alloc: Global, k: u16, uri: &str, text: &[u8]) -> Result<Value, AllocError>
+pub fn judge(alloc: Global, k: u16, uri: &str, text: &[u8]) -> Result<Judged, AllocError>
     requires { k ≤ 3 }
-    ensures { IfOk result (λ v. AreDiagnostics k uri.now text.now (view v)) }
+    ensures diagnostics { IfOk result (λ j. AreDiagnostics k uri.now text.now (view j.diagnostics)) }
+    ensures compiled { IfOk result (λ j. IsCompiledIf text.now k j.compiled) }
 {
     let Ok(judgment) = lint(alloc, text, k) else {
         return Err(AllocError);
@@ -23,11 +32,19 @@ pub fn diagnostics_of(alloc: Global, k: u16, uri: &str, text: &[u8]) -> Result<V
     match judgment {
         Judgment::Refused(diagnostic) => {
             let value = mistake_value(alloc, uri, text, &diagnostic)?;
-            json!(in alloc; [value])
+            let diagnostics = json!(in alloc; [value])?;
+            Ok(Judged {
+                diagnostics,
+                compiled: None,
+            })
         }
         Judgment::Accepted(scheme) => {
             let compiled = compile_scheme(alloc, scheme)?;
-            warnings_of(alloc, text, &compiled)
+            let diagnostics = warnings_of(alloc, text, &compiled)?;
+            Ok(Judged {
+                diagnostics,
+                compiled: Some(compiled),
+            })
         }
     }
 }

@@ -220,12 +220,7 @@ fn hover_at(
         spans: &spans,
     };
     let declared = declared_under(names.as_slice(), at);
-    let mut text = name_text(
-        alloc,
-        compiled.scheme().classes(),
-        names.as_slice(),
-        declared,
-    )?;
+    let mut text = name_text(alloc, compiled, names.as_slice(), declared)?;
     let section = section_text(alloc, source, compiled, section_under(&pointed))?;
     text.push_str(section.as_str())?;
     let nodes = all_nodes_text(alloc, &pointed)?;

@@ -1,7 +1,6 @@
 //! A language server: what an editor tells and asks of the texts that are open, and what is answered.
 #![tactic(auto)]
 
-mod accepted;
 mod change;
 mod completion;
 mod declaring;
@@ -22,11 +21,12 @@ mod referring;
 mod reply;
 mod server;
 mod session;
+mod site_records;
 mod symbols;
+mod text;
 mod warned;
 mod words;
 
-pub use documents::Documents;
 pub use framing::{Front, Inbox, Taken, frame_of, pieces_change_no_message};
 pub use laws::{
     closed_documents_are_forgotten, each_request_gets_one_answer, kept_texts_are_found,

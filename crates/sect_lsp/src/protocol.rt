@@ -11,7 +11,7 @@ use std::alloc::{AllocError, Global};
 
 /// Why a request has no result.
 #[derive(Clone, Copy, Debug, PartialEq, Eq)]
-pub enum Fault {
+pub enum RequestError {
     /// The message is no JSON.
     ParseError,
     /// It is no request, or none that may come now.
@@ -22,17 +22,17 @@ pub enum Fault {
     ServerNotInitialized,
 }
 
-impl Fault {
+impl RequestError {
     /// Its number in the protocol.
     pub fn code(self) -> i64
         ensures { result ≡ code_of self }
     {
         match self {
-            Fault::ParseError => -32700,
-            Fault::InvalidRequest => -32600,
-            Fault::MethodNotFound => -32601,
-            Fault::InvalidParams => -32602,
-            Fault::ServerNotInitialized => -32002,
+            RequestError::ParseError => -32700,
+            RequestError::InvalidRequest => -32600,
+            RequestError::MethodNotFound => -32601,
+            RequestError::InvalidParams => -32602,
+            RequestError::ServerNotInitialized => -32002,
         }
     }
 
@@ -41,11 +41,11 @@ impl Fault {
         ensures { result.now ≡ words_of self }
     {
         match self {
-            Fault::ParseError => "the message is no JSON",
-            Fault::InvalidRequest => "the request isn't one that may come now",
-            Fault::MethodNotFound => "there is no such method",
-            Fault::InvalidParams => "the parameters aren't those of the method",
-            Fault::ServerNotInitialized => "the server waits for initialize",
+            RequestError::ParseError => "the message is no JSON",
+            RequestError::InvalidRequest => "the request isn't one that may come now",
+            RequestError::MethodNotFound => "there is no such method",
+            RequestError::InvalidParams => "the parameters aren't those of the method",
+            RequestError::ServerNotInitialized => "the server waits for initialize",
         }
     }
 }
@@ -74,7 +74,7 @@ pub fn is_id(id: &Value) -> bool
 }
 
 /// What is wrong, as a value.
-fn error_value(alloc: Global, why: Fault) -> Result<Value, AllocError>
+fn error_value(alloc: Global, why: RequestError) -> Result<Value, AllocError>
     ensures { IfOk result (λ v. view v ≡ error_json why) }
 {
     let code = why.code();
@@ -90,7 +90,7 @@ pub fn result_message(alloc: Global, id: &Value, value: Value) -> Result<Value, 
 }
 
 /// That what was asked under this number or name has no result.
-pub fn error_message(alloc: Global, id: &Value, why: Fault) -> Result<Value, AllocError>
+pub fn error_message(alloc: Global, id: &Value, why: RequestError) -> Result<Value, AllocError>
     ensures { IfOk result (λ v. view v ≡ response_json (view id.now) (ErrorView why)) }
 {
     let error = error_value(alloc, why)?;
@@ -98,7 +98,7 @@ pub fn error_message(alloc: Global, id: &Value, why: Fault) -> Result<Value, All
 }
 
 /// That a message is no request.
-pub fn refusal_message(alloc: Global, why: Fault) -> Result<Value, AllocError>
+pub fn refusal_message(alloc: Global, why: RequestError) -> Result<Value, AllocError>
     ensures { IfOk result (λ v. view v ≡ response_json null (ErrorView why)) }
 {
     error_message(alloc, &Value::Null, why)

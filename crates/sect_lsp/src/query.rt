@@ -16,10 +16,11 @@ ghost use Rattle.sect_lsp.specs.steps.Replying.{reply_view};
 
 use crate::change::place_in;
 use crate::position::{Encoding, Place, offset};
-use crate::protocol::Fault;
+use crate::protocol::RequestError;
 use crate::ranges::{location_value, range_value};
 use crate::referring::{declared_under, uses_of};
 use crate::reply::Reply;
+use crate::text::Text;
 use sect_front::{FrontFault, Span, is_name};
 use sect_places::{NameSpan, Role, Thing, name_spans};
 use serde_json::{Value, json};
@@ -36,13 +37,6 @@ pub enum Query {
     Highlights,
     /// The changes that give it another name.
     Rename,
-}
-
-/// A document and its text.
-#[derive(Clone, Copy)]
-pub struct Text<'a> {
-    pub uri: &'a str,
-    pub source: &'a [u8],
 }
 
 /// A document, its text, and the names of that.
@@ -275,10 +269,10 @@ fn rename_reply(
             if may_be_called(subject.names, &declared, name) {
                 Ok(Reply::Result(rename_value(alloc, subject, name, &declared)?))
             } else {
-                Ok(Reply::Error(Fault::InvalidParams))
+                Ok(Reply::Error(RequestError::InvalidParams))
             }
         }
-        _ => Ok(Reply::Error(Fault::InvalidParams)),
+        _ => Ok(Reply::Error(RequestError::InvalidParams)),
     }
 }
 
@@ -323,16 +317,15 @@ pub fn text_at<'a>(message: &'a Value, path: &str) -> Option<&'a str>
 pub fn answer_query(
     alloc: Global,
     query: Query,
-    encoding: Encoding,
     text: Text<'_>,
     message: &Value,
 ) -> Result<Reply, AllocError>
-    ensures { IfOk result (λ reply. IsReply query encoding (view message.now) text.entry.uri.now text.entry.source.now
-        (reply_view reply)) }
+    ensures { IfOk result (λ reply. IsReply query text.entry.reading.encoding (view message.now) text.entry.uri.now
+        text.entry.source.now (reply_view reply)) }
 {
     let names = names_of(alloc, text.source)?;
     let place = place_at(message, "/params/position");
-    let declared = declared_at(encoding, text.source, names.as_slice(), place);
+    let declared = declared_at(text.reading.encoding, text.source, names.as_slice(), place);
     let subject = Subject {
         uri: text.uri,
         source: text.source,

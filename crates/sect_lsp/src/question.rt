@@ -8,17 +8,18 @@ ghost use Rattle.sect_lsp.specs.Accepted.{IsToldOf};
 ghost use Rattle.sect_lsp.specs.Asking.{byte_told as byte_by, IsReplyTo};
 ghost use Rattle.sect_lsp.specs.Hovering.{IsHoverIf};
 ghost use Rattle.sect_lsp.specs.Marks.{AreHints, AreLenses, hinted_range as range_by};
+ghost use Rattle.sect_lsp.specs.steps.Judging.{IsJudged};
 ghost use Rattle.sect_lsp.specs.steps.Replying.{reply_view};
 
-use crate::accepted::compiled_of;
 use crate::change::range_in;
 use crate::completion::completion_value;
 use crate::hover::hover_value;
 use crate::marks::{hints_value, lenses_value};
 use crate::position::{Encoding, Range, offset};
-use crate::query::{Query, Text, answer_query, place_at};
+use crate::query::{Query, answer_query, place_at};
 use crate::reply::Reply;
 use crate::symbols::symbols_value;
+use crate::text::Text;
 use serde_json::Value;
 use std::alloc::{AllocError, Global};
 
@@ -39,13 +40,6 @@ pub enum Question {
     Completion,
 }
 
-/// How a text is read: how many fields a path may have, at most 3, and how places are counted.
-#[derive(Clone, Copy, Debug, PartialEq, Eq)]
-pub struct Reading {
-    pub k: u16,
-    pub encoding: Encoding,
-}
-
 /// The byte at the place that a message tells, if it tells one.
 fn byte_told(encoding: Encoding, source: &[u8], message: &Value) -> Option<usize>
     ensures byte { result ≡ byte_by encoding source.now (view message.now) }
@@ -55,19 +49,15 @@ fn byte_told(encoding: Encoding, source: &[u8], message: &Value) -> Option<usize
 }
 
 /// What stands at a place.
-fn hover(
-    alloc: Global,
-    reading: Reading,
-    source: &[u8],
-    message: &Value,
-) -> Result<Value, AllocError>
-    requires { reading.k ≤ 3 }
-    ensures { IfOk result (λ v. IsToldOf (IsHoverIf source.now (byte_by reading.encoding source.now (view message.now)))
-        source.now reading.k (view v)) }
+fn hover(alloc: Global, text: Text<'_>, message: &Value) -> Result<Value, AllocError>
+    requires { IsJudged text }
+    ensures { IfOk result (λ v. IsToldOf (IsHoverIf text.entry.source.now
+        (byte_by text.entry.reading.encoding text.entry.source.now (view message.now))) text.entry.source.now
+        text.entry.reading.k (view v)) }
 {
-    let at = byte_told(reading.encoding, source, message);
-    match compiled_of(alloc, reading.k, source)? {
-        Some(compiled) => hover_value(alloc, source, &compiled, at),
+    let at = byte_told(text.reading.encoding, text.source, message);
+    match text.compiled {
+        Some(compiled) => hover_value(alloc, text.source, compiled, at),
         None => Ok(Value::Null),
     }
 }
@@ -87,30 +77,26 @@ fn hinted_range(message: &Value) -> Option<Range>
 }
 
 /// The locks behind each `atomic`.
-fn hints(
-    alloc: Global,
-    reading: Reading,
-    source: &[u8],
-    message: &Value,
-) -> Result<Value, AllocError>
-    requires { reading.k ≤ 3 }
-    ensures { IfOk result (λ v. IsToldOf (AreHints source.now (range_by (view message.now))) source.now reading.k
-        (view v)) }
+fn hints(alloc: Global, text: Text<'_>, message: &Value) -> Result<Value, AllocError>
+    requires { IsJudged text }
+    ensures { IfOk result (λ v. IsToldOf (AreHints text.entry.source.now (range_by (view message.now)))
+        text.entry.source.now text.entry.reading.k (view v)) }
 {
     let range = hinted_range(message);
-    match compiled_of(alloc, reading.k, source)? {
-        Some(compiled) => hints_value(alloc, source, &compiled, range),
+    match text.compiled {
+        Some(compiled) => hints_value(alloc, text.source, compiled, range),
         None => Ok(Value::Null),
     }
 }
 
 /// How many locks each `atomic` takes, and which sections it excludes.
-fn lenses(alloc: Global, reading: Reading, source: &[u8]) -> Result<Value, AllocError>
-    requires { reading.k ≤ 3 }
-    ensures { IfOk result (λ v. IsToldOf (AreLenses source.now) source.now reading.k (view v)) }
+fn lenses(alloc: Global, text: Text<'_>) -> Result<Value, AllocError>
+    requires { IsJudged text }
+    ensures { IfOk result (λ v. IsToldOf (AreLenses text.entry.source.now) text.entry.source.now
+        text.entry.reading.k (view v)) }
 {
-    match compiled_of(alloc, reading.k, source)? {
-        Some(compiled) => lenses_value(alloc, source, &compiled),
+    match text.compiled {
+        Some(compiled) => lenses_value(alloc, text.source, compiled),
         None => Ok(Value::Null),
     }
 }
@@ -119,24 +105,21 @@ fn lenses(alloc: Global, reading: Reading, source: &[u8]) -> Result<Value, Alloc
 pub fn answer(
     alloc: Global,
     question: Question,
-    reading: Reading,
     text: Text<'_>,
     message: &Value,
 ) -> Result<Reply, AllocError>
-    requires { reading.k ≤ 3 }
-    ensures { IfOk result (λ reply. IsReplyTo question reading (view message.now) text.entry.uri.now
+    requires { IsJudged text }
+    ensures { IfOk result (λ reply. IsReplyTo question text.entry.reading (view message.now) text.entry.uri.now
         text.entry.source.now (reply_view reply)) }
 {
     let value = match question {
-        Question::Names(query) => {
-            return answer_query(alloc, query, reading.encoding, text, message);
-        }
-        Question::Symbols => symbols_value(alloc, reading.k, text.source)?,
-        Question::Hover => hover(alloc, reading, text.source, message)?,
-        Question::Hints => hints(alloc, reading, text.source, message)?,
-        Question::Lenses => lenses(alloc, reading, text.source)?,
+        Question::Names(query) => return answer_query(alloc, query, text, message),
+        Question::Symbols => symbols_value(alloc, text)?,
+        Question::Hover => hover(alloc, text, message)?,
+        Question::Hints => hints(alloc, text, message)?,
+        Question::Lenses => lenses(alloc, text)?,
         Question::Completion => {
-            let at = byte_told(reading.encoding, text.source, message);
+            let at = byte_told(text.reading.encoding, text.source, message);
             completion_value(alloc, text.source, at)?
         }
     };

@@ -5,7 +5,7 @@ ghost use Rattle.serde_json.specs.View.{view};
 ghost use Rattle.sect_lsp.specs.Protocol.{response_json};
 ghost use Rattle.sect_lsp.specs.steps.Replying.{reply_view};
 
-use crate::protocol::{Fault, error_message, result_message};
+use crate::protocol::{RequestError, error_message, result_message};
 use serde_json::Value;
 use std::alloc::{AllocError, Global};
 
@@ -13,7 +13,7 @@ use std::alloc::{AllocError, Global};
 #[derive(Drop)]
 pub enum Reply {
     Result(Value),
-    Error(Fault),
+    Error(RequestError),
 }
 
 /// The answer to what was asked under this number or name.

@@ -14,22 +14,20 @@ ghost use Rattle.sect_lsp.specs.Server.{Keeps, Begins, Forgets, reading_of, IsTe
 ghost use Rattle.sect_lsp.specs.steps.Replying.{reply_view};
 
 use crate::change::after_changes;
-use crate::diagnosing::diagnostics_of;
-use crate::documents::Documents;
+use crate::diagnosing::{Judged, judge};
+use crate::documents::{Documents, MOST_K};
 use crate::position::Encoding;
-use crate::protocol::{Fault, is_id, notification_message, read, refusal_message};
-use crate::query::{Query, Text, text_at};
-use crate::question::{Question, Reading, answer};
+use crate::protocol::{RequestError, is_id, notification_message, read, refusal_message};
+use crate::query::{Query, text_at};
+use crate::question::{Question, answer};
 use crate::reply::{Reply, response};
+use crate::text::{Reading, Text};
 use serde_json::{Value, json};
 use std::alloc::{AllocError, Global};
 use std::marker::Model;
 
 /// The most fields of a path where the editor doesn't say.
 const DEFAULT_K: u16 = 2;
-
-/// The most fields that a path may be given.
-const MOST_K: u16 = 3;
 
 /// What may come now.
 #[derive(Clone, Copy, Debug, PartialEq, Eq)]
@@ -234,21 +232,24 @@ fn opened_text(alloc: Global, message: &Value) -> Result<Option<Vec<u8>>, AllocE
 #[derive(Drop)]
 pub struct Server {
     phase: Phase,
-    k: u16,
     encoding: Encoding,
     documents: Documents,
 }
 
 impl Model for Server {
-    ghost use Rattle.std.specs.Prelude.{◌≤◌};
-    ghost use Rattle.sect_lsp.specs.declared.server.TheConstants.{MOST_K};
     ghost use Rattle.sect_lsp.specs.Server.{ServerView};
+    ghost use Rattle.sect_lsp.specs.steps.Keeping.{AreOpenIn};
 
     ghost Value = { ServerView };
 
-    ghost view = { λ s. record { phase = s.phase; k = s.k; encoding = s.encoding; documents = s.documents } };
+    ghost view = { λ s. record {
+      phase = s.phase;
+      k = s.documents.k;
+      encoding = s.encoding;
+      documents = s.documents.documents;
+    } };
 
-    ghost invariant = { λ s. s.k ≤ MOST_K };
+    ghost invariant = { λ s. AreOpenIn s.phase s.documents.documents };
 }
 
 impl Server {
@@ -258,9 +259,8 @@ impl Server {
     {
         Server {
             phase: Phase::Waiting,
-            k: DEFAULT_K,
             encoding: Encoding::Utf16,
-            documents: Documents::new(alloc),
+            documents: Documents::new(alloc, DEFAULT_K),
         }
     }
 
@@ -273,17 +273,18 @@ impl Server {
 
     /// Begins to serve.
     fn begin(&mut self, alloc: Global, message: &Value) -> Result<Reply, AllocError>
+        requires { self.old.phase ≡ Phase.Waiting }
         ensures { IfOk result (λ reply. Begins self.old (view message.now) (k_by (view message.now))
             (reply_view reply) self.new) }
     {
         let Some(k) = k_of(message) else {
-            return Ok(Reply::Error(Fault::InvalidParams));
+            return Ok(Reply::Error(RequestError::InvalidParams));
         };
         let encoding = encoding_of(message);
         let able = capabilities(alloc, encoding)?;
         self.phase = Phase::Serving;
-        self.k = k;
         self.encoding = encoding;
+        self.documents = Documents::new(alloc, k);
         Ok(Reply::Result(able))
     }
 
@@ -293,7 +294,7 @@ impl Server {
         ensures most { result.k ≤ MOST_K }
     {
         Reading {
-            k: self.k,
+            k: self.documents.k(),
             encoding: self.encoding,
         }
     }
@@ -309,11 +310,16 @@ impl Server {
         ensures { IfOk result (λ reply. IsTextReply self.now question (view message.now) uri.now
             (text_of uri.now self.now.documents) (reply_view reply)) }
     {
-        let Some(source) = self.documents.text(uri) else {
-            return Ok(Reply::Error(Fault::InvalidParams));
+        let Some(document) = self.documents.find(uri) else {
+            return Ok(Reply::Error(RequestError::InvalidParams));
         };
-        let text = Text { uri, source };
-        answer(alloc, question, self.reading(), text, message)
+        let text = Text {
+            uri,
+            source: document.text(),
+            reading: self.reading(),
+            compiled: document.compiled(),
+        };
+        answer(alloc, question, text, message)
     }
 
     /// Answers what is asked of a document.
@@ -328,7 +334,7 @@ impl Server {
     {
         match text_at(message, "/params/textDocument/uri") {
             Some(uri) => self.answer_text(alloc, question, uri, message),
-            None => Ok(Reply::Error(Fault::InvalidParams)),
+            None => Ok(Reply::Error(RequestError::InvalidParams)),
         }
     }
 
@@ -342,13 +348,13 @@ impl Server {
         ensures { IfOk result (λ reply. RepliesServing self.old asked (view message.now) (reply_view reply) self.new) }
     {
         match asked {
-            Asked::Initialize => Ok(Reply::Error(Fault::InvalidRequest)),
+            Asked::Initialize => Ok(Reply::Error(RequestError::InvalidRequest)),
             Asked::Shutdown => {
                 self.phase = Phase::ShutDown;
                 Ok(Reply::Result(Value::Null))
             }
             Asked::Document(question) => self.answer_document(alloc, question, message),
-            Asked::Unknown => Ok(Reply::Error(Fault::MethodNotFound)),
+            Asked::Unknown => Ok(Reply::Error(RequestError::MethodNotFound)),
         }
     }
 
@@ -360,11 +366,11 @@ impl Server {
         match self.phase {
             Phase::Waiting => match asked {
                 Asked::Initialize => self.begin(alloc, message),
-                _ => Ok(Reply::Error(Fault::ServerNotInitialized)),
+                _ => Ok(Reply::Error(RequestError::ServerNotInitialized)),
             },
             Phase::Serving => self.reply_serving(alloc, asked, message),
             Phase::ShutDown | Phase::Done | Phase::Abandoned => {
-                Ok(Reply::Error(Fault::InvalidRequest))
+                Ok(Reply::Error(RequestError::InvalidRequest))
             }
         }
     }
@@ -379,14 +385,14 @@ impl Server {
         ensures { IfOk result (λ text. option_map (λ t. t.items) text
             ≡ text_after self.now uri.now (view message.now)) }
     {
-        let Some(text) = self.documents.text(uri) else {
+        let Some(source) = self.documents.text(uri) else {
             return Ok(None);
         };
         let changes = message
             .pointer("/params/contentChanges")
             .and_then(Value::as_array);
         match changes {
-            Some(changes) => after_changes(alloc, self.encoding, text, changes.as_slice()),
+            Some(changes) => after_changes(alloc, self.encoding, source, changes.as_slice()),
             None => Ok(None),
         }
     }
@@ -398,20 +404,25 @@ impl Server {
         uri: &str,
         text: Option<Vec<u8>>,
     ) -> Result<Vec<Value>, AllocError>
+        requires { self.old.phase ≡ Phase.Serving }
         ensures { IfOk result (λ out. Keeps self.old uri.now (option_map (λ t. t.items) text) (map view out.items)
             self.new) }
     {
         let Some(text) = text else {
             return Ok(Vec::new(alloc));
         };
-        let diagnostics = diagnostics_of(alloc, self.k, uri, text.as_slice())?;
+        let Judged {
+            diagnostics,
+            compiled,
+        } = judge(alloc, self.documents.k(), uri, text.as_slice())?;
         let message = diagnostics_message(alloc, uri, diagnostics)?;
-        self.documents.open(alloc, uri, text)?;
+        self.documents.open(alloc, uri, text, compiled)?;
         one(alloc, message)
     }
 
     /// Forgets a document, and takes its diagnostics back.
     fn forget(&mut self, alloc: Global, uri: &str) -> Result<Vec<Value>, AllocError>
+        requires { self.old.phase ≡ Phase.Serving }
         ensures { IfOk result (λ out. Forgets self.old uri.now (map view out.items) self.new) }
     {
         let none = json!(in alloc; [])?;
@@ -427,6 +438,7 @@ impl Server {
         told: Told,
         message: &Value,
     ) -> Result<Vec<Value>, AllocError>
+        requires { self.old.phase ≡ Phase.Serving }
         ensures { IfOk result (λ out. NotesOf self.old told (view message.now) (uri_of (view message.now))
             (map view out.items) self.new) }
     {
@@ -483,12 +495,12 @@ impl Server {
                     let reply = self.reply(alloc, asked_of(method), message)?;
                     one(alloc, response(alloc, id, reply)?)
                 } else {
-                    one(alloc, refusal_message(alloc, Fault::InvalidRequest)?)
+                    one(alloc, refusal_message(alloc, RequestError::InvalidRequest)?)
                 }
             }
             (None, Some(method)) => self.note(alloc, told_of(method), message),
             (Some(_), None) => Ok(Vec::new(alloc)),
-            (None, None) => one(alloc, refusal_message(alloc, Fault::InvalidRequest)?),
+            (None, None) => one(alloc, refusal_message(alloc, RequestError::InvalidRequest)?),
         }
     }
 
@@ -498,7 +510,7 @@ impl Server {
     {
         match read(alloc, message)? {
             Some(value) => self.receive(alloc, &value),
-            None => one(alloc, refusal_message(alloc, Fault::ParseError)?),
+            None => one(alloc, refusal_message(alloc, RequestError::ParseError)?),
         }
     }
 }

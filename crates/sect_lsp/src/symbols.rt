@@ -1,6 +1,6 @@
 //! What is listed of a text: what it declares, and its sections.
 
-ghost use Rattle.std.specs.Prelude.{◌≡◌, ◌<◌, ◌≤◌, ◌++◌, List, Some, IfOk, IfSome, OnOk, length, map};
+ghost use Rattle.std.specs.Prelude.{◌≡◌, ◌<◌, ◌++◌, List, Some, IfOk, IfSome, OnOk, length, map, option_map};
 ghost use Rattle.std.specs.List.{flat_map};
 ghost use Rattle.std.specs.String.{string_bytes};
 ghost use Rattle.serde_json.specs.Data.{Data};
@@ -14,13 +14,14 @@ ghost use Rattle.sect_emit.specs.Labels.{thread_name};
 ghost use Rattle.sect_lsp.specs.Marks.{section_numbers};
 ghost use Rattle.sect_lsp.specs.Symbols.{symbol_kind as symbol_kind_by, symbol_json, symbol_by, symbols_of};
 ghost use Rattle.sect_lsp.specs.Symbols.{section_with, section_symbols, AreSectionSymbols, AreSymbols};
+ghost use Rattle.sect_lsp.specs.steps.Judging.{IsJudged};
 ghost use Rattle.sect_lsp.specs.steps.Marking.{IsMarked};
 ghost use Rattle.sect_lsp.specs.steps.Naming.{AreNamesWithin};
 
-use crate::accepted::compiled_of;
 use crate::marks::{Marked, head_of};
 use crate::query::names_of;
 use crate::ranges::range_value;
+use crate::text::Text;
 use sect_emit::{Compiled, put_thread_name};
 use sect_front::Span;
 use sect_places::{NameSpan, Role, Thing, node_spans};
@@ -185,27 +186,27 @@ fn put_found(
     alloc: Global,
     values: &mut Vec<Value>,
     source: &[u8],
-    found: Option<Compiled>,
+    found: Option<&Compiled>,
 ) -> Result<(), AllocError>
-    requires { IfSome found (λ c. IsSpelled source.now (program_of c).source) }
-    ensures { OnOk result ((sections : List Data) × AreSectionSymbols source.now found sections
+    requires { IfSome found (λ c. IsSpelled source.now (program_of c.now).source) }
+    ensures { OnOk result ((sections : List Data)
+        × AreSectionSymbols source.now (option_map (λ c. c.now) found.entry) sections
         × (map view values.new.items ≡ map view values.old.items ++ sections)) }
 {
     match found {
-        Some(compiled) => put_sections(alloc, values, source, &compiled),
+        Some(compiled) => put_sections(alloc, values, source, compiled),
         None => Ok(()),
     }
 }
 
 /// What a text declares, and then its sections, if it is accepted.
-pub fn symbols_value(alloc: Global, k: u16, source: &[u8]) -> Result<Value, AllocError>
-    requires { k ≤ 3 }
-    ensures { IfOk result (λ v. AreSymbols source.now k (view v)) }
+pub fn symbols_value(alloc: Global, text: Text<'_>) -> Result<Value, AllocError>
+    requires { IsJudged text }
+    ensures { IfOk result (λ v. AreSymbols text.entry.source.now text.entry.reading.k (view v)) }
 {
-    let names = names_of(alloc, source)?;
+    let names = names_of(alloc, text.source)?;
     let mut values = Vec::new(alloc);
-    put_declared(alloc, &mut values, source, names.as_slice())?;
-    let found = compiled_of(alloc, k, source)?;
-    put_found(alloc, &mut values, source, found)?;
+    put_declared(alloc, &mut values, text.source, names.as_slice())?;
+    put_found(alloc, &mut values, text.source, text.compiled)?;
     Ok(Value::Array(values))
 }

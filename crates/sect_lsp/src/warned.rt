@@ -1,17 +1,18 @@
 //! The warnings of a text that is accepted, as an editor shows them.
 
 ghost use Rattle.std.specs.Prelude.{◌≡◌, IfOk, length, map};
+ghost use Rattle.std.specs.String.{string_bytes};
 ghost use Rattle.serde_json.specs.View.{view};
 ghost use Rattle.sect_front.specs.Front.{IsSpelled};
 ghost use Rattle.sect_front.specs.FaultPlaces.{IsWithin};
 ghost use Rattle.sect_emit.specs.Compiled.{program_of};
 ghost use Rattle.sect_lsp.specs.Ranges.{list};
-ghost use Rattle.sect_lsp.specs.Warned.{tags as tags_by, warning_json, AreWarningsOf};
+ghost use Rattle.sect_lsp.specs.Warned.{message_of as message_by, tags as tags_by, warning_json, AreWarningsOf};
 ghost use Rattle.sect_warnings.specs.Reports.{AreWithin};
 
 use crate::ranges::range_value;
 use sect_emit::Compiled;
-use sect_warnings::{Placed, Spare, Told, placed_warnings};
+use sect_warnings::{Placed, Spare, Told, placed_warnings, put_behind};
 use serde_json::{Value, json};
 use std::alloc::{AllocError, Global};
 
@@ -25,16 +26,26 @@ fn tags(alloc: Global, told: Told) -> Result<Value, AllocError>
     }
 }
 
-/// A warning: its name and what it means, at some bytes.
+/// The name of a warning, what it means, and what is said of its bytes.
+fn message_of(alloc: Global, placed: &Placed) -> Result<String, AllocError>
+    ensures { IfOk result (λ text. string_bytes text ≡ message_by placed.now) }
+{
+    let told = placed.told();
+    let mut text = format!(in alloc; "{}: {}", told.name(), told.note())?;
+    put_behind(&mut text, "; ", placed.label())?;
+    Ok(text)
+}
+
+/// A warning: its name, what it means and what is said, at some bytes.
 fn warning_value(alloc: Global, source: &[u8], placed: &Placed) -> Result<Value, AllocError>
     requires { IsWithin (length source.now) placed.now.span }
     ensures { IfOk result (λ v. view v ≡ warning_json source.now placed.now) }
 {
-    let range = range_value(alloc, source, placed.span)?;
-    let tags = tags(alloc, placed.told)?;
-    let (name, note) = (placed.told.name(), placed.told.note());
-    let message = format!(in alloc; "{name}: {note}")?;
-    json!(in alloc; {"code": name, "message": message, "range": range, "severity": 2, "source": "sectc",
+    let told = placed.told();
+    let range = range_value(alloc, source, placed.span())?;
+    let tags = tags(alloc, told)?;
+    let message = message_of(alloc, placed)?;
+    json!(in alloc; {"code": told.name(), "message": message, "range": range, "severity": 2, "source": "sectc",
         "tags": tags})
 }
 

@@ -18,5 +18,4 @@ mod Refusing
 mod Facts
 mod Splitting
 mod AtNodes
-mod Climbing
 pub mod shared

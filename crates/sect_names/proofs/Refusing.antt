@@ -10,8 +10,8 @@ use Rattle.sect_names.specs.declared.fault.SchemeFault.{SchemeFault}
 use Rattle.sect_names.specs.declared.fault.SchemeFault.TheVariants.{Memory, BadK, NoSuchGlobal, GuardIsGuarded}
 use Rattle.sect_names.specs.declared.fault.SchemeFault.TheVariants.{HintTwice}
 use Rattle.sect_names.specs.Verdicts.{Judges}
-use Rattle.sect_names.specs.declared.refusal.Refusal.{Refusal}
-use Rattle.sect_names.specs.declared.refusal.Refusal.TheVariants as refusal
+use Rattle.sect_names.specs.declared.refusal.SourceRefusal.{SourceRefusal}
+use Rattle.sect_names.specs.declared.refusal.SourceRefusal.TheVariants as refusal
 use Rattle.sect_names.specs.Sources.{IsTypedText, GivesProgram, IsDue, of_front, of_scheme}
 use Rattle.sect_names.proofs.shared.Refusing.{one_program}
 
@@ -25,7 +25,7 @@ scheme_due bytes k p few text (GuardIsGuarded r) judged = (λ e. cc, inr (p, tex
 scheme_due bytes k p few text (HintTwice r) judged = (λ e. cc, inr (p, text, judged))
 
 -- an answer that is refused for want of memory gives each program, unless memory ran out
-pub gives_memory : (p : ProgramView) (r : Result ProgramView Refusal) (e : Refusal) → e ≡ refusal.Memory
+pub gives_memory : (p : ProgramView) (r : Result ProgramView SourceRefusal) (e : SourceRefusal) → e ≡ refusal.Memory
     → IsErrAnd r (λ x. x ≡ e) → GivesProgram p r
 gives_memory p (Ok q) e memory is = absurd is
 gives_memory p (Err x) e memory is = is ∙ memory

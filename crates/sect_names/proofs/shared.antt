@@ -1,6 +1,7 @@
 -- What follows from the public words of this crate, for the proofs of the crates above.
 pub mod Alike
 pub mod Beginning
+pub mod Climbing
 pub mod Covering
 pub mod Crossing
 pub mod Ending

@@ -14,3 +14,4 @@ pub mod steps
 pub mod Printing
 pub mod Sources
 pub mod Climbing
+pub mod Above

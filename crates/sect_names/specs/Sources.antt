@@ -14,8 +14,8 @@ use Rattle.sect_names.specs.declared.fault.SchemeFault.{SchemeFault}
 use Rattle.sect_names.specs.declared.fault.SchemeFault.TheVariants as scheme_fault
 use Rattle.sect_names.specs.Schemes.{SchemeView, IsScheme}
 use Rattle.sect_names.specs.Verdicts as schemes
-use Rattle.sect_names.specs.declared.refusal.Refusal.{Refusal}
-use Rattle.sect_names.specs.declared.refusal.Refusal.TheVariants as refusal
+use Rattle.sect_names.specs.declared.refusal.SourceRefusal.{SourceRefusal}
+use Rattle.sect_names.specs.declared.refusal.SourceRefusal.TheVariants as refusal
 
 -- the text spells a typed tree, and this is its program
 pub record IsTypedText (bytes : List ℕ) (p : ProgramView) : Type 0 where
@@ -31,20 +31,20 @@ pub record IsAccepted (bytes : List ℕ) (k : ℕ) (s : SchemeView) : Type 0 whe
   pub scheme : IsScheme s
 
 -- a fault of a layer is the program's refusal; want of memory is never inside another
-abbrev pub of_front : FrontFault → Refusal
+abbrev pub of_front : FrontFault → SourceRefusal
 of_front front.Memory = refusal.Memory
 of_front fault = refusal.Front fault
 
-abbrev pub of_types : TypeFault → Refusal
+abbrev pub of_types : TypeFault → SourceRefusal
 of_types type_fault.Memory = refusal.Memory
 of_types fault = refusal.Types fault
 
-abbrev pub of_scheme : SchemeFault → Refusal
+abbrev pub of_scheme : SchemeFault → SourceRefusal
 of_scheme scheme_fault.Memory = refusal.Memory
 of_scheme fault = refusal.Scheme fault
 
 -- the text is refused so: it spells no tree, or a rule on types is broken
-abbrev pub IsRefused : List ℕ → Refusal → Type 0
+abbrev pub IsRefused : List ℕ → SourceRefusal → Type 0
 IsRefused bytes refusal.Memory = ⊤
 IsRefused bytes (refusal.Front fault) = (fault ≢ front.Memory) × IsFault bytes fault
 IsRefused bytes (refusal.Types fault) = (fault ≢ type_fault.Memory)
@@ -52,12 +52,12 @@ IsRefused bytes (refusal.Types fault) = (fault ≢ type_fault.Memory)
 IsRefused bytes (refusal.Scheme fault) = ⊥
 
 -- this program is given, unless memory ran out
-abbrev pub GivesProgram : ProgramView → Result ProgramView Refusal → Type 0
+abbrev pub GivesProgram : ProgramView → Result ProgramView SourceRefusal → Type 0
 GivesProgram p (Ok given) = given ≡ p
 GivesProgram p (Err r) = r ≡ refusal.Memory
 
 -- the refusal is due: k is judged first, then the text, and then its hints
-abbrev pub IsDue : List ℕ → ℕ → Refusal → Type 0
+abbrev pub IsDue : List ℕ → ℕ → SourceRefusal → Type 0
 IsDue bytes k (refusal.Scheme fault) =
     (fault ≢ scheme_fault.Memory) × (((fault ≡ scheme_fault.BadK) × (3 < k))
     ⊎ ((p : ProgramView) × IsTypedText bytes p × schemes.Judges p k (Err fault)))

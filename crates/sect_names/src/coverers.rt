@@ -4,7 +4,7 @@ ghost use Rattle.std.specs.Prelude.{◌≡◌, ℕ, Some, None, [], ◌∷◌, I
 ghost use Rattle.sect_names.specs.declared.lock.Right.TheVariants as rights;
 ghost use Rattle.sect_names.specs.declared.lock.Lock.TheVariants as lock;
 ghost use Rattle.sect_names.specs.Climbing.{AreCoverers};
-ghost use Rattle.sect_names.specs.steps.Above.{over_class, over_path};
+ghost use Rattle.sect_names.specs.Above.{over_class, over_path};
 
 use crate::lock::{Effect, Lock, Right};
 use crate::path::Path;

@@ -37,7 +37,7 @@ pub use link::Link;
 pub use lock::{Effect, Lock, Right, precedes};
 pub use path::Path;
 pub use printing::{field_name, put_lock, put_locks, put_path};
-pub use refusal::Refusal;
+pub use refusal::SourceRefusal;
 pub use scheme::{MOST_PATH_FIELDS, Scheme, check_k, scheme_of};
 pub use source::{accept, program_of};
 pub use touching::{stays, touches};

@@ -1,7 +1,7 @@
 //! Why a source text is refused, by whichever layer.
 
 ghost use Rattle.std.specs.Prelude.{◌≡◌};
-ghost use Rattle.sect_names.specs.declared.refusal.Refusal.TheVariants.{Memory};
+ghost use Rattle.sect_names.specs.declared.refusal.SourceRefusal.TheVariants.{Memory};
 ghost use Rattle.sect_names.specs.Sources.{of_front, of_types, of_scheme};
 
 use crate::fault::SchemeFault;
@@ -13,7 +13,7 @@ use thiserror::Error;
 /// Why a source text is refused. `Display` is what the program prints after the word `refused`, so that a refusal can
 /// stand inside another.
 #[derive(Debug, Drop, Error)]
-pub enum Refusal {
+pub enum SourceRefusal {
     /// Want of memory.
     #[error("out of memory")]
     Memory,
@@ -28,43 +28,43 @@ pub enum Refusal {
     Scheme(SchemeFault),
 }
 
-impl From<AllocError> for Refusal {
+impl From<AllocError> for SourceRefusal {
     ghost from_gives = { λ _ r. r ≡ Memory };
 
-    fn from(_refused: AllocError) -> Refusal {
-        Refusal::Memory
+    fn from(_refused: AllocError) -> SourceRefusal {
+        SourceRefusal::Memory
     }
 }
 
-impl From<FrontFault> for Refusal {
+impl From<FrontFault> for SourceRefusal {
     ghost from_gives = { λ fault r. r ≡ of_front fault };
 
-    fn from(fault: FrontFault) -> Refusal {
+    fn from(fault: FrontFault) -> SourceRefusal {
         match fault {
-            FrontFault::Memory => Refusal::Memory,
-            other => Refusal::Front(other),
+            FrontFault::Memory => SourceRefusal::Memory,
+            other => SourceRefusal::Front(other),
         }
     }
 }
 
-impl From<TypeFault> for Refusal {
+impl From<TypeFault> for SourceRefusal {
     ghost from_gives = { λ fault r. r ≡ of_types fault };
 
-    fn from(fault: TypeFault) -> Refusal {
+    fn from(fault: TypeFault) -> SourceRefusal {
         match fault {
-            TypeFault::Memory => Refusal::Memory,
-            other => Refusal::Types(other),
+            TypeFault::Memory => SourceRefusal::Memory,
+            other => SourceRefusal::Types(other),
         }
     }
 }
 
-impl From<SchemeFault> for Refusal {
+impl From<SchemeFault> for SourceRefusal {
     ghost from_gives = { λ fault r. r ≡ of_scheme fault };
 
-    fn from(fault: SchemeFault) -> Refusal {
+    fn from(fault: SchemeFault) -> SourceRefusal {
         match fault {
-            SchemeFault::Memory => Refusal::Memory,
-            other => Refusal::Scheme(other),
+            SchemeFault::Memory => SourceRefusal::Memory,
+            other => SourceRefusal::Scheme(other),
         }
     }
 }

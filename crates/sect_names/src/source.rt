@@ -2,11 +2,11 @@
 
 ghost use Rattle.std.specs.Prelude.{IfOk, IfErr, IsOkUnless};
 ghost use Rattle.sect_types.specs.Programs.{ProgramView};
-ghost use Rattle.sect_names.specs.declared.refusal.Refusal.TheVariants.{Memory};
+ghost use Rattle.sect_names.specs.declared.refusal.SourceRefusal.TheVariants.{Memory};
 ghost use Rattle.sect_names.specs.Schemes.{SchemeView};
 ghost use Rattle.sect_names.specs.Sources.{IsTypedText, IsAccepted, GivesProgram, IsRefused, IsDue};
 
-use crate::refusal::Refusal;
+use crate::refusal::SourceRefusal;
 use crate::scheme::{Scheme, check_k, scheme_of};
 use sect_front::parse;
 use sect_types::{Program, check_types};
@@ -15,7 +15,7 @@ use std::alloc::Global;
 /// The scheme of a source text for paths of at most `k` fields. How many fields a path may have is judged before the
 /// source; then the first fault of the text, of its types or of its hints is answered. `Memory` is answered only where
 /// a growth was refused.
-pub fn accept(alloc: Global, source: &[u8], k: u16) -> Result<Scheme, Refusal>
+pub fn accept(alloc: Global, source: &[u8], k: u16) -> Result<Scheme, SourceRefusal>
     // The text is accepted, with this scheme.
     ensures accepted { IfOk result (IsAccepted source.now k) }
     // A text that is accepted is given its scheme, unless memory runs out.
@@ -32,7 +32,7 @@ pub fn accept(alloc: Global, source: &[u8], k: u16) -> Result<Scheme, Refusal>
 
 /// The program of a source text: the first fault of the text or of its types where it has none. `Memory` is answered
 /// only where a growth was refused.
-pub fn program_of(alloc: Global, source: &[u8]) -> Result<Program, Refusal>
+pub fn program_of(alloc: Global, source: &[u8]) -> Result<Program, SourceRefusal>
     ensures answers { IfOk result (IsTypedText source.now) }
     ensures only { (p : ProgramView) → IsTypedText source.now p → GivesProgram p result }
     ensures refuses { IfErr result (IsRefused source.now) }

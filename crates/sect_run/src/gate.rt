@@ -1,6 +1,6 @@
 //! Where threads pass after each event of their own turns.
 
-use sect_world::Kind;
+use sect_world::EventKind;
 
 /// Is told of each event of a thread's own turns, by whoever made the turn and without the run's lock: the other
 /// threads may go on meanwhile. A gate may keep the thread for a while; it has to let it go.
@@ -10,7 +10,7 @@ pub trait Gate: Sync {
     fn starts(&self, thread: u16) -> bool;
 
     /// This thread has made an event of this kind.
-    fn at(&self, thread: u16, kind: Kind);
+    fn at(&self, thread: u16, kind: EventKind);
 }
 
 /// A gate that keeps nobody.
@@ -22,5 +22,5 @@ impl Gate for OpenGate {
         true
     }
 
-    fn at(&self, _thread: u16, _kind: Kind) {}
+    fn at(&self, _thread: u16, _kind: EventKind) {}
 }

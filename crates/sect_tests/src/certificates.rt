@@ -3,8 +3,8 @@
 
 use crate::programs::printed;
 use sect_cert::{
-    Cert, CertBase, CertFault, CertLock, CertPath, CertSection, CertStep, Chain, ChainSteps, Runs,
-    read_cert, write_cert,
+    Cert, CertBase, CertChain, CertFault, CertLock, CertPath, CertSection, CertStep, ChainSteps,
+    Runs, read_cert, write_cert,
 };
 use sect_front::{Items, Name, is_name};
 use std::alloc::{AllocError, Global};
@@ -138,7 +138,7 @@ fn says_it_adds_one(rt: &impl Abort, cert: &Cert) -> Result<(), Fail> {
 }
 
 /// The chain is that of `ADDS_ONE`.
-fn leads_to_the_store(rt: &impl Abort, chain: &Chain) -> Result<(), Fail> {
+fn leads_to_the_store(rt: &impl Abort, chain: &CertChain) -> Result<(), Fail> {
     assert_eq!(rt; chain.lock, 0);
     assert_eq!(rt; chain.steps.len(), 3);
     let (node, lock) = step_at(&chain.steps, 2)?;
@@ -193,14 +193,14 @@ fn made_nodes(alloc: Global) -> Result<Runs<Items<CertLock>>, Fail> {
 }
 
 /// A chain of one step.
-fn made_chains(alloc: Global) -> Result<Items<Chain>, AllocError> {
+fn made_chains(alloc: Global) -> Result<Items<CertChain>, AllocError> {
     let step = CertStep {
         node: 0,
         lock: CertLock::ReadClass(7),
     };
     let mut steps = ChainSteps::new(alloc);
     steps.push(step)?;
-    of_one(alloc, Chain { lock: 2, steps })
+    of_one(alloc, CertChain { lock: 2, steps })
 }
 
 /// A section of two nodes and a chain.

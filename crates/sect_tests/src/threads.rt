@@ -4,7 +4,7 @@ ghost use Rattle.std.specs.Prelude.{◌<◌};
 
 use sect_emit::{Compiled, compile};
 use sect_run::{Gate, run_threads};
-use sect_world::{Deed, Event, Kind, Run};
+use sect_world::{Deed, Event, EventKind, Run};
 use std::alloc::{AllocError, Global};
 use std::process::Abort;
 use std::sync::Wait;
@@ -42,30 +42,30 @@ const KINDS: usize = 7;
 const LOOKS: u32 = 10_000;
 
 /// The place of a kind among all.
-fn place_of(kind: Kind) -> usize
+fn place_of(kind: EventKind) -> usize
     ensures { result < KINDS }
 {
     match kind {
-        Kind::Local => 0,
-        Kind::Enter => 1,
-        Kind::Take => 2,
-        Kind::Begin => 3,
-        Kind::Again => 4,
-        Kind::Act => 5,
-        Kind::Leave => 6,
+        EventKind::Local => 0,
+        EventKind::Enter => 1,
+        EventKind::Take => 2,
+        EventKind::Begin => 3,
+        EventKind::Again => 4,
+        EventKind::Act => 5,
+        EventKind::Leave => 6,
     }
 }
 
 /// The kind of an event.
-fn kind_of(event: &Event) -> Kind {
+fn kind_of(event: &Event) -> EventKind {
     match event.deed {
-        Deed::Local => Kind::Local,
-        Deed::Enter => Kind::Enter,
-        Deed::Take { key: _, mode: _ } => Kind::Take,
-        Deed::Begin => Kind::Begin,
-        Deed::Again => Kind::Again,
-        Deed::Act => Kind::Act,
-        Deed::Leave => Kind::Leave,
+        Deed::Local => EventKind::Local,
+        Deed::Enter => EventKind::Enter,
+        Deed::Take { key: _, mode: _ } => EventKind::Take,
+        Deed::Begin => EventKind::Begin,
+        Deed::Again => EventKind::Again,
+        Deed::Act => EventKind::Act,
+        Deed::Leave => EventKind::Leave,
     }
 }
 
@@ -89,7 +89,7 @@ impl Counts {
     }
 
     /// How many events of a kind a thread has made.
-    fn of(&self, thread: u16, kind: Kind) -> u32 {
+    fn of(&self, thread: u16, kind: EventKind) -> u32 {
         match self.counts.get(thread as usize * KINDS + place_of(kind)) {
             Some(count) => count.load(Ordering::SeqCst),
             None => 0,
@@ -102,7 +102,7 @@ impl Gate for Counts {
         thread >= self.first
     }
 
-    fn at(&self, thread: u16, kind: Kind) {
+    fn at(&self, thread: u16, kind: EventKind) {
         if let Some(count) = self.counts.get(thread as usize * KINDS + place_of(kind)) {
             count.fetch_add(1, Ordering::SeqCst);
         }
@@ -110,17 +110,17 @@ impl Gate for Counts {
 }
 
 /// All kinds but `Take`: a key may be taken in another thread's turn.
-const OWN: [Kind; 6] = [
-    Kind::Local,
-    Kind::Enter,
-    Kind::Begin,
-    Kind::Again,
-    Kind::Act,
-    Kind::Leave,
+const OWN: [EventKind; 6] = [
+    EventKind::Local,
+    EventKind::Enter,
+    EventKind::Begin,
+    EventKind::Again,
+    EventKind::Act,
+    EventKind::Leave,
 ];
 
 /// How many events of a kind a thread has in a run.
-fn made(run: &Run, thread: u16, kind: Kind) -> usize {
+fn made(run: &Run, thread: u16, kind: EventKind) -> usize {
     run.events
         .iter()
         .filter(|event| event.thread == thread && kind_of(event) == kind)
@@ -136,14 +136,14 @@ fn compiled(alloc: Global, text: &str) -> Result<Compiled, Fail> {
 fn expect_told(
     rt: &(impl Threads + Wait + Sync + AllocGlobal + Abort),
     text: &str,
-    kinds: &[Kind],
+    kinds: &[EventKind],
     first: u16,
 ) -> Result<(), Fail> {
     let compiled = compiled(rt.alloc(), text)?;
     let gate = Counts::new(rt.alloc(), 2, first)?;
     let run = run_threads(rt, rt.alloc(), &compiled, 10_000, &gate)?;
     for thread in 0..2u16 {
-        assert_eq!(rt; made(&run, thread, Kind::Leave), 1);
+        assert_eq!(rt; made(&run, thread, EventKind::Leave), 1);
         for kind in kinds {
             let told = gate.of(thread, *kind) as usize;
             assert_eq!(rt; told, made(&run, thread, *kind), "{thread}");
@@ -155,21 +155,21 @@ fn expect_told(
 #[test]
 fn gate_is_told_of_each_event(rt: HostRuntime) -> Result<(), Fail> {
     expect_told(&rt, APART, &OWN, 0)?;
-    expect_told(&rt, APART, &[Kind::Take], 0)?;
+    expect_told(&rt, APART, &[EventKind::Take], 0)?;
     expect_told(&rt, ADDING, &OWN, 0)
 }
 
 #[test]
 fn caller_makes_the_turns_of_the_first_thread(rt: HostRuntime) -> Result<(), Fail> {
     expect_told(&rt, APART, &OWN, 1)?;
-    expect_told(&rt, APART, &[Kind::Take], 1)?;
+    expect_told(&rt, APART, &[EventKind::Take], 1)?;
     expect_told(&rt, ADDING, &OWN, 1)
 }
 
 #[test]
 fn caller_makes_all_turns_where_no_worker_is_started(rt: HostRuntime) -> Result<(), Fail> {
     expect_told(&rt, APART, &OWN, 2)?;
-    expect_told(&rt, APART, &[Kind::Take], 2)?;
+    expect_told(&rt, APART, &[EventKind::Take], 2)?;
     expect_told(&rt, ADDING, &OWN, 2)
 }
 
@@ -209,20 +209,20 @@ impl<'a> Gate for KeepsReaders<'a> {
         true
     }
 
-    fn at(&self, thread: u16, kind: Kind) {
+    fn at(&self, thread: u16, kind: EventKind) {
         match (thread, kind) {
             // Each reader takes the keys of all and of the class, and then waits for that of the object.
-            (0, Kind::Begin) => {
+            (0, EventKind::Begin) => {
                 self.begun.fetch_add(1, Ordering::SeqCst);
                 self.keep(&self.taken, 6);
                 thread::sleep(self.clock, Duration::from_millis(200));
             }
             (0, _) => {}
-            (_, Kind::Enter) => self.keep(&self.begun, 1),
-            (_, Kind::Take) => {
+            (_, EventKind::Enter) => self.keep(&self.begun, 1),
+            (_, EventKind::Take) => {
                 self.taken.fetch_add(1, Ordering::SeqCst);
             }
-            (_, Kind::Begin) => {
+            (_, EventKind::Begin) => {
                 self.inside.fetch_add(1, Ordering::SeqCst);
                 self.keep(&self.inside, 3);
             }
@@ -233,12 +233,11 @@ impl<'a> Gate for KeepsReaders<'a> {
 
 /// How many keys others take in the turn in which thread 0 leaves: the events that follow at once.
 fn let_in(events: &[Event]) -> usize {
-    let mut after = events
-        .iter()
-        .skip_while(|event| event.thread != 0 || kind_of(event) != Kind::Leave);
+    let mut after = events.iter().skip_while(|event| event.thread != 0
+        || kind_of(event) != EventKind::Leave);
     let _leave = after.next();
     after
-        .take_while(|event| kind_of(event) == Kind::Take)
+        .take_while(|event| kind_of(event) == EventKind::Take)
         .count()
 }
 

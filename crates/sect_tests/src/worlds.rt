@@ -2,34 +2,34 @@
 
 use crate::programs::TWO_ADDING;
 use sect_emit::{Compiled, compile};
-use sect_world::{Kind, Turned, World};
+use sect_world::{EventKind, Turned, World};
 use std::process::Abort;
 use std::test::Fail;
 
 /// The turns of two threads that add to one object. The second waits for the object's key until the first leaves.
 const TURNS: &[(u16, Turned)] = &[
-    (0, Turned::Moved(Kind::Enter)),
-    (0, Turned::Moved(Kind::Take)),
-    (0, Turned::Moved(Kind::Take)),
-    (0, Turned::Moved(Kind::Take)),
-    (0, Turned::Moved(Kind::Begin)),
-    (1, Turned::Moved(Kind::Enter)),
-    (1, Turned::Moved(Kind::Take)),
-    (1, Turned::Moved(Kind::Take)),
+    (0, Turned::Moved(EventKind::Enter)),
+    (0, Turned::Moved(EventKind::Take)),
+    (0, Turned::Moved(EventKind::Take)),
+    (0, Turned::Moved(EventKind::Take)),
+    (0, Turned::Moved(EventKind::Begin)),
+    (1, Turned::Moved(EventKind::Enter)),
+    (1, Turned::Moved(EventKind::Take)),
+    (1, Turned::Moved(EventKind::Take)),
     (1, Turned::Waits),
-    (0, Turned::Moved(Kind::Act)),
-    (0, Turned::Moved(Kind::Act)),
-    (0, Turned::Moved(Kind::Act)),
+    (0, Turned::Moved(EventKind::Act)),
+    (0, Turned::Moved(EventKind::Act)),
+    (0, Turned::Moved(EventKind::Act)),
 ];
 
 /// What is left once the first thread has left.
 const REST: &[(u16, Turned)] = &[
     (0, Turned::Ended),
-    (1, Turned::Moved(Kind::Begin)),
-    (1, Turned::Moved(Kind::Act)),
-    (1, Turned::Moved(Kind::Act)),
-    (1, Turned::Moved(Kind::Act)),
-    (1, Turned::Moved(Kind::Leave)),
+    (1, Turned::Moved(EventKind::Begin)),
+    (1, Turned::Moved(EventKind::Act)),
+    (1, Turned::Moved(EventKind::Act)),
+    (1, Turned::Moved(EventKind::Act)),
+    (1, Turned::Moved(EventKind::Leave)),
 ];
 
 /// Each of these turns comes to what is wanted, lets nobody in, and leaves some thread that hasn't ended.
@@ -53,7 +53,7 @@ fn a_leave_grants_and_a_run_ends(rt: HostRuntime) -> Result<(), Fail> {
     let mut world = World::start(rt.alloc(), &compiled, 100)?;
     expect_turns(&rt, &mut world, TURNS)?;
     let left = world.turn(0)?;
-    assert_eq!(rt; left, Turned::Moved(Kind::Leave));
+    assert_eq!(rt; left, Turned::Moved(EventKind::Leave));
     assert!(rt; world.granted() == [1u16].as_slice());
     expect_turns(&rt, &mut world, REST)?;
     assert!(rt; world.all_ended());

@@ -24,8 +24,8 @@ use Rattle.sect_types.specs.steps.Judging.{Verdict, Fine, Faulty}
 use Rattle.sect_types.specs.First.{BreaksFrom, number_of_rule, IsFirstFrom, none_yet, IsTyped}
 use Rattle.sect_types.specs.steps.Walks.{Walks}
 use Rattle.sect_types.proofs.Ways.{breaks_rule, rule_breaks}
-use Rattle.sect_types.specs.declared.rule.Fault.{Fault}
-use Rattle.sect_types.specs.declared.rule.Fault.TheVariants as fault
+use Rattle.sect_types.specs.declared.rule.WalkFault.{WalkFault}
+use Rattle.sect_types.specs.declared.rule.WalkFault.TheVariants as fault
 
 -- what the least rule says of the tests
 abbrev Least : (Rule → Bool) → Option Rule → Type 0
@@ -163,7 +163,7 @@ all_items t w = record_items [] t.records (global_items [] t.globals (procedure_
     (thread_items [] t.threads w)))
 
 -- a typed tree is refused for memory alone
-pub refused_typed : (t : TreeView) (new : Counts) (f : Fault)
+pub refused_typed : (t : TreeView) (new : Counts) (f : WalkFault)
     → Walks {A = ℕ} (declared_in t) (all_items t) none_yet new (Err f) → IsTyped t → type_fault f ≡ Memory
 refused_typed t new fault.Memory walks typed = refl
 refused_typed t new (fault.Broken i r) walks typed =
@@ -181,7 +181,7 @@ refused_as A t (type.TooMany i) h = h
 refused_as A t (type.Recursion i) h = h
 refused_as A t (type.Arguments i) h = h
 
-pub only_memory : {A : Type 0} (t : TreeView) (start new : Counts) (f : Fault) (r : Result A TypeFault)
+pub only_memory : {A : Type 0} (t : TreeView) (start new : Counts) (f : WalkFault) (r : Result A TypeFault)
     → start ≡ none_yet
     → Walks {A = ℕ} (declared_in t) (all_items t) start new (Err f)
     → IsErrAnd r (λ e. e ≡ type_fault f) → IsTyped t → IsOkUnless r Memory

@@ -10,8 +10,8 @@ use Rattle.sect_front.specs.Depth.{statement_depth, block_depth}
 use Rattle.sect_front.specs.declared.tree.Statement.{Statement}
 use Rattle.sect_front.specs.declared.tree.Declaration.{Declaration}
 use Rattle.sect_types.specs.declared.place.Place.{Place}
-use Rattle.sect_types.specs.declared.rule.Fault.{Fault}
-use Rattle.sect_types.specs.declared.rule.Fault.TheVariants as fault
+use Rattle.sect_types.specs.declared.rule.WalkFault.{WalkFault}
+use Rattle.sect_types.specs.declared.rule.WalkFault.TheVariants as fault
 use Rattle.sect_types.specs.Items.{Head, TestHead, deeper, Item, AStatement, statement_items, block_items}
 use Rattle.sect_types.specs.Rules.{Declared, Counts}
 use Rattle.sect_types.specs.steps.Judging.{judge}
@@ -45,7 +45,7 @@ kept d ls at block ss i x old now then h e so_far walks = record {
 
 -- a fault in the next statement is the fault of the block
 pub fails : (d : Declared) (ls : List Declaration) (at : Place) (block : BlockView) (ss : List Statement) (i : ℕ)
-    (x : Statement) (old now then : Counts) (e : Fault) → i < length ss → x ≡ get_or ss i x
+    (x : Statement) (old now then : Counts) (e : WalkFault) → i < length ss → x ≡ get_or ss i x
     → IsPassed d ls at block (block_of ss) (block_of (drop i ss)) old now
     → Walks {A = ℕ} d (statement_items ls at (statement_of x)) now then (Err e)
     → Walks {A = ℕ} d (block_items ls at block) old then (Err e)
@@ -64,7 +64,7 @@ depth_at (s ∷ ss) (suc i) d h = omega (arith, depth_at ss i d (omega arith))
 
 -- a statement with one block: its head, then the block
 pub one_block : {A : Type 0} (d : Declared) (ls : List Declaration) (at inner : Place) (h : Head) (b : BlockView)
-    (old now new : Counts) (r : Result A Fault)
+    (old now new : Counts) (r : Result A WalkFault)
     → ((w : List Item) → judge d old (AStatement h ls at ∷ w) ≡ judge d now w)
     → Walks d (block_items ls inner b) now new r
     → Walks d (λ w. AStatement h ls at ∷ block_items ls inner b w) old new r
@@ -75,7 +75,7 @@ one_block d ls at inner h b old now new (Err (fault.Broken n q)) first walks =
 
 -- a fault in the first of two blocks is the fault of the statement
 pub first_fails : {A : Type 0} (d : Declared) (ls : List Declaration) (at : Place) (t : Test) (a b : BlockView)
-    (old now new : Counts) (e : Fault) (r : Result A Fault) → IsErrAnd r (λ x. x ≡ e)
+    (old now new : Counts) (e : WalkFault) (r : Result A WalkFault) → IsErrAnd r (λ x. x ≡ e)
     → ((w : List Item) → judge d old (AStatement (TestHead t) ls at ∷ w) ≡ judge d now w)
     → Walks {A = ℕ} d (block_items ls (deeper at) a) now new (Err e)
     → Walks d (λ w. AStatement (TestHead t) ls at ∷ block_items ls (deeper at) a (block_items ls (deeper at) b w)) old
@@ -85,7 +85,7 @@ first_fails {A} d ls at t a b old now new e (Err x) is first walks =
     subst (λ y. Walks {A = A} d (λ w. AStatement (TestHead t) ls at ∷ block_items ls (deeper at) a
     (block_items ls (deeper at) b w)) old new (Err y)) (sym is) (go e walks)
   where
-    go : (y : Fault) → Walks {A = ℕ} d (block_items ls (deeper at) a) now new (Err y)
+    go : (y : WalkFault) → Walks {A = ℕ} d (block_items ls (deeper at) a) now new (Err y)
         → Walks {A = A} d (λ w. AStatement (TestHead t) ls at ∷ block_items ls (deeper at) a
         (block_items ls (deeper at) b w)) old new (Err y)
     go fault.Memory k = tt

@@ -6,8 +6,8 @@ use Rattle.std.proofs.lemmas.Bool.Decides.{nat_tests}
 use Rattle.sect_lemmas.proofs.Elements.{drop_next}
 use Rattle.sect_types.proofs.Passed.{judged_on, joined_on, tested_on}
 use Rattle.sect_front.specs.declared.tree.Record.{Record}
-use Rattle.sect_types.specs.declared.rule.Fault.{Fault}
-use Rattle.sect_types.specs.declared.rule.Fault.TheVariants as fault
+use Rattle.sect_types.specs.declared.rule.WalkFault.{WalkFault}
+use Rattle.sect_types.specs.declared.rule.WalkFault.TheVariants as fault
 use Rattle.sect_types.specs.Sight.{names_of_records, names_of_declared, all_fields}
 use Rattle.sect_types.specs.Items.{Item, ARecord, field_items, record_items}
 use Rattle.sect_types.specs.Rules.{Declared, Counts}
@@ -56,7 +56,7 @@ go_on d all rs i r names new fields more old now then h e so_far step named with
     at = drop_next rs i r h e
 
 -- a fault in what comes next is the fault of the whole
-pub fault_after : (d : Declared) (all first rest : List Item → List Item) (old now new : Counts) (e : Fault)
+pub fault_after : (d : Declared) (all first rest : List Item → List Item) (old now new : Counts) (e : WalkFault)
     → ((w : List Item) → judge d old (all w) ≡ judge d now (first (rest w)))
     → Walks {A = ℕ} d first now new (Err e) → Walks {A = ℕ} d all old new (Err e)
 fault_after d all first rest old now new fault.Memory h k = k

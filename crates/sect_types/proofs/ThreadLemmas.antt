@@ -12,8 +12,8 @@ use Rattle.sect_front.specs.declared.tree.Thread.{Thread}
 use Rattle.sect_front.specs.TreeView.{TreeView}
 use Rattle.sect_types.specs.declared.place.Place.{Place}
 use Rattle.sect_types.specs.declared.place.Place.TheVariants.{InThread, InProcedure}
-use Rattle.sect_types.specs.declared.rule.Fault.{Fault}
-use Rattle.sect_types.specs.declared.rule.Fault.TheVariants as fault
+use Rattle.sect_types.specs.declared.rule.WalkFault.{WalkFault}
+use Rattle.sect_types.specs.declared.rule.WalkFault.TheVariants as fault
 use Rattle.sect_types.specs.Sight.{Sight, names_of_records, names_of_declared}
 use Rattle.sect_types.specs.Items.{Item, AProcedure, AThread, variables, local_items, block_items, procedure_items}
 use Rattle.sect_types.specs.Items.{thread_items}
@@ -33,26 +33,26 @@ use Rattle.sect_types.specs.steps.Judging.{judge}
 
 -- what comes first, and then a walk
 pub walks_then : {A : Type 0} (d : Declared) (all first : List Item → List Item) (old now new : Counts)
-    (r : Result A Fault)
+    (r : Result A WalkFault)
     → ((w : List Item) → judge d old (all w) ≡ judge d now (first w)) → Walks d first now new r → Walks d all old new r
 walks_then d all first old now new (Ok a) h k = λ w. h w ∙ k w
 walks_then d all first old now new (Err fault.Memory) h k = k
 walks_then d all first old now new (Err (fault.Broken i r)) h k = λ w. h w ∙ k w
 
 -- a fault that is handed on
-pub handed_on : {A : Type 0} (d : Declared) (all : List Item → List Item) (old new : Counts) (e : Fault)
-    (r : Result A Fault) → IsErrAnd r (λ x. x ≡ e) → Walks {A = ℕ} d all old new (Err e) → Walks d all old new r
+pub handed_on : {A : Type 0} (d : Declared) (all : List Item → List Item) (old new : Counts) (e : WalkFault)
+    (r : Result A WalkFault) → IsErrAnd r (λ x. x ≡ e) → Walks {A = ℕ} d all old new (Err e) → Walks d all old new r
 handed_on d all old new e (Ok a) is walks = absurd is
 handed_on {A} d all old new e (Err x) is walks =
     subst (λ y. Walks {A = A} d all old new (Err y)) (sym is) (go e walks)
   where
-    go : (y : Fault) → Walks {A = ℕ} d all old new (Err y) → Walks {A = A} d all old new (Err y)
+    go : (y : WalkFault) → Walks {A = ℕ} d all old new (Err y) → Walks {A = A} d all old new (Err y)
     go fault.Memory k = tt
     go (fault.Broken n q) k = k
 
 -- what is walked in this sight is walked in the text
 pub walks_in : {A : Type 0} (t : TreeView) (list : List Declaration) (at : Place) (b : BlockView) (s : Sight)
-    (ps : List Procedure) (old new : Counts) (r : Result A Fault)
+    (ps : List Procedure) (old new : Counts) (r : Result A WalkFault)
     → s ≡ sight t.records t.globals list → ps ≡ t.procedures
     → Walks (declared_by s ps) (block_items s.locals at b) old new r
     → Walks (declared_in t) (block_items list at b) old new r
@@ -63,7 +63,7 @@ walks_in t list at b s ps old new r e f walked =
 
 -- the same locals, in the same place
 pub walks_at : {A : Type 0} (d : Declared) (ls list : List Declaration) (at there : Place) (b : BlockView)
-    (old new : Counts) (r : Result A Fault) → list ≡ ls → there ≡ at
+    (old new : Counts) (r : Result A WalkFault) → list ≡ ls → there ≡ at
     → Walks d (block_items list there b) old new r → Walks d (block_items ls at b) old new r
 walks_at d ls list at there b old new r e f walked =
     subst (λ l. Walks d (block_items l at b) old new r) e
@@ -71,7 +71,7 @@ walks_at d ls list at there b old new r e f walked =
 
 -- the body of what has these locals
 pub walks_body : {A : Type 0} (d : Declared) (head : Item) (ls : List Declaration) (at : Place) (b : BlockView)
-    (c0 c1 c2 c3 : Counts) (r : Result A Fault)
+    (c0 c1 c2 c3 : Counts) (r : Result A WalkFault)
     → ((w : List Item) → judge d c0 (head ∷ w) ≡ judge d c1 w)
     → ((w : List Item) → judge d c1 (local_items [] ls w) ≡ judge d c2 w)
     → Walks d (block_items ls at b) c2 c3 r
@@ -215,19 +215,19 @@ few_variables records (p ∷ ps) h =
     )
 
 -- want of memory says nothing of the items
-pub for_memory : {A : Type 0} (d : Declared) (all : List Item → List Item) (old new : Counts) (r : Result A Fault)
+pub for_memory : {A : Type 0} (d : Declared) (all : List Item → List Item) (old new : Counts) (r : Result A WalkFault)
     → IsErrAnd r (λ x. x ≡ fault.Memory) → Walks d all old new r
 for_memory d all old new (Ok a) is = absurd is
 for_memory {A} d all old new (Err e) is = subst (λ x. Walks {A = A} d all old new (Err x)) (sym is) tt
 
 -- a fault of what comes first
-pub first_fails : (d : Declared) (one two : List Item → List Item) (c0 c1 : Counts) (e : Fault)
+pub first_fails : (d : Declared) (one two : List Item → List Item) (c0 c1 : Counts) (e : WalkFault)
     → Walks {A = ℕ} d one c0 c1 (Err e) → Walks {A = ℕ} d (λ w. one (two w)) c0 c1 (Err e)
 first_fails d one two c0 c1 fault.Memory k = tt
 first_fails d one two c0 c1 (fault.Broken i r) k = λ w. k (two w)
 
 -- a fault of what comes second
-pub second_fails : (d : Declared) (one two : List Item → List Item) (c0 c1 c2 : Counts) (e : Fault)
+pub second_fails : (d : Declared) (one two : List Item → List Item) (c0 c1 c2 : Counts) (e : WalkFault)
     → ((w : List Item) → judge d c0 (one w) ≡ judge d c1 w) → Walks {A = ℕ} d two c1 c2 (Err e)
     → Walks {A = ℕ} d (λ w. one (two w)) c0 c2 (Err e)
 second_fails d one two c0 c1 c2 fault.Memory f k = tt

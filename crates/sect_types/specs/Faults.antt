@@ -1,13 +1,13 @@
 -- The refusals.
 use Rattle.sect_types.specs.declared.rule.Rule.TheVariants as rule
-use Rattle.sect_types.specs.declared.rule.Fault.{Fault}
-use Rattle.sect_types.specs.declared.rule.Fault.TheVariants as fault
+use Rattle.sect_types.specs.declared.rule.WalkFault.{WalkFault}
+use Rattle.sect_types.specs.declared.rule.WalkFault.TheVariants as fault
 use Rattle.sect_types.specs.declared.rule.TypeFault.{TypeFault}
 use Rattle.sect_types.specs.declared.rule.TypeFault.TheVariants.{Memory, Unknown, Twice, WrongType, SharedOutside}
 use Rattle.sect_types.specs.declared.rule.TypeFault.TheVariants.{Nested, TooMany, Recursion, Arguments}
 
 -- the refusal that a walk's fault becomes
-abbrev pub type_fault : Fault → TypeFault
+abbrev pub type_fault : WalkFault → TypeFault
 type_fault fault.Memory = Memory
 type_fault (fault.Broken i rule.Unknown) = Unknown i
 type_fault (fault.Broken i rule.Twice) = Twice i

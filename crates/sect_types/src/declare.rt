@@ -19,7 +19,7 @@ use crate::limits::{
     MOST_FIELDS, MOST_GLOBALS, MOST_LOCALS, MOST_PROCEDURES, MOST_RECORDS, MOST_THREADS,
 };
 use crate::names::{NameSet, Names};
-use crate::rule::{Fault, Rule};
+use crate::rule::{Rule, WalkFault};
 use crate::shown::Shown;
 use crate::spot::{Spot, Uncounted};
 use sect_front::{Declaration, GlobalObject, Kind, Name, Record, Tree};
@@ -136,7 +136,7 @@ pub fn pass(
     names: &mut Names,
     spot: &mut Spot,
     declared: Declared,
-) -> Result<(), Fault>
+) -> Result<(), WalkFault>
     requires known { Knows known.now tree.now.records }
     requires told { IsToldOf tree.now spot.old declared }
     ensures walks { Walks (declared_in tree.now) (λ w. item_of declared names.old ∷ w) spot.old spot.new result }
@@ -152,7 +152,7 @@ pub fn pass(
             declared.count(spot)?;
             Ok(())
         }
-        Err(rule) => Err(Fault::Broken(spot.item(), rule)),
+        Err(rule) => Err(WalkFault::Broken(spot.item(), rule)),
     }
 }
 
@@ -163,7 +163,7 @@ pub fn fields(
     known: &NameSet,
     spot: &mut Spot,
     list: &[Declaration],
-) -> Result<Names, Fault>
+) -> Result<Names, WalkFault>
     requires known { Knows known.now tree.now.records }
     ensures walks { Walks (declared_in tree.now) (field_items [] list.now)
         spot.old spot.new result }
@@ -197,7 +197,7 @@ fn whole_record(
     names: &mut Names,
     spot: &mut Spot,
     of: &Record,
-) -> Result<Names, Fault>
+) -> Result<Names, WalkFault>
     requires known { Knows known.now tree.now.records }
     ensures walks { Walks (declared_in tree.now) (λ w. ARecord of.now.name names.old
         ∷ field_items [] of.now.fields w) spot.old spot.new result }
@@ -219,7 +219,7 @@ pub fn records(
     tree: &Tree,
     known: &NameSet,
     spot: &mut Spot,
-) -> Result<(Names, Vec<Names>), Fault>
+) -> Result<(Names, Vec<Names>), WalkFault>
     requires known { Knows known.now tree.now.records }
     ensures walks { Walks (declared_in tree.now) (record_items [] tree.now.records)
         spot.old spot.new result }
@@ -242,7 +242,12 @@ pub fn records(
 }
 
 /// The names of the globals.
-pub fn globals(alloc: Global, tree: &Tree, known: &NameSet, spot: &mut Spot) -> Result<Names, Fault>
+pub fn globals(
+    alloc: Global,
+    tree: &Tree,
+    known: &NameSet,
+    spot: &mut Spot,
+) -> Result<Names, WalkFault>
     requires known { Knows known.now tree.now.records }
     requires start { spot.old.sites ≡ 0 }
     ensures walks { Walks (declared_in tree.now) (global_items [] tree.now.globals)
@@ -267,7 +272,7 @@ pub fn locals(
     shown: &Shown,
     spot: &mut Spot,
     list: &[Declaration],
-) -> Result<Names, Fault>
+) -> Result<Names, WalkFault>
     requires { Shows shown.now tree.now }
     ensures walks { Walks (declared_in tree.now) (local_items [] list.now)
         spot.old spot.new result }

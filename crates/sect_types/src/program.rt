@@ -35,7 +35,7 @@ use crate::local_name::LocalName;
 use crate::locking::lockings;
 use crate::names::Names;
 use crate::place::Standing;
-use crate::rule::{Fault, TypeFault};
+use crate::rule::{TypeFault, WalkFault};
 use crate::scope::Scope;
 use crate::section::{Section, find};
 use crate::shown::Shown;
@@ -59,7 +59,7 @@ struct Context<'a> {
 }
 
 /// Judges the declarations of records and globals, and gives the names that all procedures and threads see.
-fn declarations(alloc: Global, tree: &Tree, spot: &mut Spot) -> Result<Shown, Fault>
+fn declarations(alloc: Global, tree: &Tree, spot: &mut Spot) -> Result<Shown, WalkFault>
     requires { spot.old ≡ none_yet }
     ensures walks { Walks (declared_in tree.now)
         (λ w. record_items [] tree.now.records (global_items [] tree.now.globals w)) spot.old spot.new result }
@@ -85,7 +85,7 @@ fn pass_variables(
     context: &Context<'_>,
     spot: &mut Spot,
     procedure: &Procedure,
-) -> Result<Variables, Fault>
+) -> Result<Variables, WalkFault>
     requires context { IsContext context.now }
     ensures walks { Walks (declared_in context.now.tree.now) (local_items [] (variables_by procedure.now))
         spot.old spot.new result }
@@ -112,7 +112,7 @@ fn walk_procedure(
     variables: &Variables,
     spot: &mut Spot,
     procedure: &Procedure,
-) -> Result<(), Fault>
+) -> Result<(), WalkFault>
     requires context { IsContext context.now }
     requires there { number < length context.now.tree.now.procedures }
     requires variables { variables.now ≡ variables_shown procedure.now }
@@ -133,7 +133,7 @@ fn pass_procedure(
     names: &mut Names,
     spot: &mut Spot,
     procedure: &Procedure,
-) -> Result<Variables, Fault>
+) -> Result<Variables, WalkFault>
     requires context { IsContext context.now }
     requires there { length names.old < length context.now.tree.now.procedures }
     requires shallow { block_depth procedure.now.body ≤ most_depth }
@@ -156,7 +156,7 @@ fn pass_procedure(
 }
 
 /// Judges all procedures, and gives the variables of each with their names.
-fn procedures(context: &Context<'_>, spot: &mut Spot) -> Result<Vec<Variables>, Fault>
+fn procedures(context: &Context<'_>, spot: &mut Spot) -> Result<Vec<Variables>, WalkFault>
     requires context { IsContext context.now }
     requires shallow { procedures_depth context.now.tree.now.procedures ≤ most_depth }
     ensures walks { Walks (declared_in context.now.tree.now) (procedure_items 0 [] context.now.tree.now.procedures)
@@ -182,7 +182,7 @@ fn pass_thread(
     names: &mut Names,
     spot: &mut Spot,
     thread: &Thread,
-) -> Result<Names, Fault>
+) -> Result<Names, WalkFault>
     requires context { IsContext context.now }
     requires standing { standing.now ≡ record { procedures = context.now.tree.now.procedures; at = InThread false 1 } }
     requires shallow { block_depth thread.now.body + 1 ≤ most_depth }
@@ -210,7 +210,7 @@ fn threads(
     context: &Context<'_>,
     standing: &Standing<'_>,
     spot: &mut Spot,
-) -> Result<Vec<Names>, Fault>
+) -> Result<Vec<Names>, WalkFault>
     requires context { IsContext context.now }
     requires standing { standing.now ≡ record { procedures = context.now.tree.now.procedures; at = InThread false 1 } }
     requires shallow { threads_depth context.now.tree.now.threads ≤ most_depth }
@@ -284,7 +284,7 @@ fn number_tree(
 }
 
 /// Judges all procedures and threads, and gives the variables of each procedure and the names of each thread's locals.
-fn bodies(context: &Context<'_>, spot: &mut Spot) -> Result<(Vec<Variables>, Vec<Names>), Fault>
+fn bodies(context: &Context<'_>, spot: &mut Spot) -> Result<(Vec<Variables>, Vec<Names>), WalkFault>
     requires context { IsContext context.now }
     requires shallow_procedures { procedures_depth context.now.tree.now.procedures ≤ most_depth }
     requires shallow_threads { threads_depth context.now.tree.now.threads ≤ most_depth }
@@ -308,7 +308,7 @@ fn bodies(context: &Context<'_>, spot: &mut Spot) -> Result<(Vec<Variables>, Vec
 }
 
 /// Judges all items of a tree and numbers its names.
-fn judge_tree(alloc: Global, tree: &Tree, spot: &mut Spot) -> Result<Parts, Fault>
+fn judge_tree(alloc: Global, tree: &Tree, spot: &mut Spot) -> Result<Parts, WalkFault>
     requires { spot.old ≡ none_yet }
     ensures walks { Walks (declared_in tree.now)
         (λ w. record_items [] tree.now.records (global_items [] tree.now.globals

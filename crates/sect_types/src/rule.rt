@@ -27,7 +27,7 @@ pub enum Rule {
 
 /// Why a walk through the items ends early.
 #[derive(Clone, Copy)]
-pub enum Fault {
+pub enum WalkFault {
     Memory,
     /// The item of this number, and the least rule that it breaks.
     Broken(u64, Rule),
@@ -66,49 +66,49 @@ pub enum TypeFault {
     Arguments { item: u64 },
 }
 
-impl From<AllocError> for Fault {
+impl From<AllocError> for WalkFault {
     ghost use Rattle.std.specs.Prelude.{◌≡◌};
-    ghost use Rattle.sect_types.specs.declared.rule.Fault.TheVariants.{Memory};
+    ghost use Rattle.sect_types.specs.declared.rule.WalkFault.TheVariants.{Memory};
 
     ghost from_gives = { λ _ e. e ≡ Memory };
 
-    fn from(_refused: AllocError) -> Fault {
-        Fault::Memory
+    fn from(_refused: AllocError) -> WalkFault {
+        WalkFault::Memory
     }
 }
 
-impl<T: Drop> From<AllocFailed<T>> for Fault {
+impl<T: Drop> From<AllocFailed<T>> for WalkFault {
     ghost use Rattle.std.specs.Prelude.{◌≡◌};
-    ghost use Rattle.sect_types.specs.declared.rule.Fault.TheVariants.{Memory};
+    ghost use Rattle.sect_types.specs.declared.rule.WalkFault.TheVariants.{Memory};
 
     ghost from_gives = { λ _ e. e ≡ Memory };
 
-    fn from(_refused: AllocFailed<T>) -> Fault {
-        Fault::Memory
+    fn from(_refused: AllocFailed<T>) -> WalkFault {
+        WalkFault::Memory
     }
 }
 
-impl From<Uncounted> for Fault {
+impl From<Uncounted> for WalkFault {
     ghost use Rattle.std.specs.Prelude.{◌≡◌};
-    ghost use Rattle.sect_types.specs.declared.rule.Fault.TheVariants.{Memory};
+    ghost use Rattle.sect_types.specs.declared.rule.WalkFault.TheVariants.{Memory};
 
     ghost from_gives = { λ _ e. e ≡ Memory };
 
-    fn from(_past: Uncounted) -> Fault {
-        Fault::Memory
+    fn from(_past: Uncounted) -> WalkFault {
+        WalkFault::Memory
     }
 }
 
-impl From<Fault> for TypeFault {
+impl From<WalkFault> for TypeFault {
     ghost use Rattle.std.specs.Prelude.{◌≡◌};
     ghost use Rattle.sect_types.specs.Faults.{type_fault};
 
     ghost from_gives = { λ fault e. e ≡ type_fault fault };
 
-    fn from(fault: Fault) -> TypeFault {
+    fn from(fault: WalkFault) -> TypeFault {
         match fault {
-            Fault::Memory => TypeFault::Memory,
-            Fault::Broken(item, rule) => match rule {
+            WalkFault::Memory => TypeFault::Memory,
+            WalkFault::Broken(item, rule) => match rule {
                 Rule::Unknown => TypeFault::Unknown { item },
                 Rule::Twice => TypeFault::Twice { item },
                 Rule::WrongType => TypeFault::WrongType { item },

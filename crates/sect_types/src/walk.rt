@@ -16,7 +16,7 @@ ghost use Rattle.sect_front.specs.Trees.{statement_of};
 ghost use Rattle.sect_front.specs.Limits.{most_depth};
 
 use crate::place::Standing;
-use crate::rule::{Fault, Rule};
+use crate::rule::{Rule, WalkFault};
 use crate::scope::Scope;
 use crate::spot::Spot;
 use sect_front::{Block, Name, Operand, Primitive, Statement, Test};
@@ -133,13 +133,13 @@ fn pass_primitive(
     spot: &mut Spot,
     standing: &Standing<'_>,
     primitive: &Primitive,
-) -> Result<(), Fault>
+) -> Result<(), WalkFault>
     ensures { Walks (declared_by scope.now standing.now.procedures)
         (λ w. AStatement (PrimitiveHead primitive.now) scope.now.locals standing.now.at ∷ w)
         spot.old spot.new result }
 {
     if let Err(rule) = judge_primitive(scope, spot, standing, primitive) {
-        return Err(Fault::Broken(spot.item(), rule));
+        return Err(WalkFault::Broken(spot.item(), rule));
     }
     if standing.is_in_thread() {
         spot.pass_primitive(primitive)?;
@@ -155,13 +155,13 @@ fn pass_test(
     spot: &mut Spot,
     standing: &Standing<'_>,
     test: &Test,
-) -> Result<(), Fault>
+) -> Result<(), WalkFault>
     ensures { Walks (declared_by scope.now standing.now.procedures)
         (λ w. AStatement (TestHead test.now) scope.now.locals standing.now.at ∷ w)
         spot.old spot.new result }
 {
     if let Err(rule) = judge_test(scope, spot, standing, test) {
-        return Err(Fault::Broken(spot.item(), rule));
+        return Err(WalkFault::Broken(spot.item(), rule));
     }
     if standing.is_in_thread() {
         spot.pass_test()?;
@@ -172,13 +172,13 @@ fn pass_test(
 }
 
 /// Passes an `atomic`.
-fn pass_atomic(scope: &Scope<'_>, spot: &mut Spot, standing: &Standing<'_>) -> Result<(), Fault>
+fn pass_atomic(scope: &Scope<'_>, spot: &mut Spot, standing: &Standing<'_>) -> Result<(), WalkFault>
     ensures { Walks (declared_by scope.now standing.now.procedures)
         (λ w. AStatement AtomicHead scope.now.locals standing.now.at ∷ w)
         spot.old spot.new result }
 {
     if let Err(rule) = judge_atomic(scope, spot, standing) {
-        return Err(Fault::Broken(spot.item(), rule));
+        return Err(WalkFault::Broken(spot.item(), rule));
     }
     spot.pass_section()?;
     Ok(())
@@ -191,7 +191,7 @@ fn pass_call(
     standing: &Standing<'_>,
     name: &Name,
     operands: &[Operand],
-) -> Result<(), Fault>
+) -> Result<(), WalkFault>
     requires { depth_at standing.now.at ≤ most_depth }
     ensures { Walks (declared_by scope.now standing.now.procedures)
         (λ w. AStatement (CallHead name.now operands.now) scope.now.locals standing.now.at ∷ w)
@@ -202,7 +202,7 @@ fn pass_call(
             standing.pass_call(spot, number)?;
             Ok(())
         }
-        Err(rule) => Err(Fault::Broken(spot.item(), rule)),
+        Err(rule) => Err(WalkFault::Broken(spot.item(), rule)),
     }
 }
 
@@ -213,7 +213,7 @@ fn walk_statement(
     spot: &mut Spot,
     standing: &Standing<'_>,
     statement: &Statement,
-) -> Result<(), Fault>
+) -> Result<(), WalkFault>
     requires { depth_at standing.now.at + statement_depth (statement_of statement.now) ≤ most_depth }
     ensures { Walks (declared_by scope.now standing.now.procedures)
         (statement_items scope.now.locals standing.now.at (statement_of statement.now))
@@ -251,7 +251,7 @@ pub fn walk_block(
     spot: &mut Spot,
     standing: &Standing<'_>,
     block: &Block,
-) -> Result<(), Fault>
+) -> Result<(), WalkFault>
     requires { depth_at standing.now.at + block_depth block.now ≤ most_depth }
     ensures { Walks (declared_by scope.now standing.now.procedures)
         (block_items scope.now.locals standing.now.at block.now) spot.old spot.new result }

@@ -79,7 +79,8 @@ module _ (most : ℕ) where
       → ((j : ℕ) (o : Origin) → slice_get origins j ≡ Some o → o.item < most) → (w : Warning)
       → Has (at_section c i item origins) w → w.item < most
   section_within c i item origins within each w (inl e) = subst (λ (v : Warning). v.item < most) e within
-  section_within c i item origins within each w (inr h) =
+  section_within c i item origins within each w (inr (inl e)) = subst (λ (v : Warning). v.item < most) e within
+  section_within c i item origins within each w (inr (inr h)) =
       let nodes = flow_nodes (section_at c i).body in
       elim (Has-cases (flat_map (class_at i item) (set_at c i)) (to_node i nodes origins (length origins)) w h) [
         | inl class ↦ classes_within i item within (set_at c i) w class

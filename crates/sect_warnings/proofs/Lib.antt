@@ -1,4 +1,5 @@
 mod Judging
+mod Marking
 mod Placing
 mod Plain
 mod Sparing

@@ -11,26 +11,26 @@ use Rattle.sect_places.specs.declared.name_use.Role.{Role}
 use Rattle.sect_places.specs.declared.name_use.Role.TheVariants as role
 use Rattle.sect_names.specs.Schemes.{SchemeView}
 use Rattle.sect_lint.specs.Idle.{is_idle, idle_at, idle_from, behind}
-use Rattle.sect_warnings.specs.declared.warning.Placed.{Placed}
+use Rattle.sect_warnings.specs.Placed.{PlacedView}
 use Rattle.sect_warnings.specs.Reports.{AreWithin}
 use Rattle.sect_warnings.specs.Spares.{unused_by, unused_at, hint_at, AreSpares}
 
 module _ (total : ℕ) where
   -- the same as `AreWithin`, element by element
-  abbrev Each : List Placed → Type 0
+  abbrev Each : List PlacedView → Type 0
   Each [] = Unit {0}
   Each (p ∷ ps) = IsWithin total p.span × Each ps
 
-  each_within : (ps : List Placed) → Each ps → AreWithin total ps
+  each_within : (ps : List PlacedView) → Each ps → AreWithin total ps
   each_within [] h k d lt = absurd (omega arith)
   each_within (p ∷ ps) h zero d lt = h.0
   each_within (p ∷ ps) h (suc k) d lt = each_within ps h.1 k d (omega arith)
 
-  each_of : (ps : List Placed) → AreWithin total ps → Each ps
+  each_of : (ps : List PlacedView) → AreWithin total ps → Each ps
   each_of [] h = tt
   each_of (p ∷ ps) h = (h 0 p (omega arith), each_of ps (λ k d lt. h (suc k) d (omega arith)))
 
-  each_both : (ps qs : List Placed) → Each ps → Each qs → Each (ps ++ qs)
+  each_both : (ps qs : List PlacedView) → Each ps → Each qs → Each (ps ++ qs)
   each_both [] qs h g = g
   each_both (p ∷ ps) qs h g = (h.0, each_both ps qs h.1 g)
 
@@ -75,7 +75,7 @@ module _ (total : ℕ) where
       proper_both (idle_at s r n) (idle_from s (behind r n) ns) (one_idle s r n h.0) (all_idle s (behind r n) ns h.1)
 
   -- what is told of sections and then of declarations
-  pub with_spares : (s : SchemeView) (names : List NameSpan) (ps spares : List Placed) → Proper names
+  pub with_spares : (s : SchemeView) (names : List NameSpan) (ps spares : List PlacedView) → Proper names
       → AreSpares s names spares → AreWithin total ps → AreWithin total (ps ++ spares)
   with_spares s names ps spares proper are within =
       each_within (ps ++ spares)

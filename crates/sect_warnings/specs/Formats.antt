@@ -7,7 +7,7 @@ use Rattle.sect_lint.specs.declared.format.Format.TheVariants.{Text, Json, Sarif
 use Rattle.sect_lint.specs.Formats.{clean}
 use Rattle.sect_emit.specs.Compiled.{CompiledView}
 use Rattle.sect_warnings.specs.declared.warning.Warning.{Warning}
-use Rattle.sect_warnings.specs.declared.warning.Placed.{Placed}
+use Rattle.sect_warnings.specs.Placed.{PlacedView}
 use Rattle.sect_places.specs.declared.name_use.NameSpan.{NameSpan}
 use Rattle.sect_places.specs.NameSpans.{AreNameSpans}
 use Rattle.sect_warnings.specs.Warnings.{AreWarnings}
@@ -17,29 +17,29 @@ use Rattle.sect_warnings.specs.Json.{warning_json}
 use Rattle.sect_warnings.specs.Sarif.{warnings_log}
 
 -- a warning as an object of JSON in a line
-unfoldable pub json_line : List ℕ → Placed → List ℕ
+unfoldable pub json_line : List ℕ → PlacedView → List ℕ
 json_line source p = compact_text (warning_json source p) ++ codes "\n"
 
 -- some warnings, one after another: their reports, an object a line, or one log
-abbrev pub told : Format → List ℕ → List Placed → List ℕ
+abbrev pub told : Format → List ℕ → List PlacedView → List ℕ
 told Text source ps = reports source ps
 told Json source ps = flat_map (json_line source) ps
 told Sarif source ps = compact_text (warnings_log source ps) ++ codes "\n"
 
 -- where there is none, nothing is told
-abbrev pub printed : Format → List ℕ → List Placed → List ℕ
+abbrev pub printed : Format → List ℕ → List PlacedView → List ℕ
 printed format source [] = clean format
 printed format source (p ∷ ps) = told format source (p ∷ ps)
 
 -- what is worth a second look in the program of that text, with its bytes: of its sections, and then of its
 -- declarations
-abbrev pub AreAllPlaced : List ℕ → CompiledView → List Placed → Type 0
+abbrev pub AreAllPlaced : List ℕ → CompiledView → List PlacedView → Type 0
 AreAllPlaced source c all =
-    (ws : List Warning) × (ps : List Placed) × (names : List NameSpan) × (spares : List Placed) × AreWarnings c ws
-    × ArePlaced source c.scheme.program.source ws ps × AreNameSpans source c.scheme.program.source names
+    (ws : List Warning) × (ps : List PlacedView) × (names : List NameSpan) × (spares : List PlacedView)
+    × AreWarnings c ws × ArePlaced source c ws ps × AreNameSpans source c.scheme.program.source names
     × AreSpares c.scheme names spares × (all ≡ ps ++ spares)
 
 -- the bytes are what is printed of that
 abbrev pub AreWarningsPrinted : List ℕ → CompiledView → Format → List ℕ → Type 0
 AreWarningsPrinted source c format bytes =
-    (all : List Placed) × AreAllPlaced source c all × (bytes ≡ printed format source all)
+    (all : List PlacedView) × AreAllPlaced source c all × (bytes ≡ printed format source all)

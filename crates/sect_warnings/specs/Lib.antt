@@ -1,5 +1,7 @@
 pub mod Warnings
+pub mod Placed
 pub mod Titles
+pub mod Labels
 pub mod Spares
 pub mod Reports
 pub mod Json

@@ -15,6 +15,7 @@ use Rattle.sect_warnings.specs.declared.warning.Warning.{Warning}
 -- its name
 abbrev pub name_of : Finding → List ℕ
 name_of finding.NoLock = codes "no-lock"
+name_of finding.AllForOne = codes "all-for-one"
 name_of (finding.ClassLock n e) = codes "class-lock"
 name_of (finding.NeverFilled j x) = codes "never-filled"
 
@@ -26,6 +27,7 @@ doing effect.Write = codes "writing"
 -- what is told of a section, in a few words
 abbrev pub told_of : Finding → List ℕ
 told_of finding.NoLock = codes " takes no lock"
+told_of finding.AllForOne = codes " locks everything where one lock would do"
 told_of (finding.ClassLock n e) = codes " locks all of class " ++ decimal n ++ codes " for " ++ doing e
 told_of (finding.NeverFilled j x) = codes " goes through null in every run"
 
@@ -35,6 +37,7 @@ title_of w = codes "section " ++ decimal w.section ++ told_of w.finding
 -- what it means
 abbrev pub note_of : Finding → List ℕ
 note_of finding.NoLock = codes "it touches nothing that threads share"
+note_of finding.AllForOne = codes "a section marked `all` runs beside no other that takes a lock"
 note_of (finding.ClassLock n e) =
     codes "a path to such an object has more fields than a lock may have; `sectc explain` shows where"
 note_of (finding.NeverFilled j x) =

@@ -5,7 +5,7 @@ use Rattle.std.specs.List.{flat_map}
 use Rattle.sect_lemmas.specs.Lists.{Has}
 use Rattle.sect_front.specs.TreeView.{TreeView}
 use Rattle.sect_types.specs.Items.{items}
-use Rattle.sect_types.specs.Sections.{sections_of}
+use Rattle.sect_types.specs.Sections.{SectionView, sections_of}
 use Rattle.sect_types.specs.declared.action.Action.TheVariants as action
 use Rattle.sect_types.specs.declared.action.Base.{Base}
 use Rattle.sect_types.specs.declared.action.Base.TheVariants as base
@@ -23,6 +23,7 @@ use Rattle.sect_names.specs.declared.lock.Effect.TheVariants as effect
 use Rattle.sect_names.specs.declared.lock.Lock.{Lock}
 use Rattle.sect_names.specs.declared.lock.Lock.TheVariants as lock
 use Rattle.sect_names.specs.declared.lock.Right.TheVariants as right
+use Rattle.sect_names.specs.Needed.{end_of, IsLeast}
 use Rattle.sect_emit.specs.Compiled.{CompiledView}
 use Rattle.sect_emit.specs.Explaining.{section_at}
 use Rattle.sect_conflicts.specs.Conflicts.{set_at, Selects}
@@ -34,9 +35,16 @@ use Rattle.sect_warnings.specs.declared.warning.Warning.{Warning}
 abbrev pub IsNeverFilled : PointsToView → ℕ → ℕ → Type 0
 IsNeverFilled sets t x = (site : ℕ) → InSets sets (holder.Local t x) site → ⊥
 
+-- section i is marked `all`, and if it weren't, its lock set would be this lock alone
+abbrev pub WouldDo : CompiledView → ℕ → Lock → Type 0
+WouldDo c i l =
+    (of : SectionView) × (slice_get (sections_of c.scheme.program.texts) i ≡ Some of)
+    × (end_of c.scheme i ≡ lock.All ∷ []) × IsLeast c.scheme of.thread [] of.body (l ∷ [])
+
 -- the finding is due of section i
 abbrev pub IsDueOf : CompiledView → ℕ → Finding → Type 0
 IsDueOf c i finding.NoLock = set_at c i ≡ []
+IsDueOf c i finding.AllForOne = (l : Lock) × WouldDo c i l
 IsDueOf c i (finding.ClassLock n e) = Has (set_at c i) (lock.Class n (right_for e))
 IsDueOf c i (finding.NeverFilled j x) = IsNeverFilled c.scheme.classes.sets (section_at c i).thread x
 
@@ -78,11 +86,11 @@ to_node i nodes origins zero = []
 to_node i nodes origins (suc j) =
     to_node i nodes origins j ++ at_node i j (slice_get nodes j) (slice_get origins j)
 
--- what may be told of section i, which is that item, and whose nodes come from there: that it takes no lock, then the
--- classes that it locks, and what may be told of its nodes
+-- what may be told of section i, which is that item, and whose nodes come from there: that it takes no lock, then that
+-- it takes all for one, then the classes that it locks, and what may be told of its nodes
 abbrev pub at_section : CompiledView → ℕ → ℕ → List Origin → List Warning
 at_section c i item origins =
-    warning i item finding.NoLock ∷ flat_map (class_at i item) (set_at c i)
+    warning i item finding.NoLock ∷ warning i item finding.AllForOne ∷ flat_map (class_at i item) (set_at c i)
     ++ to_node i (flow_nodes (section_at c i).body) origins (length origins)
 
 -- of the first sections, so many

@@ -12,10 +12,10 @@ ghost use Rattle.sect_warnings.specs.Formats.{AreAllPlaced, AreWarningsPrinted};
 use crate::json::warning_value;
 use crate::judge::warnings;
 use crate::place::places_of;
+use crate::placed::Placed;
 use crate::report::reports_text;
 use crate::sarif::warnings_log;
 use crate::spare::spares;
-use crate::warning::Placed;
 use sect_emit::Compiled;
 use sect_lint::{Format, clean_text, compact};
 use sect_places::tree_names;
@@ -109,8 +109,8 @@ fn printed(
     }
 }
 
-/// What is worth a second look in the compiled program of a source text, with the bytes that are marked: of its
-/// sections, and then of its declarations.
+/// What is worth a second look in the compiled program of a source text, with the bytes that are marked and what is
+/// said of them: of its sections, and then of its declarations.
 pub fn placed_warnings(
     alloc: Global,
     source: &[u8],
@@ -121,11 +121,10 @@ pub fn placed_warnings(
     ensures within { IfOk result (λ all. AreWithin (length source.now) all.items) }
 {
     let found = warnings(alloc, compiled)?;
-    let tree = compiled.scheme().program().tree();
-    let mut placed = places_of(alloc, source, tree, found.as_slice())?;
-    let names = tree_names(alloc, source, tree)?;
-    let spares = spares(alloc, compiled.scheme(), names.as_slice())?;
-    placed.extend_from_slice(spares.as_slice())?;
+    let mut placed = places_of(alloc, source, compiled, found.as_slice())?;
+    let names = tree_names(alloc, source, compiled.scheme().program().tree())?;
+    let mut spares = spares(alloc, compiled.scheme(), names.as_slice())?;
+    placed.append(&mut spares)?;
     Ok(placed)
 }
 

@@ -10,6 +10,7 @@ ghost use Rattle.sect_conflicts.specs.Conflicts.{set_at};
 ghost use Rattle.std.specs.List.{flat_map};
 ghost use Rattle.sect_conflicts.specs.Selecting.{Adds};
 
+use crate::marked::takes_all_for_one;
 use crate::warning::{Finding, Warning};
 use sect_emit::{Compiled, section_thread};
 use sect_names::{Effect, Lock, Right};
@@ -23,6 +24,13 @@ use std::alloc::{AllocError, Global};
 struct Place {
     section: u16,
     node: u16,
+    item: usize,
+}
+
+/// A section, and the item that it is.
+#[derive(Clone, Copy)]
+struct Head {
+    section: u16,
     item: usize,
 }
 
@@ -150,6 +158,28 @@ fn add_class(
     Ok(())
 }
 
+/// Adds that a section, which is this item, takes all for one lock, if it does.
+fn add_all_for_one(
+    alloc: Global,
+    found: &mut Vec<Warning>,
+    compiled: &Compiled,
+    section: u16,
+    item: usize,
+) -> Result<(), AllocError>
+    requires { section < length (sections_of compiled.now.scheme.program.texts) }
+    ensures { OnOk result (Adds (IsDue compiled.now) (warning section item Finding.AllForOne ∷ []) found.old.items
+        found.new.items) }
+{
+    if takes_all_for_one(alloc, compiled, section)? {
+        found.push(Warning {
+            section,
+            finding: Finding::AllForOne,
+            item,
+        })?;
+    }
+    Ok(())
+}
+
 /// Adds which whole classes a section, which is this item, locks with these locks.
 fn put_classes(
     found: &mut Vec<Warning>,
@@ -183,20 +213,21 @@ fn add_classes(
 
 /// Adds what is told of a section that is this item, and whose nodes come from there.
 fn add_section(
+    alloc: Global,
     found: &mut Vec<Warning>,
     compiled: &Compiled,
-    section: u16,
-    item: usize,
+    head: Head,
     origins: &[Origin],
 ) -> Result<(), AllocError>
-    requires section { section < length (sections_of compiled.now.scheme.program.texts) }
-    requires origins { length origins.now ≡ length (flow_nodes (section_at compiled.now section).body) }
+    requires section { head.section < length (sections_of compiled.now.scheme.program.texts) }
+    requires origins { length origins.now ≡ length (flow_nodes (section_at compiled.now head.section).body) }
     ensures { OnOk result (Adds (IsDue compiled.now)
-        (at_section compiled.now section item origins.now) found.old.items found.new.items) }
+        (at_section compiled.now head.section head.item origins.now) found.old.items found.new.items) }
 {
-    add_lockless(found, compiled, section, item)?;
-    add_classes(found, compiled, section, item)?;
-    add_nodes(found, compiled, section, origins)?;
+    add_lockless(found, compiled, head.section, head.item)?;
+    add_all_for_one(alloc, found, compiled, head.section, head.item)?;
+    add_classes(found, compiled, head.section, head.item)?;
+    add_nodes(found, compiled, head.section, origins)?;
     Ok(())
 }
 
@@ -213,13 +244,8 @@ pub fn warnings(alloc: Global, compiled: &Compiled) -> Result<Vec<Warning>, Allo
     let mut found = Vec::new(alloc);
     for section in 0..program.section_count() {
         let item = items[section as usize];
-        add_section(
-            &mut found,
-            compiled,
-            section,
-            item,
-            origins.section(section),
-        )?;
+        let head = Head { section, item };
+        add_section(alloc, &mut found, compiled, head, origins.section(section))?;
     }
     Ok(found)
 }

@@ -8,7 +8,8 @@ ghost use Rattle.sect_front.specs.FaultPlaces.{IsWithin};
 ghost use Rattle.sect_warnings.specs.Titles.{title_of, told_of, told_title, doing as doing_by};
 ghost use Rattle.sect_warnings.specs.Reports.{heading, note_line, report, reports, AreWithin};
 
-use crate::warning::{Finding, Placed, Told, Warning};
+use crate::placed::{Placed, put_behind};
+use crate::warning::{Finding, Told, Warning};
 use sect_lint::{put_excerpt, put_margin};
 use sect_names::Effect;
 use sect_places::position_of;
@@ -31,6 +32,7 @@ fn put_told(text: &mut String, finding: Finding) -> Result<(), AllocError>
 {
     match finding {
         Finding::NoLock => text.push_str(" takes no lock"),
+        Finding::AllForOne => text.push_str(" locks everything where one lock would do"),
         Finding::ClassLock { class, effect } => {
             let doing = doing(effect);
             Ok(write!(text, " locks all of class {class} for {doing}")?)
@@ -98,11 +100,13 @@ fn put_report(
     requires { IsWithin (length source.now) placed.now.span }
     ensures { OnOk result (string_bytes text.new ≡ string_bytes text.old ++ report source.now placed.now) }
 {
-    let line = position_of(source, placed.span.start).line;
+    let (told, span) = (placed.told(), placed.span());
+    let line = position_of(source, span.start).line;
     let number = format!(in alloc; "{line}")?;
-    put_heading(text, placed.told)?;
-    put_excerpt(text, source, placed.span, number.as_str())?;
-    put_note(text, placed.told, number.as_str(), line)
+    put_heading(text, told)?;
+    put_excerpt(text, source, span, number.as_str())?;
+    put_behind(text, " ", placed.label())?;
+    put_note(text, told, number.as_str(), line)
 }
 
 /// Adds the reports of warnings, each behind an empty line.

@@ -1,29 +1,40 @@
 //! Warnings as a log of SARIF 2.1.0.
 
 ghost use Rattle.std.specs.Prelude.{◌≡◌, map, IfOk, length};
+ghost use Rattle.std.specs.String.{string_bytes};
 ghost use Rattle.serde_json.specs.View.{view};
 ghost use Rattle.sect_front.specs.FaultPlaces.{IsWithin};
 ghost use Rattle.sect_lint.specs.Json.{list};
 ghost use Rattle.sect_warnings.specs.Reports.{AreWithin};
 ghost use Rattle.sect_warnings.specs.Sarif.{result_json, rule_json, finding_rule, spare_rule};
-ghost use Rattle.sect_warnings.specs.Sarif.{rules as rules_by, warnings_log as log_by};
+ghost use Rattle.sect_warnings.specs.Sarif.{message_of as message_by, rules as rules_by, warnings_log as log_by};
 
+use crate::placed::{Placed, put_behind};
 use crate::report::title;
-use crate::warning::{Finding, Placed, Spare};
+use crate::warning::{Finding, Spare};
 use sect_lint::{location_value, log_value, run_value, tool_value};
 use sect_names::Effect;
 use sect_places::Thing;
 use serde_json::{Value, json};
 use std::alloc::{AllocError, Global};
 
+/// What is told, and what is said of the marked bytes.
+fn message_of(alloc: Global, placed: &Placed) -> Result<String, AllocError>
+    ensures { IfOk result (λ text. string_bytes text ≡ message_by placed.now) }
+{
+    let mut text = title(alloc, placed.told())?;
+    put_behind(&mut text, ": ", placed.label())?;
+    Ok(text)
+}
+
 /// A warning, and where it stands.
 fn result_value(alloc: Global, source: &[u8], placed: &Placed) -> Result<Value, AllocError>
     requires { IsWithin (length source.now) placed.now.span }
     ensures { IfOk result (λ v. view v ≡ result_json source.now placed.now) }
 {
-    let location = location_value(alloc, source, placed.span)?;
-    let message = title(alloc, placed.told)?;
-    let rule = placed.told.name();
+    let location = location_value(alloc, source, placed.span())?;
+    let message = message_of(alloc, placed)?;
+    let rule = placed.told().name();
     json!(in alloc; {"level": "warning", "locations": [location], "message": {"text": message}, "ruleId": rule})
 }
 
@@ -65,6 +76,7 @@ fn rules_value(alloc: Global) -> Result<Value, AllocError>
     ensures { IfOk result (λ v. view v ≡ rules_by) }
 {
     let no_lock = finding_value(alloc, Finding::NoLock)?;
+    let all_for_one = finding_value(alloc, Finding::AllForOne)?;
     let class_lock = finding_value(
         alloc,
         Finding::ClassLock {
@@ -75,7 +87,7 @@ fn rules_value(alloc: Global) -> Result<Value, AllocError>
     let never_filled = finding_value(alloc, Finding::NeverFilled { node: 0, local: 0 })?;
     let unused = spare_value(alloc, Spare::Unused(Thing::Local))?;
     let hint = spare_value(alloc, Spare::Hint)?;
-    json!(in alloc; [no_lock, class_lock, never_filled, unused, hint])
+    json!(in alloc; [no_lock, all_for_one, class_lock, never_filled, unused, hint])
 }
 
 /// The log of the warnings of a source text.

@@ -4,7 +4,6 @@ ghost use Rattle.std.specs.Prelude.{◌≡◌};
 ghost use Rattle.sect_warnings.specs.Titles.{name_of, note_of, spare_name, spare_title, spare_note};
 ghost use Rattle.sect_warnings.specs.Titles.{told_name, told_note};
 
-use sect_front::Span;
 use sect_names::Effect;
 use sect_places::Thing;
 
@@ -13,6 +12,8 @@ use sect_places::Thing;
 pub enum Finding {
     /// The section takes no lock.
     NoLock,
+    /// The section is marked `all`, and without the mark it would take one lock.
+    AllForOne,
     /// The section locks all objects of a class, for reading or for writing.
     ClassLock { class: u16, effect: Effect },
     /// The node of this number loads from the object of this local, or stores to it, and no reference to an object ever
@@ -27,6 +28,7 @@ impl Finding {
     {
         match self {
             Finding::NoLock => "no-lock",
+            Finding::AllForOne => "all-for-one",
             Finding::ClassLock { .. } => "class-lock",
             Finding::NeverFilled { .. } => "never-filled",
         }
@@ -38,6 +40,7 @@ impl Finding {
     {
         match self {
             Finding::NoLock => "it touches nothing that threads share",
+            Finding::AllForOne => "a section marked `all` runs beside no other that takes a lock",
             Finding::ClassLock { .. } => {
                 "a path to such an object has more fields than a lock may have; `sectc explain` shows where"
             }
@@ -129,11 +132,4 @@ impl Told {
             Told::Declaration(spare) => spare.note(),
         }
     }
-}
-
-/// What is told, and the bytes that are marked.
-#[derive(Clone, Copy, Debug)]
-pub struct Placed {
-    pub told: Told,
-    pub span: Span,
 }

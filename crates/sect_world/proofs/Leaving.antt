@@ -21,7 +21,7 @@ use Rattle.sect_emit.specs.State.{Entered, Outside, Position, ThreadState, State
 use Rattle.sect_world.specs.declared.event.Deed.{Deed}
 use Rattle.sect_world.specs.declared.event.Deed.TheVariants.{Again, Leave}
 use Rattle.sect_world.specs.declared.event.Event.{Event}
-use Rattle.sect_world.specs.declared.runner.Stage.TheVariants as stage
+use Rattle.sect_world.specs.declared.runner.Phase.TheVariants as phase
 use Rattle.sect_world.specs.declared.runner.Runner.{Runner}
 use Rattle.sect_world.specs.Events.{MayDo, Happens, IsOver, taking, giving_back, with_frame, frame_out, after_leave}
 use Rattle.sect_world.specs.Runs.{RunsTo, order_of, leaver}
@@ -130,7 +130,7 @@ pub gives_back : (c : CompiledView) (fuel : ℕ) (trace : List Event) (order : L
     → IsWorld c fuel trace order store output rs table
     → (t : ℕ) (d : Deed) (text : TextView) (th : ThreadState) (r : Runner)
     → slice_get (program_of c).texts t ≡ Some text → IsThread (state_of c store output rs table.held) t th
-    → th.wanted ≡ [] → r.stage ≡ stage.Outside
+    → th.wanted ≡ [] → r.phase ≡ phase.Outside
     → MayDo c (state_of c store output rs table.held) t th d
     (record {
       store = store;
@@ -215,8 +215,8 @@ gives_back c fuel trace order store output output' rs table w t d text th r text
       → RunsTo c s (e ∷ takes gs) (state_of c store output' (all_advanced gs (put_at t r rs)) table'.held)
   runs table' held = (s1, (th, at, does), subst (RunsTo c s1 (takes gs)) (last table' held) l.leads)
 
-  sited : (u : ℕ) (q : Runner) → slice_get (put_at t r rs) u ≡ Some q → IsSited c q.stage
-  sited = each_put (λ u (q : Runner). IsSited c q.stage) t x.runner r rs x.runner_at (subst (IsSited c) (sym out) tt)
+  sited : (u : ℕ) (q : Runner) → slice_get (put_at t r rs) u ≡ Some q → IsSited c q.phase
+  sited = each_put (λ u (q : Runner). IsSited c q.phase) t x.runner r rs x.runner_at (subst (IsSited c) (sym out) tt)
       (λ u q other is. w.sited u q is)
 
 -- which is a turn
@@ -251,7 +251,7 @@ over_wants p th (Some why) over placed = (subst (λ z. IsPlaced z th) over.1 pla
 
 -- a runner that came out of a section so stands for the thread that left it
 left_thread : (c : CompiledView) (text : TextView) (how : Option Fault) (r q : Runner) (hs : List Hold)
-    → q.stage ≡ stage.Outside → frame_of text q ≡ frame_out how (frame_of text r)
+    → q.phase ≡ phase.Outside → frame_of text q ≡ frame_out how (frame_of text r)
     → q.wanted ≡ r.wanted → q.taken ≡ r.taken
     → thread_of c text q [] ≡ with_frame (frame_out how (thread_of c text r hs).frame)
     (giving_back (thread_of c text r hs))
@@ -269,7 +269,7 @@ pub leaves : (c : CompiledView) (fuel : ℕ) (trace : List Event) (order : List 
     (rs : List Runner) (table : Contents)
     → IsWorld c fuel trace order store output rs table → (t : ℕ) (how : Option Fault) (th : ThreadState)
     → IsThread (state_of c store output rs table.held) t th → IsOver th.position how
-    → (r q : Runner) → slice_get rs t ≡ Some r → q.stage ≡ stage.Outside
+    → (r q : Runner) → slice_get rs t ≡ Some r → q.phase ≡ phase.Outside
     → frame_of (text_at c t) q ≡ frame_out how (frame_of (text_at c t) r) → q.wanted ≡ r.wanted → q.taken ≡ r.taken
     → GivesBack c fuel trace order (state_of c store output rs table.held) store (output ++ r.work.printed)
     (slice_set rs t q) table t Leave
@@ -320,7 +320,7 @@ pub goes_again : (c : CompiledView) (fuel : ℕ) (trace : List Event) (order : L
     → Happens c (state_of c store output rs table.held) (record { thread = t; deed = Again }) after
     → (r : Runner) → slice_get rs t ≡ Some r
     → GivesBack c fuel trace order (state_of c store output rs table.held) store output
-    (slice_set rs t (record r { stage = stage.Outside })) table t Again
+    (slice_set rs t (record r { phase = phase.Outside })) table t Again
 goes_again c fuel trace order store output rs table w t after h r r_at =
     let s : State = state_of c store output rs table.held in
     let th : ThreadState = h.0 in
@@ -328,7 +328,7 @@ goes_again c fuel trace order store output rs table w t after h r r_at =
     let x = seen c (program_of c).texts rs table.held t th h.1 in
     let is : th ≡ thread_of c x.text r x.holds =
     x.is ∙ ap (λ z. thread_of c x.text z x.holds) (some_injective x.runner r (sym x.runner_at ∙ r_at)) in
-    let q : Runner = record r { stage = stage.Outside } in
+    let q : Runner = record r { phase = phase.Outside } in
     let giving : thread_of c x.text q [] ≡ giving_back th = ap giving_back (sym is) in
     subst (λ z. GivesBack c fuel trace order s store output z table t Again) (sym (set_put t q rs))
     (gives_back c fuel trace order store output output rs table w t Again x.text th q x.text_at h.1 does.3.wanted

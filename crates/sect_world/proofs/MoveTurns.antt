@@ -24,10 +24,10 @@ use Rattle.sect_emit.specs.State.{Outside, Entered, Running, Faulted, ThreadStat
 use Rattle.sect_types.specs.declared.store.ObjectName.TheVariants.{Made}
 use Rattle.sect_world.specs.declared.event.Deed.TheVariants.{Local, Enter, Begin, Act}
 use Rattle.sect_world.specs.declared.event.Event.{Event}
-use Rattle.sect_world.specs.declared.runner.Stage.{Stage}
-use Rattle.sect_world.specs.declared.runner.Stage.TheVariants as stage
+use Rattle.sect_world.specs.declared.runner.Phase.{Phase}
+use Rattle.sect_world.specs.declared.runner.Phase.TheVariants as phase
 use Rattle.sect_world.specs.declared.runner.Runner.{Runner}
-use Rattle.sect_world.specs.declared.turned.Kind.TheVariants as kind
+use Rattle.sect_world.specs.declared.turned.EventKind.TheVariants as kind
 use Rattle.sect_world.specs.declared.turned.Turned.TheVariants.{Moved}
 use Rattle.sect_world.specs.Events.{IsFree, IsReady, with_frame, entering, beginning, acting, step_in, changed_by}
 use Rattle.sect_world.specs.Kept.{IsTextOf, IsThreadKept, IsAt}
@@ -78,15 +78,15 @@ module _ (c : CompiledView) (is : IsCompiled c) (t : ℕ) (within : t < length (
       (looked_up (λ (y : Node). y.label) (slice_get g j) x.0 l x.1 shown)
 
 -- a runner that is seen in a section is in one of the program
-running_sited : (c : CompiledView) (s : Stage) (n : ℕ) (k : TextView) → position_of c s ≡ Running n k → IsSited c s
+running_sited : (c : CompiledView) (s : Phase) (n : ℕ) (k : TextView) → position_of c s ≡ Running n k → IsSited c s
     → n < length (sections_of (program_of c).texts)
-running_sited c stage.Outside n k e is = absurd (let off : Outside ≡ Running n k = e in cc)
-running_sited c stage.Entered n k e is = absurd (let off : Entered ≡ Running n k = e in cc)
-running_sited c (stage.Running i j) n k e is =
+running_sited c phase.Outside n k e is = absurd (let off : Outside ≡ Running n k = e in cc)
+running_sited c phase.Entered n k e is = absurd (let off : Entered ≡ Running n k = e in cc)
+running_sited c (phase.Running i j) n k e is =
     let both : Running i (rest_at (body_at c i) j) ≡ Running n k = e in
     let same : i ≡ n = cc in
     subst (λ m. m < length (sections_of (program_of c).texts)) same is
-running_sited c (stage.Faulted i why) n k e is = absurd (let off : Faulted i why ≡ Running n k = e in cc)
+running_sited c (phase.Faulted i why) n k e is = absurd (let off : Faulted i why ≡ Running n k = e in cc)
 
 module _ (c : CompiledView) (fuel : ℕ) (trace : List Event) (order : List ℕ) (store : StoreView) (output : List ℤ)
     (rs : List Runner) (table : Contents)
@@ -126,7 +126,7 @@ module _ (c : CompiledView) (fuel : ℕ) (trace : List Event) (order : List ℕ)
 
   -- so is the one in which it is
   pub running_there : (n : ℕ) (k : TextView) → th.position ≡ Running n k → n < length (sections_of (program_of c).texts)
-  running_there n k e = running_sited c r.stage n k (sym (ap (λ (z : ThreadState). z.position) stands) ∙ e)
+  running_there n k e = running_sited c r.phase n k (sym (ap (λ (z : ThreadState). z.position) stands) ∙ e)
       (w.sited t r r_at)
 
   -- of which a sound text is left
@@ -146,7 +146,7 @@ module _ (c : CompiledView) (fuel : ℕ) (trace : List Event) (order : List ℕ)
     -- outside sections
     pub turns_local : IsFree th → begins_step th.frame.text ≡ true
         → trace' ≡ made ++ record { thread = t; deed = Local } ∷ []
-        → frame_of (text_at c t) q ≡ local_step (program_of c) t (frame_of (text_at c t) r) → q.stage ≡ r.stage
+        → frame_of (text_at c t) q ≡ local_step (program_of c) t (frame_of (text_at c t) r) → q.phase ≡ r.phase
         → q.wanted ≡ r.wanted → q.taken ≡ r.taken
         → TurnsInto (shown c fuel trace order store output rs table.held lets) t (Moved kind.Local) c fuel trace' order
         store output rs' table lets'
@@ -177,7 +177,7 @@ module _ (c : CompiledView) (fuel : ℕ) (trace : List Event) (order : List ℕ)
     -- into a section
     pub turns_in : (n : ℕ) (body rest : TextView) → IsFree th → th.frame.text ≡ Section n body rest
         → trace' ≡ made ++ record { thread = t; deed = Enter } ∷ []
-        → q.stage ≡ stage.Entered → drop q.taken q.wanted.items ≡ plan_at c n store r.work.locals
+        → q.phase ≡ phase.Entered → drop q.taken q.wanted.items ≡ plan_at c n store r.work.locals
         → frame_of (text_at c t) q ≡ frame_of (text_at c t) r
         → TurnsInto (shown c fuel trace order store output rs table.held lets) t (Moved kind.Enter) c fuel trace' order
         store output rs' table lets'
@@ -213,7 +213,7 @@ module _ (c : CompiledView) (fuel : ℕ) (trace : List Event) (order : List ℕ)
     pub turns_begun : (n : ℕ) (body rest : TextView) → IsReady th n body rest
         → meets th.held (plan_at c n store th.frame.work.locals) ≡ true
         → trace' ≡ made ++ record { thread = t; deed = Begin } ∷ []
-        → q.stage ≡ stage.Running n 0 → rest_at (text_at c t) q.node ≡ rest → q.wanted ≡ r.wanted → q.taken ≡ r.taken
+        → q.phase ≡ phase.Running n 0 → rest_at (text_at c t) q.node ≡ rest → q.wanted ≡ r.wanted → q.taken ≡ r.taken
         → q.work ≡ r.work → q.ended ≡ r.ended
         → TurnsInto (shown c fuel trace order store output rs table.held lets) t (Moved kind.Begin) c fuel trace' order
         store output rs' table lets'
@@ -258,7 +258,7 @@ module _ (c : CompiledView) (fuel : ℕ) (trace : List Event) (order : List ℕ)
         → ((text : TextView) → thread_of c text q (held_by table' t) ≡ acting c t n (step_in c t k r.work store)
         (thread_of c text r (held_by table t)))
         → store' ≡ changed_by t (step_in c t k r.work store) store
-        → HoldsMore t (grips_by c t r.work.made (step_in c t k r.work store)) table table' → IsSited c q.stage
+        → HoldsMore t (grips_by c t r.work.made (step_in c t k r.work store)) table table' → IsSited c q.phase
         → TurnsInto (shown c fuel trace order store output rs table.held lets) t (Moved kind.Act) c fuel trace' order
         store' output rs' table' lets'
     turns_inside n k store' table' running begins trace_is acts stored more is_sited =

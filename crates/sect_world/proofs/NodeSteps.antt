@@ -27,8 +27,8 @@ use Rattle.sect_emit.specs.declared.plan.Grip.{Grip}
 use Rattle.sect_emit.specs.Plan.{grip}
 use Rattle.sect_emit.specs.Compiled.{CompiledView, IsCompiled, program_of}
 use Rattle.sect_emit.specs.State.{ThreadState, Running, Faulted}
-use Rattle.sect_world.specs.declared.runner.Stage.{Stage}
-use Rattle.sect_world.specs.declared.runner.Stage.TheVariants as stage
+use Rattle.sect_world.specs.declared.runner.Phase.{Phase}
+use Rattle.sect_world.specs.declared.runner.Phase.TheVariants as phase
 use Rattle.sect_world.specs.declared.runner.Runner.{Runner}
 use Rattle.sect_world.specs.Events.{acting, changed_by}
 use Rattle.sect_world.specs.Kept.{IsTextOf}
@@ -140,15 +140,15 @@ more_held t (g ∷ []) old new within a =
 more_held t (g ∷ h ∷ gs) old new within a = absurd a
 
 -- where a thread in section i has come to
-abbrev pub stage_by : ℕ → Result ℕ Fault → Stage
-stage_by i (Ok m) = stage.Running i m
-stage_by i (Err why) = stage.Faulted i why
+abbrev pub stage_by : ℕ → Result ℕ Fault → Phase
+stage_by i (Ok m) = phase.Running i m
+stage_by i (Err why) = phase.Faulted i why
 
 -- what it is then
 pub acted : (c : CompiledView) (t i : ℕ) (n : Next) (went : Result ℕ Fault) (text : TextView) (old : Runner)
     (v : WorkView) (s r : StoreView) (hs hs' : List Hold)
     → Goes (rest_at (body_at c i)) t s n went v r → grips hs' ≡ grips hs ++ grips_by c t old.work.made n
-    → thread_of c text (record old { stage = stage_by i went; work = v }) hs' ≡ acting c t i n (thread_of c text old hs)
+    → thread_of c text (record old { phase = stage_by i went; work = v }) hs' ≡ acting c t i n (thread_of c text old hs)
 acted c t i (On k w change) (Ok m) text old v s r hs hs' goes held =
     let made : TextView → WorkView → List Grip → ThreadState = λ k' w' gs. record {
       position = Running i k';

@@ -17,7 +17,7 @@ use Rattle.sect_table.specs.Contents.{Contents, IsEmptyFor, entry_of}
 use Rattle.sect_table.specs.Sound.{IsKept as IsTableKept}
 use Rattle.sect_emit.specs.Compiled.{CompiledView, IsCompiled, program_of}
 use Rattle.sect_emit.specs.State.{outside, start}
-use Rattle.sect_world.specs.declared.runner.Stage.TheVariants as stage
+use Rattle.sect_world.specs.declared.runner.Phase.TheVariants as phase
 use Rattle.sect_world.specs.declared.runner.Runner.{Runner}
 use Rattle.sect_world.specs.Events.{emptied}
 use Rattle.sect_world.specs.Worlds.{first_world}
@@ -47,11 +47,11 @@ module _ (c : CompiledView) (is : IsCompiled c) (t : ℕ) (within : t < length (
       ∙ ap (λ z. settled z w) (thread_graph c is t within g at).running.start
 
 -- a runner at the start
-pub first_is : (c : CompiledView) (fuel : ℕ) (t : ℕ) (r : Runner) → r.stage ≡ stage.Outside → r.node ≡ 0
+pub first_is : (c : CompiledView) (fuel : ℕ) (t : ℕ) (r : Runner) → r.phase ≡ phase.Outside → r.node ≡ 0
     → r.work ≡ first_work fuel (slice_index_or (program_of c).locals t [])
     → BeginsSo (text_at c t) r.ended → drop r.taken r.wanted.items ≡ [] → IsFirst c fuel t r
 first_is c fuel t r out node work ends none = record {
-  stage = out;
+  phase = out;
   thread = λ text at.
       let w : WorkView = first_work fuel (slice_index_or (program_of c).locals t []) in
       let same : text_at c t ≡ text = get_or_from_slice_get (program_of c).texts t text Stop at in
@@ -106,7 +106,7 @@ opens c fuel rs table compiled many first empty kept = record {
   ordered = refl;
   as_many = many;
   as_many_held = ap length empty.held ∙ length-replicate (length (program_of c).texts) [];
-  sited = λ t r at. subst (IsSited c) (sym (first t r at).stage) tt;
+  sited = λ t r at. subst (IsSited c) (sym (first t r at).phase) tt;
   waits = λ k w there. absurd (subst (λ es. Has (entry_of k es).waiters w) empty.entries there);
   tabled = kept;
 }

@@ -13,7 +13,7 @@ use Rattle.sect_emit.specs.State.{Position, Outside, Entered, Running, Faulted, 
 use Rattle.sect_world.specs.Events.{grips_of, acting, changed_by, step_in}
 use Rattle.sect_emit.specs.ModeTests.{is_writing, is_reading_object}
 use Rattle.sect_world.specs.Held.{may_read, may_write, Access, Loading, next_access, may}
-use Rattle.sect_world.specs.Replay.{Stage, stage_after, one_on, replay}
+use Rattle.sect_world.specs.Replay.{Phase, stage_after, one_on, replay}
 use Rattle.sect_world.proofs.SerialFrames.{Agrees, Replayed}
 use Rattle.sect_modes.specs.declared.key.Key.TheVariants as key
 use Rattle.sect_modes.specs.Mode.{is_reading}
@@ -33,11 +33,11 @@ still_left p t Entered w s = Through w s
 still_left p t (Running i k) w s = body_of p t k w s
 still_left p t (Faulted i why) w s = Broken why w s
 
--- what is left at a stage
-abbrev pub left_at : ProgramView → ℕ → Stage → Left
+-- what is left at a phase
+abbrev pub left_at : ProgramView → ℕ → Phase → Left
 left_at p t x = still_left p t x.position x.work x.store
 
--- the same for the stage after a step
+-- the same for the phase after a step
 left_at_stage : (p : ProgramView) (t i : ℕ) (n : Next) (s : StoreView)
     → left_after p t s n ≡ left_at p t (stage_after t i n s)
 left_at_stage p t i (On k w ch) s = refl
@@ -52,7 +52,7 @@ one_keeps p t (Running i k) w s = step_keeps p t k w s ∙ left_at_stage p t i (
 one_keeps p t (Faulted i why) w s = refl
 
 -- and so does a replay
-pub replay_keeps : (n : ℕ) (p : ProgramView) (t : ℕ) (x : Stage) → left_at p t x ≡ left_at p t (replay n p t x)
+pub replay_keeps : (n : ℕ) (p : ProgramView) (t : ℕ) (x : Phase) → left_at p t x ≡ left_at p t (replay n p t x)
 replay_keeps zero p t x = refl
 replay_keeps (suc n) p t x =
     replay_keeps n p t x ∙ one_keeps p t (replay n p t x).position (replay n p t x).work (replay n p t x).store
@@ -82,7 +82,7 @@ own_step c t i j k th s body work from le le_from made free at holds r = by (ste
   now : replay (suc r.steps) (program_of c) t (record { position = Running j body; work = work; store = from })
       ≡ stage_after t i (step_in c t k th.frame.work s) r.here
   now =
-      ap (λ (x : Stage). one_on (program_of c) t x.position x.work x.store) r.done
+      ap (λ (x : Phase). one_on (program_of c) t x.position x.work x.store) r.done
       ∙ ap (λ q. one_on (program_of c) t q th.frame.work r.here) at
       ∙ ap (λ n. stage_after t i n r.here)
       (same_step (program_of c) t k th.frame.work r.here s (λ o e. r.agrees o (holds (Loading o) e)))

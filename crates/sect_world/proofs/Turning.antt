@@ -92,7 +92,7 @@ pub went_on : (c : CompiledView) (fuel : ℕ) (trace made trace' : List Event) (
     → (t : ℕ) (th : ThreadState) (at : IsThread (state_of c store output rs table.held) t th)
     → ((k : Key) (m : Mode) → th.position ≡ Entered → WantsFirst th k m → ⊥)
     → (d : Deed) → leaver t d ≡ [] → MayFollow (kind_of d) t []
-    → (q : Runner) → IsSited c q.stage → (gs : List Grip) → HoldsMore t gs table table'
+    → (q : Runner) → IsSited c q.phase → (gs : List Grip) → HoldsMore t gs table table'
     → MayDo c (state_of c store output rs table.held) t th d
     (record {
       store = store';
@@ -112,8 +112,8 @@ went_on c fuel trace made trace' order store store' output rs rs' table table' l
             ∙ (ap (λ z. order_of trace ++ z) (sym stays) ∙ sym (order_of-more trace e)));
         as_many = length-set rs t q ∙ w.as_many;
         as_many_held = ap length held ∙ (length-set table.held t (held_by table' t) ∙ w.as_many_held);
-        sited = subst (λ z. (u : ℕ) (r : Runner) → slice_get z u ≡ Some r → IsSited c r.stage) (sym (set_put t q rs))
-            (each_put (λ u (r : Runner). IsSited c r.stage) t x.runner q rs x.at is_sited
+        sited = subst (λ z. (u : ℕ) (r : Runner) → slice_get z u ≡ Some r → IsSited c r.phase) (sym (set_put t q rs))
+            (each_put (λ u (r : Runner). IsSited c r.phase) t x.runner q rs x.at is_sited
             (λ u r other is. w.sited u r is));
         waits = subst (λ z. AllWaitersAsk z table'.entries) (sym state)
             (still_asked s1 t gs table table'

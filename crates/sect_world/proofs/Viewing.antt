@@ -194,7 +194,7 @@ runner_there c fuel trace order store output rs table w t h =
 pub place_of : (c : CompiledView) (fuel : ℕ) (trace : List Event) (order : List ℕ) (store : StoreView) (output : List ℤ)
     (rs : List Runner) (table : Contents)
     → IsWorld c fuel trace order store output rs table → (t : ℕ) (r : Runner) → slice_get rs t ≡ Some r
-    → (th : ThreadState) × IsThread (state_of c store output rs table.held) t th × (th.position ≡ position_of c r.stage)
+    → (th : ThreadState) × IsThread (state_of c store output rs table.held) t th × (th.position ≡ position_of c r.phase)
 place_of c fuel trace order store output rs table w t r at =
     let s = seen_at c (program_of c).texts rs table.held t r w.as_many w.as_many_held at in (_, s.4, refl)
 

@@ -22,11 +22,11 @@ use Rattle.sect_emit.specs.Compiled.{CompiledView, program_of}
 use Rattle.sect_emit.specs.State.{Entered, ThreadState, State, IsThread}
 use Rattle.sect_emit.proofs.shared.Keys.{not_below_itself}
 use Rattle.sect_world.specs.declared.event.Event.{Event}
-use Rattle.sect_world.specs.declared.runner.Stage.{Stage}
-use Rattle.sect_world.specs.declared.runner.Stage.TheVariants as stage
+use Rattle.sect_world.specs.declared.runner.Phase.{Phase}
+use Rattle.sect_world.specs.declared.runner.Phase.TheVariants as phase
 use Rattle.sect_world.specs.declared.runner.Runner.{Runner}
 use Rattle.sect_world.specs.declared.turned.Turned.TheVariants.{Moved, Waits}
-use Rattle.sect_world.specs.declared.turned.Kind.TheVariants as kind
+use Rattle.sect_world.specs.declared.turned.EventKind.TheVariants as kind
 use Rattle.sect_world.specs.Events.{Happens}
 use Rattle.sect_world.specs.Runs.{IsRun, order_of}
 use Rattle.sect_world.specs.Blocked.{IsBlocked}
@@ -45,11 +45,11 @@ use Rattle.sect_world.proofs.Viewing.{seen, world_fits, state_granted, each_adva
 use Rattle.std.proofs.lemmas.Bool.{cases_Bool}
 
 -- a runner is seen as entered where it is
-entered_stage : (c : CompiledView) (s : Stage) → position_of c s ≡ Entered → s ≡ stage.Entered
-entered_stage c stage.Outside e = absurd (let off : position_of c stage.Outside ≡ Entered = e in cc)
-entered_stage c stage.Entered e = refl
-entered_stage c (stage.Running i j) e = absurd (let off : position_of c (stage.Running i j) ≡ Entered = e in cc)
-entered_stage c (stage.Faulted i why) e = absurd (let off : position_of c (stage.Faulted i why) ≡ Entered = e in cc)
+entered_stage : (c : CompiledView) (s : Phase) → position_of c s ≡ Entered → s ≡ phase.Entered
+entered_stage c phase.Outside e = absurd (let off : position_of c phase.Outside ≡ Entered = e in cc)
+entered_stage c phase.Entered e = refl
+entered_stage c (phase.Running i j) e = absurd (let off : position_of c (phase.Running i j) ≡ Entered = e in cc)
+entered_stage c (phase.Faulted i why) e = absurd (let off : position_of c (phase.Faulted i why) ≡ Entered = e in cc)
 
 -- what lies below a key isn't the key
 unheld : (hs : List Grip) (g : Grip) (rest : List Grip) → Ascends (hs ++ g ∷ rest) → held_mode g.key hs ≡ None
@@ -94,7 +94,7 @@ asker c fuel trace order store output rs table w t k m asks =
       runner = s.runner;
       at = s.runner_at;
       wishes = record {
-        entered = entered_stage c s.runner.stage
+        entered = entered_stage c s.runner.phase
             (sym (ap (λ (z : ThreadState). z.position) s.is) ∙ asks.2);
         first = first;
       };

@@ -10,25 +10,25 @@ use Rattle.sect_world.specs.Held.{may_write}
 use Rattle.sect_world.specs.Excluding.{IsInSection}
 
 -- how far a section has come: where its thread is, what it works with, and the store
-pub record Stage : Type 0 where
+pub record Phase : Type 0 where
   pub position : Position
   pub work : WorkView
   pub store : StoreView
 
 -- after a step in section i
-abbrev pub stage_after : ℕ → ℕ → Next → StoreView → Stage
+abbrev pub stage_after : ℕ → ℕ → Next → StoreView → Phase
 stage_after t i (On k w ch) s = record { position = Running i k; work = w; store = after_change t s ch }
 stage_after t i (Off why w) s = record { position = Faulted i why; work = w; store = s }
 
 -- one step on; where the thread is not in a section, or a fault broke it off, nothing
-abbrev pub one_on : ProgramView → ℕ → Position → WorkView → StoreView → Stage
+abbrev pub one_on : ProgramView → ℕ → Position → WorkView → StoreView → Phase
 one_on p t Outside w s = record { position = Outside; work = w; store = s }
 one_on p t Entered w s = record { position = Entered; work = w; store = s }
 one_on p t (Running i k) w s = stage_after t i (next p t k (found_at s (looks k w)) w) s
 one_on p t (Faulted i why) w s = record { position = Faulted i why; work = w; store = s }
 
 -- the section of thread t, n steps on
-abbrev pub replay : ℕ → ProgramView → ℕ → Stage → Stage
+abbrev pub replay : ℕ → ProgramView → ℕ → Phase → Phase
 replay zero p t x = x
 replay (suc n) p t x = one_on p t (replay n p t x).position (replay n p t x).work (replay n p t x).store
 

@@ -12,8 +12,8 @@ use Rattle.sect_table.specs.Sound.{IsKept as IsTableKept}
 use Rattle.sect_emit.specs.Compiled.{CompiledView, IsCompiled, program_of}
 use Rattle.sect_emit.specs.State.{Position, Outside, Entered, Running, Faulted, ThreadState, State, outside}
 use Rattle.sect_world.specs.declared.event.Event.{Event}
-use Rattle.sect_world.specs.declared.runner.Stage.{Stage}
-use Rattle.sect_world.specs.declared.runner.Stage.TheVariants as stage
+use Rattle.sect_world.specs.declared.runner.Phase.{Phase}
+use Rattle.sect_world.specs.declared.runner.Phase.TheVariants as phase
 use Rattle.sect_world.specs.declared.runner.Runner.{Runner}
 use Rattle.sect_world.specs.Runs.{IsRun, order_of}
 use Rattle.sect_types.specs.declared.store.End.{End}
@@ -35,11 +35,11 @@ body_at c i = body_in (slice_get (sections_of (program_of c).texts) i)
 abbrev pub text_at : CompiledView → ℕ → TextView
 text_at c t = slice_index_or (program_of c).texts t Stop
 
-abbrev pub position_of : CompiledView → Stage → Position
-position_of c stage.Outside = Outside
-position_of c stage.Entered = Entered
-position_of c (stage.Running i j) = Running i (rest_at (body_at c i) j)
-position_of c (stage.Faulted i why) = Faulted i why
+abbrev pub position_of : CompiledView → Phase → Position
+position_of c phase.Outside = Outside
+position_of c phase.Entered = Entered
+position_of c (phase.Running i j) = Running i (rest_at (body_at c i) j)
+position_of c (phase.Faulted i why) = Faulted i why
 
 -- the frame of a thread with this text
 abbrev pub frame_of : TextView → Runner → FrameView
@@ -54,7 +54,7 @@ EndsSo how rest end =
 -- a thread with this text, which holds these keys
 abbrev pub thread_of : CompiledView → TextView → Runner → List Hold → ThreadState
 thread_of c text r hs = record {
-  position = position_of c r.stage;
+  position = position_of c r.phase;
   frame = frame_of text r;
   wanted = drop r.taken r.wanted.items;
   held = grips hs;
@@ -71,7 +71,7 @@ first_thread c fuel t text = outside (settled text (first_work fuel (slice_index
 
 -- it stands for thread t at its start
 pub record IsFirst (c : CompiledView) (fuel : ℕ) (t : ℕ) (r : Runner) : Type 0 where
-  pub stage : r.stage ≡ stage.Outside
+  pub phase : r.phase ≡ phase.Outside
   pub thread : (text : TextView) → slice_get (program_of c).texts t ≡ Some text
       → thread_of c text r [] ≡ first_thread c fuel t text
 
@@ -102,11 +102,11 @@ shown c fuel trace order store output rs held granted = record {
 }
 
 -- the section that it runs is one of the program
-abbrev pub IsSited : CompiledView → Stage → Type 0
-IsSited c stage.Outside = ⊤
-IsSited c stage.Entered = ⊤
-IsSited c (stage.Running i j) = i < length (sections_of (program_of c).texts)
-IsSited c (stage.Faulted i why) = ⊤
+abbrev pub IsSited : CompiledView → Phase → Type 0
+IsSited c phase.Outside = ⊤
+IsSited c phase.Entered = ⊤
+IsSited c (phase.Running i j) = i < length (sections_of (program_of c).texts)
+IsSited c (phase.Faulted i why) = ⊤
 
 -- what holds of the parts of a world: the events lead from the start to its state, the order is theirs, and who waits
 -- in the table wants that key first
@@ -117,7 +117,7 @@ pub record IsWorld (c : CompiledView) (fuel : ℕ) (trace : List Event) (order :
   pub ordered : order ≡ order_of trace
   pub as_many : length rs ≡ length (program_of c).texts
   pub as_many_held : length table.held ≡ length (program_of c).texts
-  pub sited : (t : ℕ) (r : Runner) → slice_get rs t ≡ Some r → IsSited c r.stage
+  pub sited : (t : ℕ) (r : Runner) → slice_get rs t ≡ Some r → IsSited c r.phase
   pub waits : AllWaitersAsk (state_of c store output rs table.held) table.entries
   pub tabled : IsTableKept table
 

@@ -7,8 +7,8 @@ use Rattle.sect_emit.specs.State.{ThreadState, State, IsThread, start}
 use Rattle.sect_world.specs.declared.event.Deed.{Deed}
 use Rattle.sect_world.specs.declared.event.Deed.TheVariants as deed
 use Rattle.sect_world.specs.declared.event.Event.{Event}
-use Rattle.sect_world.specs.declared.turned.Kind.{Kind}
-use Rattle.sect_world.specs.declared.turned.Kind.TheVariants as kind
+use Rattle.sect_world.specs.declared.turned.EventKind.{EventKind}
+use Rattle.sect_world.specs.declared.turned.EventKind.TheVariants as kind
 use Rattle.sect_world.specs.declared.turned.Turned.{Turned}
 use Rattle.sect_world.specs.declared.turned.Turned.TheVariants.{Moved, Waits, Ended}
 use Rattle.sect_world.specs.declared.turned.WorldFault.{WorldFault}
@@ -31,7 +31,7 @@ abbrev pub first_world : CompiledView → ℕ → WorldView
 first_world c fuel =
     record { compiled = c; fuel = fuel; trace = []; order = []; state = start c fuel; granted = [] }
 
-abbrev pub kind_of : Deed → Kind
+abbrev pub kind_of : Deed → EventKind
 kind_of deed.Local = kind.Local
 kind_of deed.Enter = kind.Enter
 kind_of (deed.Take k m) = kind.Take
@@ -46,7 +46,7 @@ AreTakesOfOthers t [] = ⊤
 AreTakesOfOthers t (e ∷ es) = (kind_of e.deed ≡ kind.Take) × (e.thread ≢ t) × AreTakesOfOthers t es
 
 -- what may follow an event of thread t within its turn: takes of others where it gives its keys back, else nothing
-abbrev pub MayFollow : Kind → ℕ → List Event → Type 0
+abbrev pub MayFollow : EventKind → ℕ → List Event → Type 0
 MayFollow kind.Local t es = es ≡ []
 MayFollow kind.Enter t es = es ≡ []
 MayFollow kind.Take t es = es ≡ []

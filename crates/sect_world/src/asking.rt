@@ -11,7 +11,7 @@ ghost use Rattle.sect_world.specs.steps.Taking.{Wishes, IsAsked, HasRoomAt, adva
 
 use crate::event::{Deed, Event};
 use crate::runner::Runner;
-use crate::turned::{Kind, Turned};
+use crate::turned::{EventKind, Turned};
 use sect_emit::Grip;
 use sect_table::{Answer, Grant, Table, TableFault};
 use std::alloc::AllocError;
@@ -95,7 +95,7 @@ pub fn turned_by(answer: Answer) -> Turned
     ensures { result ≡ turn_by answer }
 {
     match answer {
-        Answer::Granted => Turned::Moved(Kind::Take),
+        Answer::Granted => Turned::Moved(EventKind::Take),
         Answer::Queued => Turned::Waits,
     }
 }

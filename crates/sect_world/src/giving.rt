@@ -6,7 +6,7 @@ ghost use Rattle.sect_graph.specs.Rests.{rest_at};
 ghost use Rattle.sect_table.specs.Contents.{is_waiting, released};
 ghost use Rattle.sect_table.specs.Sound.{IsKept as IsTableKept};
 ghost use Rattle.sect_emit.specs.Compiled.{program_of};
-ghost use Rattle.sect_world.specs.declared.runner.Stage.TheVariants.{Outside};
+ghost use Rattle.sect_world.specs.declared.runner.Phase.TheVariants.{Outside};
 ghost use Rattle.sect_world.specs.Events.{frame_out};
 ghost use Rattle.sect_world.specs.steps.Fits.{takes};
 ghost use Rattle.sect_world.specs.steps.Taking.{CanAdvance, all_advanced, takers};
@@ -14,7 +14,7 @@ ghost use Rattle.sect_world.specs.Viewing.{EndsSo, text_at, frame_of};
 
 use crate::asking::take;
 use crate::event::Event;
-use crate::runner::{Runner, Stage};
+use crate::runner::{Phase, Runner};
 use sect_emit::Compiled;
 use sect_table::{Grant, Grants, Table};
 use sect_types::{End, Fault};
@@ -100,7 +100,7 @@ pub fn come_out(
     output: &mut Vec<i64>,
 ) -> Result<(), AllocError>
     requires { thread < length (program_of compiled.now).texts }
-    ensures stage { OnOk result (runner.new.stage ≡ Outside) }
+    ensures phase { OnOk result (runner.new.phase ≡ Outside) }
     ensures frame { OnOk result (frame_of (text_at compiled.now thread) runner.new
         ≡ frame_out how (frame_of (text_at compiled.now thread) runner.old)) }
     ensures wanted { OnOk result ((runner.new.wanted ≡ runner.old.wanted) × (runner.new.taken ≡ runner.old.taken)) }
@@ -108,7 +108,7 @@ pub fn come_out(
     ensures refused { OnErr result ((runner.new ≡ runner.old) × (output.new.items ≡ output.old.items)) }
 {
     runner.work.deliver(output)?;
-    runner.stage = Stage::Outside;
+    runner.phase = Phase::Outside;
     runner.ended = end_after(compiled, thread, how, runner.node);
     Ok(())
 }

@@ -22,7 +22,7 @@ ghost use Rattle.sect_world.specs.Viewing.{body_at, thread_of, IsSited};
 ghost use Rattle.sect_world.specs.steps.Moves.{Goes, IsStep, GivesKey, HoldsMore, grips_by, object_by};
 
 use crate::moving::{chosen, run_node};
-use crate::runner::{Runner, Stage};
+use crate::runner::{Phase, Runner};
 use sect_emit::Compiled;
 use sect_graph::Flow;
 use sect_modes::Key;
@@ -156,7 +156,7 @@ pub fn step_inside(
     ensures table { OnOk result (HoldsMore thread (grips_by compiled.now thread runner.old.work.made
         (step_in compiled.now thread (rest_at (body_at compiled.now section) node) runner.old.work store.old))
         table.old table.new) }
-    ensures sited { OnOk result (IsSited compiled.now runner.new.stage) }
+    ensures sited { OnOk result (IsSited compiled.now runner.new.phase) }
     ensures refused { OnErr result ((runner.new ≡ runner.old) × (store.new ≡ store.old) × (table.new ≡ table.old)) }
 {
     compiled.facts();
@@ -171,9 +171,9 @@ pub fn step_inside(
         store,
         table,
     )?;
-    runner.stage = match went {
-        Ok(next) => Stage::Running(section, next),
-        Err(fault) => Stage::Faulted(section, fault),
+    runner.phase = match went {
+        Ok(next) => Phase::Running(section, next),
+        Err(fault) => Phase::Faulted(section, fault),
     };
     Ok(())
 }

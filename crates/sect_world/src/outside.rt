@@ -14,14 +14,14 @@ ghost use Rattle.sect_table.specs.Contents.{held_by};
 ghost use Rattle.sect_emit.specs.Plan.{meets as meets_by};
 ghost use Rattle.sect_emit.specs.Compiled.{program_of};
 ghost use Rattle.sect_emit.specs.State.{plan_at};
-ghost use Rattle.sect_world.specs.declared.runner.Stage.TheVariants.{Entered, Running};
+ghost use Rattle.sect_world.specs.declared.runner.Phase.TheVariants.{Entered, Running};
 ghost use Rattle.sect_world.specs.Waiting.{grips};
 ghost use Rattle.sect_world.specs.Viewing.{text_at, frame_of};
 ghost use Rattle.sect_world.specs.steps.Moves.{StepsLocally};
 
 use crate::moving::{chosen, run_node};
 use crate::plans::plan_of;
-use crate::runner::{Runner, Stage};
+use crate::runner::{Phase, Runner};
 use sect_emit::{Compiled, Grip};
 use sect_modes::at_least;
 use sect_store::{Store, Work};
@@ -72,7 +72,7 @@ pub fn step_outside(
         (rest_at (text_at compiled.now thread) runner.old.node) }
     ensures steps { OnOk result (frame_of (text_at compiled.now thread) runner.new
         ≡ local_step (program_of compiled.now) thread (frame_of (text_at compiled.now thread) runner.old)) }
-    ensures stage { runner.new.stage ≡ runner.old.stage }
+    ensures phase { runner.new.phase ≡ runner.old.phase }
     ensures wanted { (runner.new.wanted ≡ runner.old.wanted) × (runner.new.taken ≡ runner.old.taken) }
     ensures store { store.new ≡ store.old }
     ensures refused { OnErr result (runner.new ≡ runner.old) }
@@ -124,7 +124,7 @@ pub fn enter(
     store: &Store,
 ) -> Result<(), AllocError>
     requires { section < length (sections_of (program_of compiled.now).texts) }
-    ensures stage { OnOk result (runner.new.stage ≡ Entered) }
+    ensures phase { OnOk result (runner.new.phase ≡ Entered) }
     ensures wanted { OnOk result (drop runner.new.taken runner.new.wanted.items
         ≡ plan_at compiled.now section store.now runner.old.work.locals) }
     ensures frame { OnOk result ((text : TextView) → frame_of text runner.new ≡ frame_of text runner.old) }
@@ -133,7 +133,7 @@ pub fn enter(
     let plan = plan_for(alloc, compiled, section, runner, store)?;
     runner.wanted = plan;
     runner.taken = 0;
-    runner.stage = Stage::Entered;
+    runner.phase = Phase::Entered;
     Ok(())
 }
 
@@ -179,7 +179,7 @@ pub fn begin(compiled: &Compiled, thread: u16, section: u16, runner: &mut Runner
     requires thread { thread < length (program_of compiled.now).texts }
     requires node { (g : List Node) → slice_get compiled.now.scheme.graphs.threads thread ≡ Some g
         → runner.old.node < length g }
-    ensures stage { runner.new.stage ≡ Running section 0 }
+    ensures phase { runner.new.phase ≡ Running section 0 }
     ensures text { (i : ℕ) (body rest : TextView)
         → rest_at (text_at compiled.now thread) runner.old.node ≡ Section i body rest
         → rest_at (text_at compiled.now thread) runner.new.node ≡ rest }
@@ -188,6 +188,6 @@ pub fn begin(compiled: &Compiled, thread: u16, section: u16, runner: &mut Runner
 {
     compiled.facts();
     let flow = compiled.scheme().graph().thread(thread);
-    runner.stage = Stage::Running(section, 0);
+    runner.phase = Phase::Running(section, 0);
     runner.node = chosen(flow.succ(runner.node), true);
 }

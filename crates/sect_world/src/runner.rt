@@ -15,7 +15,7 @@ use std::alloc::{AllocError, Global};
 
 /// Where a thread is.
 #[derive(Clone, Copy)]
-pub enum Stage {
+pub enum Phase {
     /// Outside sections.
     Outside,
     /// It has entered a section, and asks for the keys of its plan.
@@ -29,7 +29,7 @@ pub enum Stage {
 /// A thread: where it is; the node of its own graph at which it goes on outside sections; what it works with; how it
 /// has ended, if it has; the plan with which it entered a section, and how many keys of it it has come to hold.
 pub struct Runner {
-    pub stage: Stage,
+    pub phase: Phase,
     pub node: u16,
     pub work: Work,
     pub ended: Option<End>,
@@ -40,7 +40,7 @@ pub struct Runner {
 impl Drop for Runner {
     fn drop(self) {
         let Runner {
-            stage: _,
+            phase: _,
             node: _,
             work: _,
             ended: _,
@@ -92,7 +92,7 @@ fn first_runner(
     ensures { IfOk result (IsFirst compiled.now fuel thread) }
 {
     Ok(Runner {
-        stage: Stage::Outside,
+        phase: Phase::Outside,
         node: 0,
         work: first_work(alloc, compiled, fuel, thread)?,
         ended: first_end(compiled, thread),

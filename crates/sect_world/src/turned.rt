@@ -5,7 +5,7 @@ use thiserror::Error;
 
 /// What an event is, without its key and mode.
 #[derive(Clone, Copy, Debug, PartialEq, Eq)]
-pub enum Kind {
+pub enum EventKind {
     /// A statement or test outside a section.
     Local,
     /// Comes to a section.
@@ -26,7 +26,7 @@ pub enum Kind {
 #[derive(Clone, Copy, Debug, PartialEq, Eq)]
 pub enum Turned {
     /// It has made an event of this kind.
-    Moved(Kind),
+    Moved(EventKind),
     /// It waits for a key, and nothing has happened.
     Waits,
     /// It has ended, and nothing has happened.

@@ -28,8 +28,8 @@ use crate::giving::{come_out, give_back};
 use crate::inside::step_inside;
 use crate::labels::next_label;
 use crate::outside::{begin, enter, is_met, step_outside};
-use crate::runner::{Runner, Stage, first_runners, have_ended, put_ends};
-use crate::turned::{Kind, Turned, WorldFault};
+use crate::runner::{Phase, Runner, first_runners, have_ended, put_ends};
+use crate::turned::{EventKind, Turned, WorldFault};
 use sect_emit::{Compiled, Grip};
 use sect_modes::{Key, Mode};
 use sect_store::{Outcome, Store};
@@ -285,7 +285,7 @@ impl<'a> World<'a> {
         self.moment.granted.clear();
         let deed = Deed::Local;
         self.moment.trace.push_reserved(Event { thread, deed });
-        Ok(Turned::Moved(Kind::Local))
+        Ok(Turned::Moved(EventKind::Local))
     }
 
     /// The turn of a thread that comes to a section: it wants what the section's plan asks for.
@@ -307,7 +307,7 @@ impl<'a> World<'a> {
         self.moment.granted.clear();
         let deed = Deed::Enter;
         self.moment.trace.push_reserved(Event { thread, deed });
-        Ok(Turned::Moved(Kind::Enter))
+        Ok(Turned::Moved(EventKind::Enter))
     }
 
     /// The turn of a thread that begins its section, since its plan is met.
@@ -328,7 +328,7 @@ impl<'a> World<'a> {
         self.moment.granted.clear();
         let deed = Deed::Begin;
         self.moment.trace.push_reserved(Event { thread, deed });
-        Ok(Turned::Moved(Kind::Begin))
+        Ok(Turned::Moved(EventKind::Begin))
     }
 
     /// The turn of a thread in a section, at this node of it, that runs its next statement or test.
@@ -354,7 +354,7 @@ impl<'a> World<'a> {
         self.moment.granted.clear();
         let deed = Deed::Act;
         self.moment.trace.push_reserved(Event { thread, deed });
-        Ok(Turned::Moved(Kind::Act))
+        Ok(Turned::Moved(EventKind::Act))
     }
 
     /// The turn of a thread that wants a key: it comes to hold the key, or waits for it.
@@ -381,7 +381,7 @@ impl<'a> World<'a> {
         ensures err { OnErr result (self.new ≡ self.old) }
     {
         self.moment.trace.reserve(1 + self.moment.runners.len())?;
-        self.moment.runners[thread as usize].stage = Stage::Outside;
+        self.moment.runners[thread as usize].phase = Phase::Outside;
         let deed = Deed::Again;
         give_back(
             &mut self.moment.trace,
@@ -391,7 +391,7 @@ impl<'a> World<'a> {
             &mut self.moment.granted,
             Event { thread, deed },
         );
-        Ok(Turned::Moved(Kind::Again))
+        Ok(Turned::Moved(EventKind::Again))
     }
 
     /// The turn of a thread that leaves its section, at its end or by a fault.
@@ -419,7 +419,7 @@ impl<'a> World<'a> {
             &mut self.moment.granted,
             Event { thread, deed },
         );
-        Ok(Turned::Moved(Kind::Leave))
+        Ok(Turned::Moved(EventKind::Leave))
     }
 
     /// The turn of a thread outside sections.
@@ -538,13 +538,13 @@ impl<'a> World<'a> {
     }
 
     /// Where a thread is.
-    fn stage_of(&self, thread: u16) -> Stage
+    fn phase_of(&self, thread: u16) -> Phase
         requires { thread < length self.now.state.threads }
         ensures place { (th : ThreadState) × IsThread self.now.state thread th
             × (th.position ≡ position_of self.now.compiled result) }
         ensures sited { IsSited self.now.compiled result }
     {
-        self.moment.runners[thread as usize].stage
+        self.moment.runners[thread as usize].phase
     }
 
     /// Makes the one event that a thread's place allows, and the `take` events that it lets through; or none, where the
@@ -561,11 +561,11 @@ impl<'a> World<'a> {
         if thread as usize >= self.threads() {
             return Err(WorldFault::NoSuchThread(thread));
         }
-        let turned = match self.stage_of(thread) {
-            Stage::Outside => self.turn_outside(thread)?,
-            Stage::Entered => self.turn_entered(thread)?,
-            Stage::Running(section, node) => self.turn_inside(thread, section, node)?,
-            Stage::Faulted(_, why) => self.leave(thread, Some(why))?,
+        let turned = match self.phase_of(thread) {
+            Phase::Outside => self.turn_outside(thread)?,
+            Phase::Entered => self.turn_entered(thread)?,
+            Phase::Running(section, node) => self.turn_inside(thread, section, node)?,
+            Phase::Faulted(_, why) => self.leave(thread, Some(why))?,
         };
         self.facts();
         Ok(turned)

@@ -5,7 +5,7 @@ use Rattle.sect_cert.specs.Spelling.{lock_words, list_words, step_words}
 use Rattle.sect_cert.specs.Lines.{line_text}
 use Rattle.sect_cert.specs.declared.lock.CertLock.{CertLock}
 use Rattle.sect_cert.specs.declared.certificate.CertStep.{CertStep}
-use Rattle.sect_cert.specs.declared.certificate.Chain.{Chain}
+use Rattle.sect_cert.specs.declared.certificate.CertChain.{CertChain}
 use Rattle.sect_cert.specs.declared.certificate.CertSection.{CertSection}
 use Rattle.sect_cert.specs.declared.line.CertLine.{CertLine}
 use Rattle.sect_cert.specs.declared.line.CertLine.TheVariants as line
@@ -57,7 +57,7 @@ abbrev pub nodes_text : ℕ → List (List CertLock) → List ℕ
 nodes_text j [] = []
 nodes_text j (ls ∷ ns) = fed_line (line.Node j ls) ++ nodes_text (j + 1) ns
 
-abbrev pub chain_text : Chain → List ℕ
+abbrev pub chain_text : CertChain → List ℕ
 chain_text c = fed_line (line.Chain c)
 
 -- the lines of a section

@@ -9,7 +9,7 @@ use Rattle.sect_world.specs.Sights.{first_wish}
 use Rattle.sect_world.specs.Worlds.{WorldView, Does, threads_of}
 use Rattle.sect_world.specs.declared.event.Deed.TheVariants.{Enter}
 use Rattle.sect_world.specs.declared.event.Event.{Event}
-use Rattle.sect_world.specs.declared.turned.Kind.{Kind}
+use Rattle.sect_world.specs.declared.turned.EventKind.{EventKind}
 use Rattle.sect_world.specs.declared.turned.Turned.TheVariants.{Moved, Waits}
 use Rattle.sect_draw.specs.Waits.{waiting_after}
 use Rattle.sect_draw.specs.Chart.{TurnView}
@@ -43,7 +43,7 @@ WantsSome s t = (g : Grip) × (first_wish s t ≡ Some g)
 pub record IsTold (t : Turn) : Type 0 where
   pub there : t.thread < length t.world.now.state.threads
   pub waits : t.turned ≡ Waits → WantsSome t.world.now.state t.thread
-  pub moved : (k : Kind) → t.turned ≡ Moved k → t.events.now ≢ []
+  pub moved : (k : EventKind) → t.turned ≡ Moved k → t.events.now ≢ []
   pub entered : (e : Event) (es : List Event) → t.events.now ≡ e ∷ es → e.deed ≡ Enter
       → HasEntered t.world.now.state t.thread
   pub threads : AreOfThreads (program_in t) t.events.now

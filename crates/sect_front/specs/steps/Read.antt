@@ -127,11 +127,11 @@ thread_step _ _ _ = None
 
 -- no statement has been read
 abbrev pub fresh : WithinView
-fresh = record { frames = []; before = End; place = place.Start }
+fresh = record { open_blocks = []; before = End; place = place.Start }
 
 -- the first statement has begun with this name
 abbrev pub begun : List ℕ → WithinView
-begun x = record { frames = []; before = End; place = place.Inside (line.AfterName x) }
+begun x = record { open_blocks = []; before = End; place = place.Inside (line.AfterName x) }
 
 -- the last brace of a procedure or a thread
 abbrev pub end_step : TreeView → Owner → List Declaration → BlockView → Option ReaderView

@@ -4,7 +4,6 @@ use Rattle.std.specs.Prelude.{length, codes, nat_eq}
 use Rattle.std.specs.List.{list_all, filter}
 use Rattle.std.specs.Str.{bytes_eq}
 use Rattle.sect_front.specs.Limits.{most_name_bytes}
-use Rattle.sect_front.specs.Spelling.{spelling_of}
 use Rattle.sect_front.specs.Words.{is_letter, is_digit, is_name_byte}
 use Rattle.sect_front.specs.declared.tree.Comparison.TheVariants as comparison
 use Rattle.sect_front.specs.declared.token.Token.{Token}

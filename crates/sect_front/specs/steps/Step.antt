@@ -14,8 +14,8 @@ use Rattle.sect_front.specs.declared.partial.Branch.TheVariants as branch
 use Rattle.sect_front.specs.declared.partial.PartialBranch.TheVariants as head
 use Rattle.sect_front.specs.declared.partial.Move.{Move}
 use Rattle.sect_front.specs.declared.partial.Move.TheVariants as move
-use Rattle.sect_front.specs.declared.within.Frame.{Frame}
-use Rattle.sect_front.specs.declared.within.Frame.TheVariants as frame
+use Rattle.sect_front.specs.declared.within.OpenBlock.{OpenBlock}
+use Rattle.sect_front.specs.declared.within.OpenBlock.TheVariants as open_block
 use Rattle.sect_front.specs.declared.within.Partial.{Partial}
 use Rattle.sect_front.specs.declared.within.Partial.TheVariants as place
 use Rattle.sect_front.specs.declared.within.StepError.{StepError}
@@ -27,19 +27,19 @@ pub data Next : Type 0 where
   Ends : BlockView → Next
   Stuck : Next
 
-abbrev pub stays : List Frame → BlockView → Partial → Next
-stays fs b p = Stays (record { frames = fs; before = b; place = p })
+abbrev pub stays : List OpenBlock → BlockView → Partial → Next
+stays fs b p = Stays (record { open_blocks = fs; before = b; place = p })
 
 -- a closing brace
-abbrev pub close_step : List Frame → BlockView → Next
+abbrev pub close_step : List OpenBlock → BlockView → Next
 close_step [] b = Ends b
-close_step (frame.Atomic before l ∷ fs) b = stays fs (append before (Atomic l b)) place.Start
-close_step (frame.While before t ∷ fs) b = stays fs (append before (While t b)) place.Start
-close_step (frame.Then before t ∷ fs) b = stays fs before (place.AfterThen t b)
-close_step (frame.Else before t a ∷ fs) b = stays fs (append before (IfElse t a b)) place.Start
+close_step (open_block.Atomic before l ∷ fs) b = stays fs (append before (Atomic l b)) place.Start
+close_step (open_block.While before t ∷ fs) b = stays fs (append before (While t b)) place.Start
+close_step (open_block.Then before t ∷ fs) b = stays fs before (place.AfterThen t b)
+close_step (open_block.Else before t a ∷ fs) b = stays fs (append before (IfElse t a b)) place.Start
 
 -- a token where a statement may start
-abbrev pub start_step : List Frame → BlockView → Token → Next
+abbrev pub start_step : List OpenBlock → BlockView → Token → Next
 start_step fs b (token.Name x) = stays fs b (place.Inside (line.AfterName x))
 start_step fs b token.Print = stays fs b (place.Inside line.AfterPrint)
 start_step fs b token.If = stays fs b (place.Inside (line.Branch branch.If head.AfterWord))
@@ -50,12 +50,12 @@ start_step fs b token.CloseBrace = close_step fs b
 start_step fs b _ = Stuck
 
 -- where an argument has to stand, and is one or not
-abbrev pub argument_step : List Frame → BlockView → List ℕ → List Operand → Option Operand → Next
+abbrev pub argument_step : List OpenBlock → BlockView → List ℕ → List Operand → Option Operand → Next
 argument_step fs b f vs None = Stuck
 argument_step fs b f vs (Some v) = stays fs b (place.InCall (call.AfterArgument f vs v))
 
 -- a token of a call
-abbrev pub call_step : List Frame → BlockView → PartialCall → Token → Next
+abbrev pub call_step : List OpenBlock → BlockView → PartialCall → Token → Next
 call_step fs b call.AfterWord (token.Name f) = stays fs b (place.InCall (call.AfterName f))
 call_step fs b (call.AfterName f) token.OpenParen = stays fs b (place.InCall (call.Open f))
 call_step fs b (call.Open f) token.CloseParen = stays fs b (place.InCall (call.AfterClose f []))
@@ -67,34 +67,34 @@ call_step fs b (call.AfterComma f vs) t = argument_step fs b f vs (operand_of t)
 call_step fs b (call.AfterClose f vs) token.Semicolon = stays fs (append b (Call f vs)) place.Start
 call_step _ _ _ _ = Stuck
 
-abbrev pub moved : List Frame → BlockView → Move → Next
+abbrev pub moved : List OpenBlock → BlockView → Move → Next
 moved fs b (move.To l) = stays fs b (place.Inside l)
 moved fs b (move.Whole p) = stays fs (append b (Primitive p)) place.Start
-moved fs b (move.OpensThen t) = stays (frame.Then b t ∷ fs) End place.Start
-moved fs b (move.OpensWhile t) = stays (frame.While b t ∷ fs) End place.Start
-moved fs b (move.OpensAtomic l) = stays (frame.Atomic b l ∷ fs) End place.Start
+moved fs b (move.OpensThen t) = stays (open_block.Then b t ∷ fs) End place.Start
+moved fs b (move.OpensWhile t) = stays (open_block.While b t ∷ fs) End place.Start
+moved fs b (move.OpensAtomic l) = stays (open_block.Atomic b l ∷ fs) End place.Start
 
-abbrev pub moved_if : List Frame → BlockView → Option Move → Next
+abbrev pub moved_if : List OpenBlock → BlockView → Option Move → Next
 moved_if fs b None = Stuck
 moved_if fs b (Some m) = moved fs b m
 
-abbrev pub after_then : List Frame → BlockView → StatementView → Partial → Token → Next
+abbrev pub after_then : List OpenBlock → BlockView → StatementView → Partial → Token → Next
 after_then fs b s p token.Else = stays fs b p
 after_then fs b s p t = start_step fs (append b s) t
 
-abbrev pub after_else : List Frame → BlockView → Token → Next
+abbrev pub after_else : List OpenBlock → BlockView → Token → Next
 after_else fs b token.OpenBrace = stays fs b place.Start
 after_else fs b _ = Stuck
 
-abbrev pub step_at : List Frame → BlockView → Partial → Token → Next
+abbrev pub step_at : List OpenBlock → BlockView → Partial → Token → Next
 step_at fs b place.Start t = start_step fs b t
 step_at fs b (place.Inside l) t = moved_if fs b (advance_of l t)
 step_at fs b (place.InCall c) t = call_step fs b c t
 step_at fs b (place.AfterThen v a) t = after_then fs b (If v a) (place.AfterElse v a) t
-step_at fs b (place.AfterElse v a) t = after_else (frame.Else b v a ∷ fs) End t
+step_at fs b (place.AfterElse v a) t = after_else (open_block.Else b v a ∷ fs) End t
 
 abbrev pub step_of : WithinView → Token → Next
-step_of s t = step_at s.frames s.before s.place t
+step_of s t = step_at s.open_blocks s.before s.place t
 
 -- what a step of the code answers and leaves
 abbrev pub Steps : Result (Option BlockView) StepError → WithinView → Next → Type 0

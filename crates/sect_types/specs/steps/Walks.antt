@@ -2,14 +2,14 @@
 use Rattle.std.specs.Prelude.{◌≡◌, Bool, true, false, if◌then◌else◌, List, Result, Ok, Err, ⊤, Option, Some, None}
 use Rattle.sect_types.specs.declared.rule.Rule.{Rule}
 use Rattle.sect_types.specs.declared.rule.Rule.TheVariants.{Unknown, Twice, WrongType, SharedOutside, TooMany}
-use Rattle.sect_types.specs.declared.rule.Fault.{Fault}
-use Rattle.sect_types.specs.declared.rule.Fault.TheVariants as fault
+use Rattle.sect_types.specs.declared.rule.WalkFault.{WalkFault}
+use Rattle.sect_types.specs.declared.rule.WalkFault.TheVariants as fault
 use Rattle.sect_types.specs.Items.{Item}
 use Rattle.sect_types.specs.Rules.{Declared, Counts}
 use Rattle.sect_types.specs.steps.Judging.{judge, Faulty}
 
 -- these items, given before those of what follows, lead from the old counts to the new ones, or to the fault
-abbrev pub Walks : {A : Type 0} → Declared → (List Item → List Item) → Counts → Counts → Result A Fault → Type 0
+abbrev pub Walks : {A : Type 0} → Declared → (List Item → List Item) → Counts → Counts → Result A WalkFault → Type 0
 Walks d items old new (Ok a) = (w : List Item) → judge d old (items w) ≡ judge d new w
 Walks d items old new (Err fault.Memory) = ⊤
 Walks d items old new (Err (fault.Broken i r)) = (w : List Item) → judge d old (items w) ≡ Faulty i r

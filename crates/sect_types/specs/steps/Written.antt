@@ -49,7 +49,8 @@ abbrev mutual
       → TextView
   written_statement ps table call v a (Primitive p) k = Do (written_action v a p) k
   written_statement ps table call v a (If t b) k =
-      Choose (moved_condition v.first (condition_in (condition_of v.sight t))) (written_block ps table call v a b) Stop k
+      Choose (moved_condition v.first (condition_in (condition_of v.sight t)))
+      (written_block ps table call v a b) Stop k
   written_statement ps table call v a (IfElse t b c) k =
       Choose (moved_condition v.first (condition_in (condition_of v.sight t))) (written_block ps table call v a b)
       (written_block ps table call v (past_block ps table a b) c) k

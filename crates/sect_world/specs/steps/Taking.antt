@@ -8,16 +8,16 @@ use Rattle.sect_table.specs.Contents.{Contents, is_waiting}
 use Rattle.sect_table.specs.Answers.{IsAnswered}
 use Rattle.sect_emit.specs.declared.plan.Grip.{Grip}
 use Rattle.sect_world.specs.declared.event.Event.{Event}
-use Rattle.sect_world.specs.declared.runner.Stage.TheVariants as stage
+use Rattle.sect_world.specs.declared.runner.Phase.TheVariants as phase
 use Rattle.sect_world.specs.declared.runner.Runner.{Runner}
-use Rattle.sect_world.specs.declared.turned.Kind.TheVariants as kind
+use Rattle.sect_world.specs.declared.turned.EventKind.TheVariants as kind
 use Rattle.sect_world.specs.declared.turned.Turned.{Turned}
 use Rattle.sect_world.specs.declared.turned.Turned.TheVariants.{Moved, Waits}
 use Rattle.sect_world.specs.steps.Fits.{take_of}
 
 -- a runner that has entered, and this is the first key that it wants
 pub record Wishes (r : Runner) (g : Grip) : Type 0 where
-  pub entered : r.stage ≡ stage.Entered
+  pub entered : r.phase ≡ phase.Entered
   pub first : slice_get r.wanted.items r.taken ≡ Some g
 
 -- it has come to hold one key more

@@ -4,7 +4,7 @@ use super::programs::PROCEDURE;
 use super::{LIST, TWO_ADD, answer_of, expect_runs_in_order};
 use sect_answers::{Format, run_outcome};
 use sect_run::Gate;
-use sect_world::Kind;
+use sect_world::EventKind;
 use std::alloc::{AllocError, Global};
 use std::fmt::Write;
 use std::process::Abort;
@@ -48,11 +48,11 @@ impl<'a> Gate for KeepsTheFirst<'a> {
         true
     }
 
-    fn at(&self, thread: u16, kind: Kind) {
-        if thread == 1 && kind == Kind::Leave {
+    fn at(&self, thread: u16, kind: EventKind) {
+        if thread == 1 && kind == EventKind::Leave {
             self.left.store(true, Ordering::SeqCst);
         }
-        if thread == 0 && kind == Kind::Begin && !was_seen(self.rt, &self.left) {
+        if thread == 0 && kind == EventKind::Begin && !was_seen(self.rt, &self.left) {
             self.gave_up.store(true, Ordering::SeqCst);
         }
     }
@@ -78,8 +78,8 @@ impl<'a> Gate for KeepsBoth<'a> {
         true
     }
 
-    fn at(&self, thread: u16, kind: Kind) {
-        if kind != Kind::Begin {
+    fn at(&self, thread: u16, kind: EventKind) {
+        if kind != EventKind::Begin {
             return;
         }
         let met = if thread == 0 {

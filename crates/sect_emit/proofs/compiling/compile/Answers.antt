@@ -1,6 +1,6 @@
 use Rattle.std.proofs.Common.{◌≡◌, refl}
 use Rattle.sect_lemmas.proofs.Results.{given}
-use Rattle.sect_names.specs.declared.refusal.Refusal.TheVariants.{Memory}
+use Rattle.sect_names.specs.declared.refusal.SourceRefusal.TheVariants.{Memory}
 use Rattle.sect_emit.proofs.compiling.compile.Goals as goal
 
 pub returns-in_err-compile_scheme-clause-only : goal.returns-in_err-compile_scheme-clause-only

@@ -12,7 +12,7 @@ returns-in_default c =
     let x = c.args.within.now in
     let test = c.in-AfterThen.field-0 in
     let then = c.in-AfterThen.field-1 in
-    c.starts_with-in_default.ensures x.frames (append x.before (If test then))
-    ∙ (then_or_statement x.frames x.before (If test then) (place.AfterElse test then) c.args.token.now
+    c.starts_with-in_default.ensures x.open_blocks (append x.before (If test then))
+    ∙ (then_or_statement x.open_blocks x.before (If test then) (place.AfterElse test then) c.args.token.now
     c.in_default.not-Else
-    ∙ ap (λ p. is_taken (step_at x.frames x.before p c.args.token.now)) (sym c.in-AfterThen.is ∙ c.place.ensures))
+    ∙ ap (λ p. is_taken (step_at x.open_blocks x.before p c.args.token.now)) (sym c.in-AfterThen.is ∙ c.place.ensures))

@@ -14,7 +14,8 @@ loop-site-preserved c =
     let sets = c.args.classes.now.sets in
     let n = c.loop-site.site in
     let old = c.loop-site.sites.items in
-    let P = RefersTo sets c.args.referrer in
+    let records = c.args.records.now in
+    let P = RefersTo records sets c.args.referrer in
     let Below = λ (s : ℕ). s < length c.args.classes.now.numbers in
     let within : n < length c.args.classes.now.numbers =
     omega (
@@ -26,7 +27,8 @@ loop-site-preserved c =
     ) in
     elim c.if-refers_to.branch [
       | then-refers_to+in_ok-push w ↦
-          let p : P n = subst (λ (s : PointsToView). RefersTo s c.args.referrer n) c.points-points.ensures
+          let p : P n = subst (λ (s : PointsToView). RefersTo records s c.args.referrer n)
+          c.points-points.ensures
           (c.refers_to.ensures.0 (search rules)) in
           let is = ap (λ v. v.items) w.sites-is ∙ w.in_ok-push.ensures.items in
           record {

@@ -8,6 +8,6 @@ use Rattle.sect_lsp.proofs.objects.sites_of.Given as goal
 -- the sites so far
 abbrev pub invariant-loop-site : goal.invariant-loop-site
 invariant-loop-site l = record {
-  chosen : Selects (RefersTo l.classes.sets l.referrer) (range_with_len 0 l.site) l.sites.items;
+  chosen : Selects (RefersTo l.records l.classes.sets l.referrer) (range_with_len 0 l.site) l.sites.items;
   below : All (λ s. s < length l.classes.numbers) l.sites.items;
 }

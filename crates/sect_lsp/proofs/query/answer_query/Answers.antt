@@ -9,20 +9,21 @@ use Rattle.sect_lsp.proofs.query.answer_query.Goals as goal
 
 pub reply_to-requires-clause-declared : goal.reply_to-requires-clause-declared
 reply_to-requires-clause-declared c =
-    let source = c.args.text.source.now in
+    let text = c.args.text in
+    let source = text.source.now in
     let names = c.as_slice.result.now in
     let all = subst (AreNamesWithin (length source)) (sym c.as_slice.ensures.value) c.in_ok-names.ensures.within in
     subst (IsFoundWithin (length source)) (sym c.declared_at-declared.ensures)
-    (declared_within (length source) names all c.args.encoding source c.place_at-place.result)
+    (declared_within (length source) names all text.reading.encoding source c.place_at-place.result)
 
 pub returns : goal.returns
 returns c =
     let uri = c.args.text.uri.now in
     let source = c.args.text.source.now in
+    let at = declared_at c.args.text.reading.encoding source in
     let names : List NameSpan = c.in_ok-names.names.items in
-    let declared : c.declared_at-declared.result ≡ declared_at c.args.encoding source names c.place_at-place.result =
-    c.declared_at-declared.ensures
-    ∙ ap (λ ns. declared_at c.args.encoding source ns c.place_at-place.result) c.as_slice.ensures.value in
+    let declared : c.declared_at-declared.result ≡ at names c.place_at-place.result =
+    c.declared_at-declared.ensures ∙ ap (λ ns. at ns c.place_at-place.result) c.as_slice.ensures.value in
     let name = new_name (view c.args.message.now) in
     let by = reply_by c.args.query uri source in
     IfOk-weaker c.reply_to.result _ _
@@ -31,5 +32,5 @@ returns c =
       c.in_ok-names.ensures.names,
       h ∙ (ap (by c.as_slice-2.result.now c.declared_at-declared.result) c.text_at-name.ensures
           ∙ (ap (λ ns. by ns c.declared_at-declared.result name) c.as_slice-2.ensures.value
-          ∙ ap (λ d. by names d name) (declared ∙ ap (declared_at c.args.encoding source names) c.place_at-place.ensures))),
+          ∙ ap (λ d. by names d name) (declared ∙ ap (at names) c.place_at-place.ensures))),
     )) c.reply_to.ensures

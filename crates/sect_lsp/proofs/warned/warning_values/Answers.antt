@@ -1,4 +1,4 @@
-use Rattle.std.proofs.Common.{arith}
+use Rattle.std.proofs.Common.{ap, ◌∙◌, arith}
 use Rattle.sect_lsp.specs.Warned.{warning_json}
 use Rattle.sect_lsp.proofs.Listing.{values_more, values_all}
 use Rattle.sect_lsp.proofs.warned.warning_values.Goals as goal
@@ -7,7 +7,8 @@ pub loop-warning-preserved : goal.loop-warning-preserved
 loop-warning-preserved c =
     values_more (warning_json c.args.source.now) c.args.placed.now c.loop-warning.warning-index _
     c.loop-warning.values.items c.push.new.self.items c.in_ok-warning_value.field-0 c.loop-warning-test.true
-    c.loop-warning.invariant c.in_ok-push.ensures.items c.in_ok-warning_value.ensures
+    c.loop-warning.invariant c.in_ok-push.ensures.items
+    (c.in_ok-warning_value.ensures ∙ ap (warning_json c.args.source.now) c.warning-item.is)
 
 pub returns : goal.returns
 returns c =

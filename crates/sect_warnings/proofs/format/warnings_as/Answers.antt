@@ -1,6 +1,5 @@
-use Rattle.std.proofs.Common.{length, ap, ◌∙◌, sym, subst}
+use Rattle.std.proofs.Common.{ap, ◌∙◌}
 use Rattle.std.proofs.lemmas.Result.{IfOk-weaker}
-use Rattle.sect_warnings.specs.Reports.{AreWithin}
 use Rattle.sect_warnings.specs.Formats.{printed}
 use Rattle.sect_warnings.proofs.format.warnings_as.Goals as goal
 

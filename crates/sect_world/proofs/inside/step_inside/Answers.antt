@@ -6,7 +6,7 @@ use Rattle.sect_graph.specs.Graphs.{GraphView}
 use Rattle.sect_graph.specs.Rests.{Begins, rest_at}
 use Rattle.sect_names.specs.Schemes.{SchemeView}
 use Rattle.sect_table.specs.Contents.{held_by}
-use Rattle.sect_world.specs.declared.runner.Stage.{Stage}
+use Rattle.sect_world.specs.declared.runner.Phase.{Phase}
 use Rattle.sect_world.specs.Events.{step_in}
 use Rattle.sect_world.specs.Viewing.{body_at, thread_of}
 use Rattle.sect_world.specs.steps.Moves.{grips_by}
@@ -50,12 +50,12 @@ returns-clause-acts c = λ text.
     let goes = c.in_ok-went.ensures.goes (rest_at (body_at m i)) k x.0 x.1 x.2 x.3 in
     let more = c.in_ok-went.ensures.table (rest_at (body_at m i)) k x.0 x.1 x.2 c.requires.text in
     let n = step_in m t k c.args.runner.now.work c.args.store.now in
-    let stage : c.match-went.runner ≡ stage_by i c.in_ok-went.went = elim c.match-went.branch [
+    let phase : c.match-went.runner ≡ stage_by i c.in_ok-went.went = elim c.match-went.branch [
       | in-Ok w ↦ w.runner-is ∙ ap (stage_by i) (sym w.in-Ok.is)
       | in-Err w ↦ w.runner-is ∙ ap (stage_by i) (sym w.in-Err.is)
     ] in
-    ap (λ (z : Stage). thread_of m text (record c.args.runner.now { stage = z; work = c.run_inside.new.work })
-    (held_by c.run_inside.new.table t)) stage
+    ap (λ (z : Phase). thread_of m text (record c.args.runner.now { phase = z; work = c.run_inside.new.work })
+    (held_by c.run_inside.new.table t)) phase
     ∙ acted m t i n c.in_ok-went.went text c.args.runner.now c.run_inside.new.work c.args.store.now
     c.run_inside.new.store (held_by c.args.table.now t) (held_by c.run_inside.new.table t) goes
     (more_held t (grips_by m t c.args.runner.now.work.made n) c.args.table.now c.run_inside.new.table c.requires.thread

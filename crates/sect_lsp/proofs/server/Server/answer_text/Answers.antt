@@ -1,13 +1,26 @@
-use Rattle.std.proofs.Common.{◌≡◌, ℕ, List, Option, Some, Bor, sym, subst, ap, ◌∙◌}
+use Rattle.std.proofs.Common.{◌≡◌, ℕ, List, Option, Some, sym, subst, ap, ◌∙◌}
 use Rattle.std.specs.Prelude.{option_map}
 use Rattle.std.proofs.lemmas.Result.{IfOk-weaker}
 use Rattle.serde_json.specs.View.{view}
-use Rattle.sect_lsp.specs.declared.question.Reading.{Reading}
+use Rattle.sect_emit.specs.Compiled.{CompiledView}
+use Rattle.sect_lsp.specs.declared.text.Reading.{Reading}
+use Rattle.sect_lsp.specs.Accepted.{IsCompiledIf}
 use Rattle.sect_lsp.specs.Documents.{text_of}
 use Rattle.sect_lsp.specs.Asking.{IsReplyTo}
 use Rattle.sect_lsp.specs.Server.{ServerView, IsTextReply}
 use Rattle.sect_lsp.specs.steps.Replying.{reply_view}
 use Rattle.sect_lsp.proofs.server.Server.answer_text.Goals as goal
+
+pub answer-requires : goal.answer-requires
+answer-requires c =
+    let document = c.in-Some.document.now in
+    let compiled = option_map (λ p. p.now) c.compiled.result in
+    let k : c.self.inside.documents.k ≡ c.reading.result.k =
+    ap (λ (v : ServerView). v.k) c.self.view_is ∙ sym (ap (λ (r : Reading). r.k) c.reading.ensures.reading) in
+    subst (λ (text : List ℕ). IsCompiledIf text c.reading.result.k compiled) (sym c.text.ensures)
+    (subst (λ n. IsCompiledIf document.text n compiled) k
+    (subst (λ (o : Option CompiledView). IsCompiledIf document.text c.self.inside.documents.k o)
+    (sym c.compiled.ensures) c.in-Some.ensures.kept))
 
 pub returns : goal.returns
 returns c =
@@ -15,11 +28,11 @@ returns c =
     let q = c.args.question in
     let d = view c.args.message.now in
     let uri : List ℕ = c.args.uri.now in
-    let source : List ℕ = c.in-Some.source.now in
+    let source : List ℕ = c.in-Some.document.now.text in
     let text : Some source ≡ text_of uri s.documents =
-    ap (option_map (λ (t : Bor (List ℕ)). t.now)) (sym c.in-Some.is)
-    ∙ (c.text.ensures ∙ ap (λ (v : ServerView). text_of uri v.documents) c.self.view_is) in
+    c.in-Some.ensures.text ∙ ap (λ (v : ServerView). text_of uri v.documents) c.self.view_is in
     IfOk-weaker c.answer.result _ _
     (λ reply h. subst (λ (o : Option (List ℕ)). IsTextReply s q d uri o (reply_view reply)) text
-    (subst (λ (r : Reading). IsReplyTo q r d uri source (reply_view reply)) c.reading.ensures.reading h))
+    (subst (λ (r : Reading). IsReplyTo q r d uri source (reply_view reply)) c.reading.ensures.reading
+    (subst (λ (t : List ℕ). IsReplyTo q c.reading.result d uri t (reply_view reply)) c.text.ensures h)))
     c.answer.ensures

@@ -2,8 +2,8 @@ use Rattle.std.proofs.Common.{◌≡◌, sym, subst}
 use Rattle.std.proofs.lemmas.Result.{IfOk-weaker}
 use Rattle.sect_names.specs.declared.lock.Lock.TheVariants as lock
 use Rattle.sect_names.specs.Climbing.{AreCoverers}
-use Rattle.sect_names.specs.steps.Above.{over_class, over_path}
-use Rattle.sect_names.proofs.Climbing.{all_coverers, class_coverers, coverers_of_path}
+use Rattle.sect_names.specs.Above.{over_class, over_path}
+use Rattle.sect_names.proofs.shared.Climbing.{all_coverers, class_coverers, coverers_of_path}
 use Rattle.sect_names.proofs.scheme.Scheme.coverers.Goals as goal
 
 pub returns-in-All : goal.returns-in-All

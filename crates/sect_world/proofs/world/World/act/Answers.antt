@@ -4,7 +4,7 @@ use Rattle.std.specs.Prelude.{ℕ, slice_get, slice_set}
 use Rattle.sect_types.specs.Meaning.{begins_step}
 use Rattle.sect_graph.specs.Rests.{rest_at}
 use Rattle.sect_emit.specs.State.{ThreadState, IsThread, Running}
-use Rattle.sect_world.specs.declared.turned.Kind.TheVariants as kind
+use Rattle.sect_world.specs.declared.turned.EventKind.TheVariants as kind
 use Rattle.sect_world.specs.declared.turned.Turned.TheVariants.{Moved}
 use Rattle.sect_world.specs.Moments.{world_at}
 use Rattle.sect_world.specs.Worlds.{WorldView}

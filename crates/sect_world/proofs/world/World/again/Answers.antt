@@ -4,8 +4,8 @@ use Rattle.std.specs.Prelude.{ℕ, slice_set}
 use Rattle.std.proofs.lemmas.List.{append-nil}
 use Rattle.sect_emit.specs.State.{State}
 use Rattle.sect_world.specs.declared.event.Deed.TheVariants.{Again}
-use Rattle.sect_world.specs.declared.runner.Stage.TheVariants as stage
-use Rattle.sect_world.specs.declared.turned.Kind.TheVariants as kind
+use Rattle.sect_world.specs.declared.runner.Phase.TheVariants as phase
+use Rattle.sect_world.specs.declared.turned.EventKind.TheVariants as kind
 use Rattle.sect_world.specs.declared.turned.Turned.TheVariants.{Moved}
 use Rattle.sect_world.specs.Events.{Happens}
 use Rattle.sect_world.specs.Moments.{world_at}
@@ -25,7 +25,7 @@ gives : (c : After-index_mut)
     c.self.inside.moment.order.items (world_at c.self.inside.compiled.now c.self.inside.moment).state
     c.self.inside.moment.store c.self.inside.moment.output.items
     (slice_set c.self.inside.moment.runners.items c.args.thread
-    (record c.index_mut.result.now { stage = stage.Outside })) c.self.inside.moment.table c.args.thread Again
+    (record c.index_mut.result.now { phase = phase.Outside })) c.self.inside.moment.table c.args.thread Again
 gives c =
     let h = subst (MayGoAgain c.args.thread) (sym c.self.view_is) c.requires in
     goes_again _ _ _ _ _ _ _ _ c.self.invariant.0 c.args.thread h.0 h.1 c.index_mut.result.now

@@ -4,7 +4,7 @@ use Rattle.std.specs.Prelude.{ℕ, slice_get, slice_set}
 use Rattle.sect_types.specs.Statements.{TextView}
 use Rattle.sect_emit.specs.Plan.{meets}
 use Rattle.sect_emit.specs.State.{ThreadState, IsThread, plan_at}
-use Rattle.sect_world.specs.declared.turned.Kind.TheVariants as kind
+use Rattle.sect_world.specs.declared.turned.EventKind.TheVariants as kind
 use Rattle.sect_world.specs.declared.turned.Turned.TheVariants.{Moved}
 use Rattle.sect_world.specs.Events.{IsReady}
 use Rattle.sect_world.specs.Moments.{world_at}
@@ -64,7 +64,7 @@ turned c =
     let out = c.begin.ensures in
     turns_begun _ _ _ _ _ _ _ _ c.self.invariant.0 c.args.thread h.0 h.1 _ (runner_at p) _ _ _
     c.self.inside.moment.granted.items _ c.in_ok-reserve.ensures.items c.begin.new.runner refl c.clear.ensures.items
-    c.args.section h.2.0 h.2.1 h.2.2 h.2.3 c.push_reserved.ensures.items out.stage
+    c.args.section h.2.0 h.2.1 h.2.2 h.2.3 c.push_reserved.ensures.items out.phase
     (out.text c.args.section h.2.0 h.2.1
     (sym (text_is _ _ _ _ _ _ _ _ c.self.invariant.0 c.args.thread h.0 h.1 _ (runner_at p)) ∙ h.2.2.text))
     out.wanted.0 out.wanted.1 out.work.0 out.work.1

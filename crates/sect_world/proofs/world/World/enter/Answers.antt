@@ -3,7 +3,7 @@ use Rattle.std.proofs.Common.{◌≡◌, Some, refl, sym, subst, arith}
 use Rattle.std.specs.Prelude.{ℕ, slice_get, slice_set}
 use Rattle.sect_types.specs.Statements.{TextView, Section}
 use Rattle.sect_emit.specs.State.{ThreadState, IsThread}
-use Rattle.sect_world.specs.declared.turned.Kind.TheVariants as kind
+use Rattle.sect_world.specs.declared.turned.EventKind.TheVariants as kind
 use Rattle.sect_world.specs.declared.turned.Turned.TheVariants.{Moved}
 use Rattle.sect_world.specs.Events.{IsFree}
 use Rattle.sect_world.specs.Moments.{world_at}
@@ -58,7 +58,7 @@ turned c =
     let out = c.in_ok-enter.ensures in
     turns_in _ _ _ _ _ _ _ _ c.self.invariant.0 c.args.thread h.0 h.1 _ (runner_at p) _ _ _
     c.self.inside.moment.granted.items _ c.in_ok-reserve.ensures.items c.enter.new.runner refl c.clear.ensures.items
-    c.args.section h.3.0 h.3.1 h.2 h.3.2 c.push_reserved.ensures.items out.stage out.wanted (out.frame _)
+    c.args.section h.3.0 h.3.1 h.2 h.3.2 c.push_reserved.ensures.items out.phase out.wanted (out.frame _)
 
 pub invariant_of-self-2 : goal.invariant_of-self-2
 invariant_of-self-2 c = (

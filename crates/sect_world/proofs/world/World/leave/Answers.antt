@@ -4,7 +4,7 @@ use Rattle.std.specs.Prelude.{ℕ, Option, slice_set}
 use Rattle.sect_types.specs.declared.store.Fault.{Fault}
 use Rattle.sect_emit.specs.State.{ThreadState, IsThread}
 use Rattle.sect_world.specs.declared.event.Deed.TheVariants.{Leave}
-use Rattle.sect_world.specs.declared.turned.Kind.TheVariants as kind
+use Rattle.sect_world.specs.declared.turned.EventKind.TheVariants as kind
 use Rattle.sect_world.specs.declared.turned.Turned.TheVariants.{Moved}
 use Rattle.sect_world.specs.Events.{IsOver}
 use Rattle.sect_world.specs.Moments.{world_at}
@@ -31,7 +31,7 @@ gives c =
     c.index_mut.ensures.value in
     let out = c.in_ok-come_out.ensures in
     leaves _ _ _ _ _ _ _ _ c.self.invariant.0 c.args.thread c.args.how h.0 h.1 h.2 c.index_mut.result.now
-    c.come_out.new.runner at out.stage out.frame out.wanted.0 out.wanted.1
+    c.come_out.new.runner at out.phase out.frame out.wanted.0 out.wanted.1
 
 pub index_mut-requires : goal.index_mut-requires
 index_mut-requires c =

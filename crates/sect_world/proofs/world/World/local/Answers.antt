@@ -3,7 +3,7 @@ use Rattle.std.proofs.Common.{◌≡◌, true, Some, refl, sym, ap, ◌∙◌, s
 use Rattle.std.specs.Prelude.{ℕ, slice_get, slice_set}
 use Rattle.sect_types.specs.Meaning.{begins_step}
 use Rattle.sect_emit.specs.State.{ThreadState, IsThread}
-use Rattle.sect_world.specs.declared.turned.Kind.TheVariants as kind
+use Rattle.sect_world.specs.declared.turned.EventKind.TheVariants as kind
 use Rattle.sect_world.specs.declared.turned.Turned.TheVariants.{Moved}
 use Rattle.sect_world.specs.Events.{IsFree}
 use Rattle.sect_world.specs.Moments.{world_at}
@@ -81,7 +81,7 @@ turned c =
     let out = c.in_ok-step_outside.ensures in
     rw out.store (turns_local _ _ _ _ _ _ _ _ c.self.invariant.0 c.args.thread h.0 h.1 _ (runner_at p) _ _ _
     c.self.inside.moment.granted.items _ c.in_ok-reserve.ensures.items c.step_outside.new.runner refl
-    c.clear.ensures.items h.2 h.3 c.push_reserved.ensures.items out.steps out.stage out.wanted.0 out.wanted.1)
+    c.clear.ensures.items h.2 h.3 c.push_reserved.ensures.items out.steps out.phase out.wanted.0 out.wanted.1)
 
 pub invariant_of-self-2 : goal.invariant_of-self-2
 invariant_of-self-2 c = (

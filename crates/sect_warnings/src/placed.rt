@@ -1,0 +1,69 @@
+//! Warnings with their places.
+
+ghost use Rattle.std.specs.Prelude.{◌≡◌, ◌++◌, OnOk};
+ghost use Rattle.std.specs.String.{string_bytes};
+ghost use Rattle.sect_warnings.specs.Placed.{behind};
+
+use crate::warning::Told;
+use sect_front::Span;
+use std::alloc::AllocError;
+use std::marker::Model;
+
+/// What is told, the bytes that are marked, and what is said of these; nothing is said by an empty text.
+#[derive(Drop)]
+pub struct Placed {
+    told: Told,
+    span: Span,
+    label: String,
+}
+
+impl Model for Placed {
+    ghost use Rattle.std.specs.String.{string_bytes};
+    ghost use Rattle.sect_warnings.specs.Placed.{PlacedView};
+
+    ghost Value = { PlacedView };
+
+    ghost view = { λ p. record { told = p.told; span = p.span; label = string_bytes p.label } };
+}
+
+impl Placed {
+    pub(crate) fn new(told: Told, span: Span, label: String) -> Placed
+        ensures { result ≡ record { told = told; span = span; label = string_bytes label } }
+    {
+        Placed { told, span, label }
+    }
+
+    /// What is told.
+    pub fn told(&self) -> Told
+        ensures { result ≡ self.now.told }
+    {
+        self.told
+    }
+
+    /// The bytes that are marked.
+    pub fn span(&self) -> Span
+        ensures { result ≡ self.now.span }
+    {
+        self.span
+    }
+
+    /// What is said of these bytes, or nothing.
+    pub fn label(&self) -> &str
+        ensures { result.now ≡ self.now.label }
+    {
+        self.label.as_str()
+    }
+}
+
+/// Adds what is said, behind a sign. Where nothing is said, the sign is left out.
+pub fn put_behind(text: &mut String, sign: &str, said: &str) -> Result<(), AllocError>
+    ensures { OnOk result (string_bytes text.new ≡ string_bytes text.old ++ behind sign.now said.now) }
+{
+    match said.as_bytes() {
+        [] => Ok(()),
+        _ => {
+            text.push_str(sign)?;
+            text.push_str(said)
+        }
+    }
+}

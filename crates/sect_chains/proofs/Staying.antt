@@ -6,7 +6,7 @@ use Rattle.sect_lemmas.specs.Lists.{Has}
 use Rattle.sect_lemmas.proofs.Membership.{Has-slice_get}
 use Rattle.sect_lemmas.proofs.Places.{one_at}
 use Rattle.sect_graph.specs.declared.flow.Node.{Node}
-use Rattle.sect_types.specs.declared.action.Label.{Label}
+use Rattle.sect_types.specs.declared.expansion.action.Label.{Label}
 use Rattle.sect_names.specs.declared.lock.Lock.{Lock}
 use Rattle.sect_names.specs.Schemes.{SchemeView}
 use Rattle.sect_names.specs.Carrying.{CarriedBack}

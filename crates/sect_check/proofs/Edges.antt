@@ -4,7 +4,7 @@ use Rattle.std.proofs.Common.{arith}
 use Rattle.std.specs.Prelude.{slice_get, option_map}
 use Rattle.std.proofs.lemmas.Bool.{cases_eq}
 use Rattle.sect_lemmas.specs.Lists.{Has}
-use Rattle.sect_types.specs.declared.action.Label.{Label}
+use Rattle.sect_types.specs.declared.expansion.action.Label.{Label}
 use Rattle.sect_graph.specs.declared.flow.Node.{Node}
 use Rattle.sect_graph.specs.declared.flow.Successors.{Successors}
 use Rattle.sect_graph.specs.Paths.{IsSuccessor}

@@ -2,7 +2,7 @@
 use Rattle.std.proofs.Common.{◌≡◌, ◌↔◌, ℕ, ◌+◌, ◌<◌, List, Option, Some, None, Bool, true, subst, take, length, get_or}
 use Rattle.std.proofs.Common.{inl, inr, arith}
 use Rattle.std.proofs.lemmas.Option.{slice_get_within}
-use Rattle.sect_types.specs.declared.action.Label.{Label}
+use Rattle.sect_types.specs.declared.expansion.action.Label.{Label}
 use Rattle.sect_graph.specs.declared.flow.Node.{Node}
 use Rattle.sect_names.specs.declared.lock.Lock.{Lock}
 use Rattle.sect_names.specs.Schemes.{SchemeView}

@@ -13,9 +13,9 @@ use Rattle.sect_front.specs.TreeView.{TreeView}
 use Rattle.sect_types.specs.First.{IsTyped}
 use Rattle.sect_types.specs.Sight.{same_name, place, names_of_globals}
 use Rattle.sect_types.specs.Programs.{ProgramView, IsOfTree}
-use Rattle.sect_types.specs.declared.types.ValueType.{ValueType}
+use Rattle.sect_types.specs.declared.declarations.types.ValueType.{ValueType}
 use Rattle.sect_types.proofs.shared.SoundLemmas.{same_names}
-use Rattle.sect_types.specs.declared.local_name.LocalName.{LocalName}
+use Rattle.sect_types.specs.declared.declarations.local_name.LocalName.{LocalName}
 use Rattle.sect_types.specs.LocalNames.{all_local_names, place_of_local, is_same_local, is_same_call}
 use Rattle.sect_points.specs.declared.holders.Variable.{Variable}
 use Rattle.sect_points.specs.declared.holders.Variable.TheVariants.{Global, Local}

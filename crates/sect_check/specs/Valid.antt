@@ -3,7 +3,7 @@ use Rattle.std.specs.Prelude.{◌≡◌, ◌<◌, ℕ, List, [], Some, length, s
 use Rattle.std.specs.List.{AllZip}
 use Rattle.sect_lemmas.specs.Lists.{Has}
 use Rattle.sect_types.specs.Sections.{SectionView, sections_of}
-use Rattle.sect_types.specs.declared.action.Label.{Label}
+use Rattle.sect_types.specs.declared.expansion.action.Label.{Label}
 use Rattle.sect_graph.specs.declared.flow.Node.{Node}
 use Rattle.sect_graph.specs.Paths.{LeadsTo}
 use Rattle.sect_names.specs.declared.lock.Lock.{Lock}

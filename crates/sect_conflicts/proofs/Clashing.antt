@@ -1,5 +1,6 @@
 -- Where plans clash.
-use Rattle.std.proofs.Common.{◌≡◌, ◌⊎◌, ℕ, ◌<◌, List, [], length, false, Some, refl, sym, ap, ◌∙◌, subst, inl, inr, arith}
+use Rattle.std.proofs.Common.{◌≡◌, ◌⊎◌, ℕ, ◌<◌, List, [], length, false, Some, refl, sym, ap, ◌∙◌, subst, inl, inr}
+use Rattle.std.proofs.Common.{arith}
 use Rattle.std.specs.Prelude.{slice_get, slice_index_or, ◌↔◌}
 use Rattle.std.proofs.lemmas.Option.{slice_get_within, slice_get-get_or}
 use Rattle.sect_lemmas.specs.Lists.{Has}
@@ -8,9 +9,9 @@ use Rattle.sect_lemmas.proofs.Options.{some_injective}
 use Rattle.sect_types.specs.Sections.{sections_of}
 use Rattle.sect_types.specs.Store.{StoreView, ObjectView, object_at}
 use Rattle.sect_types.specs.Meaning.{WorkView}
-use Rattle.sect_types.specs.declared.store.ObjectName.{ObjectName}
-use Rattle.sect_types.specs.declared.store.Datum.{Datum}
-use Rattle.sect_types.specs.declared.store.Datum.TheVariants.{Refers}
+use Rattle.sect_types.specs.declared.meaning.store.ObjectName.{ObjectName}
+use Rattle.sect_types.specs.declared.meaning.store.Datum.{Datum}
+use Rattle.sect_types.specs.declared.meaning.store.Datum.TheVariants.{Refers}
 use Rattle.sect_points.specs.Paths.{PathView, PathHas}
 use Rattle.sect_points.specs.Sets.{InSets}
 use Rattle.sect_modes.specs.declared.mode.Mode.{Mode}
@@ -33,7 +34,8 @@ use Rattle.sect_emit.proofs.shared.Plans.{gathered-all, fixed_part_keys, object_
 use Rattle.sect_emit.proofs.shared.PlanModes.{plan_gives_object, key_of-injective, class_or_object, all_or_object}
 use Rattle.sect_emit.proofs.shared.TypedPrograms.{typed_program}
 use Rattle.sect_conflicts.specs.declared.conflict.PathPair.{PathPair}
-use Rattle.sect_conflicts.specs.Conflicts.{Clash, AlwaysAsks, AlwaysClash, MayGoTogether, MayBeOne, paths_between, set_at}
+use Rattle.sect_conflicts.specs.Conflicts.{Clash, AlwaysAsks, AlwaysClash, MayGoTogether, MayBeOne, paths_between}
+use Rattle.sect_conflicts.specs.Conflicts.{set_at}
 use Rattle.sect_conflicts.specs.Laws.{IsSectionOver, Meets, PlansAlwaysClash, PlansClashWherePathsMeet, PlansNeverClash}
 use Rattle.sect_conflicts.specs.Laws.{PlansGoTogetherAtTheStart}
 use Rattle.sect_conflicts.specs.steps.Steady.{steady_at}

@@ -1,15 +1,16 @@
 -- What a section asks for in every state is its fixed part and the globals that its locks name.
-use Rattle.std.proofs.Common.{◌≡◌, ◌⊎◌, ℕ, List, [], ◌∷◌, ◌++◌, Option, Some, None, true, false, refl, sym, ap, ◌∙◌, subst}
+use Rattle.std.proofs.Common.{◌≡◌, ◌⊎◌, ℕ, List, [], ◌∷◌, ◌++◌, Option, Some, None, true, false, refl, sym, ap, ◌∙◌}
+use Rattle.std.proofs.Common.{subst}
 use Rattle.std.proofs.Common.{inl, inr}
 use Rattle.std.specs.Prelude.{slice_get, slice_index_or}
 use Rattle.sect_lemmas.specs.Lists.{Has}
 use Rattle.sect_lemmas.proofs.Membership.{Has-cases, Has-left, Has-right}
 use Rattle.sect_lemmas.proofs.Options.{some_injective}
 use Rattle.sect_lemmas.proofs.Replaced.{slice_get-map}
-use Rattle.sect_types.specs.declared.types.ValueType.{ValueType}
-use Rattle.sect_types.specs.declared.store.ObjectName.{ObjectName}
-use Rattle.sect_types.specs.declared.store.Datum.{Datum}
-use Rattle.sect_types.specs.declared.store.Datum.TheVariants.{Number, Null, Refers}
+use Rattle.sect_types.specs.declared.declarations.types.ValueType.{ValueType}
+use Rattle.sect_types.specs.declared.meaning.store.ObjectName.{ObjectName}
+use Rattle.sect_types.specs.declared.meaning.store.Datum.{Datum}
+use Rattle.sect_types.specs.declared.meaning.store.Datum.TheVariants.{Number, Null, Refers}
 use Rattle.sect_types.specs.Store.{ObjectView, StoreView, object_at}
 use Rattle.sect_types.specs.Whole.{FrameView, first_store, first_work, first_frames}
 use Rattle.sect_types.proofs.shared.Data.{fresh_refers, null_refers}

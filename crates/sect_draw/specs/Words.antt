@@ -2,7 +2,7 @@
 use Rattle.std.specs.Prelude.{ℕ, List, ◌++◌, codes}
 use Rattle.std.specs.Fmt.{decimal}
 use Rattle.sect_types.specs.Programs.{ProgramView}
-use Rattle.sect_types.specs.declared.store.ObjectName.TheVariants as object
+use Rattle.sect_types.specs.declared.meaning.store.ObjectName.TheVariants as object
 use Rattle.sect_store.specs.Printing.{object_name}
 use Rattle.sect_modes.specs.Mode.{mode_text}
 use Rattle.sect_modes.specs.declared.key.Key.{Key}

@@ -1,7 +1,7 @@
 -- The modes of a plan.
 use Rattle.std.proofs.Common.{◌≡◌, ap, ◌∙◌, List, [], ◌++◌}
 use Rattle.sect_names.specs.Schemes.{SchemeView}
-use Rattle.sect_types.specs.declared.store.Datum.{Datum}
+use Rattle.sect_types.specs.declared.meaning.store.Datum.{Datum}
 use Rattle.sect_emit.specs.declared.plan.Grip.{Grip}
 use Rattle.sect_types.specs.Store.{StoreView}
 use Rattle.sect_emit.specs.Plan.{gathered, IsFixedPart, plan_of}

@@ -1,8 +1,8 @@
 -- A step keeps references within the points-to sets, and what a path denotes lies in its set.
 use Rattle.std.proofs.Common.{◌≡◌, ℕ, List, refl}
-use Rattle.sect_types.specs.declared.action.Base.{Base}
-use Rattle.sect_types.specs.declared.action.Base.TheVariants as base
-use Rattle.sect_types.specs.declared.store.Datum.{Datum}
+use Rattle.sect_types.specs.declared.expansion.action.Base.{Base}
+use Rattle.sect_types.specs.declared.expansion.action.Base.TheVariants as base
+use Rattle.sect_types.specs.declared.meaning.store.Datum.{Datum}
 use Rattle.sect_types.specs.Meaning.{base_datum}
 use Rattle.sect_emit.specs.Plan.{variable_datum}
 use Rattle.sect_points.specs.PathClasses.{variable_of}

@@ -7,16 +7,16 @@ use Rattle.sect_front.specs.declared.tree.Operator.{Operator}
 use Rattle.sect_front.specs.declared.tree.Operator.TheVariants.{Add, Subtract, Multiply}
 use Rattle.sect_front.specs.Spelling.{comparison_spelling}
 use Rattle.sect_types.specs.Sight.{names_of_records}
-use Rattle.sect_types.specs.declared.action.Value.{Value}
-use Rattle.sect_types.specs.declared.action.Value.TheVariants as value
-use Rattle.sect_types.specs.declared.action.Base.{Base}
-use Rattle.sect_types.specs.declared.action.Base.TheVariants as base
-use Rattle.sect_types.specs.declared.action.Field.{Field}
-use Rattle.sect_types.specs.declared.action.Condition.{Condition}
-use Rattle.sect_types.specs.declared.action.Action.{Action}
-use Rattle.sect_types.specs.declared.action.Action.TheVariants.{Assign, Compute, New, Load, Store, Print}
-use Rattle.sect_types.specs.declared.action.Label.{Label}
-use Rattle.sect_types.specs.declared.action.Label.TheVariants.{Act, Test, Section}
+use Rattle.sect_types.specs.declared.expansion.action.Value.{Value}
+use Rattle.sect_types.specs.declared.expansion.action.Value.TheVariants as value
+use Rattle.sect_types.specs.declared.expansion.action.Base.{Base}
+use Rattle.sect_types.specs.declared.expansion.action.Base.TheVariants as base
+use Rattle.sect_types.specs.declared.expansion.action.Field.{Field}
+use Rattle.sect_types.specs.declared.expansion.action.Condition.{Condition}
+use Rattle.sect_types.specs.declared.expansion.action.Action.{Action}
+use Rattle.sect_types.specs.declared.expansion.action.Action.TheVariants.{Assign, Compute, New, Load, Store, Print}
+use Rattle.sect_types.specs.declared.expansion.action.Label.{Label}
+use Rattle.sect_types.specs.declared.expansion.action.Label.TheVariants.{Act, Test, Section}
 use Rattle.sect_points.specs.declared.holders.Variable.TheVariants.{Global, Local}
 use Rattle.sect_names.specs.Printing.{variable_text, field_name}
 

@@ -1,8 +1,8 @@
 -- The states of the machine.
 use Rattle.std.specs.Prelude.{◌≡◌, ℕ, List, [], Some, map, slice_index_or, slice_get, ℤ}
 use Rattle.sect_types.specs.Statements.{TextView}
-use Rattle.sect_types.specs.declared.store.Fault.{Fault}
-use Rattle.sect_types.specs.declared.store.Datum.{Datum}
+use Rattle.sect_types.specs.declared.meaning.store.Fault.{Fault}
+use Rattle.sect_types.specs.declared.meaning.store.Datum.{Datum}
 use Rattle.sect_emit.specs.declared.plan.Grip.{Grip}
 use Rattle.sect_types.specs.Store.{StoreView}
 use Rattle.sect_lemmas.specs.Lists.{put_at}

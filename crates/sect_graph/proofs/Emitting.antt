@@ -2,10 +2,10 @@
 use Rattle.std.proofs.Common.{◌≡◌, ℕ, ◌+◌, List, [], ◌∷◌, ◌++◌, refl, sym, ap, ◌∙◌, ◌<◌, ◌≤◌, append_assoc}
 use Rattle.std.proofs.Common.{length-append, length-drop, length, get_or, drop, arith}
 use Rattle.std.proofs.lemmas.List.{at_drop_more, at_drop_all, append-nil}
-use Rattle.sect_types.specs.declared.action.Label.TheVariants.{Test}
-use Rattle.sect_types.specs.declared.action.Condition.{Condition}
-use Rattle.sect_types.specs.declared.text.Step.{Step}
-use Rattle.sect_types.specs.declared.text.Step.TheVariants as step
+use Rattle.sect_types.specs.declared.expansion.action.Label.TheVariants.{Test}
+use Rattle.sect_types.specs.declared.expansion.action.Condition.{Condition}
+use Rattle.sect_types.specs.declared.expansion.text.Step.{Step}
+use Rattle.sect_types.specs.declared.expansion.text.Step.TheVariants as step
 use Rattle.sect_types.specs.Statements.{TextView, Stop, Choose}
 use Rattle.sect_types.specs.Texts.{step_then, statements_of}
 use Rattle.sect_types.specs.Traces.{node_count}

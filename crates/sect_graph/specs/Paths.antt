@@ -1,6 +1,6 @@
 -- The paths of a control-flow graph.
 use Rattle.std.specs.Prelude.{◌≡◌, ℕ, ◌<◌, ◌≤◌, List, [], ◌∷◌, ◌++◌, ◌⊎◌, Some, slice_get, length, ◌↔◌}
-use Rattle.sect_types.specs.declared.action.Label.{Label}
+use Rattle.sect_types.specs.declared.expansion.action.Label.{Label}
 use Rattle.sect_types.specs.Statements.{TextView}
 use Rattle.sect_types.specs.Traces.{Visit, visit, IsTrace}
 use Rattle.sect_graph.specs.declared.flow.Node.{Node}

@@ -1,6 +1,6 @@
 //! Nodes, one after another in text order.
 
-ghost use Rattle.sect_types.specs.declared.limits.TheConstants.{MOST_STATEMENTS};
+ghost use Rattle.sect_types.specs.declared.declarations.limits.TheConstants.{MOST_STATEMENTS};
 ghost use Rattle.std.specs.Prelude.{◌≡◌, ◌+◌, ◌≤◌, ◌++◌, ◌∷◌, [], length, OnOk};
 ghost use Rattle.sect_types.specs.Statements.{Stop};
 ghost use Rattle.sect_types.specs.Texts.{step_then};

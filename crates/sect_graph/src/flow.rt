@@ -2,7 +2,7 @@
 
 ghost use Rattle.std.specs.Prelude.{◌≡◌, ◌<◌, ◌≤◌, length, slice_get, Some, IfOk, option_map};
 ghost use Rattle.sect_types.specs.Traces.{node_count};
-ghost use Rattle.sect_types.specs.declared.limits.TheConstants.{MOST_STATEMENTS};
+ghost use Rattle.sect_types.specs.declared.declarations.limits.TheConstants.{MOST_STATEMENTS};
 ghost use Rattle.sect_graph.specs.Graphs.{IsGraphOf};
 ghost use Rattle.sect_graph.specs.Layout.{flow_nodes};
 
@@ -35,7 +35,7 @@ pub struct Flow {
 
 impl Model for Flow {
     ghost use Rattle.std.specs.Prelude.{List, length, ◌≤◌};
-    ghost use Rattle.sect_types.specs.declared.limits.TheConstants.{MOST_STATEMENTS};
+    ghost use Rattle.sect_types.specs.declared.declarations.limits.TheConstants.{MOST_STATEMENTS};
     ghost use Rattle.sect_graph.specs.declared.flow.Node.{Node};
 
     ghost Value = { List Node };

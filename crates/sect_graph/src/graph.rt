@@ -1,6 +1,6 @@
 //! The control-flow graphs of a program.
 
-ghost use Rattle.sect_types.specs.declared.limits.TheConstants.{MOST_STATEMENTS};
+ghost use Rattle.sect_types.specs.declared.declarations.limits.TheConstants.{MOST_STATEMENTS};
 ghost use Rattle.std.specs.Prelude.{◌≡◌, ◌<◌, ◌≤◌, ◌++◌, length, map, slice_get, Some, IfOk, OnOk};
 ghost use Rattle.sect_types.specs.Statements.{Stop, section_bodies, statement_count};
 ghost use Rattle.sect_types.specs.Texts.{step_then};

@@ -3,9 +3,9 @@ use Rattle.std.proofs.Common.{ℕ, List, refl}
 use Rattle.std.proofs.lemmas.Bool.{or_from}
 use Rattle.sect_types.specs.Programs.{ProgramView}
 use Rattle.sect_types.specs.Store.{ObjectView, StoreView}
-use Rattle.sect_types.specs.declared.store.ObjectName.TheVariants.{Global, Made}
-use Rattle.sect_types.specs.declared.store.Datum.{Datum}
-use Rattle.sect_types.specs.declared.store.Datum.TheVariants.{Number, Null, Refers}
+use Rattle.sect_types.specs.declared.meaning.store.ObjectName.TheVariants.{Global, Made}
+use Rattle.sect_types.specs.declared.meaning.store.Datum.{Datum}
+use Rattle.sect_types.specs.declared.meaning.store.Datum.TheVariants.{Number, Null, Refers}
 use Rattle.sect_store.specs.Printing.{object_name, fields_at}
 use Rattle.sect_json.specs.Values.{by_place, all_by_place}
 use Rattle.sect_json.specs.Objects.{datum_json, field_json, object_json, global_json, made_json, row_json, objects_json}

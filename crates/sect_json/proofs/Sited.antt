@@ -8,7 +8,7 @@ use Rattle.sect_front.specs.declared.tree.Declaration.{Declaration}
 use Rattle.sect_types.specs.Environments.{type_of, types_of}
 use Rattle.sect_types.specs.Programs.{ProgramView, IsOfTree, IsWithinLimits, sites_of}
 use Rattle.sect_types.specs.Sight.{names_of_declared, names_of_records, all_fields}
-use Rattle.sect_types.specs.declared.types.ValueType.{ValueType}
+use Rattle.sect_types.specs.declared.declarations.types.ValueType.{ValueType}
 use Rattle.sect_places.specs.NodeSpans.{IsCallWithin}
 use Rattle.sect_places.specs.declared.name_use.NameSpan.{NameSpan}
 use Rattle.sect_places.proofs.shared.Names.{name_proper}

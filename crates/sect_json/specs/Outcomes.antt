@@ -2,7 +2,7 @@
 use Rattle.std.specs.Prelude.{ℕ, List, [], ◌∷◌, Option, codes, map}
 use Rattle.serde_json.specs.Data.{Data, string}
 use Rattle.sect_types.specs.Programs.{ProgramView}
-use Rattle.sect_types.specs.declared.store.End.{End}
+use Rattle.sect_types.specs.declared.meaning.store.End.{End}
 use Rattle.sect_types.specs.Whole.{SerialEndView}
 use Rattle.sect_store.specs.Outcomes.{OutcomeView}
 use Rattle.sect_store.specs.Printing.{state_text}

@@ -13,9 +13,9 @@ use Rattle.sect_types.specs.Limits.{most_fields}
 use Rattle.sect_types.specs.LocalNames.{local_text}
 use Rattle.sect_types.specs.Sections.{sections_of}
 use Rattle.sect_types.specs.Sight.{names_of_records}
-use Rattle.sect_types.specs.declared.action.Action.TheVariants as action
-use Rattle.sect_types.specs.declared.action.Label.{Label}
-use Rattle.sect_types.specs.declared.action.Label.TheVariants as label
+use Rattle.sect_types.specs.declared.expansion.action.Action.TheVariants as action
+use Rattle.sect_types.specs.declared.expansion.action.Label.{Label}
+use Rattle.sect_types.specs.declared.expansion.action.Label.TheVariants as label
 use Rattle.sect_points.specs.Rows.{no_sites}
 use Rattle.sect_points.specs.Sets.{PointsToView, rows_of}
 use Rattle.sect_points.specs.declared.holders.Holder.{Holder}

@@ -12,9 +12,9 @@ use Rattle.sect_types.specs.First.{BreaksFrom, none_yet}
 use Rattle.sect_types.specs.Items.{Item, items, field_items, record_items}
 use Rattle.sect_types.specs.Programs.{ProgramView}
 use Rattle.sect_types.specs.Rules.{Declared, Counts, after, declared_in}
-use Rattle.sect_types.specs.declared.rule.Rule.{Rule}
-use Rattle.sect_types.specs.declared.rule.TypeFault.{TypeFault}
-use Rattle.sect_types.specs.declared.rule.TypeFault.TheVariants as type_fault
+use Rattle.sect_types.specs.declared.rules.rule.Rule.{Rule}
+use Rattle.sect_types.specs.declared.rules.rule.TypeFault.{TypeFault}
+use Rattle.sect_types.specs.declared.rules.rule.TypeFault.TheVariants as type_fault
 use Rattle.sect_hints.specs.Hints.{hints_of}
 use Rattle.sect_names.specs.Verdicts as schemes
 use Rattle.sect_names.specs.declared.fault.SchemeFault.{SchemeFault}

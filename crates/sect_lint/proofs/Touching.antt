@@ -4,7 +4,7 @@ use Rattle.std.proofs.Common.{slice_get, refl, ap, ◌∙◌, add-one}
 use Rattle.std.specs.Prelude.{option_map}
 use Rattle.std.specs.List.{list_any}
 use Rattle.sect_lemmas.proofs.Options.{none_or_some, some_injective}
-use Rattle.sect_types.specs.declared.action.Label.{Label}
+use Rattle.sect_types.specs.declared.expansion.action.Label.{Label}
 use Rattle.sect_graph.specs.declared.flow.Node.{Node}
 use Rattle.sect_lint.specs.Idle.{node_touches, touches}
 

@@ -14,8 +14,8 @@ use Rattle.sect_front.specs.declared.parsing.FrontFault.{FrontFault}
 use Rattle.sect_front.specs.declared.parsing.FrontFault.TheVariants as front
 use Rattle.sect_front.specs.declared.span.Span.{Span}
 use Rattle.sect_places.specs.Positions.{column_of}
-use Rattle.sect_types.specs.declared.rule.TypeFault.{TypeFault}
-use Rattle.sect_types.specs.declared.rule.TypeFault.TheVariants as types
+use Rattle.sect_types.specs.declared.rules.rule.TypeFault.{TypeFault}
+use Rattle.sect_types.specs.declared.rules.rule.TypeFault.TheVariants as types
 use Rattle.sect_places.specs.declared.name_use.NameSpan.{NameSpan}
 use Rattle.sect_places.specs.declared.range.TokenRange.{TokenRange}
 use Rattle.sect_places.specs.Ranges.{item_tokens}

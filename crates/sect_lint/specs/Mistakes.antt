@@ -2,8 +2,8 @@
 use Rattle.std.specs.Prelude.{ℕ, List, Option, Some, None, codes}
 use Rattle.sect_front.specs.declared.parsing.FrontFault.{FrontFault}
 use Rattle.sect_front.specs.declared.parsing.FrontFault.TheVariants as front
-use Rattle.sect_types.specs.declared.rule.TypeFault.{TypeFault}
-use Rattle.sect_types.specs.declared.rule.TypeFault.TheVariants as types
+use Rattle.sect_types.specs.declared.rules.rule.TypeFault.{TypeFault}
+use Rattle.sect_types.specs.declared.rules.rule.TypeFault.TheVariants as types
 use Rattle.sect_names.specs.declared.fault.SchemeFault.{SchemeFault}
 use Rattle.sect_names.specs.declared.fault.SchemeFault.TheVariants as scheme
 use Rattle.sect_names.specs.declared.refusal.SourceRefusal.{SourceRefusal}

@@ -7,8 +7,8 @@ use Rattle.sect_front.specs.FaultPlaces.{token_span, IsFaultSpan}
 use Rattle.sect_front.specs.declared.span.Span.{Span}
 use Rattle.sect_front.specs.declared.tree.Record.{Record}
 use Rattle.sect_types.specs.Items.{items}
-use Rattle.sect_types.specs.declared.rule.TypeFault.{TypeFault}
-use Rattle.sect_types.specs.declared.rule.TypeFault.TheVariants as types
+use Rattle.sect_types.specs.declared.rules.rule.TypeFault.{TypeFault}
+use Rattle.sect_types.specs.declared.rules.rule.TypeFault.TheVariants as types
 use Rattle.sect_names.specs.declared.fault.SchemeFault.{SchemeFault}
 use Rattle.sect_names.specs.declared.fault.SchemeFault.TheVariants as scheme
 use Rattle.sect_names.specs.declared.refusal.SourceRefusal.{SourceRefusal}

@@ -6,7 +6,7 @@ use Rattle.std.specs.Int.{bit_at}
 use Rattle.std.specs.List.{flat_map}
 use Rattle.std.proofs.lemmas.Bool.{cases_lt, cases_eq}
 use Rattle.std.proofs.lemmas.List.{get_or_past}
-use Rattle.sect_types.specs.declared.limits.TheConstants.{MOST_FIELDS}
+use Rattle.sect_types.specs.declared.declarations.limits.TheConstants.{MOST_FIELDS}
 use Rattle.sect_lemmas.specs.Lists.{Has}
 use Rattle.sect_lemmas.proofs.Membership.{Has-left, Has-right, Has-cases}
 use Rattle.sect_points.specs.declared.holders.Fact.{Fact}

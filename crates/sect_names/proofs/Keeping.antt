@@ -1,12 +1,12 @@
 -- What may denote before a step what a path denotes after it has no class but the path's.
 use Rattle.std.proofs.Common.{◌≡◌, ℕ, Option, Some, None, refl, sym, subst, inl, inr}
-use Rattle.sect_types.specs.declared.action.Field.{Field}
-use Rattle.sect_types.specs.declared.action.Value.{Value}
-use Rattle.sect_types.specs.declared.action.Value.TheVariants as value
-use Rattle.sect_types.specs.declared.action.Action.{Action}
-use Rattle.sect_types.specs.declared.action.Action.TheVariants as action
-use Rattle.sect_types.specs.declared.action.Label.{Label}
-use Rattle.sect_types.specs.declared.action.Label.TheVariants as label
+use Rattle.sect_types.specs.declared.expansion.action.Field.{Field}
+use Rattle.sect_types.specs.declared.expansion.action.Value.{Value}
+use Rattle.sect_types.specs.declared.expansion.action.Value.TheVariants as value
+use Rattle.sect_types.specs.declared.expansion.action.Action.{Action}
+use Rattle.sect_types.specs.declared.expansion.action.Action.TheVariants as action
+use Rattle.sect_types.specs.declared.expansion.action.Label.{Label}
+use Rattle.sect_types.specs.declared.expansion.action.Label.TheVariants as label
 use Rattle.sect_points.specs.declared.holders.Variable.{Variable}
 use Rattle.sect_points.specs.declared.holders.Variable.TheVariants.{Global, Local}
 use Rattle.sect_points.specs.Paths.{PathView, var, dot}

@@ -1,7 +1,7 @@
 -- Paths and their parts.
 use Rattle.std.proofs.Common.{◌≡◌, List, [], ◌∷◌, ◌++◌, refl, sym, ap, ◌∙◌, append_assoc, length, arith, length-append}
 use Rattle.std.proofs.lemmas.List.{append-nil}
-use Rattle.sect_types.specs.declared.action.Field.{Field}
+use Rattle.sect_types.specs.declared.expansion.action.Field.{Field}
 use Rattle.sect_points.specs.declared.holders.Variable.{Variable}
 use Rattle.sect_points.specs.Paths.{PathView, var, dot, dots, path_of, base_of, fields_of, path_of-fields}
 use Rattle.sect_names.specs.Locks.{depth}

@@ -2,8 +2,8 @@
 use Rattle.std.specs.Prelude.{◌≡◌, ℕ, ⊤, Option, Some, None, List, [], ◌∷◌, ◌⊎◌}
 use Rattle.sect_lemmas.specs.Lists.{Has}
 use Rattle.sect_types.specs.Statements.{TextView}
-use Rattle.sect_types.specs.declared.action.Field.{Field}
-use Rattle.sect_types.specs.declared.action.Label.{Label}
+use Rattle.sect_types.specs.declared.expansion.action.Field.{Field}
+use Rattle.sect_types.specs.declared.expansion.action.Label.{Label}
 use Rattle.sect_points.specs.declared.holders.Variable.TheVariants.{Global}
 use Rattle.sect_points.specs.Paths.{PathView, var, dot}
 use Rattle.sect_names.specs.declared.lock.Effect.{Effect}

@@ -7,14 +7,14 @@ use Rattle.std.specs.Cmp.{partial_order_from_agreeing_total, then_total}
 use Rattle.std.specs.Cmp.Lexicographic.{pointwise, slice_cmp, lists_equiv, lists_total, lists_ties}
 use Rattle.std.specs.Hash.{HashWrites, Alike, slice, and-Alike, on_Alike, items_Alike}
 use Rattle.std.proofs.Common.{refl}
-use Rattle.sect_types.specs.declared.action.Field.{Field}
-use Rattle.sect_types.specs.contracts.action.FieldPartialEq.TheImpl.{ghosts as the_field_eq}
-use Rattle.sect_types.specs.contracts.action.FieldEq.TheImpl.Laws.{laws-law as the_field_laws}
-use Rattle.sect_types.specs.contracts.action.FieldHash.TheImpl.{ghosts as the_field_hash}
-use Rattle.sect_types.specs.contracts.action.FieldHash.TheImpl.Laws.{respects_eq-law as the_field_alike}
-use Rattle.sect_types.specs.contracts.action.FieldOrd.TheImpl.{ghosts as the_field_order}
-use Rattle.sect_types.specs.contracts.action.FieldOrd.TheImpl.Laws.{total-law as the_field_total}
-use Rattle.sect_types.specs.contracts.action.FieldOrd.TheImpl.Laws.{matches_eq-law as the_field_ties}
+use Rattle.sect_types.specs.declared.expansion.action.Field.{Field}
+use Rattle.sect_types.specs.contracts.expansion.action.FieldPartialEq.TheImpl.{ghosts as the_field_eq}
+use Rattle.sect_types.specs.contracts.expansion.action.FieldEq.TheImpl.Laws.{laws-law as the_field_laws}
+use Rattle.sect_types.specs.contracts.expansion.action.FieldHash.TheImpl.{ghosts as the_field_hash}
+use Rattle.sect_types.specs.contracts.expansion.action.FieldHash.TheImpl.Laws.{respects_eq-law as the_field_alike}
+use Rattle.sect_types.specs.contracts.expansion.action.FieldOrd.TheImpl.{ghosts as the_field_order}
+use Rattle.sect_types.specs.contracts.expansion.action.FieldOrd.TheImpl.Laws.{total-law as the_field_total}
+use Rattle.sect_types.specs.contracts.expansion.action.FieldOrd.TheImpl.Laws.{matches_eq-law as the_field_ties}
 use Rattle.sect_points.specs.contracts.holders.VariablePartialEq.TheImpl.{ghosts as the_variable_eq}
 use Rattle.sect_points.specs.contracts.holders.VariableEq.TheImpl.Laws.{laws-law as the_variable_laws}
 use Rattle.sect_points.specs.contracts.holders.VariableHash.TheImpl.{ghosts as the_variable_hash}

@@ -3,7 +3,7 @@ use Rattle.std.specs.Prelude.{◌≡◌, ⊤, ℕ, Some, None, length, slice_get
 use Rattle.sect_types.specs.Programs.{ProgramView, sites_of}
 use Rattle.sect_types.specs.Sections.{AllSited}
 use Rattle.sect_types.specs.Sound.{AreSound}
-use Rattle.sect_types.specs.declared.action.Label.{Label}
+use Rattle.sect_types.specs.declared.expansion.action.Label.{Label}
 use Rattle.sect_points.specs.declared.holders.Holder.TheVariants.{Local, Slot}
 use Rattle.sect_points.specs.declared.holders.Variable.TheVariants as variable
 use Rattle.sect_points.specs.Paths.{PathView, PathHas}

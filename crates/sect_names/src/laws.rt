@@ -7,7 +7,7 @@ ghost use Rattle.std.specs.Prelude.{◌≡◌, ◌<◌, ℕ, List, length};
 ghost use Rattle.sect_lemmas.specs.Lists.{Has};
 ghost use Rattle.sect_types.specs.Sections.{SectionView};
 ghost use Rattle.sect_types.specs.Sound.{AreSound};
-ghost use Rattle.sect_types.specs.declared.action.Label.{Label};
+ghost use Rattle.sect_types.specs.declared.expansion.action.Label.{Label};
 ghost use Rattle.sect_graph.specs.declared.flow.Node.{Node};
 ghost use Rattle.sect_names.specs.declared.lock.Lock.{Lock};
 ghost use Rattle.sect_names.specs.Schemes.{SchemeView, IsScheme};

@@ -1,5 +1,6 @@
 -- Items begin in their text, and nodes come from items that are there.
-use Rattle.std.proofs.Common.{◌≡◌, ◌≤◌, ◌<◌, ℕ, zero, suc, List, [], ◌∷◌, length, map, get_or, Option, Some, None, sym, ap, subst}
+use Rattle.std.proofs.Common.{◌≡◌, ◌≤◌, ◌<◌, ℕ, zero, suc, List, [], ◌∷◌, length, map, get_or, Option, Some, None, sym}
+use Rattle.std.proofs.Common.{ap, subst}
 use Rattle.std.proofs.Common.{◌∙◌, arith, refl}
 use Rattle.std.specs.Prelude.{slice_get, All}
 use Rattle.std.proofs.lemmas.Option.{slice_get_within, slice_get-get_or}
@@ -9,7 +10,7 @@ use Rattle.sect_types.specs.Items.{items}
 use Rattle.sect_types.specs.Statements.{TextView, Stop}
 use Rattle.sect_types.specs.Sections.{SectionView, sections_of}
 use Rattle.sect_types.specs.Programs.{ProgramView}
-use Rattle.sect_types.specs.declared.action.Label.{Label}
+use Rattle.sect_types.specs.declared.expansion.action.Label.{Label}
 use Rattle.sect_places.specs.Spans.{AreProper}
 use Rattle.sect_places.specs.NodeOrigins.{IsCall, AreFrom, AreOriginsOf, OriginsView, AreOrigins}
 use Rattle.sect_places.specs.declared.origin.Origin.{Origin}

@@ -20,8 +20,8 @@ use Rattle.sect_front.specs.declared.tree.GlobalObject.{GlobalObject}
 use Rattle.sect_front.specs.declared.tree.Procedure.{Procedure}
 use Rattle.sect_front.specs.declared.tree.Thread.{Thread}
 use Rattle.sect_front.proofs.shared.Listed.{tokens_same}
-use Rattle.sect_types.specs.declared.place.Place.{Place}
-use Rattle.sect_types.specs.declared.place.Place.TheVariants.{InThread, InProcedure}
+use Rattle.sect_types.specs.declared.rules.place.Place.{Place}
+use Rattle.sect_types.specs.declared.rules.place.Place.TheVariants.{InThread, InProcedure}
 use Rattle.sect_types.specs.Items.{Item, deeper, in_section, statement_items, block_items, field_items, record_items}
 use Rattle.sect_types.specs.Items.{global_items, local_items, variables, procedure_items, thread_items, items}
 use Rattle.sect_places.specs.declared.range.TokenRange.{TokenRange}

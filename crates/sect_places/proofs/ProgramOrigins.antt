@@ -8,8 +8,8 @@ use Rattle.std.proofs.lemmas.Option.{slice_get_within}
 use Rattle.sect_lemmas.proofs.Options.{none_or_some, some_injective}
 use Rattle.sect_front.specs.TreeView.{TreeView}
 use Rattle.sect_front.specs.declared.tree.Thread.{Thread}
-use Rattle.sect_types.specs.declared.place.Place.TheVariants.{InThread}
-use Rattle.sect_types.specs.declared.action.Label.{Label}
+use Rattle.sect_types.specs.declared.rules.place.Place.TheVariants.{InThread}
+use Rattle.sect_types.specs.declared.expansion.action.Label.{Label}
 use Rattle.sect_types.specs.Items.{items, thread_items}
 use Rattle.sect_types.specs.Sums.{sums}
 use Rattle.sect_types.specs.Statements.{TextView, Stop, Do, Choose, Loop, Section, section_bodies}

@@ -6,8 +6,8 @@ use Rattle.sect_front.specs.Syntax.{StatementView, BlockView, Primitive, If, IfE
 use Rattle.sect_front.specs.declared.tree.Declaration.{Declaration}
 use Rattle.sect_front.specs.declared.tree.Locking.{Locking}
 use Rattle.sect_front.specs.declared.tree.Thread.{Thread}
-use Rattle.sect_types.specs.declared.place.Place.{Place}
-use Rattle.sect_types.specs.declared.place.Place.TheVariants.{InThread}
+use Rattle.sect_types.specs.declared.rules.place.Place.{Place}
+use Rattle.sect_types.specs.declared.rules.place.Place.TheVariants.{InThread}
 use Rattle.sect_types.specs.Items.{Item, AStatement, AtomicHead, deeper, in_section, statement_items, block_items}
 use Rattle.sect_types.specs.Items.{thread_items, items}
 use Rattle.sect_types.specs.Lockings.{statement_lockings, block_lockings, threads_lockings, lockings_of}

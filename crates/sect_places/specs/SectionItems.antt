@@ -5,7 +5,7 @@ use Rattle.sect_front.specs.Syntax.{StatementView, BlockView, Primitive, If, IfE
 use Rattle.sect_front.specs.declared.tree.Declaration.{Declaration}
 use Rattle.sect_front.specs.declared.tree.Thread.{Thread}
 use Rattle.sect_types.specs.Items.{AStatement, AtomicHead, items}
-use Rattle.sect_types.specs.declared.place.Place.{Place}
+use Rattle.sect_types.specs.declared.rules.place.Place.{Place}
 use Rattle.sect_places.specs.ItemCounts.{items_in_block, items_in_statement, items_in_thread}
 use Rattle.sect_places.specs.Origins.{first_thread}
 

@@ -9,12 +9,12 @@ use Rattle.std.proofs.lemmas.List.{take_more, take_all}
 use Rattle.sect_lemmas.specs.Lists.{Has}
 use Rattle.sect_lemmas.proofs.Membership.{Has-cases}
 use Rattle.sect_points.specs.Sites.{HasSite, IsNext}
-use Rattle.sect_types.specs.declared.action.Value.{Value}
-use Rattle.sect_types.specs.declared.action.Value.TheVariants as value
-use Rattle.sect_types.specs.declared.action.Base.{Base}
-use Rattle.sect_types.specs.declared.action.Base.TheVariants as base
-use Rattle.sect_types.specs.declared.action.Action.{Action}
-use Rattle.sect_types.specs.declared.action.Action.TheVariants as action
+use Rattle.sect_types.specs.declared.expansion.action.Value.{Value}
+use Rattle.sect_types.specs.declared.expansion.action.Value.TheVariants as value
+use Rattle.sect_types.specs.declared.expansion.action.Base.{Base}
+use Rattle.sect_types.specs.declared.expansion.action.Base.TheVariants as base
+use Rattle.sect_types.specs.declared.expansion.action.Action.{Action}
+use Rattle.sect_types.specs.declared.expansion.action.Action.TheVariants as action
 use Rattle.sect_points.specs.declared.holders.ThreadAction.{ThreadAction}
 use Rattle.sect_points.specs.declared.holders.Growth.{Growth}
 use Rattle.sect_points.specs.declared.holders.Growth.TheVariants as growth
@@ -25,7 +25,7 @@ use Rattle.sect_points.specs.Sets.{PointsToView, InSets, HasSet, SameHolders, Ad
 use Rattle.sect_points.specs.Sets.{sets_room}
 use Rattle.sect_points.specs.steps.Solving.{FitsBase, FitsAction, AllFit}
 use Rattle.sect_points.specs.Sets.{AreBelow}
-use Rattle.sect_types.specs.declared.action.Field.{Field}
+use Rattle.sect_types.specs.declared.expansion.action.Field.{Field}
 use Rattle.sect_points.specs.steps.Marks.{IsUntouched, MissesBases, Marked, HasMark, Suits, Grows, Grown}
 use Rattle.sect_points.specs.steps.Marks.{grown, GrewBy, Reads, ReadsValue, ReadsBase, ReadsGrowth, IsBase, AreBases}
 use Rattle.sect_points.specs.steps.Marks.{MovedBy, IsGrowth, Handles, Covers, IsThere, IsBaseAlone, IsOnlyBase}

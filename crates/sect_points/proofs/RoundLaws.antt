@@ -7,8 +7,8 @@ use Rattle.std.proofs.lemmas.List.{take_more, take_all}
 use Rattle.sect_lemmas.specs.Lists.{Has}
 use Rattle.sect_lemmas.proofs.Membership.{Has-cases, Has-get_or}
 use Rattle.sect_points.specs.Sites.{HasSite}
-use Rattle.sect_types.specs.declared.action.Action.{Action}
-use Rattle.sect_types.specs.declared.action.Action.TheVariants as action
+use Rattle.sect_types.specs.declared.expansion.action.Action.{Action}
+use Rattle.sect_types.specs.declared.expansion.action.Action.TheVariants as action
 use Rattle.sect_points.specs.declared.holders.ThreadAction.{ThreadAction}
 use Rattle.sect_points.specs.declared.holders.Growth.TheVariants as growth
 use Rattle.sect_points.specs.Flow.{Within, Moved, IsLeastFlow}

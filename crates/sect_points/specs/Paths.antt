@@ -2,8 +2,8 @@
 use Rattle.std.specs.Prelude.{◌≡◌, ℕ, List, [], ◌∷◌, ◌++◌}
 use Rattle.std.proofs.Common.{refl, ap, ◌∙◌}
 use Rattle.std.specs.Coded.{Coded, code_by, coded×, coded_list}
-use Rattle.sect_types.specs.declared.action.Field.{Field}
-use Rattle.sect_types.specs.contracts.action.Field as field
+use Rattle.sect_types.specs.declared.expansion.action.Field.{Field}
+use Rattle.sect_types.specs.contracts.expansion.action.Field as field
 use Rattle.sect_points.specs.declared.holders.Holder.TheVariants as holder
 use Rattle.sect_points.specs.declared.holders.Variable.{Variable}
 use Rattle.sect_points.specs.declared.holders.Variable.TheVariants.{Global, Local}

@@ -40,7 +40,7 @@ impl Drop for Classes {
 
 impl Model for Classes {
     ghost use Rattle.std.specs.Prelude.{◌≤◌};
-    ghost use Rattle.sect_types.specs.declared.limits.TheConstants.{MOST_SITES};
+    ghost use Rattle.sect_types.specs.declared.declarations.limits.TheConstants.{MOST_SITES};
     ghost use Rattle.sect_points.specs.Partitions.{ClassesView, IsParted};
     ghost use Rattle.sect_points.specs.Filled.{AreFilled};
 

@@ -4,8 +4,8 @@ use Rattle.std.proofs.Common.{length, ◌-◌, take, drop, Some, slice_get, slic
 use Rattle.std.proofs.lemmas.List.{take_all}
 use Rattle.sect_types.specs.Statements.{TextView, Stop, Do, Choose, Loop, Section, joined, weight, statement_count}
 use Rattle.sect_types.specs.Texts.{step_then, statements_of}
-use Rattle.sect_types.specs.declared.text.Step.{Step}
-use Rattle.sect_types.specs.declared.text.Step.TheVariants as step
+use Rattle.sect_types.specs.declared.expansion.text.Step.{Step}
+use Rattle.sect_types.specs.declared.expansion.text.Step.TheVariants as step
 use Rattle.sect_serial.specs.steps.Rests.{is_stop, after_first, rest_of, AreFull}
 use Rattle.sect_serial.proofs.RestLemmas.{joined_step, rest_last, full_last}
 

@@ -9,18 +9,18 @@ use Rattle.std.proofs.Common.{Option, Some, None}
 use Rattle.sect_types.specs.Store.{ObjectView, StoreView}
 use Rattle.sect_types.specs.Meaning.{WorkView}
 use Rattle.sect_types.specs.Whole.{FrameView, RunView, SerialEndView}
-use Rattle.sect_types.specs.declared.store.ObjectName.{ObjectName}
-use Rattle.sect_types.specs.declared.store.ObjectName.TheVariants.{Global, Made}
-use Rattle.sect_types.specs.declared.store.Datum.{Datum}
-use Rattle.sect_types.specs.declared.store.Datum.TheVariants.{Number, Null, Refers}
-use Rattle.sect_types.specs.declared.store.Fault.{Fault}
-use Rattle.sect_types.specs.declared.store.Fault.TheVariants as fault
-use Rattle.sect_types.specs.declared.store.End.{End}
-use Rattle.sect_types.specs.declared.store.End.TheVariants.{Done, Failed}
-use Rattle.sect_types.specs.contracts.store.ObjectNamePartialEq.TheImpl.{ghosts as the_name_eq}
-use Rattle.sect_types.specs.contracts.store.DatumPartialEq.TheImpl.{ghosts as the_datum_eq}
-use Rattle.sect_types.specs.contracts.store.FaultPartialEq.TheImpl.{ghosts as the_fault_eq}
-use Rattle.sect_types.specs.contracts.store.EndPartialEq.TheImpl.{ghosts as the_end_eq}
+use Rattle.sect_types.specs.declared.meaning.store.ObjectName.{ObjectName}
+use Rattle.sect_types.specs.declared.meaning.store.ObjectName.TheVariants.{Global, Made}
+use Rattle.sect_types.specs.declared.meaning.store.Datum.{Datum}
+use Rattle.sect_types.specs.declared.meaning.store.Datum.TheVariants.{Number, Null, Refers}
+use Rattle.sect_types.specs.declared.meaning.store.Fault.{Fault}
+use Rattle.sect_types.specs.declared.meaning.store.Fault.TheVariants as fault
+use Rattle.sect_types.specs.declared.meaning.store.End.{End}
+use Rattle.sect_types.specs.declared.meaning.store.End.TheVariants.{Done, Failed}
+use Rattle.sect_types.specs.contracts.meaning.store.ObjectNamePartialEq.TheImpl.{ghosts as the_name_eq}
+use Rattle.sect_types.specs.contracts.meaning.store.DatumPartialEq.TheImpl.{ghosts as the_datum_eq}
+use Rattle.sect_types.specs.contracts.meaning.store.FaultPartialEq.TheImpl.{ghosts as the_fault_eq}
+use Rattle.sect_types.specs.contracts.meaning.store.EndPartialEq.TheImpl.{ghosts as the_end_eq}
 use Rattle.sect_store.specs.Comparing.{object_eq, objects_eq, store_eq, far_eq}
 use Rattle.sect_serial.specs.Trimming.{in_use, trimmed_frame, trimmed}
 use Rattle.sect_serial.specs.Comparing.{text_eq, text_tells, frame_eq, run_eq, end_eq}

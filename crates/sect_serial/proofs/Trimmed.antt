@@ -6,7 +6,7 @@ use Rattle.std.specs.Option.{option_map}
 use Rattle.std.proofs.lemmas.Option.{slice_get-map}
 use Rattle.sect_lemmas.specs.Lists.{put_at}
 use Rattle.sect_lemmas.proofs.Options.{some_injective, none_or_some}
-use Rattle.sect_types.specs.declared.store.End.{End}
+use Rattle.sect_types.specs.declared.meaning.store.End.{End}
 use Rattle.sect_types.specs.Programs.{ProgramView}
 use Rattle.sect_types.specs.Statements.{TextView, Stop, Do, Choose, Loop, Section}
 use Rattle.sect_types.specs.Store.{StoreView}
@@ -14,7 +14,7 @@ use Rattle.sect_types.specs.Meaning.{WorkView}
 use Rattle.sect_types.specs.Whole.{FrameView, RunView, SerialEndView, ahead, all_ahead, body_of, frame_left, store_left}
 use Rattle.sect_types.specs.Whole.{printed_left, run_section, section_of_thread, section_in, section_by, EndsAs, Left}
 use Rattle.sect_types.specs.Whole.{after_section, is_standing, has_ended, begins_section}
-use Rattle.sect_types.specs.declared.store.Datum.{Datum}
+use Rattle.sect_types.specs.declared.meaning.store.Datum.{Datum}
 use Rattle.sect_types.proofs.shared.RunningAhead.{ahead_standing}
 use Rattle.sect_serial.specs.Trimming.{trimmed_frame, trimmed, in_use}
 

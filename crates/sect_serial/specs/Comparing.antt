@@ -13,18 +13,18 @@ use base.Stored.{Gv, gnil, gnum, gcons}
 use Rattle.sect_types.specs.Coding.{statements_code}
 use Rattle.sect_types.specs.Statements.{TextView}
 use Rattle.sect_types.specs.Whole.{FrameView, RunView, SerialEndView}
-use Rattle.sect_types.specs.declared.store.End.{End}
-use Rattle.sect_types.specs.contracts.store.EndPartialEq.TheImpl.{ghosts as the_end_eq}
-use Rattle.sect_types.specs.contracts.store.EndEq.TheImpl.Laws.{laws-law as the_end_laws}
-use Rattle.sect_types.specs.contracts.store.EndHash.TheImpl.{ghosts as the_end_hash}
-use Rattle.sect_types.specs.contracts.store.EndHash.TheImpl.Laws.{respects_eq-law as the_end_alike}
+use Rattle.sect_types.specs.declared.meaning.store.End.{End}
+use Rattle.sect_types.specs.contracts.meaning.store.EndPartialEq.TheImpl.{ghosts as the_end_eq}
+use Rattle.sect_types.specs.contracts.meaning.store.EndEq.TheImpl.Laws.{laws-law as the_end_laws}
+use Rattle.sect_types.specs.contracts.meaning.store.EndHash.TheImpl.{ghosts as the_end_hash}
+use Rattle.sect_types.specs.contracts.meaning.store.EndHash.TheImpl.Laws.{respects_eq-law as the_end_alike}
 use Rattle.sect_store.specs.Comparing.{store_eq, store_fed, store_equivalence, store_alike}
 use Rattle.sect_store.specs.Comparing.{far_eq, far_equivalence}
-use Rattle.sect_types.specs.declared.store.Datum.{Datum}
-use Rattle.sect_types.specs.contracts.store.DatumPartialEq.TheImpl.{ghosts as the_datum_eq}
-use Rattle.sect_types.specs.contracts.store.DatumEq.TheImpl.Laws.{laws-law as the_datum_laws}
-use Rattle.sect_types.specs.contracts.store.DatumHash.TheImpl.{ghosts as the_datum_hash}
-use Rattle.sect_types.specs.contracts.store.DatumHash.TheImpl.Laws.{respects_eq-law as the_datum_alike}
+use Rattle.sect_types.specs.declared.meaning.store.Datum.{Datum}
+use Rattle.sect_types.specs.contracts.meaning.store.DatumPartialEq.TheImpl.{ghosts as the_datum_eq}
+use Rattle.sect_types.specs.contracts.meaning.store.DatumEq.TheImpl.Laws.{laws-law as the_datum_laws}
+use Rattle.sect_types.specs.contracts.meaning.store.DatumHash.TheImpl.{ghosts as the_datum_hash}
+use Rattle.sect_types.specs.contracts.meaning.store.DatumHash.TheImpl.Laws.{respects_eq-law as the_datum_alike}
 use Rattle.sect_types.specs.Meaning.{WorkView}
 use Rattle.sect_serial.specs.Trimming.{in_use}
 

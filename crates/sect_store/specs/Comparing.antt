@@ -7,10 +7,10 @@ use Rattle.std.specs.Hash as fed
 use Rattle.std.specs.Hash.{HashWrites, Alike, slice, and-Alike, on_Alike, items_Alike}
 use Rattle.sect_types.specs.Store.{ObjectView, StoreView}
 use Rattle.sect_types.specs.Meaning.{WorkView}
-use Rattle.sect_types.specs.contracts.store.DatumPartialEq.TheImpl.{ghosts as the_datum_eq}
-use Rattle.sect_types.specs.contracts.store.DatumEq.TheImpl.Laws.{laws-law as the_datum_laws}
-use Rattle.sect_types.specs.contracts.store.DatumHash.TheImpl.{ghosts as the_datum_hash}
-use Rattle.sect_types.specs.contracts.store.DatumHash.TheImpl.Laws.{respects_eq-law as the_datum_alike}
+use Rattle.sect_types.specs.contracts.meaning.store.DatumPartialEq.TheImpl.{ghosts as the_datum_eq}
+use Rattle.sect_types.specs.contracts.meaning.store.DatumEq.TheImpl.Laws.{laws-law as the_datum_laws}
+use Rattle.sect_types.specs.contracts.meaning.store.DatumHash.TheImpl.{ghosts as the_datum_hash}
+use Rattle.sect_types.specs.contracts.meaning.store.DatumHash.TheImpl.Laws.{respects_eq-law as the_datum_alike}
 
 abbrev pub site_of : ObjectView → ℕ
 site_of o = o.site

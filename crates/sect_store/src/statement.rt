@@ -1,9 +1,9 @@
 //! What one statement without a block does.
 
 ghost use Rattle.std.specs.Prelude.{◌≡◌, ◌<◌, ◌+◌, ◌^◌, ℕ, [], Option, slice_index_or, IfOk, OnErr};
-ghost use Rattle.sect_types.specs.declared.action.Action.TheVariants.{New};
-ghost use Rattle.sect_types.specs.declared.store.Datum.TheVariants.{Refers};
-ghost use Rattle.sect_types.specs.declared.store.ObjectName.TheVariants.{Made};
+ghost use Rattle.sect_types.specs.declared.expansion.action.Action.TheVariants.{New};
+ghost use Rattle.sect_types.specs.declared.meaning.store.Datum.TheVariants.{Refers};
+ghost use Rattle.sect_types.specs.declared.meaning.store.ObjectName.TheVariants.{Made};
 ghost use Rattle.sect_types.specs.Programs.{ProgramView};
 ghost use Rattle.sect_types.specs.Store.{ObjectView};
 ghost use Rattle.sect_types.specs.Meaning.{one, done, looked, found_at, assigned, fresh, Went, Added};

@@ -7,16 +7,16 @@ use Rattle.sect_front.specs.declared.tree.Test.{Test}
 use Rattle.sect_front.specs.declared.tree.Kind.TheVariants as kind
 use Rattle.sect_front.specs.declared.tree.Operator.{Operator}
 use Rattle.sect_front.specs.declared.tree.Comparison.{Comparison}
-use Rattle.sect_types.specs.declared.rule.Rule.{Rule}
-use Rattle.sect_types.specs.declared.rule.Rule.TheVariants.{Unknown, WrongType}
-use Rattle.sect_types.specs.declared.resolve.Denoted.{Denoted}
-use Rattle.sect_types.specs.declared.resolve.Denoted.TheVariants as denoted
-use Rattle.sect_types.specs.declared.resolve.Given.{Given}
-use Rattle.sect_types.specs.declared.resolve.Looked.{Looked}
-use Rattle.sect_types.specs.declared.resolve.Looked.TheVariants as looked
-use Rattle.sect_types.specs.declared.action.Action.{Action}
-use Rattle.sect_types.specs.declared.action.Action.TheVariants as action
-use Rattle.sect_types.specs.declared.action.Condition.{Condition}
+use Rattle.sect_types.specs.declared.rules.rule.Rule.{Rule}
+use Rattle.sect_types.specs.declared.rules.rule.Rule.TheVariants.{Unknown, WrongType}
+use Rattle.sect_types.specs.declared.rules.resolve.Denoted.{Denoted}
+use Rattle.sect_types.specs.declared.rules.resolve.Denoted.TheVariants as denoted
+use Rattle.sect_types.specs.declared.rules.resolve.Given.{Given}
+use Rattle.sect_types.specs.declared.rules.resolve.Looked.{Looked}
+use Rattle.sect_types.specs.declared.rules.resolve.Looked.TheVariants as looked
+use Rattle.sect_types.specs.declared.expansion.action.Action.{Action}
+use Rattle.sect_types.specs.declared.expansion.action.Action.TheVariants as action
+use Rattle.sect_types.specs.declared.expansion.action.Condition.{Condition}
 use Rattle.sect_types.specs.Sight.{Sight, place, names_of_records, base_of, operand_of, looked_of}
 use Rattle.sect_types.specs.Kinds.{same_kind, accepts, comparable}
 use Rattle.sect_types.specs.Numbered.{of_both, of_all, base_by, value_by, local_by, field_by, action_of, condition_of}

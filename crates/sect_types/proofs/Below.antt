@@ -8,16 +8,16 @@ use Rattle.sect_front.specs.declared.tree.Operand.{Operand}
 use Rattle.sect_front.specs.declared.tree.Primitive as leaf
 use Rattle.sect_front.specs.declared.tree.Primitive.TheVariants as primitive
 use Rattle.sect_front.specs.declared.tree.Test.{Test}
-use Rattle.sect_types.specs.declared.resolve.Denoted.{Denoted}
-use Rattle.sect_types.specs.declared.resolve.Denoted.TheVariants as denoted
-use Rattle.sect_types.specs.declared.resolve.Given.{Given}
-use Rattle.sect_types.specs.declared.resolve.Given.TheVariants as given
-use Rattle.sect_types.specs.declared.types.ValueType.{ValueType}
-use Rattle.sect_types.specs.declared.action.Base.{Base}
-use Rattle.sect_types.specs.declared.action.Value.{Value}
-use Rattle.sect_types.specs.declared.action.Condition.{Condition}
-use Rattle.sect_types.specs.declared.action.Action.{Action}
-use Rattle.sect_types.specs.declared.action.Action.TheVariants as action
+use Rattle.sect_types.specs.declared.rules.resolve.Denoted.{Denoted}
+use Rattle.sect_types.specs.declared.rules.resolve.Denoted.TheVariants as denoted
+use Rattle.sect_types.specs.declared.rules.resolve.Given.{Given}
+use Rattle.sect_types.specs.declared.rules.resolve.Given.TheVariants as given
+use Rattle.sect_types.specs.declared.declarations.types.ValueType.{ValueType}
+use Rattle.sect_types.specs.declared.expansion.action.Base.{Base}
+use Rattle.sect_types.specs.declared.expansion.action.Value.{Value}
+use Rattle.sect_types.specs.declared.expansion.action.Condition.{Condition}
+use Rattle.sect_types.specs.declared.expansion.action.Action.{Action}
+use Rattle.sect_types.specs.declared.expansion.action.Action.TheVariants as action
 use Rattle.sect_types.specs.Sight.{Sight, names_of_records, place, base_of, operand_of}
 use Rattle.sect_types.specs.Numbered.{base_by, value_by, local_by, target_of, source_of, field_behind, value_of}
 use Rattle.sect_types.specs.Numbered.{action_of, condition_of}

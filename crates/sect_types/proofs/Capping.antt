@@ -2,7 +2,7 @@
 use Rattle.std.proofs.Common.{◌≡◌, ℕ, zero, suc, ◌+◌, List, [], ◌∷◌, Option, Some, None, refl, sym}
 use Rattle.std.proofs.Common.{◌∙◌, ap, arith, map, length, min, max, slice_get}
 use Rattle.sect_front.specs.declared.tree.Procedure.{Procedure}
-use Rattle.sect_types.specs.declared.sums.Sums.{Sums}
+use Rattle.sect_types.specs.declared.counting.sums.Sums.{Sums}
 use Rattle.sect_types.specs.Sums.{both, around, call_sums, or_nothing, number_of, sums_at}
 use Rattle.sect_types.specs.Sums.{statement_sums, block_sums}
 use Rattle.sect_types.specs.Sums.{procedure_sums, sums_within}

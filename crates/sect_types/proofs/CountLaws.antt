@@ -15,7 +15,7 @@ use Rattle.sect_front.specs.declared.tree.Procedure.{Procedure}
 use Rattle.sect_front.specs.declared.tree.Thread.{Thread}
 use Rattle.sect_front.specs.TreeView.{TreeView}
 use Rattle.sect_types.specs.Items.{variables}
-use Rattle.sect_types.specs.declared.sums.Sums.{Sums}
+use Rattle.sect_types.specs.declared.counting.sums.Sums.{Sums}
 use Rattle.sect_types.specs.Sums.{nothing, sums, sums_at, or_nothing, sums_within, procedure_sums, statement_sums}
 use Rattle.sect_types.specs.Sums.{block_sums, primitive_sums, number_of, sums_of}
 use Rattle.sect_types.specs.Expanded.{Scene, NextNumbers, Freshens, of_call, past_statement, past_block}

@@ -8,7 +8,7 @@ use Rattle.sect_front.specs.declared.tree.Declaration.{Declaration}
 use Rattle.sect_front.specs.Syntax.{StatementView, Primitive, If, IfElse, While, Atomic, Call, BlockView, End, Then}
 use Rattle.sect_front.specs.declared.tree.Procedure.{Procedure}
 use Rattle.sect_front.specs.TreeView.{TreeView}
-use Rattle.sect_types.specs.declared.place.Place.TheVariants.{InProcedure}
+use Rattle.sect_types.specs.declared.rules.place.Place.TheVariants.{InProcedure}
 use Rattle.sect_types.specs.Items.{variables}
 use Rattle.sect_types.specs.Sums.{number_of, prepend, statement_calls, block_calls, calls_in}
 use Rattle.sect_types.specs.steps.Search.{returns}

@@ -1,15 +1,15 @@
 -- A block of which the first statements have been expanded.
 use Rattle.std.proofs.Common.{◌≡◌, ℕ, ◌+◌, ◌<◌, List, [], ◌∷◌, drop, get_or, length, refl, sym, ap, ◌∙◌, append-nil}
 use Rattle.std.proofs.Common.{arith, Result, Ok, Err, OnOk}
-use Rattle.sect_types.specs.declared.text.Step.{Step}
+use Rattle.sect_types.specs.declared.expansion.text.Step.{Step}
 use Rattle.sect_types.specs.Texts.{step_then}
 use Rattle.sect_front.specs.Syntax.{StatementView, BlockView, End, Then}
 use Rattle.sect_front.specs.Trees.{statement_of, block_of}
 use Rattle.sect_front.specs.declared.tree.Statement.{Statement}
 use Rattle.sect_front.specs.declared.tree.Operand.{Operand}
 use Rattle.sect_front.specs.declared.tree.Declaration.{Declaration}
-use Rattle.sect_types.specs.declared.action.Action.TheVariants as action
-use Rattle.sect_types.specs.declared.action.Value.TheVariants as value
+use Rattle.sect_types.specs.declared.expansion.action.Action.TheVariants as action
+use Rattle.sect_types.specs.declared.expansion.action.Value.TheVariants as value
 use Rattle.sect_types.specs.Sight.{operand_of}
 use Rattle.sect_types.specs.Statements.{TextView, Stop, Do, joined}
 use Rattle.sect_types.specs.Expanded.{Scene, cleared}

@@ -6,8 +6,8 @@ use Rattle.sect_lemmas.proofs.Elements.{drop_next}
 use Rattle.std.proofs.lemmas.List.{drop_all}
 use Rattle.sect_types.specs.Statements.{TextView, Stop, section_body}
 use Rattle.sect_types.specs.Texts.{step_then, statements_of}
-use Rattle.sect_types.specs.declared.text.Step.{Step}
-use Rattle.sect_types.specs.declared.text.Step.TheVariants as step
+use Rattle.sect_types.specs.declared.expansion.text.Step.{Step}
+use Rattle.sect_types.specs.declared.expansion.text.Step.TheVariants as step
 
 or_none : {A : Type 0} (x : Option A) → option_or x None ≡ x
 or_none None = refl

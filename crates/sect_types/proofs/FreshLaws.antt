@@ -7,7 +7,7 @@ use Rattle.std.proofs.Common.{length}
 use Rattle.sect_front.specs.Syntax.{StatementView, Primitive, If, IfElse, While, Atomic, Call, BlockView, End, Then}
 use Rattle.sect_front.specs.declared.tree.Procedure.{Procedure}
 use Rattle.sect_types.specs.Items.{variables}
-use Rattle.sect_types.specs.declared.sums.Sums.{Sums}
+use Rattle.sect_types.specs.declared.counting.sums.Sums.{Sums}
 use Rattle.sect_types.specs.Sums.{sums_within, statement_sums, block_sums, number_of, prepend, statement_calls}
 use Rattle.sect_types.specs.Sums.{block_calls, calls_in}
 use Rattle.sect_types.specs.Expanded.{Freshens, of_call, statement_fresh, block_fresh, fresh_of, fresh_within}

@@ -10,12 +10,12 @@ use Rattle.sect_front.specs.declared.tree.Statement.{Statement}
 use Rattle.sect_front.specs.Syntax.{StatementView, IfElse, Call, BlockView, End, Then}
 use Rattle.sect_front.specs.Trees.{statement_of, block_of, block_size}
 use Rattle.sect_types.specs.Limits.{most_all_locals, most_calls}
-use Rattle.sect_types.specs.declared.expand.Fresh.{Fresh}
-use Rattle.sect_types.specs.declared.sums.Sums.{Sums}
+use Rattle.sect_types.specs.declared.expansion.expand.Fresh.{Fresh}
+use Rattle.sect_types.specs.declared.counting.sums.Sums.{Sums}
 use Rattle.sect_types.specs.Items.{variables}
 use Rattle.sect_types.specs.Sums.{sums_within, block_sums, sums_at, number_of}
 use Rattle.sect_types.specs.Statements.{TextView, Stop, Choose, joined}
-use Rattle.sect_types.specs.declared.action.Condition.{Condition}
+use Rattle.sect_types.specs.declared.expansion.action.Condition.{Condition}
 use Rattle.sect_types.specs.Numbered.{condition_of}
 use Rattle.sect_types.specs.steps.Written.{condition_in, written_within, write_parameters, write_locals}
 use Rattle.sect_types.specs.Expanded.{moved_condition, Scene, of_call}

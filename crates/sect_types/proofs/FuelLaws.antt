@@ -4,7 +4,7 @@ use Rattle.std.specs.List.{list_any}
 use Rattle.std.proofs.Common.{◌≡◌, ℕ, zero, suc, ◌+◌, List, [], Option, Some, None, refl, sym, ◌∙◌, ap, length}
 use Rattle.sect_front.specs.Syntax.{StatementView, Primitive, If, IfElse, While, Atomic, Call, BlockView, End, Then}
 use Rattle.sect_front.specs.declared.tree.Procedure.{Procedure}
-use Rattle.sect_types.specs.declared.sums.Sums.{Sums}
+use Rattle.sect_types.specs.declared.counting.sums.Sums.{Sums}
 use Rattle.sect_types.specs.Sums.{nothing, both, around, call_sums, sums_at, number_of, statement_sums, block_sums}
 use Rattle.sect_types.specs.Sums.{sums_within, prepend, statement_calls, block_calls, calls_in, sums_of}
 use Rattle.sect_types.specs.Expanded.{procedure_numbered}

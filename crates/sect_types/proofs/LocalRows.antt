@@ -9,7 +9,7 @@ use Rattle.std.proofs.lemmas.Option.{slice_get-map, slice_get-get_or}
 use Rattle.sect_front.specs.TreeView.{TreeView}
 use Rattle.sect_front.specs.declared.tree.Thread.{Thread}
 use Rattle.sect_front.specs.declared.tree.Declaration.{Declaration}
-use Rattle.sect_types.specs.declared.expand.Fresh.{Fresh}
+use Rattle.sect_types.specs.declared.expansion.expand.Fresh.{Fresh}
 use Rattle.sect_types.specs.Expanded.{fresh_in}
 use Rattle.sect_types.specs.LocalNames.{local_names_of, all_local_names}
 use Rattle.sect_types.specs.Programs.{ProgramView, IsOfTree}

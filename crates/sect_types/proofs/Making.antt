@@ -5,12 +5,12 @@ use Rattle.sect_front.specs.declared.tree.Primitive as leaf
 use Rattle.sect_front.specs.declared.tree.Primitive.TheVariants as primitive
 use Rattle.sect_front.specs.declared.tree.Kind.TheVariants as kind
 use Rattle.sect_front.specs.declared.tree.Operator.{Operator}
-use Rattle.sect_types.specs.declared.action.Action.{Action}
-use Rattle.sect_types.specs.declared.resolve.Denoted.{Denoted}
-use Rattle.sect_types.specs.declared.resolve.Denoted.TheVariants as denoted
-use Rattle.sect_types.specs.declared.resolve.Given.{Given}
-use Rattle.sect_types.specs.declared.resolve.Looked.{Looked}
-use Rattle.sect_types.specs.declared.resolve.Looked.TheVariants as looked
+use Rattle.sect_types.specs.declared.expansion.action.Action.{Action}
+use Rattle.sect_types.specs.declared.rules.resolve.Denoted.{Denoted}
+use Rattle.sect_types.specs.declared.rules.resolve.Denoted.TheVariants as denoted
+use Rattle.sect_types.specs.declared.rules.resolve.Given.{Given}
+use Rattle.sect_types.specs.declared.rules.resolve.Looked.{Looked}
+use Rattle.sect_types.specs.declared.rules.resolve.Looked.TheVariants as looked
 use Rattle.sect_types.specs.Sight.{Sight, place, names_of_records, base_of, operand_of}
 use Rattle.sect_types.proofs.Typing.{well_typed, primitive_of, assign_of, compute_of, new_of, load_of, store_of}
 use Rattle.sect_types.proofs.Typing.{print_of}

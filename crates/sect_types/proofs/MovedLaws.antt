@@ -1,14 +1,14 @@
 -- TextView whose variables are moved stay sound where the types are moved with them.
 use Rattle.std.proofs.Common.{◌≡◌, ℕ, ◌+◌, Bool, true, false, List, Some, slice_get}
-use Rattle.sect_types.specs.declared.types.ValueType.{ValueType}
-use Rattle.sect_types.specs.declared.types.ValueType.TheVariants.{Int, Refers}
-use Rattle.sect_types.specs.declared.action.Base.{Base}
-use Rattle.sect_types.specs.declared.action.Base.TheVariants as base
-use Rattle.sect_types.specs.declared.action.Value.{Value}
-use Rattle.sect_types.specs.declared.action.Value.TheVariants as value
-use Rattle.sect_types.specs.declared.action.Condition.{Condition}
-use Rattle.sect_types.specs.declared.action.Action.{Action}
-use Rattle.sect_types.specs.declared.action.Action.TheVariants as action
+use Rattle.sect_types.specs.declared.declarations.types.ValueType.{ValueType}
+use Rattle.sect_types.specs.declared.declarations.types.ValueType.TheVariants.{Int, Refers}
+use Rattle.sect_types.specs.declared.expansion.action.Base.{Base}
+use Rattle.sect_types.specs.declared.expansion.action.Base.TheVariants as base
+use Rattle.sect_types.specs.declared.expansion.action.Value.{Value}
+use Rattle.sect_types.specs.declared.expansion.action.Value.TheVariants as value
+use Rattle.sect_types.specs.declared.expansion.action.Condition.{Condition}
+use Rattle.sect_types.specs.declared.expansion.action.Action.{Action}
+use Rattle.sect_types.specs.declared.expansion.action.Action.TheVariants as action
 use Rattle.sect_types.specs.Environments.{Environment}
 use Rattle.sect_types.specs.Kinds.{compares_integers}
 use Rattle.sect_types.specs.Sound.{type_at, HasType, IsSoundAction, AreAlike, IsSoundCondition}

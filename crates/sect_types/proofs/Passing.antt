@@ -9,9 +9,9 @@ use Rattle.sect_front.specs.Trees.{statement_of, block_of}
 use Rattle.sect_front.specs.Depth.{statement_depth, block_depth}
 use Rattle.sect_front.specs.declared.tree.Statement.{Statement}
 use Rattle.sect_front.specs.declared.tree.Declaration.{Declaration}
-use Rattle.sect_types.specs.declared.place.Place.{Place}
-use Rattle.sect_types.specs.declared.rule.WalkFault.{WalkFault}
-use Rattle.sect_types.specs.declared.rule.WalkFault.TheVariants as fault
+use Rattle.sect_types.specs.declared.rules.place.Place.{Place}
+use Rattle.sect_types.specs.declared.rules.rule.WalkFault.{WalkFault}
+use Rattle.sect_types.specs.declared.rules.rule.WalkFault.TheVariants as fault
 use Rattle.sect_types.specs.Items.{Head, TestHead, deeper, Item, AStatement, statement_items, block_items}
 use Rattle.sect_types.specs.Rules.{Declared, Counts}
 use Rattle.sect_types.specs.steps.Judging.{judge}

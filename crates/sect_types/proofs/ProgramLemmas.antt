@@ -16,18 +16,19 @@ use Rattle.sect_front.specs.declared.tree.Thread.{Thread}
 use Rattle.sect_front.specs.declared.tree.Locking.{Locking}
 use Rattle.sect_front.specs.TreeView.{TreeView}
 use Rattle.sect_front.specs.Syntax.{StatementView, Primitive, If, IfElse, While, Atomic, Call, BlockView, End, Then}
-use Rattle.sect_types.specs.declared.types.ValueType.{ValueType}
-use Rattle.sect_types.specs.declared.place.Place.{Place}
-use Rattle.sect_types.specs.declared.place.Place.TheVariants.{InThread}
-use Rattle.sect_types.specs.declared.sums.Sums.{Sums}
+use Rattle.sect_types.specs.declared.declarations.types.ValueType.{ValueType}
+use Rattle.sect_types.specs.declared.rules.place.Place.{Place}
+use Rattle.sect_types.specs.declared.rules.place.Place.TheVariants.{InThread}
+use Rattle.sect_types.specs.declared.counting.sums.Sums.{Sums}
 use Rattle.sect_types.specs.Sight.{names_of_records, has_name, place}
 use Rattle.sect_types.specs.Items.{deeper, in_section, variables}
 use Rattle.sect_types.specs.Rules.{Declared, Counts, declared_in, knows_kind}
 use Rattle.sect_types.specs.Sums.{sums, sums_within, number_of, statement_sums, block_sums}
-use Rattle.sect_types.specs.declared.expand.Fresh.{Fresh}
+use Rattle.sect_types.specs.declared.expansion.expand.Fresh.{Fresh}
 use Rattle.sect_types.specs.Expanded.{Freshens, of_call, statement_fresh, block_fresh, fresh_of, fresh_within}
 use Rattle.sect_types.specs.steps.Written.{written_threads, written_texts}
-use Rattle.sect_types.specs.Expanded.{fresh_in, texts_of, procedure_numbered, local_types_of, all_local_types, past_thread}
+use Rattle.sect_types.specs.Expanded.{fresh_in, texts_of, procedure_numbered, local_types_of, all_local_types}
+use Rattle.sect_types.specs.Expanded.{past_thread}
 use Rattle.sect_types.specs.Expanded.{block_sections, statement_sections, NextNumbers}
 use Rattle.sect_types.specs.Statements.{TextView}
 use Rattle.sect_types.specs.steps.Listing.{all_known, fields_fine, locals_fine, globals_known}

@@ -6,8 +6,8 @@ use Rattle.std.proofs.lemmas.Bool.Decides.{nat_tests}
 use Rattle.sect_lemmas.proofs.Elements.{drop_next}
 use Rattle.sect_types.proofs.Passed.{judged_on, joined_on, tested_on}
 use Rattle.sect_front.specs.declared.tree.Record.{Record}
-use Rattle.sect_types.specs.declared.rule.WalkFault.{WalkFault}
-use Rattle.sect_types.specs.declared.rule.WalkFault.TheVariants as fault
+use Rattle.sect_types.specs.declared.rules.rule.WalkFault.{WalkFault}
+use Rattle.sect_types.specs.declared.rules.rule.WalkFault.TheVariants as fault
 use Rattle.sect_types.specs.Sight.{names_of_records, names_of_declared, all_fields}
 use Rattle.sect_types.specs.Items.{Item, ARecord, field_items, record_items}
 use Rattle.sect_types.specs.Rules.{Declared, Counts}

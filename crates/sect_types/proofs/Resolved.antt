@@ -5,9 +5,9 @@ use Rattle.std.proofs.Common.{length}
 use Rattle.sect_front.specs.declared.tree.Primitive as leaf
 use Rattle.sect_front.specs.declared.tree.Test.{Test}
 use Rattle.sect_front.specs.declared.tree.Declaration.{Declaration}
-use Rattle.sect_types.specs.declared.rule.Rule.{Rule}
-use Rattle.sect_types.specs.declared.action.Action.{Action}
-use Rattle.sect_types.specs.declared.action.Action.TheVariants as action
+use Rattle.sect_types.specs.declared.rules.rule.Rule.{Rule}
+use Rattle.sect_types.specs.declared.expansion.action.Action.{Action}
+use Rattle.sect_types.specs.declared.expansion.action.Action.TheVariants as action
 use Rattle.sect_types.specs.Sight.{Sight}
 use Rattle.sect_types.proofs.Typing.{primitive_of, test_of}
 use Rattle.sect_types.specs.steps.Written.{action_in, condition_in}
@@ -23,7 +23,7 @@ use Rattle.sect_types.proofs.Making.{Makes, primitive_makes}
 use Rattle.sect_types.proofs.Agreeing.{linked, test_linked}
 use Rattle.sect_types.specs.Numbered.{action_of, condition_of}
 use Rattle.sect_types.specs.Items.{PrimitiveHead, TestHead, AStatement}
-use Rattle.sect_types.specs.declared.place.Place.{Place}
+use Rattle.sect_types.specs.declared.rules.place.Place.{Place}
 use Rattle.sect_types.specs.Sums.{primitive_sums}
 use Rattle.sect_types.specs.Expanded.{moved_action}
 use Rattle.sect_types.specs.steps.Clean.{IsClean}

@@ -9,7 +9,7 @@ use Rattle.sect_types.specs.Statements.{TextView, Stop, Do, Choose, Loop, Sectio
 use Rattle.sect_types.specs.Statements.{section_bodies}
 use Rattle.sect_types.specs.Sections.{SectionView, sections_from, sections_of, AreNumbered, AllNumbered, found_in}
 use Rattle.sect_types.specs.Sections.{section_from}
-use Rattle.sect_types.specs.declared.section.Section.{Section}
+use Rattle.sect_types.specs.declared.counting.section.Section.{Section}
 use Rattle.sect_types.specs.Sections.{section_shown}
 use Rattle.sect_types.specs.steps.Found.{section_in}
 

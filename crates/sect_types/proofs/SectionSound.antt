@@ -3,7 +3,7 @@ use Rattle.std.proofs.Common.{◌≡◌, ℕ, zero, suc, List, [], ◌∷◌, ge
 use Rattle.std.specs.Prelude.{slice_get}
 use Rattle.sect_types.specs.Statements.{TextView}
 use Rattle.sect_types.specs.Sound.{IsSound, AreSound}
-use Rattle.sect_types.specs.declared.types.ValueType.{ValueType}
+use Rattle.sect_types.specs.declared.declarations.types.ValueType.{ValueType}
 use Rattle.sect_types.proofs.shared.SectionSound.{with_locals}
 
 pub text_sound : (records : List (List ValueType)) (globals : List ℕ) (locals : List (List ValueType))

@@ -10,11 +10,12 @@ use Rattle.sect_front.specs.declared.tree.Declaration.{Declaration}
 use Rattle.sect_front.specs.declared.tree.Thread.{Thread}
 use Rattle.sect_front.specs.TreeView.{TreeView}
 use Rattle.sect_front.specs.Syntax.{StatementView, Primitive, If, IfElse, While, Atomic, Call, BlockView, End, Then}
-use Rattle.sect_types.specs.declared.place.Place.TheVariants.{InThread}
-use Rattle.sect_types.specs.declared.sums.Sums.{Sums}
+use Rattle.sect_types.specs.declared.rules.place.Place.TheVariants.{InThread}
+use Rattle.sect_types.specs.declared.counting.sums.Sums.{Sums}
 use Rattle.sect_types.specs.Limits.{most_statements, most_sites, most_calls}
 use Rattle.sect_types.specs.Statements.{TextView, text_depth}
-use Rattle.sect_types.specs.Items.{Item, AThread, AStatement, TestHead, AtomicHead, CallHead, statement_items, block_items}
+use Rattle.sect_types.specs.Items.{Item, AThread, AStatement, TestHead, AtomicHead, CallHead, statement_items}
+use Rattle.sect_types.specs.Items.{block_items}
 use Rattle.sect_types.specs.Items.{global_items, local_items, procedure_items, thread_items}
 use Rattle.sect_types.specs.Sums.{number_of, statement_sums, block_sums}
 use Rattle.sect_types.specs.Rules.{Declared, Counts, seen, after, passes_by, sums_of_call, as_many, procedure_of}

@@ -22,16 +22,16 @@ use Rattle.sect_front.specs.declared.tree.Test.{Test}
 use Rattle.sect_front.specs.declared.tree.GlobalObject.{GlobalObject}
 use Rattle.sect_front.specs.declared.tree.Declaration.{Declaration}
 use Rattle.sect_front.specs.declared.tree.Record.{Record}
-use Rattle.sect_types.specs.declared.resolve.Denoted.{Denoted}
-use Rattle.sect_types.specs.declared.resolve.Denoted.TheVariants as denoted
-use Rattle.sect_types.specs.declared.resolve.Given.{Given}
-use Rattle.sect_types.specs.declared.resolve.Given.TheVariants as given
-use Rattle.sect_types.specs.declared.resolve.FieldAt.{FieldAt}
-use Rattle.sect_types.specs.declared.types.ValueType.{ValueType}
-use Rattle.sect_types.specs.declared.types.ValueType.TheVariants.{Int, Refers}
-use Rattle.sect_types.specs.declared.action.Action.{Action}
-use Rattle.sect_types.specs.declared.action.Action.TheVariants as action
-use Rattle.sect_types.specs.declared.action.Condition.{Condition}
+use Rattle.sect_types.specs.declared.rules.resolve.Denoted.{Denoted}
+use Rattle.sect_types.specs.declared.rules.resolve.Denoted.TheVariants as denoted
+use Rattle.sect_types.specs.declared.rules.resolve.Given.{Given}
+use Rattle.sect_types.specs.declared.rules.resolve.Given.TheVariants as given
+use Rattle.sect_types.specs.declared.rules.resolve.FieldAt.{FieldAt}
+use Rattle.sect_types.specs.declared.declarations.types.ValueType.{ValueType}
+use Rattle.sect_types.specs.declared.declarations.types.ValueType.TheVariants.{Int, Refers}
+use Rattle.sect_types.specs.declared.expansion.action.Action.{Action}
+use Rattle.sect_types.specs.declared.expansion.action.Action.TheVariants as action
+use Rattle.sect_types.specs.declared.expansion.action.Condition.{Condition}
 use Rattle.sect_types.specs.Sight.{Sight, given_by, base_of, operand_of, kind_of, local_at, local_with, global_at}
 use Rattle.sect_types.specs.Sight.{global_with, or_else, place, names_of_declared, names_of_globals, names_of_records}
 use Rattle.sect_types.specs.Sight.{field_with, field_at, field_in, field_of, field_of_number}
@@ -43,7 +43,8 @@ use Rattle.sect_types.specs.Sight.{field_looked, looked_in, looked_of}
 use Rattle.sect_types.specs.Items.{PrimitiveHead}
 use Rattle.sect_types.specs.Rules.{shares}
 use Rattle.sect_types.specs.Environments.{Environment, environment, record_number, type_of, types_of}
-use Rattle.sect_types.specs.Sound.{reference_to, type_at, type_in, field_type, HasType, IsSoundAction, AreAlike, AreComparable}
+use Rattle.sect_types.specs.Sound.{reference_to, type_at, type_in, field_type, HasType, IsSoundAction, AreAlike}
+use Rattle.sect_types.specs.Sound.{AreComparable}
 use Rattle.sect_types.specs.Sound.{IsSoundCondition, is_shared, IsSound}
 use Rattle.sect_types.specs.Statements.{TextView, Stop, Do, Choose, Loop, Section, joined}
 use Rattle.std.proofs.lemmas.Bool.{and_parts}

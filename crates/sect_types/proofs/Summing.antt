@@ -5,9 +5,9 @@ use Rattle.std.proofs.lemmas.List.{drop_all, append-nil, length-map}
 use Rattle.sect_front.specs.declared.tree.Procedure.{Procedure}
 use Rattle.sect_front.specs.declared.tree.Statement.{Statement}
 use Rattle.sect_front.specs.Trees.{block_of}
-use Rattle.sect_types.specs.declared.sums.Sums.{Sums}
-use Rattle.sect_types.specs.declared.sums.Met.{Met}
-use Rattle.sect_types.specs.declared.sums.Summary.{Summary}
+use Rattle.sect_types.specs.declared.counting.sums.Sums.{Sums}
+use Rattle.sect_types.specs.declared.counting.sums.Met.{Met}
+use Rattle.sect_types.specs.declared.counting.sums.Summary.{Summary}
 use Rattle.sect_types.specs.Sums.{both, sums_at, block_sums}
 use Rattle.sect_types.specs.steps.Capped.{capped, IsSmall}
 use Rattle.sect_types.specs.steps.Summaries.{deeper, met_sums, summary_sums, HasMore, AreSummaries}

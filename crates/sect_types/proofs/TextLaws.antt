@@ -12,10 +12,11 @@ use Rattle.sect_types.specs.Rules.{sight}
 use Rattle.sect_front.specs.Syntax.{StatementView, Primitive, If, IfElse, While, Atomic, Call, BlockView, End, Then}
 use Rattle.sect_front.specs.declared.tree.Procedure.{Procedure}
 use Rattle.sect_types.specs.Items.{variables}
-use Rattle.sect_types.specs.declared.sums.Sums.{Sums}
+use Rattle.sect_types.specs.declared.counting.sums.Sums.{Sums}
 use Rattle.sect_types.specs.Sums.{sums_within, number_of, prepend, statement_calls, block_calls, calls_in}
 use Rattle.sect_types.specs.Numbered.{of_both, of_all}
-use Rattle.sect_types.specs.Expanded.{Scene, NextNumbers, Expander, past, past_statement, past_block, statement_sections}
+use Rattle.sect_types.specs.Expanded.{Scene, NextNumbers, Expander, past, past_statement, past_block}
+use Rattle.sect_types.specs.Expanded.{statement_sections}
 use Rattle.sect_types.specs.Expanded.{block_sections, condition_at, expanded_statement, expanded_block, expand_within}
 use Rattle.sect_types.specs.Expanded.{call_of, procedure_numbered, after_call, set_parameters, clear_locals}
 use Rattle.sect_types.proofs.FuelLaws.{Agree, same_statement, same_block, chain, one_more}

@@ -10,10 +10,10 @@ use Rattle.sect_front.specs.declared.tree.Declaration.{Declaration}
 use Rattle.sect_front.specs.declared.tree.Procedure.{Procedure}
 use Rattle.sect_front.specs.declared.tree.Thread.{Thread}
 use Rattle.sect_front.specs.TreeView.{TreeView}
-use Rattle.sect_types.specs.declared.place.Place.{Place}
-use Rattle.sect_types.specs.declared.place.Place.TheVariants.{InThread, InProcedure}
-use Rattle.sect_types.specs.declared.rule.WalkFault.{WalkFault}
-use Rattle.sect_types.specs.declared.rule.WalkFault.TheVariants as fault
+use Rattle.sect_types.specs.declared.rules.place.Place.{Place}
+use Rattle.sect_types.specs.declared.rules.place.Place.TheVariants.{InThread, InProcedure}
+use Rattle.sect_types.specs.declared.rules.rule.WalkFault.{WalkFault}
+use Rattle.sect_types.specs.declared.rules.rule.WalkFault.TheVariants as fault
 use Rattle.sect_types.specs.Sight.{Sight, names_of_records, names_of_declared}
 use Rattle.sect_types.specs.Items.{Item, AProcedure, AThread, variables, local_items, block_items, procedure_items}
 use Rattle.sect_types.specs.Items.{thread_items}

@@ -7,9 +7,9 @@ use Rattle.sect_front.specs.declared.tree.Operand.{Operand}
 use Rattle.sect_front.specs.declared.tree.Kind.{Kind}
 use Rattle.sect_front.specs.declared.tree.Kind.TheVariants as kind
 use Rattle.sect_front.specs.declared.tree.Declaration.{Declaration}
-use Rattle.sect_types.specs.declared.types.ValueType.{ValueType}
-use Rattle.sect_types.specs.declared.action.Action.{Action}
-use Rattle.sect_types.specs.declared.resolve.Given.{Given}
+use Rattle.sect_types.specs.declared.declarations.types.ValueType.{ValueType}
+use Rattle.sect_types.specs.declared.expansion.action.Action.{Action}
+use Rattle.sect_types.specs.declared.rules.resolve.Given.{Given}
 use Rattle.sect_types.specs.Sight.{names_of_records, operand_of}
 use Rattle.sect_types.specs.Numbered.{value_by}
 use Rattle.sect_types.specs.steps.Written.{Writer, written_statement, written_block, argument_in, write_parameters}
@@ -23,10 +23,10 @@ use Rattle.sect_front.specs.Syntax.{StatementView, Primitive, If, IfElse, While,
 use Rattle.sect_front.specs.declared.tree.Procedure.{Procedure}
 use Rattle.sect_front.specs.declared.tree.Thread.{Thread}
 use Rattle.sect_front.specs.TreeView.{TreeView}
-use Rattle.sect_types.specs.declared.place.Place.{Place}
-use Rattle.sect_types.specs.declared.place.Place.TheVariants.{InThread, InProcedure}
+use Rattle.sect_types.specs.declared.rules.place.Place.{Place}
+use Rattle.sect_types.specs.declared.rules.place.Place.TheVariants.{InThread, InProcedure}
 use Rattle.sect_types.specs.Items.{deeper, in_section, is_inside, variables, AStatement, PrimitiveHead, CallHead}
-use Rattle.sect_types.specs.declared.sums.Sums.{Sums}
+use Rattle.sect_types.specs.declared.counting.sums.Sums.{Sums}
 use Rattle.sect_types.specs.Sums.{sums, sums_within, statement_sums, block_sums, number_of}
 use Rattle.sect_types.specs.Rules.{Declared, seen, kind_accepts, all_accept, shares, knows_operands, as_many}
 use Rattle.sect_types.specs.Rules.{procedure_at, procedure_of, call_agrees, declared_in}
@@ -37,7 +37,7 @@ use Rattle.sect_types.specs.Expanded.{cleared}
 use Rattle.sect_types.specs.Expanded.{after_call, procedure_numbered, fresh_of}
 use Rattle.sect_types.specs.Expanded.{fresh_within, fresh_in, statement_fresh, block_fresh, local_types_of}
 use Rattle.sect_types.specs.Expanded.{past_thread}
-use Rattle.sect_types.specs.declared.expand.Fresh.{Fresh}
+use Rattle.sect_types.specs.declared.expansion.expand.Fresh.{Fresh}
 use Rattle.sect_types.proofs.CountLaws.{CountsFresh, statement_freshens, block_freshens, call_freshens, of_call_long}
 use Rattle.sect_types.proofs.MovedLaws.{StandFrom, moved_type, moved_sound, moved_holds}
 use Rattle.sect_types.proofs.Walked.{text_clean}

@@ -12,11 +12,12 @@ use Rattle.sect_types.specs.Items.{PrimitiveHead, TestHead, AtomicHead, CallHead
 use Rattle.sect_types.specs.Items.{AGlobal, AStatement, statement_items}
 use Rattle.sect_types.specs.Items.{block_items, field_items, record_items, global_items, local_items, procedure_items}
 use Rattle.sect_types.specs.Items.{thread_items, variables}
-use Rattle.sect_types.specs.declared.place.Place.{Place}
-use Rattle.sect_types.specs.declared.place.Place.TheVariants.{InThread, InProcedure}
-use Rattle.sect_types.specs.declared.rule.Rule.TheVariants.{Unknown, Twice, WrongType, SharedOutside, Nested, TooMany}
-use Rattle.sect_types.specs.declared.rule.Rule.TheVariants.{Recursion, Arguments}
-use Rattle.sect_types.specs.declared.rule.Rule.{Rule}
+use Rattle.sect_types.specs.declared.rules.place.Place.{Place}
+use Rattle.sect_types.specs.declared.rules.place.Place.TheVariants.{InThread, InProcedure}
+use Rattle.sect_types.specs.declared.rules.rule.Rule.TheVariants.{Unknown, Twice, WrongType, SharedOutside, Nested}
+use Rattle.sect_types.specs.declared.rules.rule.Rule.TheVariants.{TooMany}
+use Rattle.sect_types.specs.declared.rules.rule.Rule.TheVariants.{Recursion, Arguments}
+use Rattle.sect_types.specs.declared.rules.rule.Rule.{Rule}
 use Rattle.sect_types.specs.Rules.{Declared, Counts, after, after_item, declared_in}
 use Rattle.sect_types.specs.steps.Judging.{breaks}
 use Rattle.sect_types.specs.First.{BreaksFrom, none_yet, IsTyped}

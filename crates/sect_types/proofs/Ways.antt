@@ -5,13 +5,15 @@ use Rattle.std.proofs.Common.{◌≡◌, inl, inr, ℕ, zero, suc, List, [], ◌
 use Rattle.std.proofs.Common.{slice_get}
 use Rattle.std.proofs.lemmas.Bool.{eqb-true}
 use Rattle.sect_front.specs.declared.tree.Procedure.{Procedure}
-use Rattle.sect_types.specs.declared.place.Place.{Place}
-use Rattle.sect_types.specs.declared.place.Place.TheVariants.{InThread, InProcedure}
-use Rattle.sect_types.specs.declared.rule.Rule.{Rule}
-use Rattle.sect_types.specs.declared.rule.Rule.TheVariants.{Unknown, Twice, WrongType, SharedOutside, Nested, TooMany}
-use Rattle.sect_types.specs.declared.rule.Rule.TheVariants.{Recursion, Arguments}
+use Rattle.sect_types.specs.declared.rules.place.Place.{Place}
+use Rattle.sect_types.specs.declared.rules.place.Place.TheVariants.{InThread, InProcedure}
+use Rattle.sect_types.specs.declared.rules.rule.Rule.{Rule}
+use Rattle.sect_types.specs.declared.rules.rule.Rule.TheVariants.{Unknown, Twice, WrongType, SharedOutside, Nested}
+use Rattle.sect_types.specs.declared.rules.rule.Rule.TheVariants.{TooMany}
+use Rattle.sect_types.specs.declared.rules.rule.Rule.TheVariants.{Recursion, Arguments}
 use Rattle.sect_lemmas.specs.Lists.{Has}
-use Rattle.sect_types.specs.Items.{Item, ARecord, AField, AGlobal, AProcedure, AThread, ALocal, AStatement, PrimitiveHead}
+use Rattle.sect_types.specs.Items.{Item, ARecord, AField, AGlobal, AProcedure, AThread, ALocal, AStatement}
+use Rattle.sect_types.specs.Items.{PrimitiveHead}
 use Rattle.sect_types.specs.Items.{TestHead, AtomicHead, CallHead}
 use Rattle.sect_types.specs.Sums.{calls_in, number_of, IsWay, Returns}
 use Rattle.sect_types.specs.Rules.{Declared, Counts, ReturnsTo, IsRecursive, BreaksRule}

@@ -1,11 +1,11 @@
 -- What some programs come to, run by whole sections. Nothing cites these rows: they try the definitions.
 use Rattle.std.proofs.Common.{◌≡◌, List, [], ◌∷◌, Option, Some, None, refl}
 use Rattle.std.specs.Prelude.{map}
-use Rattle.sect_types.specs.declared.store.ObjectName.TheVariants.{Made}
-use Rattle.sect_types.specs.declared.store.Datum.TheVariants.{Null, Refers}
-use Rattle.sect_types.specs.declared.store.Fault.TheVariants as fault
-use Rattle.sect_types.specs.declared.store.End.{End}
-use Rattle.sect_types.specs.declared.store.End.TheVariants.{Done, Failed}
+use Rattle.sect_types.specs.declared.meaning.store.ObjectName.TheVariants.{Made}
+use Rattle.sect_types.specs.declared.meaning.store.Datum.TheVariants.{Null, Refers}
+use Rattle.sect_types.specs.declared.meaning.store.Fault.TheVariants as fault
+use Rattle.sect_types.specs.declared.meaning.store.End.{End}
+use Rattle.sect_types.specs.declared.meaning.store.End.TheVariants.{Done, Failed}
 use Rattle.sect_types.specs.Store.{ObjectView}
 use Rattle.sect_types.specs.Whole.{RunView, FrameView, RunsWhole, in_order, begun, all_ahead}
 use Rattle.sect_types.proofs.shared.ProgramTexts.{two_bumps, sum_and_push, null_after_write}

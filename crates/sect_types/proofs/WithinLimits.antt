@@ -9,7 +9,7 @@ use Rattle.sect_front.specs.declared.tree.Primitive.TheVariants as primitive
 use Rattle.sect_front.specs.declared.tree.Operand.{Operand}
 use Rattle.sect_front.specs.declared.tree.Declaration.{Declaration}
 use Rattle.sect_front.specs.declared.tree.GlobalObject.{GlobalObject}
-use Rattle.sect_types.specs.declared.types.ValueType.{ValueType}
+use Rattle.sect_types.specs.declared.declarations.types.ValueType.{ValueType}
 use Rattle.sect_types.specs.Sight.{names_of_records}
 use Rattle.sect_types.specs.Environments.{type_of, types_of}
 use Rattle.sect_types.specs.Sections.{sections_of}
@@ -18,17 +18,17 @@ use Rattle.sect_front.specs.Syntax.{StatementView, Primitive, If, IfElse, While,
 use Rattle.sect_front.specs.declared.tree.Procedure.{Procedure}
 use Rattle.sect_front.specs.declared.tree.Thread.{Thread}
 use Rattle.sect_front.specs.TreeView.{TreeView}
-use Rattle.sect_types.specs.declared.place.Place.TheVariants.{InThread}
+use Rattle.sect_types.specs.declared.rules.place.Place.TheVariants.{InThread}
 use Rattle.sect_types.specs.Items.{Item, AGlobal, AThread, ALocal, AStatement, PrimitiveHead, TestHead, AtomicHead}
 use Rattle.sect_types.specs.Items.{CallHead, statement_items, block_items, global_items, local_items, procedure_items}
 use Rattle.sect_types.specs.Items.{thread_items}
-use Rattle.sect_types.specs.declared.sums.Sums.{Sums}
+use Rattle.sect_types.specs.declared.counting.sums.Sums.{Sums}
 use Rattle.sect_types.specs.Sums.{sums, sums_at, sums_within, number_of, primitive_sums, statement_sums, block_sums}
 use Rattle.sect_types.specs.Rules.{Declared, Counts, seen, after, too_many, passes_by, sums_of_call, as_many}
 use Rattle.sect_types.specs.Rules.{after_item, procedure_of, knows_operands, declared_in}
 use Rattle.sect_types.specs.steps.Clean.{IsClean}
 use Rattle.sect_types.specs.First.{none_yet, IsTyped}
-use Rattle.sect_types.specs.declared.expand.Fresh.{Fresh}
+use Rattle.sect_types.specs.declared.expansion.expand.Fresh.{Fresh}
 use Rattle.sect_types.specs.Expanded.{procedure_numbered, fresh_in, local_types_of}
 use Rattle.sect_types.specs.steps.Written.{written_texts}
 use Rattle.sect_types.proofs.Resolved.{not_false}

@@ -9,20 +9,20 @@ use Rattle.sect_front.specs.declared.tree.Record.{Record}
 use Rattle.sect_front.specs.declared.tree.GlobalObject.{GlobalObject}
 use Rattle.sect_front.specs.Syntax.{StatementView, Primitive, If, IfElse, While, Atomic, Call, BlockView, End, Then}
 use Rattle.sect_front.specs.TreeView.{TreeView}
-use Rattle.sect_types.specs.declared.action.Value.{Value}
-use Rattle.sect_types.specs.declared.action.Value.TheVariants as value
-use Rattle.sect_types.specs.declared.action.Action.TheVariants as action
+use Rattle.sect_types.specs.declared.expansion.action.Value.{Value}
+use Rattle.sect_types.specs.declared.expansion.action.Value.TheVariants as value
+use Rattle.sect_types.specs.declared.expansion.action.Action.TheVariants as action
 use Rattle.sect_front.specs.declared.tree.Primitive as leaf
 use Rattle.sect_front.specs.declared.tree.Test.{Test}
 use Rattle.sect_front.specs.declared.tree.Locking.{Locking}
-use Rattle.sect_types.specs.declared.action.Action.{Action}
-use Rattle.sect_types.specs.declared.action.Condition.{Condition}
+use Rattle.sect_types.specs.declared.expansion.action.Action.{Action}
+use Rattle.sect_types.specs.declared.expansion.action.Condition.{Condition}
 use Rattle.sect_types.specs.Numbered.{action_of, condition_of}
 use Rattle.sect_types.specs.steps.Written.{action_in, condition_in, Writer, written_block, argument_in}
 use Rattle.sect_types.specs.steps.Written.{write_parameters, write_locals, written_call, written_within}
-use Rattle.sect_types.specs.declared.text.Step.{Step}
-use Rattle.sect_types.specs.declared.text.Step.TheVariants as step
-use Rattle.sect_types.specs.declared.sums.Sums.{Sums}
+use Rattle.sect_types.specs.declared.expansion.text.Step.{Step}
+use Rattle.sect_types.specs.declared.expansion.text.Step.TheVariants as step
+use Rattle.sect_types.specs.declared.counting.sums.Sums.{Sums}
 use Rattle.sect_types.specs.Sight.{Sight, operand_of}
 use Rattle.sect_types.specs.Rules.{sight}
 use Rattle.sect_types.specs.Items.{variables}

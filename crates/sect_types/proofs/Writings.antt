@@ -4,7 +4,7 @@ use Rattle.std.proofs.Common.{Some, subst, length, append_assoc}
 use Rattle.std.specs.Prelude.{IsSome}
 use Rattle.sect_front.specs.declared.tree.Thread.{Thread}
 use Rattle.sect_front.specs.TreeView.{TreeView}
-use Rattle.sect_types.specs.declared.expand.Fresh.{Fresh}
+use Rattle.sect_types.specs.declared.expansion.expand.Fresh.{Fresh}
 use Rattle.sect_types.specs.Sight.{Sight}
 use Rattle.sect_types.specs.Rules.{sight, declared_in}
 use Rattle.sect_types.specs.Sums.{sums, block_sums}
@@ -16,7 +16,7 @@ use Rattle.sect_types.specs.steps.Written.{written_threads}
 use Rattle.sect_types.specs.steps.Expanding.{SettingView, FrontView, Fits, block_there, thread_start, thread_end}
 use Rattle.sect_types.specs.steps.Expanding.{numbered_thread, thread_text, AllFit, tree_of, AreWritten, AreFlat}
 use Rattle.sect_types.specs.Items.{variables}
-use Rattle.sect_types.specs.declared.place.Place.TheVariants.{InProcedure}
+use Rattle.sect_types.specs.declared.rules.place.Place.TheVariants.{InProcedure}
 use Rattle.sect_types.proofs.SiteLaws.{typed_clean}
 use Rattle.sect_types.specs.steps.Expansion.{view_of}
 use Rattle.sect_lemmas.proofs.Elements.{drop_next}

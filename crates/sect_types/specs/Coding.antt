@@ -6,8 +6,8 @@ use Rattle.std.specs.Coded.{Coded}
 use base.Stored.{Gv, gnil, gnum, gcons}
 use Rattle.sect_front.specs.Coding.{head, tail, number}
 use Rattle.sect_types.specs.Statements.{TextView, Stop, Do, Choose, Loop, Section}
-use Rattle.sect_types.specs.contracts.action.Action.{the_row as action_row}
-use Rattle.sect_types.specs.contracts.action.Condition.{the_row as condition_row}
+use Rattle.sect_types.specs.contracts.expansion.action.Action.{the_row as action_row}
+use Rattle.sect_types.specs.contracts.expansion.action.Condition.{the_row as condition_row}
 
 -- a tree of numbers for each, by which a proof tells them apart
 abbrev stored : TextView → Gv

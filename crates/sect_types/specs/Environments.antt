@@ -5,8 +5,8 @@ use Rattle.sect_front.specs.declared.tree.GlobalObject.{GlobalObject}
 use Rattle.sect_front.specs.declared.tree.Declaration.{Declaration}
 use Rattle.sect_front.specs.declared.tree.Kind.{Kind}
 use Rattle.sect_front.specs.declared.tree.Kind.TheVariants as kind
-use Rattle.sect_types.specs.declared.types.ValueType.{ValueType}
-use Rattle.sect_types.specs.declared.types.ValueType.TheVariants.{Int, Refers}
+use Rattle.sect_types.specs.declared.declarations.types.ValueType.{ValueType}
+use Rattle.sect_types.specs.declared.declarations.types.ValueType.TheVariants.{Int, Refers}
 use Rattle.sect_types.specs.Sight.{Sight, place, names_of_records}
 
 -- what a thread's statements see: the types of the fields of each record, the record of each global, the types of

@@ -9,14 +9,14 @@ use Rattle.sect_front.specs.declared.tree.Kind.TheVariants as kind
 use Rattle.sect_front.specs.declared.tree.Declaration.{Declaration}
 use Rattle.sect_front.specs.declared.tree.Record.{Record}
 use Rattle.sect_front.specs.declared.tree.GlobalObject.{GlobalObject}
-use Rattle.sect_types.specs.declared.types.ValueType.{ValueType}
-use Rattle.sect_types.specs.declared.action.Base.{Base}
-use Rattle.sect_types.specs.declared.action.Base.TheVariants as base
-use Rattle.sect_types.specs.declared.action.Value.{Value}
-use Rattle.sect_types.specs.declared.action.Value.TheVariants as value
-use Rattle.sect_types.specs.declared.action.Condition.{Condition}
-use Rattle.sect_types.specs.declared.action.Action.{Action}
-use Rattle.sect_types.specs.declared.action.Action.TheVariants as action
+use Rattle.sect_types.specs.declared.declarations.types.ValueType.{ValueType}
+use Rattle.sect_types.specs.declared.expansion.action.Base.{Base}
+use Rattle.sect_types.specs.declared.expansion.action.Base.TheVariants as base
+use Rattle.sect_types.specs.declared.expansion.action.Value.{Value}
+use Rattle.sect_types.specs.declared.expansion.action.Value.TheVariants as value
+use Rattle.sect_types.specs.declared.expansion.action.Condition.{Condition}
+use Rattle.sect_types.specs.declared.expansion.action.Action.{Action}
+use Rattle.sect_types.specs.declared.expansion.action.Action.TheVariants as action
 use Rattle.sect_types.specs.Sight.{Sight, names_of_records}
 use Rattle.sect_types.specs.Numbered.{of_both, of_all, value_of, action_of, condition_of}
 use Rattle.sect_types.specs.Environments.{type_of, types_of}
@@ -27,8 +27,8 @@ use Rattle.sect_front.specs.declared.tree.Thread.{Thread}
 use Rattle.sect_front.specs.TreeView.{TreeView}
 use Rattle.sect_front.specs.Syntax.{StatementView, Primitive, If, IfElse, While, Atomic, Call, BlockView, End, Then}
 use Rattle.sect_types.specs.Items.{variables}
-use Rattle.sect_types.specs.declared.sums.Sums.{Sums}
-use Rattle.sect_types.specs.declared.expand.Fresh.{Fresh}
+use Rattle.sect_types.specs.declared.counting.sums.Sums.{Sums}
+use Rattle.sect_types.specs.declared.expansion.expand.Fresh.{Fresh}
 use Rattle.sect_types.specs.Sums.{sums, sums_within, statement_sums, block_sums, number_of}
 
 -- the variables from number n on

@@ -1,11 +1,12 @@
 -- Typed trees, and the first item at fault.
 use Rattle.std.specs.Prelude.{ℕ, zero, suc, ◌≤◌, List, [], ◌∷◌, Result, Ok, Err, ⊤}
 use Rattle.sect_front.specs.TreeView.{TreeView}
-use Rattle.sect_types.specs.declared.rule.Rule.{Rule}
-use Rattle.sect_types.specs.declared.rule.Rule.TheVariants.{Unknown, Twice, WrongType, SharedOutside, Nested, TooMany}
-use Rattle.sect_types.specs.declared.rule.Rule.TheVariants.{Recursion, Arguments}
-use Rattle.sect_types.specs.declared.rule.TypeFault.{TypeFault}
-use Rattle.sect_types.specs.declared.rule.TypeFault.TheVariants as fault
+use Rattle.sect_types.specs.declared.rules.rule.Rule.{Rule}
+use Rattle.sect_types.specs.declared.rules.rule.Rule.TheVariants.{Unknown, Twice, WrongType, SharedOutside, Nested}
+use Rattle.sect_types.specs.declared.rules.rule.Rule.TheVariants.{TooMany}
+use Rattle.sect_types.specs.declared.rules.rule.Rule.TheVariants.{Recursion, Arguments}
+use Rattle.sect_types.specs.declared.rules.rule.TypeFault.{TypeFault}
+use Rattle.sect_types.specs.declared.rules.rule.TypeFault.TheVariants as fault
 use Rattle.sect_types.specs.Items.{Item, items}
 use Rattle.sect_types.specs.Rules.{Declared, declared_in, Counts, BreaksRule, after}
 

@@ -4,8 +4,8 @@ use Rattle.sect_front.specs.declared.tree.Kind.{Kind}
 use Rattle.sect_front.specs.declared.tree.Kind.TheVariants as kind
 use Rattle.sect_front.specs.declared.tree.Comparison.{Comparison}
 use Rattle.sect_front.specs.declared.tree.Comparison.TheVariants as comparison
-use Rattle.sect_types.specs.declared.resolve.Given.{Given}
-use Rattle.sect_types.specs.declared.resolve.Given.TheVariants as given
+use Rattle.sect_types.specs.declared.rules.resolve.Given.{Given}
+use Rattle.sect_types.specs.declared.rules.resolve.Given.TheVariants as given
 use Rattle.sect_types.specs.Sight.{same_name, kind_of}
 
 abbrev pub same_kind : Kind → Kind → Bool

@@ -8,7 +8,7 @@ use Rattle.sect_front.specs.declared.tree.Thread.{Thread}
 use Rattle.sect_types.specs.Sums.{sums, block_sums}
 use Rattle.sect_types.specs.Limits.{most_calls}
 use Rattle.sect_types.specs.Limits.{most_all_locals, most_statements, most_sites, most_sections}
-use Rattle.sect_types.specs.declared.types.ValueType.{ValueType}
+use Rattle.sect_types.specs.declared.declarations.types.ValueType.{ValueType}
 use Rattle.sect_types.specs.Sight.{names_of_records}
 use Rattle.sect_types.specs.Statements.{TextView, statement_count, text_depth, made_in}
 use Rattle.sect_front.specs.declared.tree.Locking.{Locking}

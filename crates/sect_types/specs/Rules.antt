@@ -17,20 +17,21 @@ use Rattle.sect_front.specs.Limits.{most_depth}
 use Rattle.sect_types.specs.Limits.{most_records, most_fields, most_globals, most_threads}
 use Rattle.sect_types.specs.Limits.{most_locals, most_statements, most_sites, most_sections}
 use Rattle.sect_types.specs.Limits.{most_procedures, most_calls}
-use Rattle.sect_types.specs.declared.rule.Rule.{Rule}
-use Rattle.sect_types.specs.declared.rule.Rule.TheVariants.{Unknown, Twice, WrongType, SharedOutside, Nested, TooMany}
-use Rattle.sect_types.specs.declared.rule.Rule.TheVariants.{Recursion, Arguments}
-use Rattle.sect_types.specs.declared.place.Place.{Place}
-use Rattle.sect_types.specs.declared.place.Place.TheVariants.{InThread, InProcedure}
-use Rattle.sect_types.specs.declared.resolve.Denoted.{Denoted}
-use Rattle.sect_types.specs.declared.resolve.Denoted.TheVariants as denoted
-use Rattle.sect_types.specs.declared.resolve.Given.{Given}
-use Rattle.sect_types.specs.declared.resolve.Looked.{Looked}
-use Rattle.sect_types.specs.declared.resolve.Looked.TheVariants as looked
+use Rattle.sect_types.specs.declared.rules.rule.Rule.{Rule}
+use Rattle.sect_types.specs.declared.rules.rule.Rule.TheVariants.{Unknown, Twice, WrongType, SharedOutside, Nested}
+use Rattle.sect_types.specs.declared.rules.rule.Rule.TheVariants.{TooMany}
+use Rattle.sect_types.specs.declared.rules.rule.Rule.TheVariants.{Recursion, Arguments}
+use Rattle.sect_types.specs.declared.rules.place.Place.{Place}
+use Rattle.sect_types.specs.declared.rules.place.Place.TheVariants.{InThread, InProcedure}
+use Rattle.sect_types.specs.declared.rules.resolve.Denoted.{Denoted}
+use Rattle.sect_types.specs.declared.rules.resolve.Denoted.TheVariants as denoted
+use Rattle.sect_types.specs.declared.rules.resolve.Given.{Given}
+use Rattle.sect_types.specs.declared.rules.resolve.Looked.{Looked}
+use Rattle.sect_types.specs.declared.rules.resolve.Looked.TheVariants as looked
 use Rattle.sect_types.specs.Sight.{Sight, has_name, names_of_records, names_of_globals, base_of, operand_of}
 use Rattle.sect_types.specs.Kinds.{same_kind, accepts, comparable}
 use Rattle.sect_types.specs.Sight.{looked_of}
-use Rattle.sect_types.specs.declared.sums.Sums.{Sums}
+use Rattle.sect_types.specs.declared.counting.sums.Sums.{Sums}
 use Rattle.sect_types.specs.Sums.{sums, sums_at, number_of, Returns}
 use Rattle.sect_types.specs.Items.{Head, PrimitiveHead, TestHead, AtomicHead, CallHead, is_inside, Item, ARecord}
 use Rattle.sect_types.specs.Items.{AField}

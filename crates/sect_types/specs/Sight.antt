@@ -10,13 +10,13 @@ use Rattle.sect_front.specs.declared.tree.Kind.{Kind}
 use Rattle.sect_front.specs.declared.tree.Kind.TheVariants as kind
 use Rattle.sect_front.specs.declared.tree.Operand.{Operand}
 use Rattle.sect_front.specs.declared.tree.Operand.TheVariants as operand
-use Rattle.sect_types.specs.declared.resolve.Denoted.{Denoted}
-use Rattle.sect_types.specs.declared.resolve.Denoted.TheVariants as denoted
-use Rattle.sect_types.specs.declared.resolve.Given.{Given}
-use Rattle.sect_types.specs.declared.resolve.Given.TheVariants as given
-use Rattle.sect_types.specs.declared.resolve.Looked.{Looked}
-use Rattle.sect_types.specs.declared.resolve.Looked.TheVariants as looked
-use Rattle.sect_types.specs.declared.resolve.FieldAt.{FieldAt}
+use Rattle.sect_types.specs.declared.rules.resolve.Denoted.{Denoted}
+use Rattle.sect_types.specs.declared.rules.resolve.Denoted.TheVariants as denoted
+use Rattle.sect_types.specs.declared.rules.resolve.Given.{Given}
+use Rattle.sect_types.specs.declared.rules.resolve.Given.TheVariants as given
+use Rattle.sect_types.specs.declared.rules.resolve.Looked.{Looked}
+use Rattle.sect_types.specs.declared.rules.resolve.Looked.TheVariants as looked
+use Rattle.sect_types.specs.declared.rules.resolve.FieldAt.{FieldAt}
 
 -- the declarations of the text, and the locals of the thread
 pub record Sight : Type 0 where

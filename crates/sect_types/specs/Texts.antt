@@ -1,8 +1,8 @@
 -- What the text of the code stands for.
 use Rattle.std.specs.Prelude.{List, [], ◌∷◌}
 use Rattle.sect_types.specs.Statements.{TextView, Stop, Do, Choose, Loop, Section}
-use Rattle.sect_types.specs.declared.text.Step.{Step}
-use Rattle.sect_types.specs.declared.text.Step.TheVariants as step
+use Rattle.sect_types.specs.declared.expansion.text.Step.{Step}
+use Rattle.sect_types.specs.declared.expansion.text.Step.TheVariants as step
 
 -- a step of the code, and what follows it
 abbrev pub step_then : Step → TextView → TextView

@@ -1,14 +1,14 @@
 -- A program that is run by whole sections, one after another. `sect_serial::serial` cites it.
 use Rattle.std.specs.Prelude.{◌≡◌, ℕ, zero, suc, ◌+◌, Bool, true, false, List, [], ◌∷◌, ◌++◌, map, replicate, length}
 use Rattle.std.specs.Prelude.{Option, Some, None, slice_get, slice_index_or, ℤ, if◌then◌else◌}
-use Rattle.sect_types.specs.declared.types.ValueType.{ValueType}
-use Rattle.sect_types.specs.declared.action.Condition.{Condition}
+use Rattle.sect_types.specs.declared.declarations.types.ValueType.{ValueType}
+use Rattle.sect_types.specs.declared.expansion.action.Condition.{Condition}
 use Rattle.sect_types.specs.Statements.{TextView, Stop, Do, Choose, Loop, Section}
 use Rattle.sect_types.specs.Programs.{ProgramView}
-use Rattle.sect_types.specs.declared.store.Fault.{Fault}
-use Rattle.sect_types.specs.declared.store.Fault.TheVariants as fault
-use Rattle.sect_types.specs.declared.store.End.{End}
-use Rattle.sect_types.specs.declared.store.End.TheVariants.{Done, Failed}
+use Rattle.sect_types.specs.declared.meaning.store.Fault.{Fault}
+use Rattle.sect_types.specs.declared.meaning.store.Fault.TheVariants as fault
+use Rattle.sect_types.specs.declared.meaning.store.End.{End}
+use Rattle.sect_types.specs.declared.meaning.store.End.TheVariants.{Done, Failed}
 use Rattle.sect_types.specs.Store.{ObjectView, StoreView}
 use Rattle.sect_lemmas.specs.Lists.{put_at}
 use Rattle.sect_types.specs.Meaning.{WorkView, Came, Went, Fell, after_change, one, looked, found_at, is_true}

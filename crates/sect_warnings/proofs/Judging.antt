@@ -11,7 +11,7 @@ use Rattle.sect_front.specs.TreeView.{TreeView}
 use Rattle.sect_types.specs.Items.{items}
 use Rattle.sect_types.specs.Sections.{sections_of}
 use Rattle.sect_types.specs.Statements.{Stop}
-use Rattle.sect_types.specs.declared.action.Label.{Label}
+use Rattle.sect_types.specs.declared.expansion.action.Label.{Label}
 use Rattle.sect_names.specs.Schemes.{IsScheme}
 use Rattle.sect_names.specs.declared.lock.Lock.{Lock}
 use Rattle.sect_names.specs.declared.lock.Lock.TheVariants as lock

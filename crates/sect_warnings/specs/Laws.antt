@@ -1,7 +1,7 @@
 -- What a warning means for runs.
 use Rattle.std.specs.Prelude.{◌≡◌, ℕ, List}
-use Rattle.sect_types.specs.declared.store.ObjectName.{ObjectName}
-use Rattle.sect_types.specs.declared.store.Datum.TheVariants.{Refers}
+use Rattle.sect_types.specs.declared.meaning.store.ObjectName.{ObjectName}
+use Rattle.sect_types.specs.declared.meaning.store.Datum.TheVariants.{Refers}
 use Rattle.sect_types.specs.Meaning.{local_datum}
 use Rattle.sect_emit.specs.Compiled.{CompiledView}
 use Rattle.sect_emit.specs.State.{ThreadState, State, IsThread}

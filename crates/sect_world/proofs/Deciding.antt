@@ -8,8 +8,8 @@ use Rattle.sect_modes.specs.declared.mode.Mode.{Mode}
 use Rattle.sect_modes.specs.declared.mode.Mode.TheVariants as mode
 use Rattle.sect_modes.specs.declared.key.Key.{Key}
 use Rattle.sect_modes.specs.Key.{is_same_key}
-use Rattle.sect_types.specs.declared.store.Fault.{Fault}
-use Rattle.sect_types.specs.declared.store.End.{End}
+use Rattle.sect_types.specs.declared.meaning.store.Fault.{Fault}
+use Rattle.sect_types.specs.declared.meaning.store.End.{End}
 use Rattle.sect_emit.specs.declared.plan.Grip.{Grip}
 use Rattle.sect_world.specs.declared.event.Deed.{Deed}
 use Rattle.sect_world.specs.declared.event.Deed.TheVariants.{Local, Enter, Take, Begin, Again, Act, Leave}

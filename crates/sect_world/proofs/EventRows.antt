@@ -2,7 +2,7 @@
 -- Nothing cites this: it tests definitions.
 use Rattle.std.proofs.Common.{◌≡◌, ℕ, List, [], ◌∷◌, ◌++◌, Option, Some, None, true, false, refl, arith, Bool}
 use Rattle.std.specs.Prelude.{map, slice_get}
-use Rattle.sect_types.specs.declared.types.ValueType.TheVariants.{Int}
+use Rattle.sect_types.specs.declared.declarations.types.ValueType.TheVariants.{Int}
 use Rattle.sect_modes.specs.declared.mode.Mode.TheVariants as mode
 use Rattle.sect_modes.specs.declared.key.Key.TheVariants as key
 use Rattle.sect_types.specs.Programs.{ProgramView}
@@ -12,10 +12,10 @@ use Rattle.sect_names.specs.declared.lock.Effect.TheVariants as effect
 use Rattle.sect_names.specs.declared.lock.Right.TheVariants as right
 use Rattle.sect_names.specs.declared.lock.Lock.{Lock}
 use Rattle.sect_names.specs.declared.lock.Lock.TheVariants as lock
-use Rattle.sect_types.specs.declared.store.ObjectName.TheVariants.{Global, Made}
-use Rattle.sect_types.specs.declared.store.Datum.TheVariants.{Null, Refers}
-use Rattle.sect_types.specs.declared.store.Fault.TheVariants as fault
-use Rattle.sect_types.specs.declared.store.End.TheVariants.{Done, Failed}
+use Rattle.sect_types.specs.declared.meaning.store.ObjectName.TheVariants.{Global, Made}
+use Rattle.sect_types.specs.declared.meaning.store.Datum.TheVariants.{Null, Refers}
+use Rattle.sect_types.specs.declared.meaning.store.Fault.TheVariants as fault
+use Rattle.sect_types.specs.declared.meaning.store.End.TheVariants.{Done, Failed}
 use Rattle.sect_emit.specs.declared.plan.Grip.{Grip}
 use Rattle.sect_world.specs.declared.event.Deed.{Deed}
 use Rattle.sect_world.specs.declared.event.Deed.TheVariants.{Local, Enter, Take, Begin, Again, Act, Leave}

@@ -3,7 +3,7 @@ use Rattle.std.proofs.Common.{◌≡◌, ℕ, zero, suc, List, [], ◌∷◌, le
 use Rattle.std.proofs.Common.{ap, subst, arith, false, Bool}
 use Rattle.std.specs.Prelude.{slice_get}
 use Rattle.std.specs.List.{list_all}
-use Rattle.sect_types.specs.declared.store.End.{End}
+use Rattle.sect_types.specs.declared.meaning.store.End.{End}
 use Rattle.sect_types.specs.Statements.{TextView}
 use Rattle.sect_types.specs.Whole.{SerialEndView, RunsWhole, has_ended}
 use Rattle.sect_lemmas.proofs.Options.{some_injective, none_or_some}

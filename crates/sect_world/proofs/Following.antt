@@ -2,9 +2,9 @@
 use Rattle.std.proofs.Common.{true≢false, ◌≡◌, ◌≢◌, ℕ, ◌<◌, ◌++◌, List, length, Option, Some, None, Bool, true, false}
 use Rattle.std.proofs.Common.{refl, sym, ap, ◌∙◌, subst, append-nil, slice_get}
 use Rattle.sect_types.specs.Statements.{TextView, Section}
-use Rattle.sect_types.specs.declared.store.ObjectName.{ObjectName}
-use Rattle.sect_types.specs.declared.store.ObjectName.TheVariants.{Made}
-use Rattle.sect_types.specs.declared.store.Fault.{Fault}
+use Rattle.sect_types.specs.declared.meaning.store.ObjectName.{ObjectName}
+use Rattle.sect_types.specs.declared.meaning.store.ObjectName.TheVariants.{Made}
+use Rattle.sect_types.specs.declared.meaning.store.Fault.{Fault}
 use Rattle.sect_emit.specs.declared.plan.Grip.{Grip}
 use Rattle.sect_modes.specs.declared.mode.Mode.{Mode}
 use Rattle.sect_modes.specs.declared.key.Key.{Key}

@@ -5,7 +5,7 @@ use Rattle.sect_modes.specs.declared.mode.Mode.{Mode}
 use Rattle.sect_table.specs.Contents.{Contents, entry_of}
 use Rattle.sect_table.specs.Sound.{IsKept}
 use Rattle.sect_emit.specs.declared.plan.Grip.{Grip}
-use Rattle.sect_types.specs.declared.store.ObjectName.TheVariants.{Made}
+use Rattle.sect_types.specs.declared.meaning.store.ObjectName.TheVariants.{Made}
 use Rattle.sect_types.specs.Store.{ObjectView, StoreView, row, count}
 use Rattle.sect_emit.specs.Plan.{grip, key_of, held_mode}
 use Rattle.sect_emit.specs.Compiled.{CompiledView}

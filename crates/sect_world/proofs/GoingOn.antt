@@ -8,7 +8,7 @@ use Rattle.sect_types.specs.Programs.{environment_at}
 use Rattle.sect_types.specs.Sound.{IsSound}
 use Rattle.sect_modes.specs.declared.mode.Mode.{Mode}
 use Rattle.sect_modes.specs.declared.key.Key.{Key}
-use Rattle.sect_types.specs.declared.store.End.{End}
+use Rattle.sect_types.specs.declared.meaning.store.End.{End}
 use Rattle.sect_emit.specs.declared.plan.Grip.{Grip}
 use Rattle.sect_world.specs.declared.event.Deed.{Deed}
 use Rattle.sect_world.specs.declared.event.Deed.TheVariants.{Local, Enter, Take, Begin, Again, Act, Leave}

@@ -3,11 +3,11 @@ use Rattle.std.proofs.Common.{true, ◌≡◌, ℕ, List, [], ◌∷◌, ◌++�
 use Rattle.sect_lemmas.proofs.Replaced.{slice_get-map}
 use Rattle.sect_world.proofs.LongerRuns.{run_on}
 use Rattle.sect_types.specs.Statements.{TextView}
-use Rattle.sect_types.specs.declared.action.Field.{Field}
+use Rattle.sect_types.specs.declared.expansion.action.Field.{Field}
 use Rattle.sect_points.specs.Paths.{PathView}
 use Rattle.sect_names.specs.declared.lock.Effect.{Effect}
-use Rattle.sect_types.specs.declared.store.ObjectName.{ObjectName}
-use Rattle.sect_types.specs.declared.store.Datum.TheVariants.{Refers}
+use Rattle.sect_types.specs.declared.meaning.store.ObjectName.{ObjectName}
+use Rattle.sect_types.specs.declared.meaning.store.Datum.TheVariants.{Refers}
 use Rattle.sect_emit.specs.Plan.{path_datum}
 use Rattle.sect_world.proofs.MetPlans.{beginnings_are_held}
 use Rattle.sect_names.specs.declared.lock.Lock.TheVariants as lock

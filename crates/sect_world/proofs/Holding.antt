@@ -8,7 +8,7 @@ use Rattle.sect_modes.specs.declared.mode.Mode.{Mode}
 use Rattle.sect_modes.specs.declared.key.Key.{Key}
 use Rattle.sect_modes.specs.declared.key.Key.TheVariants as key
 use Rattle.sect_modes.specs.Mode.{is_reading}
-use Rattle.sect_types.specs.declared.store.ObjectName.{ObjectName}
+use Rattle.sect_types.specs.declared.meaning.store.ObjectName.{ObjectName}
 use Rattle.sect_emit.specs.declared.plan.Grip.{Grip}
 use Rattle.sect_types.specs.Store.{ObjectView, StoreView, object_at}
 use Rattle.sect_emit.specs.Plan.{key_of, held_mode, is_met}

@@ -4,7 +4,7 @@ use Rattle.std.proofs.Common.{ap, subst, arith}
 use Rattle.std.specs.Prelude.{ℤ, slice_get, slice_index_or, slice_set, false}
 use Rattle.std.proofs.lemmas.List.{append-nil, length-set}
 use Rattle.std.proofs.lemmas.Option.{slice_get_within, get_or_from_slice_get}
-use Rattle.sect_types.specs.declared.store.Fault.{Fault}
+use Rattle.sect_types.specs.declared.meaning.store.Fault.{Fault}
 use Rattle.sect_types.specs.Statements.{TextView, Stop}
 use Rattle.sect_types.specs.Store.{StoreView}
 use Rattle.sect_lemmas.specs.Lists.{changed_at, put_at}

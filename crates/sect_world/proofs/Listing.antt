@@ -5,8 +5,8 @@ use Rattle.sect_lemmas.proofs.Membership.{Has-left, Has-right}
 use Rattle.std.specs.Prelude.{slice_get, map}
 use Rattle.std.proofs.lemmas.Option.{get_or_from_slice_get, slice_get-map}
 use Rattle.sect_lemmas.specs.Lists.{Has}
-use Rattle.sect_types.specs.declared.types.ValueType.{ValueType}
-use Rattle.sect_types.specs.declared.action.Action.{Action}
+use Rattle.sect_types.specs.declared.declarations.types.ValueType.{ValueType}
+use Rattle.sect_types.specs.declared.expansion.action.Action.{Action}
 use Rattle.sect_types.specs.Statements.{TextView, Stop, Do, Choose, Loop, Section, joined, section_bodies}
 use Rattle.sect_types.specs.Sections.{SectionView, sections_from, sections_of, AreNumbered, AllNumbered}
 use Rattle.sect_types.specs.Environments.{Environment}

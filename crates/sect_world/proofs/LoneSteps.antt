@@ -8,13 +8,13 @@ use Rattle.std.proofs.lemmas.List.{append-nil, append_assoc}
 use Rattle.sect_lemmas.specs.Lists.{Has, put_at}
 use Rattle.sect_lemmas.proofs.Options.{some_injective, none_or_some}
 use Rattle.sect_lemmas.proofs.Replaced.{put_same}
-use Rattle.sect_types.specs.declared.store.End.{End}
-use Rattle.sect_types.specs.declared.store.Fault.{Fault}
+use Rattle.sect_types.specs.declared.meaning.store.End.{End}
+use Rattle.sect_types.specs.declared.meaning.store.Fault.{Fault}
 use Rattle.sect_types.specs.Programs.{ProgramView}
 use Rattle.sect_types.specs.Statements.{TextView, Stop, Do, Choose, Loop, Section, joined}
 use Rattle.sect_types.specs.Store.{ObjectView, StoreView}
-use Rattle.sect_types.specs.declared.action.Condition.{Condition}
-use Rattle.sect_types.specs.declared.store.Fault.TheVariants as fault
+use Rattle.sect_types.specs.declared.expansion.action.Condition.{Condition}
+use Rattle.sect_types.specs.declared.meaning.store.Fault.TheVariants as fault
 use Rattle.sect_types.specs.Meaning.{WorkView, Came, Went, Fell, Change, Next, On, Off, after_change, going, paid, done}
 use Rattle.sect_types.specs.Meaning.{taken, next, looks, found_at, begins_step}
 use Rattle.sect_types.specs.Whole.{FrameView, RunView, Left, Through, Broken, body_of, ahead, up_to, local_step}

@@ -5,7 +5,7 @@ use Rattle.std.proofs.lemmas.Option.{get_or_from_slice_get}
 use Rattle.sect_lemmas.specs.Lists.{Has}
 use Rattle.sect_types.specs.Programs.{sites_of, all_made}
 use Rattle.sect_types.specs.Statements.{TextView}
-use Rattle.sect_types.specs.declared.action.Field.{Field}
+use Rattle.sect_types.specs.declared.expansion.action.Field.{Field}
 use Rattle.sect_points.specs.Paths.{PathView}
 use Rattle.sect_points.specs.Partitions.{HasClass}
 use Rattle.sect_names.specs.declared.lock.Effect.{Effect}
@@ -30,9 +30,9 @@ use Rattle.sect_modes.specs.declared.mode.Mode.{Mode}
 use Rattle.sect_modes.specs.declared.mode.Mode.TheVariants.{Exclusive}
 use Rattle.sect_modes.specs.declared.key.Key.TheVariants as key
 use Rattle.sect_modes.specs.Mode.{is_at_least, is_reading}
-use Rattle.sect_types.specs.declared.store.ObjectName.{ObjectName}
-use Rattle.sect_types.specs.declared.store.ObjectName.TheVariants as object
-use Rattle.sect_types.specs.declared.store.Datum.TheVariants.{Refers}
+use Rattle.sect_types.specs.declared.meaning.store.ObjectName.{ObjectName}
+use Rattle.sect_types.specs.declared.meaning.store.ObjectName.TheVariants as object
+use Rattle.sect_types.specs.declared.meaning.store.Datum.TheVariants.{Refers}
 use Rattle.sect_emit.specs.declared.plan.Grip.{Grip}
 use Rattle.sect_types.specs.Store.{ObjectView, StoreView, object_at}
 use Rattle.sect_types.specs.Meaning.{WorkView}

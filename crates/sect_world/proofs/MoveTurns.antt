@@ -14,14 +14,14 @@ use Rattle.sect_types.specs.Meaning.{begins_step}
 use Rattle.sect_types.specs.Whole.{local_step}
 use Rattle.sect_lemmas.proofs.Options.{some_injective}
 use Rattle.sect_lemmas.proofs.Places.{at_of}
-use Rattle.sect_types.specs.declared.action.Label.{Label}
+use Rattle.sect_types.specs.declared.expansion.action.Label.{Label}
 use Rattle.sect_graph.specs.declared.flow.Node.{Node}
 use Rattle.sect_graph.specs.Rests.{Begins, rest_at}
 use Rattle.sect_table.specs.Contents.{Contents, held_by, entry_of}
 use Rattle.sect_emit.specs.Plan.{meets, key_of}
 use Rattle.sect_emit.specs.Compiled.{CompiledView, IsCompiled, program_of}
 use Rattle.sect_emit.specs.State.{Outside, Entered, Running, Faulted, ThreadState, State, IsThread, plan_at}
-use Rattle.sect_types.specs.declared.store.ObjectName.TheVariants.{Made}
+use Rattle.sect_types.specs.declared.meaning.store.ObjectName.TheVariants.{Made}
 use Rattle.sect_world.specs.declared.event.Deed.TheVariants.{Local, Enter, Begin, Act}
 use Rattle.sect_world.specs.declared.event.Event.{Event}
 use Rattle.sect_world.specs.declared.runner.Phase.{Phase}

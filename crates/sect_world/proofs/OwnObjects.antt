@@ -10,12 +10,12 @@ use Rattle.sect_lemmas.proofs.Options.{none_or_some, some_injective}
 use Rattle.sect_lemmas.proofs.Replaced.{each_put, put_other}
 use Rattle.sect_types.specs.Statements.{TextView, Section}
 use Rattle.sect_types.specs.Sections.{sections_of}
-use Rattle.sect_types.specs.declared.action.Field.{Field}
-use Rattle.sect_types.specs.declared.store.Fault.{Fault}
-use Rattle.sect_types.specs.declared.store.ObjectName.{ObjectName}
-use Rattle.sect_types.specs.declared.store.ObjectName.TheVariants.{Global, Made}
-use Rattle.sect_types.specs.declared.store.Datum.{Datum}
-use Rattle.sect_types.specs.declared.store.Datum.TheVariants.{Number, Null, Refers}
+use Rattle.sect_types.specs.declared.expansion.action.Field.{Field}
+use Rattle.sect_types.specs.declared.meaning.store.Fault.{Fault}
+use Rattle.sect_types.specs.declared.meaning.store.ObjectName.{ObjectName}
+use Rattle.sect_types.specs.declared.meaning.store.ObjectName.TheVariants.{Global, Made}
+use Rattle.sect_types.specs.declared.meaning.store.Datum.{Datum}
+use Rattle.sect_types.specs.declared.meaning.store.Datum.TheVariants.{Number, Null, Refers}
 use Rattle.sect_types.specs.Store.{ObjectView, StoreView, object_at, row, count}
 use Rattle.sect_types.specs.Meaning.{WorkView, Change, Unchanged, Written, Added, after_change, found_at, looks, next}
 use Rattle.sect_types.specs.Meaning.{Next, On, Off}

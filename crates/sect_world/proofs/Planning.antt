@@ -3,7 +3,7 @@ use Rattle.std.proofs.Common.{◌≡◌, ℕ, zero, suc, refl, sym, ◌∙◌, s
 use Rattle.std.specs.Prelude.{slice_get, slice_index_or}
 use Rattle.std.proofs.lemmas.Option.{get_or_from_slice_get}
 use Rattle.sect_names.specs.declared.lock.Lock.{Lock}
-use Rattle.sect_types.specs.declared.store.Datum.{Datum}
+use Rattle.sect_types.specs.declared.meaning.store.Datum.{Datum}
 use Rattle.sect_emit.specs.declared.plan.Grip.{Grip}
 use Rattle.sect_types.specs.Store.{StoreView}
 use Rattle.sect_emit.specs.Plan.{plan_of, Ascends}

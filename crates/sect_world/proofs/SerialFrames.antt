@@ -3,7 +3,7 @@
 use Rattle.std.specs.Prelude.{◌≡◌, ◌≢◌, ℕ, true, false, List, Some, None, length, slice_get}
 use Rattle.sect_types.specs.Statements.{TextView, Section}
 use Rattle.sect_types.specs.Programs.{ProgramView}
-use Rattle.sect_types.specs.declared.store.ObjectName.{ObjectName}
+use Rattle.sect_types.specs.declared.meaning.store.ObjectName.{ObjectName}
 use Rattle.sect_emit.specs.declared.plan.Grip.{Grip}
 use Rattle.sect_types.specs.Store.{StoreView, object_at, count}
 use Rattle.sect_types.specs.Meaning.{WorkView}

@@ -5,7 +5,7 @@ use Rattle.sect_types.specs.Programs.{ProgramView}
 use Rattle.sect_world.specs.declared.event.Deed.{Deed}
 use Rattle.sect_world.specs.declared.event.Deed.TheVariants.{Local, Enter, Take, Begin, Again, Act, Leave}
 use Rattle.sect_world.specs.declared.event.Event.{Event}
-use Rattle.sect_types.specs.declared.store.End.{End}
+use Rattle.sect_types.specs.declared.meaning.store.End.{End}
 use Rattle.sect_types.specs.Store.{StoreView}
 use Rattle.sect_types.specs.Whole.{FrameView, ahead, all_ahead, is_standing, has_ended, begins_section, RunView}
 use Rattle.sect_types.specs.Whole.{run_section, option_then, in_order, first_store, first_frames, begun, SerialEndView}

@@ -5,7 +5,7 @@ use Rattle.sect_emit.specs.Compiled.{CompiledView}
 use Rattle.sect_emit.specs.State.{State, ThreadState, IsThread}
 use Rattle.sect_world.specs.Kept.{IsWellKept}
 use Rattle.std.specs.Prelude.{ℕ, length}
-use Rattle.sect_types.specs.declared.store.ObjectName.{ObjectName}
+use Rattle.sect_types.specs.declared.meaning.store.ObjectName.{ObjectName}
 use Rattle.sect_modes.specs.declared.mode.Mode.{Mode}
 use Rattle.sect_emit.specs.Plan.{key_of, held_mode}
 use Rattle.sect_types.specs.Store.{ObjectView, object_at, count}

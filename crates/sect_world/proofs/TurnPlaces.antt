@@ -3,7 +3,7 @@ use Rattle.std.proofs.Common.{◌≡◌, ◌≢◌, ℕ, ◌+◌, ◌<◌, ◌�
 use Rattle.std.proofs.Common.{Option, Some, None, refl, sym, ◌∙◌, ap, subst}
 use Rattle.std.specs.Prelude.{ℤ, slice_get}
 use Rattle.std.proofs.lemmas.List.{drop_all}
-use Rattle.sect_types.specs.declared.store.End.{End}
+use Rattle.sect_types.specs.declared.meaning.store.End.{End}
 use Rattle.sect_types.specs.Statements.{TextView, Stop, Section}
 use Rattle.sect_types.specs.Store.{StoreView}
 use Rattle.sect_types.specs.Meaning.{begins_step}

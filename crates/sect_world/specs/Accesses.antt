@@ -2,7 +2,7 @@
 use Rattle.std.specs.Prelude.{◌≡◌, ⊤, ℕ, Option, Some}
 use Rattle.sect_types.specs.Statements.{TextView}
 use Rattle.sect_types.specs.Programs.{ProgramView}
-use Rattle.sect_types.specs.declared.store.ObjectName.{ObjectName}
+use Rattle.sect_types.specs.declared.meaning.store.ObjectName.{ObjectName}
 use Rattle.sect_types.specs.Store.{ObjectView, StoreView, object_at}
 use Rattle.sect_types.specs.Meaning.{WorkView, Change, Unchanged, Written, Added, found_at, Next, On, Off, next, looks}
 use Rattle.sect_world.specs.Held.{Access, Loading, Storing, Making, next_access}

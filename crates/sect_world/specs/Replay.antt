@@ -1,7 +1,7 @@
 -- A section as far as it has come, done again from another store.
 use Rattle.std.specs.Prelude.{◌≡◌, ℕ, zero, suc, false}
 use Rattle.sect_types.specs.Programs.{ProgramView}
-use Rattle.sect_types.specs.declared.store.ObjectName.{ObjectName}
+use Rattle.sect_types.specs.declared.meaning.store.ObjectName.{ObjectName}
 use Rattle.sect_types.specs.Store.{StoreView}
 use Rattle.sect_types.specs.Meaning.{WorkView, after_change, found_at, Next, On, Off, next, looks}
 use Rattle.sect_emit.specs.Compiled.{CompiledView}

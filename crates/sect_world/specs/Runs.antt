@@ -1,6 +1,6 @@
 -- Runs of the machine.
 use Rattle.std.specs.Prelude.{◌≡◌, ℕ, List, [], ◌∷◌, ◌++◌, Option, Some, map}
-use Rattle.sect_types.specs.declared.store.End.{End}
+use Rattle.sect_types.specs.declared.meaning.store.End.{End}
 use Rattle.sect_world.specs.declared.event.Deed.{Deed}
 use Rattle.sect_world.specs.declared.event.Deed.TheVariants.{Local, Enter, Take, Begin, Again, Act, Leave}
 use Rattle.sect_world.specs.declared.event.Event.{Event}

@@ -1,7 +1,7 @@
 -- What holds of every run of a compiled program, also where it isn't complete: how its state stands to whole sections.
 use Rattle.std.specs.Prelude.{◌≡◌, ℕ, true, List, Some, None, slice_get}
 use Rattle.sect_types.specs.Statements.{TextView, Section}
-use Rattle.sect_types.specs.declared.store.ObjectName.{ObjectName}
+use Rattle.sect_types.specs.declared.meaning.store.ObjectName.{ObjectName}
 use Rattle.sect_world.specs.declared.event.Event.{Event}
 use Rattle.sect_types.specs.Store.{StoreView, object_at}
 use Rattle.sect_types.specs.Meaning.{WorkView}

@@ -1,6 +1,6 @@
 -- What is told of a thread of a state. The methods of `World` cite it.
 use Rattle.std.specs.Prelude.{ℕ, Option, Some, None, slice_get}
-use Rattle.sect_types.specs.declared.store.End.{End}
+use Rattle.sect_types.specs.declared.meaning.store.End.{End}
 use Rattle.sect_modes.specs.declared.mode.Mode.{Mode}
 use Rattle.sect_modes.specs.declared.key.Key.{Key}
 use Rattle.sect_emit.specs.declared.plan.Grip.{Grip}

@@ -16,8 +16,8 @@ use Rattle.sect_world.specs.declared.runner.Phase.{Phase}
 use Rattle.sect_world.specs.declared.runner.Phase.TheVariants as phase
 use Rattle.sect_world.specs.declared.runner.Runner.{Runner}
 use Rattle.sect_world.specs.Runs.{IsRun, order_of}
-use Rattle.sect_types.specs.declared.store.End.{End}
-use Rattle.sect_types.specs.declared.store.Fault.{Fault}
+use Rattle.sect_types.specs.declared.meaning.store.End.{End}
+use Rattle.sect_types.specs.declared.meaning.store.Fault.{Fault}
 use Rattle.sect_types.specs.Meaning.{WorkView}
 use Rattle.sect_world.specs.Events.{frame_out, emptied}
 use Rattle.sect_world.specs.Worlds.{WorldView}

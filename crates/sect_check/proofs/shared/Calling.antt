@@ -13,16 +13,16 @@ use Rattle.sect_types.specs.Sight.{place, names_of_records, names_of_globals, na
 use Rattle.sect_types.specs.Environments.{type_of, types_of, record_number}
 use Rattle.sect_types.specs.Programs.{ProgramView, IsOfTree}
 use Rattle.sect_types.specs.Sound.{type_in}
-use Rattle.sect_types.specs.declared.action.Field.{Field}
-use Rattle.sect_types.specs.declared.types.ValueType.{ValueType}
-use Rattle.sect_types.specs.declared.types.ValueType.TheVariants.{Refers}
+use Rattle.sect_types.specs.declared.expansion.action.Field.{Field}
+use Rattle.sect_types.specs.declared.declarations.types.ValueType.{ValueType}
+use Rattle.sect_types.specs.declared.declarations.types.ValueType.TheVariants.{Refers}
 use Rattle.sect_lemmas.proofs.Replaced.{slice_get-map as mapped_at}
 use Rattle.sect_types.proofs.shared.Repeating.{globals_apart, fields_apart, own_place}
 use Rattle.sect_points.specs.declared.holders.Variable.{Variable}
 use Rattle.sect_points.specs.declared.holders.Variable.TheVariants.{Global, Local}
 use Rattle.sect_points.specs.Paths.{PathView, var, dot, base_of, fields_of}
 use Rattle.sect_names.specs.Locks.{IsOwn, VariableTo, FieldTo, PathTo}
-use Rattle.sect_types.specs.declared.local_name.LocalName.{LocalName}
+use Rattle.sect_types.specs.declared.declarations.local_name.LocalName.{LocalName}
 use Rattle.sect_types.specs.LocalNames.{all_local_names, place_of_local}
 use Rattle.sect_names.specs.Printing.{global_name, local_at, field_name}
 use Rattle.sect_check.specs.Names.{local_named, global_named, or_variable, variable_named, field_named, referred}

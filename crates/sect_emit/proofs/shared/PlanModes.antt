@@ -13,10 +13,10 @@ use Rattle.sect_modes.specs.declared.mode.Mode.{Mode}
 use Rattle.sect_modes.specs.declared.key.Key.{Key}
 use Rattle.sect_modes.specs.declared.key.Key.TheVariants as key
 use Rattle.sect_modes.specs.Mode.{is_at_least, intention_of}
-use Rattle.sect_types.specs.declared.store.ObjectName.{ObjectName}
-use Rattle.sect_types.specs.declared.store.ObjectName.TheVariants as object
-use Rattle.sect_types.specs.declared.store.Datum.{Datum}
-use Rattle.sect_types.specs.declared.store.Datum.TheVariants.{Refers}
+use Rattle.sect_types.specs.declared.meaning.store.ObjectName.{ObjectName}
+use Rattle.sect_types.specs.declared.meaning.store.ObjectName.TheVariants as object
+use Rattle.sect_types.specs.declared.meaning.store.Datum.{Datum}
+use Rattle.sect_types.specs.declared.meaning.store.Datum.TheVariants.{Refers}
 use Rattle.sect_emit.specs.declared.plan.Grip.{Grip}
 use Rattle.sect_types.specs.Store.{StoreView}
 use Rattle.sect_emit.specs.PlanLaws.{IsWish, Gives, IsKeptByJoins, HoldsTheWhole, BeginsWithAll}

@@ -6,16 +6,16 @@ use Rattle.std.specs.Prelude.{slice_get, slice_index_or, ℤ, pos, if◌then◌e
 use Rattle.std.proofs.lemmas.Option.{slice_get_within, slice_get-get_or, same_Some}
 use Rattle.sect_types.specs.Programs.{ProgramView, all_made, environment_at}
 use Rattle.sect_types.specs.Sound.{reference_to, type_at, HasType, IsSoundAction}
-use Rattle.sect_types.specs.declared.types.ValueType.{ValueType}
-use Rattle.sect_types.specs.declared.types.ValueType.TheVariants as type
-use Rattle.sect_types.specs.declared.action.Base.{Base}
-use Rattle.sect_types.specs.declared.action.Base.TheVariants as base
-use Rattle.sect_types.specs.declared.action.Value.{Value}
-use Rattle.sect_types.specs.declared.action.Value.TheVariants as value
-use Rattle.sect_types.specs.declared.action.Action.{Action}
-use Rattle.sect_types.specs.declared.action.Action.TheVariants as action
-use Rattle.sect_types.specs.declared.action.Label.{Label}
-use Rattle.sect_types.specs.declared.action.Label.TheVariants as label
+use Rattle.sect_types.specs.declared.declarations.types.ValueType.{ValueType}
+use Rattle.sect_types.specs.declared.declarations.types.ValueType.TheVariants as type
+use Rattle.sect_types.specs.declared.expansion.action.Base.{Base}
+use Rattle.sect_types.specs.declared.expansion.action.Base.TheVariants as base
+use Rattle.sect_types.specs.declared.expansion.action.Value.{Value}
+use Rattle.sect_types.specs.declared.expansion.action.Value.TheVariants as value
+use Rattle.sect_types.specs.declared.expansion.action.Action.{Action}
+use Rattle.sect_types.specs.declared.expansion.action.Action.TheVariants as action
+use Rattle.sect_types.specs.declared.expansion.action.Label.{Label}
+use Rattle.sect_types.specs.declared.expansion.action.Label.TheVariants as label
 use Rattle.sect_points.specs.declared.holders.Holder.TheVariants.{Local, Slot}
 use Rattle.sect_points.specs.declared.holders.Variable.TheVariants as variable
 use Rattle.sect_points.specs.Flow.{Family, ValueHas, BaseHas, Moved, Within}
@@ -24,11 +24,11 @@ use Rattle.sect_points.specs.Sets.{InSets}
 use Rattle.sect_points.specs.Statements.{thread_action}
 use Rattle.sect_names.specs.Schemes.{SchemeView, IsScheme}
 use Rattle.sect_names.specs.Laws.{IsProgramStep}
-use Rattle.sect_types.specs.declared.store.ObjectName.{ObjectName}
-use Rattle.sect_types.specs.declared.store.ObjectName.TheVariants as object
-use Rattle.sect_types.specs.declared.store.Datum.{Datum}
-use Rattle.sect_types.specs.declared.store.Datum.TheVariants.{Number, Null, Refers}
-use Rattle.sect_types.specs.declared.store.Fault.TheVariants as fault
+use Rattle.sect_types.specs.declared.meaning.store.ObjectName.{ObjectName}
+use Rattle.sect_types.specs.declared.meaning.store.ObjectName.TheVariants as object
+use Rattle.sect_types.specs.declared.meaning.store.Datum.{Datum}
+use Rattle.sect_types.specs.declared.meaning.store.Datum.TheVariants.{Number, Null, Refers}
+use Rattle.sect_types.specs.declared.meaning.store.Fault.TheVariants as fault
 use Rattle.sect_types.specs.Store.{ObjectView, StoreView, object_at, row, count, with_field, write, add, same_name}
 use Rattle.sect_lemmas.specs.Lists.{put_at}
 use Rattle.sect_lemmas.specs.Numbers.{same_number}

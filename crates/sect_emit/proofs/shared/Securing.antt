@@ -6,9 +6,9 @@ use Rattle.std.proofs.lemmas.Bool.{cases_lt}
 use Rattle.sect_lemmas.specs.Lists.{Has}
 use Rattle.sect_types.specs.Programs.{ProgramView}
 use Rattle.sect_types.specs.Statements.{TextView, Stop, Do, Choose, Loop, Section, joined}
-use Rattle.sect_types.specs.declared.action.Condition.{Condition}
-use Rattle.sect_types.specs.declared.action.Label.{Label}
-use Rattle.sect_types.specs.declared.action.Label.TheVariants as label
+use Rattle.sect_types.specs.declared.expansion.action.Condition.{Condition}
+use Rattle.sect_types.specs.declared.expansion.action.Label.{Label}
+use Rattle.sect_types.specs.declared.expansion.action.Label.TheVariants as label
 use Rattle.sect_points.specs.Paths.{PathView}
 use Rattle.sect_names.specs.declared.lock.Effect.{Effect}
 use Rattle.sect_names.specs.declared.lock.Lock.{Lock}
@@ -17,8 +17,8 @@ use Rattle.sect_names.specs.Schemes.{SchemeView, IsScheme}
 use Rattle.sect_names.specs.Locks.{depth}
 use Rattle.sect_names.specs.Carrying.{CarriedBack, right_for}
 use Rattle.sect_names.specs.Laws.{IsProgramStep}
-use Rattle.sect_types.specs.declared.store.ObjectName.{ObjectName}
-use Rattle.sect_types.specs.declared.store.Datum.TheVariants.{Refers}
+use Rattle.sect_types.specs.declared.meaning.store.ObjectName.{ObjectName}
+use Rattle.sect_types.specs.declared.meaning.store.Datum.TheVariants.{Refers}
 use Rattle.sect_types.specs.Store.{StoreView}
 use Rattle.sect_types.specs.Meaning.{WorkView, Change, Unchanged, after_change, Came, Went, Fell, one, looked}
 use Rattle.sect_types.specs.Meaning.{found_at, is_true, Next, On, Off, going, taken}

@@ -3,7 +3,7 @@
 ghost use Rattle.std.specs.Prelude.{◌≡◌, Bool, true, List, []};
 ghost use Rattle.sect_lemmas.specs.Lists.{Has};
 ghost use Rattle.sect_types.specs.Store.{StoreView};
-ghost use Rattle.sect_types.specs.declared.store.Datum.{Datum};
+ghost use Rattle.sect_types.specs.declared.meaning.store.Datum.{Datum};
 ghost use Rattle.sect_modes.specs.declared.key.Key.{Key};
 ghost use Rattle.sect_modes.specs.declared.mode.Mode.{Mode};
 ghost use Rattle.sect_names.specs.declared.lock.Lock.{Lock};

@@ -3,7 +3,7 @@ use Rattle.std.proofs.Common.{◌≡◌, ℕ, ◌<◌, inl, inr, List, [], ◌�
 use Rattle.sect_lemmas.specs.Lists.{Has}
 use Rattle.sect_types.specs.Programs.{ProgramView}
 use Rattle.sect_lemmas.proofs.Membership.{Has-cases, Has-get_or}
-use Rattle.sect_types.specs.declared.action.Field.{Field}
+use Rattle.sect_types.specs.declared.expansion.action.Field.{Field}
 use Rattle.sect_points.specs.Paths.{PathView, var, dot, base_of, fields_of}
 use Rattle.sect_names.specs.declared.lock.Lock.{Lock}
 use Rattle.sect_names.specs.declared.lock.Lock.TheVariants as lock

@@ -9,11 +9,11 @@ use Rattle.sect_types.specs.Statements.{TextView, Stop, Do, Choose, Loop, Sectio
 use Rattle.sect_types.specs.Sections.{IsSite, AreSited, AllSited}
 use Rattle.sect_types.specs.Programs.{ProgramView, environment_at, all_made}
 use Rattle.sect_types.specs.Sound.{AreSound, IsSoundAction}
-use Rattle.sect_types.specs.declared.types.ValueType.{ValueType}
-use Rattle.sect_types.specs.declared.action.Action.{Action}
-use Rattle.sect_types.specs.declared.action.Action.TheVariants as action
-use Rattle.sect_types.specs.declared.action.Label.{Label}
-use Rattle.sect_types.specs.declared.action.Label.TheVariants as label
+use Rattle.sect_types.specs.declared.declarations.types.ValueType.{ValueType}
+use Rattle.sect_types.specs.declared.expansion.action.Action.{Action}
+use Rattle.sect_types.specs.declared.expansion.action.Action.TheVariants as action
+use Rattle.sect_types.specs.declared.expansion.action.Label.{Label}
+use Rattle.sect_types.specs.declared.expansion.action.Label.TheVariants as label
 use Rattle.sect_points.specs.declared.holders.ThreadAction.{ThreadAction}
 use Rattle.sect_points.specs.Flow.{actions_of}
 use Rattle.sect_points.specs.Statements.{thread_action, actions_from, thread_actions}

@@ -11,9 +11,9 @@ use Rattle.std.specs.List.Sorted.{IsStrictlySortedBy}
 use Rattle.std.proofs.lemmas.List.Elements.{All-get_or, All-tail}
 use Rattle.std.specs.BTreeSet.{insert_key}
 use Rattle.sect_lemmas.specs.Lists.{Has}
-use Rattle.sect_types.specs.declared.action.Field.{Field}
-use Rattle.sect_types.specs.contracts.action.FieldOrd.TheImpl.{ghosts as the_field_order}
-use Rattle.sect_types.specs.contracts.action.FieldOrd.TheImpl.Laws.{matches_eq-law as the_field_ties}
+use Rattle.sect_types.specs.declared.expansion.action.Field.{Field}
+use Rattle.sect_types.specs.contracts.expansion.action.FieldOrd.TheImpl.{ghosts as the_field_order}
+use Rattle.sect_types.specs.contracts.expansion.action.FieldOrd.TheImpl.Laws.{matches_eq-law as the_field_ties}
 use Rattle.sect_points.specs.declared.holders.Variable.{Variable}
 use Rattle.sect_points.specs.declared.holders.Variable.TheVariants.{Global, Local}
 use Rattle.sect_points.specs.contracts.holders.VariableOrd.TheImpl.{ghosts as the_variable_order}

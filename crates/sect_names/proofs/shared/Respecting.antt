@@ -1,6 +1,6 @@
 -- Carrying back respects covering.
 use Rattle.std.proofs.Common.{◌≡◌, ℕ, refl, sym, subst, inl, inr}
-use Rattle.sect_types.specs.declared.action.Label.{Label}
+use Rattle.sect_types.specs.declared.expansion.action.Label.{Label}
 use Rattle.sect_points.specs.Paths.{PathView}
 use Rattle.sect_points.specs.Partitions.{HasClass}
 use Rattle.sect_names.specs.declared.lock.Effect.{Effect}

@@ -7,10 +7,10 @@ use Rattle.sect_lemmas.specs.Lists.{Has}
 use Rattle.sect_types.specs.Statements.{TextView, Stop, Do, Choose, Loop, Section, section_bodies}
 use Rattle.sect_types.specs.Sections.{SectionView, sections_from, sections_of}
 use Rattle.sect_types.specs.Traces.{Visit, visit, Rounds, IsTrace, node_count}
-use Rattle.sect_types.specs.declared.action.Action.{Action}
-use Rattle.sect_types.specs.declared.action.Condition.{Condition}
-use Rattle.sect_types.specs.declared.action.Label.{Label}
-use Rattle.sect_types.specs.declared.action.Label.TheVariants as label
+use Rattle.sect_types.specs.declared.expansion.action.Action.{Action}
+use Rattle.sect_types.specs.declared.expansion.action.Condition.{Condition}
+use Rattle.sect_types.specs.declared.expansion.action.Label.{Label}
+use Rattle.sect_types.specs.declared.expansion.action.Label.TheVariants as label
 use Rattle.sect_lemmas.proofs.Membership.{Has-cases, Has-left, Has-right, Has-slice_get, Has-unmap}
 use Rattle.sect_graph.specs.declared.flow.Node.{Node}
 use Rattle.sect_graph.specs.Paths.{IsPath}

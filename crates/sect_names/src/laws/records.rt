@@ -1,7 +1,7 @@
 //! Laws of records: what sets hold and what paths denote is of the records that the declarations have.
 
 ghost use Rattle.std.specs.Prelude.{ℕ};
-ghost use Rattle.sect_types.specs.declared.action.Label.{Label};
+ghost use Rattle.sect_types.specs.declared.expansion.action.Label.{Label};
 ghost use Rattle.sect_names.specs.declared.lock.Lock.{Lock};
 ghost use Rattle.sect_names.specs.Schemes.{SchemeView, IsScheme};
 ghost use Rattle.sect_names.specs.Carrying.{Generated, CarriedBack};

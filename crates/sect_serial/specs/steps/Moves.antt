@@ -1,7 +1,7 @@
 -- What one step does. `step` cites it.
 use Rattle.std.specs.Prelude.{ℕ, Option, Some, None}
 use Rattle.sect_types.specs.Statements.{TextView}
-use Rattle.sect_types.specs.declared.store.Fault.{Fault}
+use Rattle.sect_types.specs.declared.meaning.store.Fault.{Fault}
 use Rattle.sect_types.specs.Store.{StoreView}
 use Rattle.sect_types.specs.Meaning.{WorkView, after_change, Next, On, Off}
 

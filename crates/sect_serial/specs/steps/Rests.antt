@@ -2,7 +2,7 @@
 use Rattle.std.specs.Prelude.{◌≡◌, ⊤, Bool, true, false, List, [], ◌∷◌, Option, Some, None}
 use Rattle.sect_types.specs.Statements.{TextView, Stop, Do, Choose, Loop, Section, joined}
 use Rattle.sect_types.specs.Texts.{step_then}
-use Rattle.sect_types.specs.declared.text.Step.{Step}
+use Rattle.sect_types.specs.declared.expansion.text.Step.{Step}
 
 -- the last part is run first
 abbrev pub rest_of : List TextView → TextView

@@ -4,12 +4,12 @@ use denote.Param.Send.{AllSync, IsSync, sendable}
 use Rattle.sect_front.proofs.shared.Crossing.{tree_sync, locking_sync}
 use Rattle.sect_types.specs.contracts.program.Program as program
 use Rattle.sect_types.specs.contracts.program.Program.TheInside as inside
-use Rattle.sect_types.specs.contracts.text.Text as text
-use Rattle.sect_types.proofs.text.Text.TheLaws.TheKnot as knot
-use Rattle.sect_types.proofs.action.Action.TheSendSync as actions
-use Rattle.sect_types.proofs.action.Condition.TheSendSync as conditions
-use Rattle.sect_types.proofs.expand.FreshLocals.TheSendSync as fresh
-use Rattle.sect_types.proofs.types.Types.TheSendSync as types
+use Rattle.sect_types.specs.contracts.expansion.text.Text as text
+use Rattle.sect_types.proofs.expansion.text.Text.TheLaws.TheKnot as knot
+use Rattle.sect_types.proofs.expansion.action.Action.TheSendSync as actions
+use Rattle.sect_types.proofs.expansion.action.Condition.TheSendSync as conditions
+use Rattle.sect_types.proofs.expansion.expand.FreshLocals.TheSendSync as fresh
+use Rattle.sect_types.proofs.declarations.types.Types.TheSendSync as types
 use Rattle.std.proofs.vec.Vec.TheSendSync as vec
 use Rattle.std.proofs.alloc.Global.TheSendSync as heap
 

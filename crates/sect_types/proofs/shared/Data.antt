@@ -1,10 +1,10 @@
 -- What data are, and what those of fresh objects are not.
 use Rattle.std.proofs.Common.{◌≡◌, ℕ, zero, suc, refl, ap, List, [], ◌∷◌, length, slice_get}
 use Rattle.std.specs.Prelude.{map, ℤ}
-use Rattle.sect_types.specs.declared.types.ValueType.{ValueType}
-use Rattle.sect_types.specs.declared.types.ValueType.TheVariants as type
-use Rattle.sect_types.specs.declared.store.ObjectName.{ObjectName}
-use Rattle.sect_types.specs.declared.store.Datum.TheVariants.{Number, Null, Refers}
+use Rattle.sect_types.specs.declared.declarations.types.ValueType.{ValueType}
+use Rattle.sect_types.specs.declared.declarations.types.ValueType.TheVariants as type
+use Rattle.sect_types.specs.declared.meaning.store.ObjectName.{ObjectName}
+use Rattle.sect_types.specs.declared.meaning.store.Datum.TheVariants.{Number, Null, Refers}
 use Rattle.sect_types.specs.Meaning.{datum_or_null, first_datum, name_in}
 use Rattle.sect_lemmas.proofs.Options.{some_injective, none_or_some}
 

@@ -2,8 +2,8 @@
 use Rattle.std.proofs.Common.{ℕ, zero, suc, ◌<◌, ◌≤◌, List, [], ◌∷◌, get_or, length, arith}
 use Rattle.sect_types.specs.Statements.{Stop, weight}
 use Rattle.sect_types.specs.Texts.{step_then, statements_of}
-use Rattle.sect_types.specs.declared.text.Step.{Step}
-use Rattle.sect_types.specs.declared.text.Step.TheVariants as step
+use Rattle.sect_types.specs.declared.expansion.text.Step.{Step}
+use Rattle.sect_types.specs.declared.expansion.text.Step.TheVariants as step
 
 pub weight_at : (ss : List Step) (i : ℕ) (d : Step) → i < length ss
     → weight (step_then (get_or ss i d) Stop) ≤ weight (statements_of ss)

@@ -14,9 +14,9 @@ use Rattle.sect_front.specs.declared.tree.Declaration.{Declaration}
 use Rattle.sect_types.specs.First.{IsTyped}
 use Rattle.sect_types.specs.Items.{variables}
 use Rattle.sect_types.specs.Sight.{has_name, place, names_of_globals, names_of_declared}
-use Rattle.sect_types.specs.declared.local_name.LocalName.{LocalName}
-use Rattle.sect_types.specs.declared.expand.Fresh.{Fresh}
-use Rattle.sect_types.specs.declared.sums.Sums.{Sums}
+use Rattle.sect_types.specs.declared.declarations.local_name.LocalName.{LocalName}
+use Rattle.sect_types.specs.declared.expansion.expand.Fresh.{Fresh}
+use Rattle.sect_types.specs.declared.counting.sums.Sums.{Sums}
 use Rattle.sect_types.specs.Sums.{sums, sums_at, sums_within, block_sums, procedure_sums, or_nothing, number_of}
 use Rattle.sect_types.specs.Sums.{statement_sums}
 use Rattle.sect_types.specs.Expanded.{Freshens, of_call, block_fresh, fresh_of, fresh_within, fresh_in}

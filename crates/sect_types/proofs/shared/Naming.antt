@@ -7,7 +7,7 @@ use Rattle.std.proofs.lemmas.List.Elements.{All-get_or}
 use Rattle.std.proofs.lemmas.Option.{slice_get_within, get_or_from_slice_get}
 use Rattle.sect_front.specs.declared.tree.Record.{Record}
 use Rattle.sect_types.specs.Limits.{most_fields}
-use Rattle.sect_types.specs.declared.types.ValueType.{ValueType}
+use Rattle.sect_types.specs.declared.declarations.types.ValueType.{ValueType}
 use Rattle.sect_types.specs.Sight.{place, names_of_records}
 use Rattle.sect_types.specs.Environments.{types_of, type_of}
 use Rattle.sect_types.specs.Programs.{ProgramView, IsOfTree, IsWithinLimits}

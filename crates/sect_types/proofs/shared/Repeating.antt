@@ -14,11 +14,11 @@ use Rattle.sect_front.specs.declared.tree.Thread.{Thread}
 use Rattle.sect_front.specs.Syntax.{StatementView, Primitive, If, IfElse, While, Atomic, Call, BlockView, End, Then}
 use Rattle.sect_front.specs.TreeView.{TreeView}
 use Rattle.sect_lemmas.proofs.Booleans.{neither}
-use Rattle.sect_types.specs.declared.rule.Rule.TheVariants.{Twice}
+use Rattle.sect_types.specs.declared.rules.rule.Rule.TheVariants.{Twice}
 use Rattle.sect_types.specs.Sight.{has_name, same_name, place, names_of_globals, names_of_declared}
 use Rattle.sect_front.specs.declared.tree.Procedure.{Procedure}
-use Rattle.sect_types.specs.declared.place.Place.{Place}
-use Rattle.sect_types.specs.declared.place.Place.TheVariants.{InThread, InProcedure}
+use Rattle.sect_types.specs.declared.rules.place.Place.{Place}
+use Rattle.sect_types.specs.declared.rules.place.Place.TheVariants.{InThread, InProcedure}
 use Rattle.sect_types.specs.Items.{items, variables, deeper, in_section, procedure_items, CallHead, AProcedure, Item}
 use Rattle.sect_types.specs.Items.{PrimitiveHead, TestHead, AtomicHead, AThread, ALocal, AField, AGlobal, ARecord}
 use Rattle.sect_types.specs.Items.{AStatement, statement_items, block_items, field_items, record_items, global_items}

@@ -7,7 +7,7 @@ use Rattle.sect_types.specs.Environments.{Environment}
 use Rattle.sect_types.specs.Statements.{TextView, Stop, Do, Choose, Loop, Section, section_bodies}
 use Rattle.sect_types.specs.Sections.{SectionView, sections_from, sections_of}
 use Rattle.sect_types.specs.Sound.{IsSound, AreSound}
-use Rattle.sect_types.specs.declared.types.ValueType.{ValueType}
+use Rattle.sect_types.specs.declared.declarations.types.ValueType.{ValueType}
 use Rattle.sect_lemmas.proofs.Membership.{Has-cases, Has-slice_get, Has-unmap}
 
 body_sound : (e : Environment) (p : TextView) (b : TextView) → IsSound e false p → Has (section_bodies p) b

@@ -1,9 +1,9 @@
 -- What a store holds after a write, or after one more object.
 use Rattle.std.proofs.Common.{true≢false, ◌≡◌, ◌≢◌, ℕ, suc, ◌<◌, List, [], ◌∷◌, ◌++◌, length, Option, Some, None, Bool}
 use Rattle.std.proofs.Common.{true, false, ◌&&◌, refl, sym, ap, ◌∙◌, subst, arith, slice_get, if◌then◌else◌}
-use Rattle.sect_types.specs.declared.store.ObjectName.{ObjectName}
-use Rattle.sect_types.specs.declared.store.ObjectName.TheVariants.{Global, Made}
-use Rattle.sect_types.specs.declared.store.Datum.{Datum}
+use Rattle.sect_types.specs.declared.meaning.store.ObjectName.{ObjectName}
+use Rattle.sect_types.specs.declared.meaning.store.ObjectName.TheVariants.{Global, Made}
+use Rattle.sect_types.specs.declared.meaning.store.Datum.{Datum}
 use Rattle.sect_types.specs.Store.{ObjectView, StoreView, same_name, row_in, row, count, object_at, with_field, write}
 use Rattle.sect_types.specs.Store.{add}
 use Rattle.sect_lemmas.specs.Lists.{changed_at}

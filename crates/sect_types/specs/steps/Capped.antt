@@ -3,8 +3,8 @@ use Rattle.std.specs.Prelude.{◌≤◌, ◌+◌, min, List, length}
 use Rattle.std.specs.List.{AllByRecursion}
 use Rattle.sect_front.specs.declared.tree.Procedure.{Procedure}
 use Rattle.sect_types.specs.Limits.{most_locals}
-use Rattle.sect_types.specs.declared.sums.Sums.{Sums}
-use Rattle.sect_types.specs.declared.sums.TheConstants.{PAST_STATEMENTS, PAST_SITES, PAST_CALLS, PAST_DEPTH}
+use Rattle.sect_types.specs.declared.counting.sums.Sums.{Sums}
+use Rattle.sect_types.specs.declared.counting.sums.TheConstants.{PAST_STATEMENTS, PAST_SITES, PAST_CALLS, PAST_DEPTH}
 
 abbrev pub capped : Sums → Sums
 capped s = record {

@@ -11,15 +11,15 @@ use Rattle.sect_front.specs.declared.tree.Operand.{Operand}
 use Rattle.sect_front.specs.Syntax.{StatementView, BlockView}
 use Rattle.sect_front.specs.Trees.{block_size}
 use Rattle.sect_types.specs.Limits.{most_all_locals, most_sites, most_sections, most_calls}
-use Rattle.sect_types.specs.declared.expand.Fresh.{Fresh}
+use Rattle.sect_types.specs.declared.expansion.expand.Fresh.{Fresh}
 use Rattle.std.specs.Prelude.{Option, Some, None, IsSome}
-use Rattle.sect_types.specs.declared.action.Value.{Value}
-use Rattle.sect_types.specs.declared.action.Value.TheVariants as value
+use Rattle.sect_types.specs.declared.expansion.action.Value.{Value}
+use Rattle.sect_types.specs.declared.expansion.action.Value.TheVariants as value
 use Rattle.sect_types.specs.Expanded.{block_sections, fresh_in}
 use Rattle.sect_types.specs.steps.Written.{written_threads, written_texts, argument_in, written_statement}
 use Rattle.sect_types.specs.steps.Written.{written_block, written_within}
 use Rattle.sect_types.specs.Sight.{operand_of}
-use Rattle.sect_types.specs.declared.shown.Shown.{Shown}
+use Rattle.sect_types.specs.declared.declarations.shown.Shown.{Shown}
 use Rattle.sect_types.specs.steps.Shown.{Shows}
 use Rattle.sect_types.specs.Statements.{TextView, joined}
 use Rattle.sect_types.specs.Sums.{sums_within, statement_sums, block_sums}

@@ -9,15 +9,15 @@ use Rattle.sect_front.specs.Syntax.{StatementView, BlockView}
 use Rattle.sect_front.specs.Trees.{block_size}
 use Rattle.sect_types.specs.Limits.{most_calls, most_locals, most_all_locals, most_sites}
 use Rattle.sect_types.specs.Limits.{most_sections}
-use Rattle.sect_types.specs.declared.sums.Sums.{Sums}
-use Rattle.sect_types.specs.declared.action.Value.{Value}
-use Rattle.sect_types.specs.declared.action.Value.TheVariants as value
+use Rattle.sect_types.specs.declared.counting.sums.Sums.{Sums}
+use Rattle.sect_types.specs.declared.expansion.action.Value.{Value}
+use Rattle.sect_types.specs.declared.expansion.action.Value.TheVariants as value
 use Rattle.sect_types.specs.steps.Listing.{all_known}
 use Rattle.sect_types.specs.Sight.{Sight, operand_of}
 use Rattle.sect_types.specs.Rules.{knows_kind}
 use Rattle.sect_types.specs.Sums.{sums, sums_within, block_sums}
 use Rattle.sect_types.specs.Statements.{TextView, joined}
-use Rattle.sect_types.specs.declared.expand.Fresh.{Fresh}
+use Rattle.sect_types.specs.declared.expansion.expand.Fresh.{Fresh}
 use Rattle.sect_types.specs.Expanded.{Scene, NextNumbers, block_sections}
 use Rattle.sect_types.specs.steps.Written.{Writer, argument_in, written_statement, written_block, written_within}
 use Rattle.sect_types.specs.steps.Written.{written_threads, written_texts}

@@ -5,7 +5,7 @@ use Rattle.sect_front.specs.declared.tree.GlobalObject.{GlobalObject}
 use Rattle.sect_front.specs.declared.tree.Declaration.{Declaration}
 use Rattle.sect_types.specs.Limits.{most_fields, most_globals, most_locals, most_records}
 use Rattle.sect_types.specs.Sight.{has_name, names_of_records, names_of_globals, names_of_declared, all_fields}
-use Rattle.sect_types.specs.declared.types.ValueType.{ValueType}
+use Rattle.sect_types.specs.declared.declarations.types.ValueType.{ValueType}
 use Rattle.sect_types.specs.Environments.{types_of, field_types, global_records}
 use Rattle.sect_types.specs.Items.{Item, record_items, field_items, global_items, local_items}
 use Rattle.sect_types.specs.Rules.{Declared, Counts, knows_kind}

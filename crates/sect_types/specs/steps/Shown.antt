@@ -1,7 +1,7 @@
 -- The names that all procedures and threads see.
 use Rattle.std.specs.Prelude.{◌≡◌}
 use Rattle.sect_front.specs.TreeView.{TreeView}
-use Rattle.sect_types.specs.declared.shown.Shown.{Shown}
+use Rattle.sect_types.specs.declared.declarations.shown.Shown.{Shown}
 use Rattle.sect_types.specs.Sight.{names_of_records, names_of_globals, all_fields}
 use Rattle.sect_types.specs.steps.Listing.{Knows}
 

@@ -1,9 +1,9 @@
 -- Where statements stand, and the procedures that they may call.
 use Rattle.std.specs.Prelude.{◌≡◌, ◌<◌, ℕ, Bool, List, length, map, slice_get, Some}
 use Rattle.sect_front.specs.declared.tree.Procedure.{Procedure}
-use Rattle.sect_types.specs.declared.place.Place.{Place}
-use Rattle.sect_types.specs.declared.place.Place.TheVariants.{InThread, InProcedure}
-use Rattle.sect_types.specs.declared.sums.Sums.{Sums}
+use Rattle.sect_types.specs.declared.rules.place.Place.{Place}
+use Rattle.sect_types.specs.declared.rules.place.Place.TheVariants.{InThread, InProcedure}
+use Rattle.sect_types.specs.declared.counting.sums.Sums.{Sums}
 use Rattle.sect_types.specs.Sums.{sums}
 use Rattle.sect_types.specs.steps.Search.{returns}
 use Rattle.sect_types.specs.Sight.{Sight}

@@ -3,9 +3,9 @@ use Rattle.std.specs.Prelude.{◌≡◌, ℕ, ◌+◌, List, [], ◌∷◌, Some
 use Rattle.std.specs.List.{AllByRecursion}
 use Rattle.sect_front.specs.declared.tree.Procedure.{Procedure}
 use Rattle.sect_types.specs.Sums.{nothing, both, sums_at, procedure_sums}
-use Rattle.sect_types.specs.declared.sums.Sums.{Sums}
-use Rattle.sect_types.specs.declared.sums.Met.{Met}
-use Rattle.sect_types.specs.declared.sums.Summary.{Summary}
+use Rattle.sect_types.specs.declared.counting.sums.Sums.{Sums}
+use Rattle.sect_types.specs.declared.counting.sums.Met.{Met}
+use Rattle.sect_types.specs.declared.counting.sums.Summary.{Summary}
 use Rattle.sect_types.specs.steps.Capped.{capped, IsSmall}
 
 -- the same in n blocks

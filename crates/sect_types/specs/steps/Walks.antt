@@ -1,9 +1,9 @@
 -- What a walk says of the items that it has passed.
 use Rattle.std.specs.Prelude.{◌≡◌, Bool, true, false, if◌then◌else◌, List, Result, Ok, Err, ⊤, Option, Some, None}
-use Rattle.sect_types.specs.declared.rule.Rule.{Rule}
-use Rattle.sect_types.specs.declared.rule.Rule.TheVariants.{Unknown, Twice, WrongType, SharedOutside, TooMany}
-use Rattle.sect_types.specs.declared.rule.WalkFault.{WalkFault}
-use Rattle.sect_types.specs.declared.rule.WalkFault.TheVariants as fault
+use Rattle.sect_types.specs.declared.rules.rule.Rule.{Rule}
+use Rattle.sect_types.specs.declared.rules.rule.Rule.TheVariants.{Unknown, Twice, WrongType, SharedOutside, TooMany}
+use Rattle.sect_types.specs.declared.rules.rule.WalkFault.{WalkFault}
+use Rattle.sect_types.specs.declared.rules.rule.WalkFault.TheVariants as fault
 use Rattle.sect_types.specs.Items.{Item}
 use Rattle.sect_types.specs.Rules.{Declared, Counts}
 use Rattle.sect_types.specs.steps.Judging.{judge, Faulty}

@@ -12,13 +12,13 @@ use Rattle.sect_front.specs.declared.tree.Procedure.{Procedure}
 use Rattle.sect_front.specs.declared.tree.Thread.{Thread}
 use Rattle.sect_front.specs.TreeView.{TreeView}
 use Rattle.sect_front.specs.Syntax.{StatementView, Primitive, If, IfElse, While, Atomic, Call, BlockView, End, Then}
-use Rattle.sect_types.specs.declared.sums.Sums.{Sums}
-use Rattle.sect_types.specs.declared.resolve.Given.{Given}
-use Rattle.sect_types.specs.declared.action.Value.{Value}
-use Rattle.sect_types.specs.declared.action.Value.TheVariants as value
-use Rattle.sect_types.specs.declared.action.Condition.{Condition}
-use Rattle.sect_types.specs.declared.action.Action.{Action}
-use Rattle.sect_types.specs.declared.action.Action.TheVariants as action
+use Rattle.sect_types.specs.declared.counting.sums.Sums.{Sums}
+use Rattle.sect_types.specs.declared.rules.resolve.Given.{Given}
+use Rattle.sect_types.specs.declared.expansion.action.Value.{Value}
+use Rattle.sect_types.specs.declared.expansion.action.Value.TheVariants as value
+use Rattle.sect_types.specs.declared.expansion.action.Condition.{Condition}
+use Rattle.sect_types.specs.declared.expansion.action.Action.{Action}
+use Rattle.sect_types.specs.declared.expansion.action.Action.TheVariants as action
 use Rattle.sect_types.specs.Sight.{operand_of}
 use Rattle.sect_types.specs.Items.{variables}
 use Rattle.sect_types.specs.Numbered.{value_by, action_of, condition_of}

@@ -2,10 +2,10 @@
 -- it.
 use Rattle.std.specs.Prelude.{◌≡◌, ◌<◌, ⊤, ℕ, Bool, true, false, List, [], ◌∷◌, Option, Some, None, Result, Ok, Err}
 use Rattle.std.specs.Prelude.{slice_index_or}
-use Rattle.sect_types.specs.declared.action.Label.{Label}
-use Rattle.sect_types.specs.declared.action.Label.TheVariants.{Act, Test, Section}
-use Rattle.sect_types.specs.declared.action.Action.TheVariants.{New}
-use Rattle.sect_types.specs.declared.store.Fault.{Fault}
+use Rattle.sect_types.specs.declared.expansion.action.Label.{Label}
+use Rattle.sect_types.specs.declared.expansion.action.Label.TheVariants.{Act, Test, Section}
+use Rattle.sect_types.specs.declared.expansion.action.Action.TheVariants.{New}
+use Rattle.sect_types.specs.declared.meaning.store.Fault.{Fault}
 use Rattle.sect_types.specs.Programs.{ProgramView}
 use Rattle.sect_types.specs.Statements.{TextView, Section as Whole}
 use Rattle.sect_types.specs.Store.{ObjectView, StoreView}

@@ -1,5 +1,5 @@
 use Rattle.std.proofs.Common.{rules, arith, ap, sym, ◌≤◌, ◌≡◌, ◌+◌, ◌<◌, ◌∙◌, length, drop}
-use Rattle.sect_types.specs.declared.limits.TheConstants.{MOST_STATEMENTS}
+use Rattle.sect_types.specs.declared.declarations.limits.TheConstants.{MOST_STATEMENTS}
 use Rattle.sect_types.specs.Statements.{Stop, weight}
 use Rattle.sect_types.specs.Texts.{step_then, statements_of}
 use Rattle.sect_types.specs.Traces.{node_count}

@@ -2,7 +2,7 @@ use Rattle.std.proofs.Common.{◌≡◌, ◌∙◌, ◌≤◌, [], ◌∷◌, le
 use Rattle.std.proofs.lemmas.Iterator.Adapters.{YieldsList-from_vec}
 use Rattle.std.proofs.lemmas.Iterator.Consumers.{YieldsList-turn}
 use Rattle.sect_lemmas.proofs.Changed.{get_there}
-use Rattle.sect_types.specs.declared.limits.TheConstants.{MOST_SECTIONS}
+use Rattle.sect_types.specs.declared.declarations.limits.TheConstants.{MOST_SECTIONS}
 use Rattle.sect_types.specs.Programs.{ProgramView}
 use Rattle.sect_types.specs.Sections.{sections_of}
 use Rattle.sect_infer.specs.Sets.{LocksView}

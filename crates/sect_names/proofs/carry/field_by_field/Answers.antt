@@ -1,6 +1,6 @@
 use Rattle.std.proofs.Common.{◌≡◌, ◌↔◌, sym, ap, ◌∙◌, arith, subst, length, ◌<◌, ◌≤◌, get_or}
 use Rattle.std.proofs.lemmas.List.{at_drop_all, get_or_default}
-use Rattle.sect_types.specs.declared.action.Field.{Field}
+use Rattle.sect_types.specs.declared.expansion.action.Field.{Field}
 use Rattle.sect_lemmas.specs.Lists.{Has}
 use Rattle.sect_lemmas.proofs.Elements.{drop_next}
 use Rattle.sect_points.specs.Paths.{dots, path_of-fields}

@@ -1,5 +1,5 @@
 use Rattle.std.proofs.Common.{◌-◌}
-use Rattle.sect_types.specs.declared.limits.TheConstants.{MOST_SITES}
+use Rattle.sect_types.specs.declared.declarations.limits.TheConstants.{MOST_SITES}
 use Rattle.sect_points.proofs.FilledLaws.{NothingBelow}
 use Rattle.sect_points.proofs.path_classes.second_field_site.Given as goal
 

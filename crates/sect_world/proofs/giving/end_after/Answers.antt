@@ -1,7 +1,7 @@
 -- At the exit of the graph nothing is left to run, and before it something is.
 use Rattle.std.proofs.Common.{◌<◌, ◌≤◌, Some, None, length, sym, ap, ◌∙◌, subst, arith}
 use Rattle.std.specs.Prelude.{slice_get}
-use Rattle.sect_types.specs.declared.store.End.TheVariants.{Done}
+use Rattle.sect_types.specs.declared.meaning.store.End.TheVariants.{Done}
 use Rattle.sect_graph.specs.Graphs.{GraphView}
 use Rattle.sect_names.specs.Schemes.{SchemeView}
 use Rattle.sect_graph.specs.Rests.{rest_at}

@@ -1,6 +1,6 @@
 use Rattle.std.proofs.Common.{◌≡◌, ℕ, ◌+◌, ◌<◌, List, length, take, get_or, sym, ap, ◌∙◌}
 use Rattle.std.proofs.lemmas.List.{take_more, take_all}
-use Rattle.sect_types.specs.declared.action.Field.{Field}
+use Rattle.sect_types.specs.declared.expansion.action.Field.{Field}
 use Rattle.sect_points.specs.declared.holders.Variable.{Variable}
 use Rattle.sect_points.specs.Paths.{var, dot, path_of, base_of, dots-push, path_of-fields}
 use Rattle.sect_emit.specs.Plan.{path_datum as denoted, field_of as field_in}

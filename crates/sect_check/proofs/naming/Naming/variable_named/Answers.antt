@@ -1,7 +1,7 @@
 use Rattle.std.proofs.Common.{None, sym, ap, subst, ◌∙◌}
 use Rattle.sect_types.specs.First.{IsTyped}
 use Rattle.sect_types.specs.Programs.{ProgramView}
-use Rattle.sect_types.specs.declared.local_name.LocalName.{LocalName}
+use Rattle.sect_types.specs.declared.declarations.local_name.LocalName.{LocalName}
 use Rattle.sect_check.specs.Names.{local_named}
 use Rattle.sect_check.specs.steps.Resolving.{NamingView}
 use Rattle.sect_check.proofs.LocalLaws.{global_found, no_global_found}

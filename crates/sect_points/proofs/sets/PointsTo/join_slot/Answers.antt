@@ -1,5 +1,5 @@
 use Rattle.std.proofs.Common.{◌+◌, ◌*◌}
-use Rattle.sect_types.specs.declared.limits.TheConstants.{MOST_FIELDS}
+use Rattle.sect_types.specs.declared.declarations.limits.TheConstants.{MOST_FIELDS}
 use Rattle.sect_points.proofs.SetLaws.{slots_below_still}
 use Rattle.sect_points.proofs.sets.PointsTo.join_slot.Goals as goal
 

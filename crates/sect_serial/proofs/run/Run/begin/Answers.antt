@@ -1,5 +1,5 @@
 use Rattle.std.proofs.Common.{◌≡◌, ◌≤◌, List, subst, [], ap, ◌∙◌, length, slice_index_or}
-use Rattle.sect_types.specs.declared.types.ValueType.{ValueType}
+use Rattle.sect_types.specs.declared.declarations.types.ValueType.{ValueType}
 use Rattle.sect_types.specs.Whole.{settled, first_work}
 use Rattle.sect_lemmas.proofs.Changed.{or_past}
 use Rattle.sect_serial.proofs.RunLemmas.{frame_more, ready_more, long_more}

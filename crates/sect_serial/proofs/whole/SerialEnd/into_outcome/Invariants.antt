@@ -1,5 +1,5 @@
 use Rattle.std.proofs.Common.{◌≡◌, ◌++◌, drop, map, Some}
-use Rattle.sect_types.specs.declared.store.End.{End}
+use Rattle.sect_types.specs.declared.meaning.store.End.{End}
 use Rattle.sect_serial.proofs.whole.SerialEnd.into_outcome.Given as goal
 
 abbrev pub invariant-loop-end : goal.invariant-loop-end

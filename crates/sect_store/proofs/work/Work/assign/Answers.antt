@@ -1,5 +1,5 @@
 use Rattle.std.proofs.Common.{rules, ◌≡◌, ap, sym, ◌∙◌, length, vec_len, List}
-use Rattle.sect_types.specs.declared.store.Datum.{Datum}
+use Rattle.sect_types.specs.declared.meaning.store.Datum.{Datum}
 use Rattle.sect_types.specs.Meaning.{WorkView, assigned}
 use Rattle.sect_lemmas.proofs.Changed.{set_put, changed_past, not_below}
 use Rattle.sect_store.proofs.work.Work.assign.Goals as goal

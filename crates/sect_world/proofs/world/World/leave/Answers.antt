@@ -1,7 +1,7 @@
 -- Others take what is given back.
 use Rattle.std.proofs.Common.{◌++◌, sym, subst, arith}
 use Rattle.std.specs.Prelude.{ℕ, Option, slice_set}
-use Rattle.sect_types.specs.declared.store.Fault.{Fault}
+use Rattle.sect_types.specs.declared.meaning.store.Fault.{Fault}
 use Rattle.sect_emit.specs.State.{ThreadState, IsThread}
 use Rattle.sect_world.specs.declared.event.Deed.TheVariants.{Leave}
 use Rattle.sect_world.specs.declared.turned.EventKind.TheVariants as kind

@@ -1,5 +1,0 @@
-use Rattle.sect_types.proofs.SectionLemmas.{IsSoughtIn}
-use Rattle.sect_types.proofs.section.find.Given as goal
-
-abbrev pub invariant-loop-text : goal.invariant-loop-text
-invariant-loop-text l = IsSoughtIn l.number l.texts l.thread l.text-index

@@ -1,0 +1,114 @@
+//! Names by their numbers.
+
+ghost use Rattle.std.specs.Prelude.{◌≡◌, ◌<◌, ◌++◌, ◌∷◌, [], OnOk, OnErr, false, length};
+ghost use Rattle.sect_types.specs.Sight.{place, added, has_name};
+
+use indexmap::IndexSet;
+use sect_front::Name;
+use std::alloc::{AllocError, Global};
+use std::marker::Model;
+
+/// The most names that are numbered.
+pub const MOST_NAMES: usize = 65535;
+
+/// Different names, numbered from 0 in the order in which they were first seen.
+#[derive(Drop)]
+pub struct Names {
+    set: IndexSet<Name>,
+}
+
+impl Model for Names {
+    ghost use Rattle.std.specs.Prelude.{ℕ, List, length, ◌≤◌};
+    ghost use Rattle.sect_types.specs.declared.declarations.names.TheConstants.{MOST_NAMES};
+
+    ghost Value = { List (List ℕ) };
+
+    ghost view = { λ names. names.set.keys };
+
+    ghost invariant = { λ names. length names.set.keys ≤ MOST_NAMES };
+}
+
+impl Names {
+    /// No names.
+    pub fn new(alloc: Global) -> Names
+        ensures { result ≡ [] }
+    {
+        Names {
+            set: IndexSet::new(alloc),
+        }
+    }
+
+    /// The number of a name.
+    pub fn number_of(&self, name: &Name) -> Option<u16>
+        ensures { result ≡ place name.now self.now }
+    {
+        let number = self.set.get_index_of(name)?;
+        Some(number as u16)
+    }
+
+    /// Whether the name is among these.
+    pub fn has(&self, name: &Name) -> bool
+        ensures { result ≡ has_name name.now self.now }
+    {
+        self.set.contains(name)
+    }
+
+    /// How many names there are.
+    pub fn len(&self) -> usize
+        ensures { result ≡ length self.now }
+    {
+        self.set.len()
+    }
+
+    /// Adds a new name.
+    pub fn add(&mut self, name: Name) -> Result<(), AllocError>
+        requires different { has_name name self.old ≡ false }
+        requires room { length self.old < MOST_NAMES }
+        ensures names { OnOk result (self.new ≡ self.old ++ name ∷ []) }
+        ensures err { OnErr result (self.new ≡ self.old) }
+    {
+        self.set.insert(name)?;
+        Ok(())
+    }
+}
+
+/// Names of which only the membership counts, any number of them.
+#[derive(Drop)]
+pub struct NameSet {
+    set: IndexSet<Name>,
+}
+
+impl Model for NameSet {
+    ghost use Rattle.std.specs.Prelude.{ℕ, List};
+
+    ghost Value = { List (List ℕ) };
+
+    ghost view = { λ names. names.set.keys };
+}
+
+impl NameSet {
+    /// No names.
+    pub fn new(alloc: Global) -> NameSet
+        ensures { result ≡ [] }
+    {
+        NameSet {
+            set: IndexSet::new(alloc),
+        }
+    }
+
+    /// Whether the name is among these.
+    pub fn has(&self, name: &Name) -> bool
+        ensures { result ≡ has_name name.now self.now }
+    {
+        self.set.contains(name)
+    }
+
+    /// Adds a name unless it is there.
+    pub fn collect(&mut self, name: Name) -> Result<(), AllocError>
+        ensures names { OnOk result (self.new ≡ added self.old name) }
+        ensures err { OnErr result (self.new ≡ self.old) }
+    {
+        self.set.insert(name)?;
+        Ok(())
+    }
+}

@@ -1,0 +1,3 @@
+//! What a text does when it runs.
+
+pub mod store;

@@ -49,7 +49,7 @@ use Rattle.sect_types.proofs.Walked.{text_clean}
 use Rattle.sect_types.proofs.SiteLaws.{typed_sites}
 use Rattle.sect_types.proofs.SectionLaws.{block_flat, inside_section, sections_in, typed_sections, typed_section_count}
 use Rattle.sect_types.proofs.TypeLaws.{typed_sound}
-use Rattle.sect_types.proofs.Counting.{fine_typed, fine_counts}
+use Rattle.sect_types.proofs.EndCounts.{fine_typed, fine_counts}
 use Rattle.sect_types.proofs.WithinLimits.{AreFewTypes, typed_few_types, typed_within, typed_calls}
 use Rattle.std.proofs.lemmas.Bool.{and_parts}
 use Rattle.sect_types.specs.Limits.{most_all_locals, most_fields, most_locals}

@@ -16,7 +16,7 @@ use Rattle.sect_types.specs.steps.Expansion.{IsPast, HasRoom, block_by, at_threa
 use Rattle.sect_lemmas.proofs.Elements.{drop_next}
 use Rattle.sect_types.proofs.SectionLaws.{sections_in}
 use Rattle.sect_types.proofs.Walked.{before_threads}
-use Rattle.sect_types.proofs.Counting.{thread_sums, before_add, threads_add}
+use Rattle.sect_types.proofs.EndCounts.{thread_sums, before_add, threads_add}
 use Rattle.sect_types.proofs.WithinLimits.{HaveFewLocals, typed_few, block_takes, calls_take}
 
 -- only sites and sections count before a thread

@@ -38,7 +38,7 @@ use Rattle.sect_types.proofs.Walked.{threads_after, records_after, records_walke
 use Rattle.sect_types.proofs.Walked.{before_procedures, before_threads}
 use Rattle.sect_types.specs.Sums.{sums_of}
 use Rattle.sect_types.proofs.CountLaws.{looked, thread_freshens}
-use Rattle.sect_types.proofs.Counting.{end_of, before_add, typed_counts, thread_sums, threads_add}
+use Rattle.sect_types.proofs.EndCounts.{end_of, before_add, typed_counts, thread_sums, threads_add}
 use Rattle.sect_lemmas.proofs.Booleans.{neither}
 use Rattle.sect_types.specs.Limits.{most_all_locals, most_calls, most_globals, most_locals, most_sections, most_sites}
 use Rattle.sect_types.specs.Limits.{most_statements}

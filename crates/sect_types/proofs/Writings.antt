@@ -22,7 +22,7 @@ use Rattle.sect_types.specs.steps.Expansion.{view_of}
 use Rattle.sect_lemmas.proofs.Elements.{drop_next}
 use Rattle.sect_types.proofs.Walked.{before_threads}
 use Rattle.sect_types.proofs.SectionLaws.{sections_in, block_flat}
-use Rattle.sect_types.proofs.Counting.{thread_sums, before_add, threads_add}
+use Rattle.sect_types.proofs.EndCounts.{thread_sums, before_add, threads_add}
 use Rattle.sect_types.proofs.WithinLimits.{HaveFewLocals, typed_few, block_takes, calls_take}
 use Rattle.sect_types.proofs.Threading.{SamePlace, same_texts, same_numbered}
 use Rattle.sect_types.proofs.Optional.{first_there, second_there, the}

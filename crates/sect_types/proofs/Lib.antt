@@ -36,7 +36,7 @@ mod Standing
 mod TypeLaws
 mod CycleLaws
 mod FreshLaws
-mod Counting
+mod EndCounts
 mod WithinLimits
 mod ProgramLemmas
 mod Threading

@@ -3,7 +3,7 @@ use Rattle.std.specs.Prelude.{◌≡◌, ℕ, List, [], ◌∷◌, ◌++◌, map
 use Rattle.serde_json.specs.Data.{Data, string, object, no_members, member}
 use Rattle.sect_emit.specs.Compiled.{CompiledView}
 use Rattle.sect_lsp.specs.Ranges.{count, list, range_json}
-use Rattle.sect_warnings.specs.Titles.{told_name, told_note}
+use Rattle.sect_warnings.specs.Titles.{told_name}
 use Rattle.sect_warnings.specs.Formats.{AreAllPlaced}
 use Rattle.sect_warnings.specs.declared.warning.Spare.TheVariants as spare
 use Rattle.sect_warnings.specs.declared.warning.Told.{Told}
@@ -17,7 +17,7 @@ tags _ = []
 
 -- the name of a warning, what it means, and what is said of its bytes
 abbrev pub message_of : PlacedView → List ℕ
-message_of p = told_name p.told ++ codes ": " ++ told_note p.told ++ behind (codes "; ") p.label
+message_of p = told_name p.told ++ codes ": " ++ p.note ++ behind (codes "; ") p.label
 
 -- a warning: its name, what it means and what is said, at some bytes
 abbrev pub warning_json : List ℕ → PlacedView → Data

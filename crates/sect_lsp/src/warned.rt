@@ -31,7 +31,7 @@ fn message_of(alloc: Global, placed: &Placed) -> Result<String, AllocError>
     ensures { IfOk result (λ text. string_bytes text ≡ message_by placed.now) }
 {
     let told = placed.told();
-    let mut text = format!(in alloc; "{}: {}", told.name(), told.note())?;
+    let mut text = format!(in alloc; "{}: {}", told.name(), placed.note())?;
     put_behind(&mut text, "; ", placed.label())?;
     Ok(text)
 }

@@ -204,7 +204,7 @@ impl Scheme {
     }
 
     /// The paths that may denote before a node what this path denotes after it.
-    fn before(
+    pub fn before(
         &self,
         alloc: Global,
         thread: u16,

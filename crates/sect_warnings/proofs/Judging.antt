@@ -164,7 +164,7 @@ module _ (c : CompiledView) where
       (subst (λ os. Adds (IsDue c) (at_section c i item os) mid new) (sym are) here)))
 
   module _ (scheme : IsScheme c.scheme) (i : ℕ) (within : i < length (sections_of c.scheme.program.texts)) where
-    section_is : slice_get (sections_of c.scheme.program.texts) i ≡ Some (section_at c i)
+    pub section_is : slice_get (sections_of c.scheme.program.texts) i ≡ Some (section_at c i)
     section_is = slice_get-get_or (sections_of c.scheme.program.texts) i (record { thread = 0; body = Stop }) within
 
     -- the graph of a section

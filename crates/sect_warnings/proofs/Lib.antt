@@ -3,3 +3,7 @@ mod Marking
 mod Placing
 mod Plain
 mod Sparing
+mod Turning
+mod Reasoning
+mod Searching
+mod ClassMarks

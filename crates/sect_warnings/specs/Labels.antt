@@ -1,4 +1,4 @@
--- What is said of the bytes that a warning marks.
+-- What is marked for a warning, and what is said there.
 use Rattle.std.specs.Prelude.{◌≡◌, ℕ, List, [], ◌++◌, codes}
 use Rattle.sect_front.specs.TreeView.{TreeView}
 use Rattle.sect_names.specs.declared.lock.Lock.{Lock}
@@ -6,14 +6,29 @@ use Rattle.sect_names.specs.Printing.{lock_text}
 use Rattle.sect_emit.specs.Compiled.{CompiledView}
 use Rattle.sect_warnings.specs.declared.warning.Finding.{Finding}
 use Rattle.sect_warnings.specs.declared.warning.Finding.TheVariants as finding
+use Rattle.sect_warnings.specs.declared.warning.Warning.{Warning}
 use Rattle.sect_warnings.specs.Warnings.{WouldDo}
+use Rattle.sect_warnings.specs.ClassLocks.{class_lock, IsClassMarked}
+use Rattle.sect_warnings.specs.Marks.{MarkView}
+use Rattle.sect_warnings.specs.Remedies.{IsClassNote}
+use Rattle.sect_warnings.specs.Titles.{note_of}
 
 -- of a section marked `all`: which lock it would take without the mark
 abbrev pub would_take : TreeView → Lock → List ℕ
 would_take t l = codes "without `all` it would take `" ++ lock_text t l ++ codes "`"
 
--- what is said of a finding of section i
-abbrev pub IsLabelOf : CompiledView → ℕ → Finding → List ℕ → Type 0
-IsLabelOf c i finding.AllForOne label =
-    (l : Lock) × WouldDo c i l × (label ≡ would_take c.scheme.program.source l)
-IsLabelOf c i _ label = label ≡ []
+abbrev pub IsLabelOf : CompiledView → ℕ → List ℕ → Type 0
+IsLabelOf c i label = (l : Lock) × WouldDo c i l × (label ≡ would_take c.scheme.program.source l)
+
+-- of a finding of section i, which is that item: the section itself, or what needs the class lock
+abbrev pub IsMarkedFor : List ℕ → CompiledView → ℕ → ℕ → Finding → MarkView → Type 0
+IsMarkedFor source c i item finding.NoLock m = (m.item ≡ item) × (m.label ≡ []) × (m.note ≡ note_of finding.NoLock)
+IsMarkedFor source c i item finding.AllForOne m =
+    (m.item ≡ item) × IsLabelOf c i m.label × (m.note ≡ note_of finding.AllForOne)
+IsMarkedFor source c i item (finding.ClassLock n e) m =
+    IsClassMarked c i n e m.item m.label × IsClassNote source c i (class_lock n e) m.note
+IsMarkedFor source c i item (finding.NeverFilled j x) m =
+    (m.item ≡ item) × (m.label ≡ []) × (m.note ≡ note_of (finding.NeverFilled j x))
+
+abbrev pub IsMarkOf : List ℕ → CompiledView → Warning → MarkView → Type 0
+IsMarkOf source c w m = IsMarkedFor source c w.section w.item w.finding m

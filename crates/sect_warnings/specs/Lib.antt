@@ -1,6 +1,9 @@
 pub mod Warnings
 pub mod Placed
 pub mod Titles
+pub mod Marks
+pub mod ClassLocks
+pub mod Remedies
 pub mod Labels
 pub mod Spares
 pub mod Reports
@@ -8,3 +11,4 @@ pub mod Json
 pub mod Sarif
 pub mod Formats
 pub mod Laws
+pub mod steps

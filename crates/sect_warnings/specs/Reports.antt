@@ -13,22 +13,26 @@ use Rattle.sect_emit.specs.Compiled.{CompiledView}
 use Rattle.sect_warnings.specs.declared.warning.Warning.{Warning}
 use Rattle.sect_warnings.specs.declared.warning.Told.{Told}
 use Rattle.sect_warnings.specs.declared.warning.Told.TheVariants as told
-use Rattle.sect_warnings.specs.Labels.{IsLabelOf}
+use Rattle.sect_warnings.specs.Marks.{MarkView}
+use Rattle.sect_warnings.specs.Labels.{IsMarkOf}
 use Rattle.sect_warnings.specs.Placed.{PlacedView, behind}
-use Rattle.sect_warnings.specs.Titles.{told_name, told_title, told_note}
+use Rattle.sect_warnings.specs.Titles.{told_name, told_title}
 
 -- the bytes of an item of a tree that the text spells
 abbrev pub span_of : (source : List ℕ) (tree : TreeView) → IsSpelled source tree → ℕ → Span
 span_of source tree spelled item =
     span_in (map token_span spelled.places) (get_or (item_tokens tree) item no_range)
 
--- the warning with the bytes of its item, and what is said of them
+-- the warning with the bytes that are marked for it, and what is said of them
 pub record IsPlaced (source : List ℕ) (c : CompiledView) (spelled : IsSpelled source c.scheme.program.source)
     (w : Warning) (p : PlacedView) : Type 0
   where
     pub told : p.told ≡ told.Section w
-    pub span : p.span ≡ span_of source c.scheme.program.source spelled w.item
-    pub label : IsLabelOf c w.section w.finding p.label
+    pub mark : MarkView
+    pub marks : IsMarkOf source c w mark
+    pub span : p.span ≡ span_of source c.scheme.program.source spelled mark.item
+    pub label : p.label ≡ mark.label
+    pub note : p.note ≡ mark.note
 
 -- all of them, in their order
 abbrev pub ArePlaced : List ℕ → CompiledView → List Warning → List PlacedView → Type 0
@@ -43,14 +47,14 @@ unfoldable pub heading : Told → List ℕ
 heading t = codes "warning[" ++ told_name t ++ codes "]: " ++ told_title t ++ codes "\n"
 
 -- what it means, below a line of this number
-unfoldable pub note_line : ℕ → Told → List ℕ
-note_line line t = codes "\n" ++ margin line ++ codes "= " ++ told_note t ++ codes "\n"
+unfoldable pub note_line : ℕ → List ℕ → List ℕ
+note_line line note = codes "\n" ++ margin line ++ codes "= " ++ note ++ codes "\n"
 
 -- the report of a warning: what is told, its place with what is said of it, and what it means
 abbrev pub report : List ℕ → PlacedView → List ℕ
 report source p =
     heading p.told ++ excerpt source p.span ++ behind (codes " ") p.label
-    ++ note_line (line_of source p.span.start) p.told
+    ++ note_line (line_of source p.span.start) p.note
 
 -- one after another, with an empty line between them
 abbrev pub reports : List ℕ → List PlacedView → List ℕ

@@ -12,9 +12,10 @@ use Rattle.sect_warnings.specs.declared.warning.Spare.{Spare}
 use Rattle.sect_warnings.specs.declared.warning.Spare.TheVariants as spare
 use Rattle.sect_warnings.specs.declared.warning.Told.TheVariants as told
 use Rattle.sect_warnings.specs.Placed.{PlacedView}
+use Rattle.sect_warnings.specs.Titles.{spare_note}
 
 abbrev pub spare_at : Span → Spare → PlacedView
-spare_at span s = record { told = told.Declaration s; span = span; label = [] }
+spare_at span s = record { told = told.Declaration s; span = span; label = []; note = spare_note s }
 
 -- at a name that is declared: that nothing uses it
 abbrev pub unused_by : Span → Role → List PlacedView

@@ -34,12 +34,15 @@ told_of (finding.NeverFilled j x) = codes " goes through null in every run"
 abbrev pub title_of : Warning → List ℕ
 title_of w = codes "section " ++ decimal w.section ++ told_of w.finding
 
+-- what a lock on a whole class means
+abbrev pub class_note : List ℕ
+class_note = codes "a path to such an object has more fields than a lock may have"
+
 -- what it means
 abbrev pub note_of : Finding → List ℕ
 note_of finding.NoLock = codes "it touches nothing that threads share"
 note_of finding.AllForOne = codes "a section marked `all` runs beside no other that takes a lock"
-note_of (finding.ClassLock n e) =
-    codes "a path to such an object has more fields than a lock may have; `sectc explain` shows where"
+note_of (finding.ClassLock n e) = class_note
 note_of (finding.NeverFilled j x) =
     codes "no statement ever gives the local an object, so a thread that comes here ends by the fault `null`"
 

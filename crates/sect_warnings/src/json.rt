@@ -34,7 +34,7 @@ pub fn warning_value(alloc: Global, source: &[u8], placed: &Placed) -> Result<Va
     let span = span_value(alloc, source, placed.span())?;
     let labels = labels_value(alloc, source, placed)?;
     let message = title(alloc, told)?;
-    let (code, note) = (told.name(), told.note());
+    let (code, note) = (told.name(), placed.note());
     json!(in alloc; {"code": code, "labels": labels, "message": message, "notes": [note],
         "severity": "warning", "span": span})
 }

@@ -1,13 +1,17 @@
 //! What is worth a second look in a program that is accepted, and where, as it is told to a reader.
 #![tactic(auto)]
 
+mod class_mark;
 mod format;
 mod json;
 mod judge;
 mod laws;
+mod mark;
 mod marked;
 mod place;
 mod placed;
+mod reasons;
+mod remedy;
 mod report;
 mod sarif;
 mod spare;

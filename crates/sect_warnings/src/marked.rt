@@ -43,7 +43,7 @@ pub fn takes_all_for_one(
 /// What is said of a section that takes all for one lock.
 pub fn would_take(alloc: Global, compiled: &Compiled, section: u16) -> Result<String, AllocError>
     requires { IsDueOf compiled.now section Finding.AllForOne }
-    ensures { IfOk result (λ label. IsLabelOf compiled.now section Finding.AllForOne (string_bytes label)) }
+    ensures { IfOk result (λ label. IsLabelOf compiled.now section (string_bytes label)) }
 {
     compiled.facts();
     let scheme = compiled.scheme();

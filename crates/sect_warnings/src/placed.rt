@@ -9,12 +9,13 @@ use sect_front::Span;
 use std::alloc::AllocError;
 use std::marker::Model;
 
-/// What is told, the bytes that are marked, and what is said of these; nothing is said by an empty text.
+/// What is told, the bytes that are marked, what is said of these, and what it means; nothing is said by an empty text.
 #[derive(Drop)]
 pub struct Placed {
     told: Told,
     span: Span,
     label: String,
+    note: String,
 }
 
 impl Model for Placed {
@@ -23,14 +24,25 @@ impl Model for Placed {
 
     ghost Value = { PlacedView };
 
-    ghost view = { λ p. record { told = p.told; span = p.span; label = string_bytes p.label } };
+    ghost view = { λ p. record {
+      told = p.told;
+      span = p.span;
+      label = string_bytes p.label;
+      note = string_bytes p.note;
+    } };
 }
 
 impl Placed {
-    pub(crate) fn new(told: Told, span: Span, label: String) -> Placed
-        ensures { result ≡ record { told = told; span = span; label = string_bytes label } }
+    pub(crate) fn new(told: Told, span: Span, label: String, note: String) -> Placed
+        ensures { result
+            ≡ record { told = told; span = span; label = string_bytes label; note = string_bytes note } }
     {
-        Placed { told, span, label }
+        Placed {
+            told,
+            span,
+            label,
+            note,
+        }
     }
 
     /// What is told.
@@ -52,6 +64,13 @@ impl Placed {
         ensures { result.now ≡ self.now.label }
     {
         self.label.as_str()
+    }
+
+    /// What it means, and what is advised.
+    pub fn note(&self) -> &str
+        ensures { result.now ≡ self.now.note }
+    {
+        self.note.as_str()
     }
 }
 

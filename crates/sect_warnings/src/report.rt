@@ -81,13 +81,13 @@ fn put_heading(text: &mut String, told: Told) -> Result<(), AllocError>
 
 /// Adds what it means, below a line of this number.
 #[tactic(auto, unfolding(crate::specs::Reports::note_line))]
-fn put_note(text: &mut String, told: Told, number: &str, line: usize) -> Result<(), AllocError>
+fn put_note(text: &mut String, note: &str, number: &str, line: usize) -> Result<(), AllocError>
     requires { number.now ≡ decimal line }
-    ensures { OnOk result (string_bytes text.new ≡ string_bytes text.old ++ note_line line told) }
+    ensures { OnOk result (string_bytes text.new ≡ string_bytes text.old ++ note_line line note.now) }
 {
     text.push_str("\n")?;
     put_margin(text, number)?;
-    Ok(write!(text, "= {}\n", told.note())?)
+    Ok(write!(text, "= {note}\n")?)
 }
 
 /// Adds the report of a warning.
@@ -106,7 +106,7 @@ fn put_report(
     put_heading(text, told)?;
     put_excerpt(text, source, span, number.as_str())?;
     put_behind(text, " ", placed.label())?;
-    put_note(text, told, number.as_str(), line)
+    put_note(text, placed.note(), number.as_str(), line)
 }
 
 /// Adds the reports of warnings, each behind an empty line.

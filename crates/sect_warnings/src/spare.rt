@@ -15,10 +15,12 @@ use sect_places::{NameSpan, Role};
 use std::alloc::{AllocError, Global};
 
 /// What is told of a declaration, at these bytes.
-fn spare_at(alloc: Global, span: Span, spare: Spare) -> Placed
-    ensures { result ≡ spare_at_by span spare }
+fn spare_at(alloc: Global, span: Span, spare: Spare) -> Result<Placed, AllocError>
+    ensures { IfOk result (λ placed. placed ≡ spare_at_by span spare) }
 {
-    Placed::new(Told::Declaration(spare), span, String::new(alloc))
+    let note = String::from_str(alloc, spare.note())?;
+    let told = Told::Declaration(spare);
+    Ok(Placed::new(told, span, String::new(alloc), note))
 }
 
 /// Adds that nothing uses what is declared, where a name declares something.
@@ -26,7 +28,7 @@ fn add_unused(alloc: Global, found: &mut Vec<Placed>, named: &NameSpan) -> Resul
     ensures { OnOk result (found.new.items ≡ found.old.items ++ unused_at named.now) }
 {
     if let Role::Declared(thing) = named.used.role {
-        found.push(spare_at(alloc, named.span, Spare::Unused(thing)))?;
+        found.push(spare_at(alloc, named.span, Spare::Unused(thing))?)?;
     }
     Ok(())
 }
@@ -46,7 +48,7 @@ fn put_hints(alloc: Global, found: &mut Vec<Placed>, records: &[NameSpan]) -> Re
     ensures { OnOk result (found.new.items ≡ found.old.items ++ map hint_at records.now) }
 {
     for named in records {
-        found.push(spare_at(alloc, named.span, Spare::Hint))?;
+        found.push(spare_at(alloc, named.span, Spare::Hint)?)?;
     }
     Ok(())
 }

@@ -42,7 +42,7 @@ impl Finding {
             Finding::NoLock => "it touches nothing that threads share",
             Finding::AllForOne => "a section marked `all` runs beside no other that takes a lock",
             Finding::ClassLock { .. } => {
-                "a path to such an object has more fields than a lock may have; `sectc explain` shows where"
+                "a path to such an object has more fields than a lock may have"
             }
             Finding::NeverFilled { .. } => {
                 "no statement ever gives the local an object, so a thread that comes here ends by the fault `null`"

@@ -13,7 +13,7 @@ use Rattle.sect_names.specs.Along.{ReadsBeginnings}
 use Rattle.sect_names.specs.Locks.{IsLockOf}
 
 -- only the lock on all is generated there
-only_all : (x : Locking) (l : Lock) → Has (end_locks x) l → lock.All ≡ l
+pub only_all : (x : Locking) (l : Lock) → Has (end_locks x) l → lock.All ≡ l
 only_all locking.Inferred l h = absurd h
 only_all locking.All l (inl is) = is
 only_all locking.All l (inr none) = absurd none

@@ -1,0 +1,138 @@
+//! What is marked for a warning, what is said of it, and what it means.
+
+ghost use Rattle.std.specs.Prelude.{◌≡◌, ◌<◌, None, IfOk, IfSome, length};
+ghost use Rattle.sect_lemmas.specs.Lists.{Has};
+ghost use Rattle.sect_types.specs.Items.{items};
+ghost use Rattle.sect_places.specs.NodeOrigins.{AreOrigins};
+ghost use Rattle.sect_emit.specs.Compiled.{IsCompiledFrom};
+ghost use Rattle.sect_conflicts.specs.Conflicts.{set_at};
+ghost use Rattle.sect_warnings.specs.ClassLocks.{class_lock, IsClassMarked};
+ghost use Rattle.sect_warnings.specs.Labels.{IsMarkOf};
+ghost use Rattle.sect_warnings.specs.Remedies.{IsClassNote};
+ghost use Rattle.sect_warnings.specs.Warnings.{IsDue};
+ghost use Rattle.sect_warnings.specs.steps.Reasons.{AreReasons};
+
+use crate::class_mark::{ClassLock, Need, need_of};
+use crate::marked::would_take;
+use crate::reasons::{Reasons, reasons_of};
+use crate::remedy::{Accepted, class_note};
+use crate::warning::{Finding, Warning};
+use sect_emit::Compiled;
+use sect_places::NodeOrigins;
+use std::alloc::{AllocError, Global};
+use std::marker::Model;
+
+/// The item whose bytes are marked, what is said of them, and what it means; nothing is said by an empty text.
+#[derive(Drop)]
+pub struct Mark {
+    pub item: usize,
+    pub label: String,
+    pub note: String,
+}
+
+impl Model for Mark {
+    ghost use Rattle.std.specs.String.{string_bytes};
+    ghost use Rattle.sect_warnings.specs.Marks.{MarkView};
+
+    ghost Value = { MarkView };
+
+    ghost view = { λ m. record { item = m.item; label = string_bytes m.label; note = string_bytes m.note } };
+}
+
+/// What was found for one warning, and is kept for the next: the chains of a section, and the program compiled for paths
+/// of the most fields.
+#[derive(Drop)]
+pub struct Kept {
+    reasons: Option<Reasons>,
+    deep: Option<Compiled>,
+}
+
+/// A section, and the class lock that it takes.
+#[derive(Clone, Copy)]
+struct ClassWarning {
+    section: u16,
+    lock: ClassLock,
+}
+
+impl Kept {
+    /// Nothing yet.
+    pub fn new() -> Kept
+        ensures reasons { result.reasons ≡ None }
+        ensures deep { result.deep ≡ None }
+    {
+        Kept {
+            reasons: None,
+            deep: None,
+        }
+    }
+}
+
+/// What is marked for a class lock that a section takes.
+fn class_mark(
+    alloc: Global,
+    accepted: Accepted<'_>,
+    origins: &NodeOrigins,
+    kept: &mut Kept,
+    of: ClassWarning,
+) -> Result<Mark, AllocError>
+    requires taken { Has (set_at accepted.compiled.now of.section) (class_lock of.lock.class of.lock.effect) }
+    requires origins { AreOrigins accepted.compiled.now.scheme.program origins.now }
+    requires reasons { IfSome kept.old.reasons (AreReasons accepted.compiled.now) }
+    requires deep { IfSome kept.old.deep (IsCompiledFrom accepted.source.now 3) }
+    ensures marks { IfOk result (λ m. IsClassMarked accepted.entry.compiled.now of.section of.lock.class of.lock.effect
+        m.item m.label) }
+    ensures note { IfOk result (λ m. IsClassNote accepted.entry.source.now accepted.entry.compiled.now of.section
+        (class_lock of.lock.class of.lock.effect) m.note) }
+    ensures within { IfOk result (λ m. m.item < length (items accepted.entry.compiled.now.scheme.program.source)) }
+    ensures reasons { IfSome kept.new.reasons (AreReasons accepted.entry.compiled.now) }
+    ensures deep { IfSome kept.new.deep (IsCompiledFrom accepted.entry.source.now 3) }
+{
+    accepted.compiled.facts();
+    let ClassWarning { section, lock } = of;
+    let reasons = reasons_of(alloc, accepted.compiled, section, kept.reasons.take())?;
+    let Need { item, label } = need_of(alloc, accepted.compiled, origins, &reasons, lock)?;
+    kept.reasons = Some(reasons);
+    let note = class_note(alloc, accepted, &mut kept.deep, section, lock)?;
+    Ok(Mark { item, label, note })
+}
+
+/// What is marked for a warning. `kept` has what was found for the warning before.
+pub fn mark_of(
+    alloc: Global,
+    accepted: Accepted<'_>,
+    origins: &NodeOrigins,
+    kept: &mut Kept,
+    warning: Warning,
+) -> Result<Mark, AllocError>
+    requires due { IsDue accepted.compiled.now warning }
+    requires item { warning.item < length (items accepted.compiled.now.scheme.program.source) }
+    requires origins { AreOrigins accepted.compiled.now.scheme.program origins.now }
+    requires reasons { IfSome kept.old.reasons (AreReasons accepted.compiled.now) }
+    requires deep { IfSome kept.old.deep (IsCompiledFrom accepted.source.now 3) }
+    ensures marks { IfOk result (IsMarkOf accepted.entry.source.now accepted.entry.compiled.now warning) }
+    ensures within { IfOk result (λ m. m.item < length (items accepted.entry.compiled.now.scheme.program.source)) }
+    ensures reasons { IfSome kept.new.reasons (AreReasons accepted.entry.compiled.now) }
+    ensures deep { IfSome kept.new.deep (IsCompiledFrom accepted.entry.source.now 3) }
+{
+    let Warning {
+        section,
+        finding,
+        item,
+    } = warning;
+    let label = match finding {
+        Finding::ClassLock { class, effect } => {
+            let lock = ClassLock { class, effect };
+            return class_mark(
+                alloc,
+                accepted,
+                origins,
+                kept,
+                ClassWarning { section, lock },
+            );
+        }
+        Finding::AllForOne => would_take(alloc, accepted.compiled, section)?,
+        Finding::NoLock | Finding::NeverFilled { .. } => String::new(alloc),
+    };
+    let note = String::from_str(alloc, finding.note())?;
+    Ok(Mark { item, label, note })
+}

@@ -7,3 +7,4 @@ mod Turning
 mod Reasoning
 mod Searching
 mod ClassMarks
+mod Hints

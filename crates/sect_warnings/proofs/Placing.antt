@@ -5,6 +5,7 @@ use Rattle.std.specs.List.{AllZip}
 use Rattle.sect_front.specs.Front.{IsSpelled}
 use Rattle.sect_front.specs.FaultPlaces.{IsWithin, token_span}
 use Rattle.sect_front.specs.declared.span.Span.{Span}
+use Rattle.sect_places.specs.declared.name_use.NameSpan.{NameSpan}
 use Rattle.sect_places.specs.declared.range.TokenRange.{TokenRange}
 use Rattle.sect_places.specs.Ranges.{AreAmong, item_tokens}
 use Rattle.sect_places.specs.Spans.{AreInOrder, span_in}
@@ -19,22 +20,22 @@ use Rattle.sect_warnings.specs.Placed.{PlacedView}
 use Rattle.sect_warnings.specs.Reports.{IsPlaced, AreWithin}
 
 -- a warning with the bytes that are marked for it, where these are the bytes of all tokens and the tokens of all items
-pub record IsPut (source : List ℕ) (c : CompiledView) (tokens : List Span) (ranges : List TokenRange) (w : Warning) (p : PlacedView)
+pub record IsPut (source : List ℕ) (names : List NameSpan) (c : CompiledView) (tokens : List Span) (ranges : List TokenRange) (w : Warning) (p : PlacedView)
     : Type 0
   where
     pub told : p.told ≡ told.Section w
     pub mark : MarkView
-    pub marks : IsMarkOf source c w mark
+    pub marks : IsMarkOf source names c w mark
     pub there : mark.item < length ranges
     pub span : p.span ≡ span_in tokens (get_or ranges mark.item no_range)
     pub label : p.label ≡ mark.label
     pub note : p.note ≡ mark.note
 
-module _ (source : List ℕ) (c : CompiledView) (tokens : List Span) (ranges : List TokenRange) where
+module _ (source : List ℕ) (names : List NameSpan) (c : CompiledView) (tokens : List Span) (ranges : List TokenRange) where
   -- they are those of a text's tokens and of its tree's items
   pub all_placed : (spelled : IsSpelled source c.scheme.program.source)
       → tokens ≡ map token_span spelled.places → ranges ≡ item_tokens c.scheme.program.source → (ws : List Warning)
-      (ps : List PlacedView) → AllZip (IsPut source c tokens ranges) ws ps → AllZip (IsPlaced source c spelled) ws ps
+      (ps : List PlacedView) → AllZip (IsPut source names c tokens ranges) ws ps → AllZip (IsPlaced source names c spelled) ws ps
   all_placed spelled ts rs [] [] each = tt
   all_placed spelled ts rs [] (p ∷ ps) each = absurd each
   all_placed spelled ts rs (w ∷ ws) [] each = absurd each
@@ -53,7 +54,7 @@ module _ (source : List ℕ) (c : CompiledView) (tokens : List Span) (ranges : L
 
   -- they are bytes of the text
   pub within : (total : ℕ) → AreInOrder 0 total tokens → AreAmong (length tokens) ranges → (ws : List Warning)
-      (ps : List PlacedView) → AllZip (IsPut source c tokens ranges) ws ps → AreWithin total ps
+      (ps : List PlacedView) → AllZip (IsPut source names c tokens ranges) ws ps → AreWithin total ps
   within total order among [] [] each k d lt = absurd (omega arith)
   within total order among [] (p ∷ ps) each k d lt = absurd each
   within total order among (w ∷ ws) [] each k d lt = absurd each

@@ -1,5 +1,5 @@
 -- Why a section locks a whole class: which statement needs it, and which path gets too long.
-use Rattle.std.specs.Prelude.{◌≡◌, ◌<◌, ℕ, suc, ◌-◌, List, [], ◌++◌, Some, None, codes, length, slice_get}
+use Rattle.std.specs.Prelude.{◌≡◌, ◌<◌, ℕ, suc, ◌-◌, List, [], ◌++◌, Option, Some, None, codes, length, slice_get}
 use Rattle.std.specs.Prelude.{slice_index_or}
 use Rattle.std.specs.Fmt.{decimal}
 use Rattle.sect_front.specs.TreeView.{TreeView}
@@ -19,6 +19,7 @@ use Rattle.sect_names.specs.Printing.{lock_text, path_text}
 use Rattle.sect_chains.specs.Chains.{IsFirstChain}
 use Rattle.sect_emit.specs.Compiled.{CompiledView}
 use Rattle.sect_emit.specs.Explaining.{section_at, section_deed}
+use Rattle.sect_warnings.specs.Hinting.{touched_at}
 
 -- the lock on a class for reading or for writing
 abbrev pub class_lock : ℕ → Effect → Lock
@@ -70,14 +71,17 @@ abbrev pub class_label : CompiledView → ℕ → Link → ℕ → PathView → 
 class_label c i last j q = need_text c.scheme.program.source last.lock q ++ where_text c i j
 
 -- where section i needs to lock class n for that, and what is said there: the statement or the test at the end of the
--- lock's first chain
-pub record IsClassMarked (c : CompiledView) (i n : ℕ) (e : Effect) (item : ℕ) (label : List ℕ) : Type 0 where
-  pub chain : List Link
-  pub reason : IsReason c i (class_lock n e) chain
-  pub last : Link
-  pub ends : slice_get chain (length chain - 1) ≡ Some last
-  pub node : ℕ
-  pub path : PathView
-  pub long : IsTooLong c i n e chain node path
-  pub stands : item ≡ node_item c.scheme.program.source i last.node
-  pub says : label ≡ class_label c i last node path
+-- lock's first chain; and the record of the object that it touches
+pub record IsClassMarked (c : CompiledView) (i n : ℕ) (e : Effect) (item : ℕ) (label : List ℕ) (r : Option ℕ)
+    : Type 0
+  where
+    pub chain : List Link
+    pub reason : IsReason c i (class_lock n e) chain
+    pub last : Link
+    pub ends : slice_get chain (length chain - 1) ≡ Some last
+    pub node : ℕ
+    pub path : PathView
+    pub long : IsTooLong c i n e chain node path
+    pub stands : item ≡ node_item c.scheme.program.source i last.node
+    pub says : label ≡ class_label c i last node path
+    pub touches : r ≡ touched_at c i last.node

@@ -36,7 +36,7 @@ printed format source (p ∷ ps) = told format source (p ∷ ps)
 abbrev pub AreAllPlaced : List ℕ → CompiledView → List PlacedView → Type 0
 AreAllPlaced source c all =
     (ws : List Warning) × (ps : List PlacedView) × (names : List NameSpan) × (spares : List PlacedView)
-    × AreWarnings c ws × ArePlaced source c ws ps × AreNameSpans source c.scheme.program.source names
+    × AreWarnings c ws × ArePlaced source names c ws ps × AreNameSpans source c.scheme.program.source names
     × AreSpares c.scheme names spares × (all ≡ ps ++ spares)
 
 -- the bytes are what is printed of that

@@ -3,6 +3,8 @@ pub mod Placed
 pub mod Titles
 pub mod Marks
 pub mod ClassLocks
+pub mod Outcomes
+pub mod Hinting
 pub mod Remedies
 pub mod Labels
 pub mod Spares

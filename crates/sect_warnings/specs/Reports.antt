@@ -5,6 +5,7 @@ use Rattle.sect_front.specs.Front.{IsSpelled, line_of}
 use Rattle.sect_front.specs.FaultPlaces.{token_span, IsWithin}
 use Rattle.sect_front.specs.TreeView.{TreeView}
 use Rattle.sect_front.specs.declared.span.Span.{Span}
+use Rattle.sect_places.specs.declared.name_use.NameSpan.{NameSpan}
 use Rattle.sect_places.specs.Ranges.{item_tokens}
 use Rattle.sect_places.specs.Spans.{span_in}
 use Rattle.sect_lint.specs.Excerpts.{excerpt, margin}
@@ -23,21 +24,21 @@ abbrev pub span_of : (source : List ℕ) (tree : TreeView) → IsSpelled source 
 span_of source tree spelled item =
     span_in (map token_span spelled.places) (get_or (item_tokens tree) item no_range)
 
--- the warning with the bytes that are marked for it, and what is said of them
-pub record IsPlaced (source : List ℕ) (c : CompiledView) (spelled : IsSpelled source c.scheme.program.source)
+-- the warning with the bytes that are marked for it, what is said of them, and what it means, by the text's names
+pub record IsPlaced (source : List ℕ) (names : List NameSpan) (c : CompiledView) (spelled : IsSpelled source c.scheme.program.source)
     (w : Warning) (p : PlacedView) : Type 0
   where
     pub told : p.told ≡ told.Section w
     pub mark : MarkView
-    pub marks : IsMarkOf source c w mark
+    pub marks : IsMarkOf source names c w mark
     pub span : p.span ≡ span_of source c.scheme.program.source spelled mark.item
     pub label : p.label ≡ mark.label
     pub note : p.note ≡ mark.note
 
 -- all of them, in their order
-abbrev pub ArePlaced : List ℕ → CompiledView → List Warning → List PlacedView → Type 0
-ArePlaced source c ws ps =
-    (spelled : IsSpelled source c.scheme.program.source) → AllZip (IsPlaced source c spelled) ws ps
+abbrev pub ArePlaced : List ℕ → List NameSpan → CompiledView → List Warning → List PlacedView → Type 0
+ArePlaced source names c ws ps =
+    (spelled : IsSpelled source c.scheme.program.source) → AllZip (IsPlaced source names c spelled) ws ps
 
 -- their bytes are bytes of a text of so many
 abbrev pub AreWithin : ℕ → List PlacedView → Type 0

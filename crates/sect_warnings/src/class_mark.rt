@@ -20,6 +20,7 @@ ghost use Rattle.sect_warnings.specs.ClassLocks.{IsClassMarked};
 ghost use Rattle.sect_warnings.specs.steps.Reasons.{AreReasons, is_on_path as is_on_path_by, IsLong};
 ghost use Rattle.sect_warnings.specs.steps.Reasons.{ArePathsBefore, IsLabelled};
 
+use crate::hinting::touched_at;
 use crate::reasons::Reasons;
 use sect_emit::{Compiled, put_section_node, section_flow, section_thread};
 use sect_names::{Effect, Link, Lock, Path, Scheme, put_lock, put_path};
@@ -184,12 +185,13 @@ fn class_label_of(
     Ok(text)
 }
 
-/// Where a section needs a class lock that it takes, along the first chain of the lock: the item that is marked, and what
-/// is said there.
+/// Where a section needs a class lock that it takes, along the first chain of the lock: the item that is marked, what is
+/// said there, and the record of the object that is touched there.
 #[derive(Drop)]
 pub struct Need {
     pub item: usize,
     pub label: String,
+    pub guarded: Option<u16>,
 }
 
 /// The same of this section.
@@ -204,7 +206,7 @@ pub fn need_of(
     requires taken { Has (set_at compiled.now reasons.now.section) (class_lock lock.class lock.effect) }
     requires origins { AreOrigins compiled.now.scheme.program origins.now }
     ensures marks { IfOk result (λ need. IsClassMarked compiled.now reasons.now.section lock.class lock.effect need.item
-        (string_bytes need.label)) }
+        (string_bytes need.label) need.guarded) }
     ensures within { IfOk result (λ need. need.item < length (items compiled.now.scheme.program.source)) }
 {
     compiled.facts();
@@ -213,6 +215,11 @@ pub fn need_of(
     let links = reasons.chains[number].links();
     let last = links[links.len() - 1].node;
     let item = origins.section(section)[last as usize].item;
+    let guarded = touched_at(compiled, section, last);
     let label = class_label_of(alloc, compiled, section, lock, links)?;
-    Ok(Need { item, label })
+    Ok(Need {
+        item,
+        label,
+        guarded,
+    })
 }

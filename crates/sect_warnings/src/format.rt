@@ -13,6 +13,7 @@ use crate::json::warning_value;
 use crate::judge::warnings;
 use crate::place::places_of;
 use crate::placed::Placed;
+use crate::remedy::Accepted;
 use crate::report::reports_text;
 use crate::sarif::warnings_log;
 use crate::spare::spares;
@@ -121,8 +122,13 @@ pub fn placed_warnings(
     ensures within { IfOk result (λ all. AreWithin (length source.now) all.items) }
 {
     let found = warnings(alloc, compiled)?;
-    let mut placed = places_of(alloc, source, compiled, found.as_slice())?;
     let names = tree_names(alloc, source, compiled.scheme().program().tree())?;
+    let accepted = Accepted {
+        source,
+        names: names.as_slice(),
+        compiled,
+    };
+    let mut placed = places_of(alloc, accepted, found.as_slice())?;
     let mut spares = spares(alloc, compiled.scheme(), names.as_slice())?;
     placed.append(&mut spares)?;
     Ok(placed)

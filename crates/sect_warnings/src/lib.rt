@@ -3,11 +3,13 @@
 
 mod class_mark;
 mod format;
+mod hinting;
 mod json;
 mod judge;
 mod laws;
 mod mark;
 mod marked;
+mod outcome;
 mod place;
 mod placed;
 mod reasons;

@@ -1,8 +1,9 @@
 //! What is marked for a warning, what is said of it, and what it means.
 
-ghost use Rattle.std.specs.Prelude.{◌≡◌, ◌<◌, None, IfOk, IfSome, length};
+ghost use Rattle.std.specs.Prelude.{◌≡◌, ◌<◌, ℕ, Option, None, IfOk, IfSome, length};
 ghost use Rattle.sect_lemmas.specs.Lists.{Has};
 ghost use Rattle.sect_types.specs.Items.{items};
+ghost use Rattle.sect_places.specs.NameSpans.{AreNameSpans};
 ghost use Rattle.sect_places.specs.NodeOrigins.{AreOrigins};
 ghost use Rattle.sect_emit.specs.Compiled.{IsCompiledFrom};
 ghost use Rattle.sect_conflicts.specs.Conflicts.{set_at};
@@ -15,7 +16,7 @@ ghost use Rattle.sect_warnings.specs.steps.Reasons.{AreReasons};
 use crate::class_mark::{ClassLock, Need, need_of};
 use crate::marked::would_take;
 use crate::reasons::{Reasons, reasons_of};
-use crate::remedy::{Accepted, class_note};
+use crate::remedy::{Accepted, ClassWarning, class_note};
 use crate::warning::{Finding, Warning};
 use sect_emit::Compiled;
 use sect_places::NodeOrigins;
@@ -47,13 +48,6 @@ pub struct Kept {
     deep: Option<Compiled>,
 }
 
-/// A section, and the class lock that it takes.
-#[derive(Clone, Copy)]
-struct ClassWarning {
-    section: u16,
-    lock: ClassLock,
-}
-
 impl Kept {
     /// Nothing yet.
     pub fn new() -> Kept
@@ -79,20 +73,24 @@ fn class_mark(
     requires origins { AreOrigins accepted.compiled.now.scheme.program origins.now }
     requires reasons { IfSome kept.old.reasons (AreReasons accepted.compiled.now) }
     requires deep { IfSome kept.old.deep (IsCompiledFrom accepted.source.now 3) }
-    ensures marks { IfOk result (λ m. IsClassMarked accepted.entry.compiled.now of.section of.lock.class of.lock.effect
-        m.item m.label) }
-    ensures note { IfOk result (λ m. IsClassNote accepted.entry.source.now accepted.entry.compiled.now of.section
-        (class_lock of.lock.class of.lock.effect) m.note) }
+    requires names { AreNameSpans accepted.source.now accepted.compiled.now.scheme.program.source accepted.names.now }
+    ensures marks { IfOk result (λ m. (r : Option ℕ)
+        × IsClassMarked accepted.entry.compiled.now of.section of.lock.class of.lock.effect m.item m.label r
+        × IsClassNote accepted.entry.source.now accepted.entry.names.now accepted.entry.compiled.now of.section
+        (class_lock of.lock.class of.lock.effect) r m.note) }
     ensures within { IfOk result (λ m. m.item < length (items accepted.entry.compiled.now.scheme.program.source)) }
     ensures reasons { IfSome kept.new.reasons (AreReasons accepted.entry.compiled.now) }
     ensures deep { IfSome kept.new.deep (IsCompiledFrom accepted.entry.source.now 3) }
 {
     accepted.compiled.facts();
-    let ClassWarning { section, lock } = of;
-    let reasons = reasons_of(alloc, accepted.compiled, section, kept.reasons.take())?;
-    let Need { item, label } = need_of(alloc, accepted.compiled, origins, &reasons, lock)?;
+    let reasons = reasons_of(alloc, accepted.compiled, of.section, kept.reasons.take())?;
+    let Need {
+        item,
+        label,
+        guarded,
+    } = need_of(alloc, accepted.compiled, origins, &reasons, of.lock)?;
     kept.reasons = Some(reasons);
-    let note = class_note(alloc, accepted, &mut kept.deep, section, lock)?;
+    let note = class_note(alloc, accepted, &mut kept.deep, of, guarded)?;
     Ok(Mark { item, label, note })
 }
 
@@ -109,7 +107,9 @@ pub fn mark_of(
     requires origins { AreOrigins accepted.compiled.now.scheme.program origins.now }
     requires reasons { IfSome kept.old.reasons (AreReasons accepted.compiled.now) }
     requires deep { IfSome kept.old.deep (IsCompiledFrom accepted.source.now 3) }
-    ensures marks { IfOk result (IsMarkOf accepted.entry.source.now accepted.entry.compiled.now warning) }
+    requires names { AreNameSpans accepted.source.now accepted.compiled.now.scheme.program.source accepted.names.now }
+    ensures marks { IfOk result (IsMarkOf accepted.entry.source.now accepted.entry.names.now
+        accepted.entry.compiled.now warning) }
     ensures within { IfOk result (λ m. m.item < length (items accepted.entry.compiled.now.scheme.program.source)) }
     ensures reasons { IfSome kept.new.reasons (AreReasons accepted.entry.compiled.now) }
     ensures deep { IfSome kept.new.deep (IsCompiledFrom accepted.entry.source.now 3) }

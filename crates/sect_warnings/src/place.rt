@@ -4,6 +4,7 @@ ghost use Rattle.std.specs.Prelude.{◌≡◌, ◌<◌, IfOk, All, length, get_o
 ghost use Rattle.sect_front.specs.Front.{IsSpelled};
 ghost use Rattle.sect_front.specs.FaultPlaces.{IsWithin};
 ghost use Rattle.sect_types.specs.Items.{items};
+ghost use Rattle.sect_places.specs.NameSpans.{AreNameSpans};
 ghost use Rattle.sect_places.specs.Ranges.{AreAmong};
 ghost use Rattle.sect_places.specs.Spans.{span_in};
 ghost use Rattle.sect_lint.specs.Places.{no_range};
@@ -14,7 +15,6 @@ use crate::mark::{Kept, Mark, mark_of};
 use crate::placed::Placed;
 use crate::remedy::Accepted;
 use crate::warning::{Told, Warning};
-use sect_emit::Compiled;
 use sect_front::Span;
 use sect_places::{TokenRange, item_ranges, node_origins, range_span, token_spans};
 use std::alloc::{AllocError, Global};
@@ -31,22 +31,22 @@ fn item_span(tokens: &[Span], ranges: &[TokenRange], item: usize) -> Span
 /// The same as `places_of`, of some warnings.
 fn some_places(
     alloc: Global,
-    source: &[u8],
-    compiled: &Compiled,
+    accepted: Accepted<'_>,
     found: &[Warning],
 ) -> Result<Vec<Placed>, AllocError>
-    requires spelled { IsSpelled source.now compiled.now.scheme.program.source }
-    requires items { AreAtItems compiled.now.scheme.program.source found.now }
-    requires due { All (IsDue compiled.now) found.now }
-    ensures placed { IfOk result (λ placed. ArePlaced source.now compiled.now found.now placed.items) }
-    ensures within { IfOk result (λ placed. AreWithin (length source.now) placed.items) }
+    requires spelled { IsSpelled accepted.source.now accepted.compiled.now.scheme.program.source }
+    requires names { AreNameSpans accepted.source.now accepted.compiled.now.scheme.program.source accepted.names.now }
+    requires items { AreAtItems accepted.compiled.now.scheme.program.source found.now }
+    requires due { All (IsDue accepted.compiled.now) found.now }
+    ensures placed { IfOk result (λ placed. ArePlaced accepted.entry.source.now accepted.entry.names.now
+        accepted.entry.compiled.now found.now placed.items) }
+    ensures within { IfOk result (λ placed. AreWithin (length accepted.entry.source.now) placed.items) }
 {
-    let program = compiled.scheme().program();
+    let program = accepted.compiled.scheme().program();
     let tree = program.tree();
-    let tokens = token_spans(alloc, source, tree)?;
+    let tokens = token_spans(alloc, accepted.source, tree)?;
     let ranges = item_ranges(alloc, tree)?;
     let origins = node_origins(alloc, program)?;
-    let accepted = Accepted { source, compiled };
     let mut kept = Kept::new();
     let mut placed = Vec::with_capacity(alloc, found.len())?;
     for warning in found {
@@ -60,18 +60,19 @@ fn some_places(
 /// Warnings of the compiled program of a source text, each with the bytes that are marked and what is said of them.
 pub fn places_of(
     alloc: Global,
-    source: &[u8],
-    compiled: &Compiled,
+    accepted: Accepted<'_>,
     found: &[Warning],
 ) -> Result<Vec<Placed>, AllocError>
-    requires spelled { IsSpelled source.now compiled.now.scheme.program.source }
-    requires items { AreAtItems compiled.now.scheme.program.source found.now }
-    requires due { All (IsDue compiled.now) found.now }
-    ensures placed { IfOk result (λ placed. ArePlaced source.now compiled.now found.now placed.items) }
-    ensures within { IfOk result (λ placed. AreWithin (length source.now) placed.items) }
+    requires spelled { IsSpelled accepted.source.now accepted.compiled.now.scheme.program.source }
+    requires names { AreNameSpans accepted.source.now accepted.compiled.now.scheme.program.source accepted.names.now }
+    requires items { AreAtItems accepted.compiled.now.scheme.program.source found.now }
+    requires due { All (IsDue accepted.compiled.now) found.now }
+    ensures placed { IfOk result (λ placed. ArePlaced accepted.entry.source.now accepted.entry.names.now
+        accepted.entry.compiled.now found.now placed.items) }
+    ensures within { IfOk result (λ placed. AreWithin (length accepted.entry.source.now) placed.items) }
 {
     match found {
         [] => Ok(Vec::new(alloc)),
-        _ => some_places(alloc, source, compiled, found),
+        _ => some_places(alloc, accepted, found),
     }
 }

@@ -1,24 +1,34 @@
 //! What a lock on a whole class means, and whether longer paths would spare a section it.
 
-ghost use Rattle.std.specs.Prelude.{◌≡◌, ◌↔◌, ◌++◌, List, ℕ, IfOk, IfSome, IsTrue, OnOk};
+ghost use Rattle.std.specs.Prelude.{◌≡◌, ◌++◌, List, ℕ, IfOk, IfSome, OnOk};
 ghost use Rattle.std.specs.String.{string_bytes};
-ghost use Rattle.sect_lemmas.specs.Lists.{Has};
+ghost use Rattle.sect_places.specs.NameSpans.{AreNameSpans};
 ghost use Rattle.sect_emit.specs.Compiled.{IsCompiledFrom};
-ghost use Rattle.sect_conflicts.specs.Conflicts.{set_at};
 ghost use Rattle.sect_warnings.specs.ClassLocks.{class_lock};
-ghost use Rattle.sect_warnings.specs.Remedies.{IsClassNote, IsOutcome};
+ghost use Rattle.sect_warnings.specs.Remedies.{IsClassNote, IsDeepSaid};
 
-use crate::class_mark::{ClassLock, is_class_lock};
+use crate::class_mark::ClassLock;
+use crate::hinting::put_hint;
+use crate::outcome::put_outcome;
 use crate::warning::Finding;
 use sect_emit::{Compiled, compile};
-use sect_names::{Lock, MOST_PATH_FIELDS, put_locks};
+use sect_names::MOST_PATH_FIELDS;
+use sect_places::NameSpan;
 use std::alloc::{AllocError, Global};
 
-/// A source text that is accepted, and its compiled program.
+/// A source text that is accepted, its names, and its compiled program.
 #[derive(Clone, Copy)]
 pub struct Accepted<'a> {
     pub source: &'a [u8],
+    pub names: &'a [NameSpan],
     pub compiled: &'a Compiled,
+}
+
+/// A section, and the class lock that it takes.
+#[derive(Clone, Copy)]
+pub struct ClassWarning {
+    pub section: u16,
+    pub lock: ClassLock,
 }
 
 /// The compiled program of a text that is accepted, for paths of the most fields that there are: the one that is kept,
@@ -36,73 +46,49 @@ fn deepest(alloc: Global, source: &[u8], kept: Option<Compiled>) -> Result<Compi
     }
 }
 
-/// The locks that a section takes; one that isn't there takes none.
-fn set_of(compiled: &Compiled, section: u16) -> &[Lock]
-    ensures { result.now ≡ set_at compiled.now section }
-{
-    compiled.facts();
-    if section < compiled.scheme().program().section_count() {
-        compiled.set(section)
-    } else {
-        &[]
-    }
-}
-
-/// Whether a set has the lock on a class.
-fn has_lock(set: &[Lock], wanted: ClassLock) -> bool
-    ensures { IsTrue result ↔ Has set.now (class_lock wanted.class wanted.effect) }
-{
-    for lock in set {
-        if is_class_lock(lock, wanted) {
-            return true;
-        }
-    }
-    false
-}
-
-/// Adds what is tried comes to for a section: it takes the lock still, or others in its place.
-fn put_outcome(
+/// Adds what paths of the most fields come to, where paths may have more. `kept` has the program that was compiled for
+/// that, or will have it.
+fn put_deep(
+    alloc: Global,
     text: &mut String,
-    compiled: &Compiled,
-    section: u16,
-    lock: ClassLock,
+    accepted: Accepted<'_>,
+    kept: &mut Option<Compiled>,
+    of: ClassWarning,
 ) -> Result<(), AllocError>
-    ensures { OnOk result ((said : List ℕ) × IsOutcome compiled.now section (class_lock lock.class lock.effect) said
+    requires kept { IfSome kept.old (IsCompiledFrom accepted.source.now 3) }
+    ensures said { OnOk result ((said : List ℕ) × IsDeepSaid accepted.entry.source.now accepted.entry.compiled.now
+        of.section (class_lock of.lock.class of.lock.effect) said
         × (string_bytes text.new ≡ string_bytes text.old ++ said)) }
+    ensures kept { IfSome kept.new (IsCompiledFrom accepted.entry.source.now 3) }
 {
-    compiled.facts();
-    let set = set_of(compiled, section);
-    if has_lock(set, lock) {
-        return text.push_str(" doesn't help");
+    accepted.compiled.facts();
+    if accepted.compiled.scheme().k() >= MOST_PATH_FIELDS {
+        return Ok(());
     }
-    text.push_str(" would give `")?;
-    put_locks(text, compiled.scheme().program(), set)?;
-    text.push_str("`")
+    let deep = deepest(alloc, accepted.source, kept.take())?;
+    text.push_str("; `--k 3`")?;
+    put_outcome(text, &deep, of.section, of.lock)?;
+    *kept = Some(deep);
+    Ok(())
 }
 
-/// What a class lock of a section means, and where paths may have more fields, what the most of them come to. `kept` has
-/// the program that was compiled for that, or will have it.
+/// What a class lock of a section means, what paths of the most fields come to, and what a hint of this record comes to.
 pub fn class_note(
     alloc: Global,
     accepted: Accepted<'_>,
     kept: &mut Option<Compiled>,
-    section: u16,
-    lock: ClassLock,
+    of: ClassWarning,
+    guarded: Option<u16>,
 ) -> Result<String, AllocError>
     requires kept { IfSome kept.old (IsCompiledFrom accepted.source.now 3) }
-    ensures note { IfOk result (λ text. IsClassNote accepted.entry.source.now accepted.entry.compiled.now section
-        (class_lock lock.class lock.effect) (string_bytes text)) }
+    requires names { AreNameSpans accepted.source.now accepted.compiled.now.scheme.program.source accepted.names.now }
+    ensures note { IfOk result (λ text. IsClassNote accepted.entry.source.now accepted.entry.names.now
+        accepted.entry.compiled.now of.section (class_lock of.lock.class of.lock.effect) guarded (string_bytes text)) }
     ensures kept { IfSome kept.new (IsCompiledFrom accepted.entry.source.now 3) }
 {
-    accepted.compiled.facts();
-    let ClassLock { class, effect } = lock;
+    let ClassLock { class, effect } = of.lock;
     let mut text = String::from_str(alloc, Finding::ClassLock { class, effect }.note())?;
-    if accepted.compiled.scheme().k() >= MOST_PATH_FIELDS {
-        return Ok(text);
-    }
-    let deep = deepest(alloc, accepted.source, kept.take())?;
-    text.push_str("; `--k 3`")?;
-    put_outcome(&mut text, &deep, section, lock)?;
-    *kept = Some(deep);
+    put_deep(alloc, &mut text, accepted, kept, of)?;
+    put_hint(alloc, &mut text, accepted, of, guarded)?;
     Ok(text)
 }

@@ -9,6 +9,7 @@ use Rattle.sect_graph.specs.Layout.{flow_nodes}
 use Rattle.sect_emit.specs.Explaining.{section_at}
 use Rattle.sect_places.specs.Origins.{origin}
 use Rattle.sect_warnings.specs.ClassLocks.{class_lock, IsReason, IsClassMarked}
+use Rattle.sect_warnings.specs.Hinting.{touched_at}
 use Rattle.sect_warnings.specs.steps.Reasons.{ReasonsView, AreReasons, IsLabelled}
 use Rattle.sect_warnings.proofs.ClassMarks.{last_there, some_steps, reason_there}
 use Rattle.sect_warnings.proofs.Judging.{origins_many, origins_within}
@@ -155,6 +156,28 @@ class_label_of-requires-clause-named c =
     (Has-slice_get inside.chains.items c.number_in-number.result c.links-links.result.now
     (there.1 ∙ ap (λ l. Some l) (sym links)))
 
+pub touched_at-guarded-requires-clause-node : goal.touched_at-guarded-requires-clause-node
+touched_at-guarded-requires-clause-node c =
+    let v = c.args.compiled.now in
+    let inside = c.reasons.inside in
+    let i = inside.section in
+    let n = c.args.lock.class in
+    let e = c.args.lock.effect in
+    let are : AreReasons v (record { section = i; chains = inside.chains.items }) =
+    subst (AreReasons v) (sym c.reasons.view_is) c.requires.reasons in
+    let ok = c.facts.ensures.compiled in
+    let set = get_or_from_slice_get v.sets i c.set.result.now [] c.set.ensures in
+    let there = reason_there v i inside.chains.items are.chained (class_lock n e) c.number_in-number.result
+    (subst (λ l. slice_get l c.number_in-number.result ≡ Some (class_lock n e)) (sym set) c.number_in-number.ensures) in
+    let links : c.links-links.result.now ≡ there.0 = c.links-links.ensures ∙ (c.index.ensures
+    ∙ get_or_from_slice_get inside.chains.items c.number_in-number.result there.0 c.index.result.now there.1) in
+    let reason : IsReason v i (class_lock n e) c.links-links.result.now =
+    subst (IsReason v i (class_lock n e)) (sym links) there.2 in
+    let last = last_there v ok i are.within n e c.links-links.result.now reason in
+    subst (λ (x : Link). x.node < length (flow_nodes (section_at v i).body))
+    (sym (get_or_from_slice_get c.links-links.result.now (length c.links-links.result.now - 1) last.0
+    c.index-links-links.result last.1)) last.2
+
 pub returns-clause-marks : goal.returns-clause-marks
 returns-clause-marks c =
     let v = c.args.compiled.now in
@@ -179,7 +202,8 @@ returns-clause-marks c =
     ∙ get_or_from_slice_get c.args.origins.now.sections i c.section.result.now [] c.section.ensures in
     let item = (slice_index_or c.section.result.now (slice_index_or c.links-links.result.now
     (length c.links-links.result.now - 1) c.index-links-links.result).node (origin None 0)).item in
-    subst (λ (r : ReasonsView). IsClassMarked v r.section n e item (string_bytes c.in_ok-label.label)) c.reasons.view_is
+    subst (λ (r : ReasonsView). IsClassMarked v r.section n e item (string_bytes c.in_ok-label.label)
+    c.touched_at-guarded.result) c.reasons.view_is
     (record {
       chain = c.links-links.result.now;
       reason = reason;
@@ -191,6 +215,7 @@ returns-clause-marks c =
       stands = ap (λ (x : Link). (slice_index_or c.section.result.now x.node (origin None 0)).item) last
           ∙ ap (λ l. (slice_index_or l labelled.last.node (origin None 0)).item) (sym origins);
       says = labelled.says;
+      touches = c.touched_at-guarded.ensures ∙ ap (λ (x : Link). touched_at v i x.node) last;
     })
 
 pub returns-clause-within : goal.returns-clause-within

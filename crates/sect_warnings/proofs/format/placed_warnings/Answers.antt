@@ -14,7 +14,7 @@ pub places_of-requires-clause-due : goal.places_of-requires-clause-due
 places_of-requires-clause-due c =
     let v = c.args.compiled.now in
     let ws = c.in_ok-found.found.items in
-    subst (All (IsDue v)) (sym c.as_slice.ensures.value)
+    subst (All (IsDue v)) (sym c.as_slice-2.ensures.value)
     (λ k d lt. (selected (IsDue v) (to_section v (length (sections_of v.scheme.program.texts))) ws
     c.in_ok-found.ensures.due (get_or ws k d) (Has-get_or ws k d lt)).1)
 
@@ -28,10 +28,11 @@ returns-clause-placed c =
     let spares = c.in_ok-spares.spares.items in
     let tree : c.tree.result.now ≡ v.scheme.program.source =
     rw (c.program.ensures, c.scheme.ensures) at c.tree.ensures.tree in
-    let placed : ArePlaced source v ws ps =
-    subst (λ l. ArePlaced source v l ps) c.as_slice.ensures.value c.in_ok-placed.ensures.placed in
+    let placed : ArePlaced source names v ws ps =
+    subst (λ l. ArePlaced source names v l ps) c.as_slice-2.ensures.value
+    (subst (λ l. ArePlaced source l v c.as_slice-2.result.now ps) c.as_slice.ensures.value c.in_ok-placed.ensures.placed) in
     let spare : AreSpares v.scheme names spares =
-    rw (c.scheme-2.ensures, c.as_slice-2.ensures.value) at c.in_ok-spares.ensures in (
+    rw (c.scheme-2.ensures, c.as_slice-3.ensures.value) at c.in_ok-spares.ensures in (
       ws,
       ps,
       names,
@@ -51,6 +52,6 @@ returns-clause-within c =
     let names = c.in_ok-names.names.items in
     let spares = c.in_ok-spares.spares.items in
     let spare : AreSpares v.scheme names spares =
-    rw (c.scheme-2.ensures, c.as_slice-2.ensures.value) at c.in_ok-spares.ensures in
+    rw (c.scheme-2.ensures, c.as_slice-3.ensures.value) at c.in_ok-spares.ensures in
     subst (AreWithin total) (sym c.in_ok-append.ensures.items)
     (with_spares total v.scheme names ps spares c.in_ok-names.ensures.proper spare c.in_ok-placed.ensures.within)

@@ -1,5 +1,5 @@
 use Rattle.sect_warnings.proofs.ClassMarks.{set_named}
-use Rattle.sect_warnings.proofs.remedy.put_outcome.Goals as goal
+use Rattle.sect_warnings.proofs.outcome.put_outcome.Goals as goal
 
 pub put_locks-requires : goal.put_locks-requires
 put_locks-requires c =

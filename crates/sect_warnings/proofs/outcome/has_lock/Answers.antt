@@ -3,7 +3,7 @@ use Rattle.std.proofs.lemmas.List.{take_more}
 use Rattle.sect_lemmas.specs.Lists.{Has}
 use Rattle.sect_lemmas.proofs.Membership.{Has-get_or, Has-cases}
 use Rattle.sect_warnings.specs.ClassLocks.{class_lock}
-use Rattle.sect_warnings.proofs.remedy.has_lock.Goals as goal
+use Rattle.sect_warnings.proofs.outcome.has_lock.Goals as goal
 
 pub returns-then-is_class_lock : goal.returns-then-is_class_lock
 returns-then-is_class_lock c = (

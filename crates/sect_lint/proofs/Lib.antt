@@ -6,3 +6,4 @@ mod Parts
 mod Referring
 mod Telling
 mod Touching
+mod Worded

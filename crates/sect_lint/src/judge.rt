@@ -18,7 +18,7 @@ use crate::call_counts::counts_detail;
 use crate::circle::circle_detail;
 use crate::culprit::Culprit;
 use crate::diagnostic::{Detail, Diagnostic};
-use crate::layout::{item_span, layout_of, names_of, own_words};
+use crate::layout::{Words, item_span, words_of};
 use crate::limit::Limit;
 use crate::mistake::Mistake;
 use crate::naming::{declared_at, earlier_detail, found, unknown_name};
@@ -27,7 +27,7 @@ use sect_front::{
     parse_placed,
 };
 use sect_names::{Scheme, SchemeFault, SourceRefusal, check_k, scheme_of};
-use sect_places::NameSpan;
+use sect_places::{NameSpan, tree_names};
 use sect_types::{Mistyped, Program, TypeFault, check_tree};
 use std::alloc::{AllocError, Global};
 
@@ -153,6 +153,22 @@ fn told_of(
     }
 }
 
+/// What is said beside the carets of a text whose item of these tokens breaks a rule on types.
+fn told_item(
+    alloc: Global,
+    tree: &Tree,
+    names: &[NameSpan],
+    words: &Words,
+    fault: &TypeFault,
+) -> Result<Detail, AllocError>
+    ensures { IfOk result (IsToldOf names.now fault.now
+        (item_detail_by tree.now names.now words.now.tokens.items words.now.spans.items fault.now)) }
+{
+    let tokens = words.tokens.as_slice();
+    let other = item_detail(tree, names, tokens, words.spans.as_slice(), fault);
+    told_of(alloc, names, fault, other)
+}
+
 /// What is told of a text whose tree breaks a rule on types.
 fn types_diagnostic(
     alloc: Global,
@@ -169,14 +185,13 @@ fn types_diagnostic(
     let Some(mistake) = Mistake::of_types(fault) else {
         return Err(SourceRefusal::Memory);
     };
-    let layout = layout_of(alloc, source, tree)?;
-    let names = names_of(alloc, source, tree, &layout)?;
     let culprit = Culprit::of_types(fault);
-    let item = item_span(source, tree, &layout, mistake, culprit);
-    let span = marked_span(names.as_slice(), fault, item);
-    let (tokens, spans) = own_words(source, tree, &layout, culprit);
-    let other = item_detail(tree, names.as_slice(), tokens, spans, fault);
-    let detail = told_of(alloc, names.as_slice(), fault, other)?;
+    let item = culprit.item(tree)?;
+    let words = words_of(alloc, source, tree, item)?;
+    let names = tree_names(alloc, source, tree)?;
+    let whole = item_span(&words, mistake);
+    let span = marked_span(names.as_slice(), fault, whole);
+    let detail = told_item(alloc, tree, names.as_slice(), &words, fault)?;
     Ok(Diagnostic {
         mistake,
         span,
@@ -200,8 +215,10 @@ fn hints_diagnostic(
         return Err(SourceRefusal::Memory);
     };
     let tree = tree_of(alloc, source)?;
-    let layout = layout_of(alloc, source, &tree)?;
-    let span = item_span(source, &tree, &layout, mistake, Culprit::of_scheme(fault));
+    let culprit = Culprit::of_scheme(fault);
+    let item = culprit.item(&tree)?;
+    let words = words_of(alloc, source, &tree, item)?;
+    let span = item_span(&words, mistake);
     Ok(Diagnostic {
         mistake,
         span,

@@ -1,6 +1,6 @@
 -- The bytes of an item, by those of its own tokens.
 use Rattle.std.proofs.Common.{◌≡◌, ℕ, ◌+◌, ◌-◌, ◌<◌, ◌≤◌, List, length, map, take, drop, get_or, slice_get, Some}
-use Rattle.std.proofs.Common.{refl, sym, ◌∙◌, ap, subst, arith, length-drop}
+use Rattle.std.proofs.Common.{sym, ◌∙◌, ap, subst, arith, length-drop}
 use Rattle.std.proofs.lemmas.List.{length-map, length-take-le, get_or-take, get_or-drop}
 use Rattle.std.proofs.lemmas.Option.{get_or_from_slice_get}
 use Rattle.sect_front.specs.TreeView.{TreeView}
@@ -9,13 +9,12 @@ use Rattle.sect_front.specs.Front.{IsSpelled}
 use Rattle.sect_front.specs.FaultPlaces.{token_span}
 use Rattle.sect_front.specs.Grammar.{tokens_of}
 use Rattle.sect_front.specs.declared.span.Span.{Span}
-use Rattle.sect_front.specs.declared.token.Token.{Token}
 use Rattle.sect_types.specs.Items.{items}
 use Rattle.sect_places.specs.declared.range.TokenRange.{TokenRange}
 use Rattle.sect_places.specs.Ranges.{range, item_tokens}
 use Rattle.sect_places.specs.Spans.{AreInOrder, no_span, span_in}
 use Rattle.sect_lint.specs.Places.{IsItemSpan, item_number, marked, no_range}
-use Rattle.sect_lint.specs.Details.{own_range, own_tokens, own_spans}
+use Rattle.sect_lint.specs.Details.{own_range}
 use Rattle.sect_lint.specs.declared.culprit.Culprit.{Culprit}
 use Rattle.sect_lint.specs.declared.layout.Words.{Words}
 use Rattle.sect_lint.specs.declared.mistake.Mistake.{Mistake}

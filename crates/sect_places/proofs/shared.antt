@@ -2,3 +2,4 @@
 pub mod Ordered
 pub mod Names
 pub mod Fitting
+pub mod Naming

@@ -40,4 +40,5 @@ pub use range::{TokenRange, range_span};
 pub use sections::section_items;
 pub use seek::item_range;
 pub use spans::token_spans;
+pub use uses::name_uses;
 pub use words::range_words;

@@ -1,5 +1,5 @@
 use Rattle.std.proofs.Common.{length, arith, ap}
-use Rattle.sect_lint.proofs.Counting.{record_step, record_here, record_end}
+use Rattle.sect_lint.proofs.Counting.{record_step}
 use Rattle.sect_lint.proofs.culprit.record_item.Goals as goal
 
 pub loop-declared-preserved : goal.loop-declared-preserved

@@ -1,4 +1,4 @@
-use Rattle.std.proofs.Common.{arith, ap, length, sym, subst}
+use Rattle.std.proofs.Common.{arith, sym, subst}
 use Rattle.sect_front.specs.FaultPlaces.{IsWithin}
 use Rattle.sect_places.specs.Spans.{AreInOrder}
 use Rattle.sect_places.proofs.shared.Ordered.{span_proper}

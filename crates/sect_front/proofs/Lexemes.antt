@@ -1,7 +1,7 @@
 -- Which token stands at the front of a text.
 use Rattle.std.proofs.Common.{◌≡◌, ℕ, zero, suc, ◌+◌, ◌-◌, ◌*◌, ◌<◌, ◌≤◌, Bool, true, false, not, ◌||◌, ◌&&◌, cond}
 use Rattle.std.proofs.Common.{eqb, nat_lt, List, [], ◌∷◌, Option, Some, None, length, take, drop, refl, sym, ◌∙◌, ap}
-use Rattle.std.proofs.Common.{subst, arith}
+use Rattle.std.proofs.Common.{subst, arith, IfSome}
 use Rattle.std.specs.List.{list_all, take_while, prefix_len}
 use Rattle.std.specs.Str.{bytes_eq}
 use Rattle.std.proofs.lemmas.Bool.{eqb-true, and_parts, not-true}
@@ -310,6 +310,11 @@ pub lexeme_first : (bytes : List ℕ) (t : Token) (n : ℕ) → lexeme_of bytes 
 lexeme_first bytes t n e =
     let f = lexeme_front bytes t n e in
     record { within = f.within; some = f.some; spells = spelling_back (take n bytes) t f.spells; free = f.free }
+
+pub given_first : (bytes : List ℕ) (o : Option (Token × ℕ)) → o ≡ lexeme_of bytes
+    → IfSome o (λ r. IsFirst r.0 r.1 bytes)
+given_first bytes None e = tt
+given_first bytes (Some (t, n)) e = lexeme_first bytes t n (sym e)
 
 pub lexeme_only : (bytes : List ℕ) (t : Token) (n : ℕ) → IsFirst t n bytes → lexeme_of bytes ≡ Some (t, n)
 lexeme_only bytes t n f =

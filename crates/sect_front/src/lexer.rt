@@ -1,9 +1,11 @@
 //! One token at the front of a text.
 
-ghost use Rattle.std.specs.Prelude.{◌≡◌, ◌<◌, ◌≤◌, ◌^◌, length, drop, take_while, true, false, IfSome};
+ghost use Rattle.std.specs.Prelude.{◌≡◌, ◌<◌, ◌≤◌, ◌^◌, ℕ, Some, length, drop, take_while, true, false, IfSome};
 ghost use Rattle.std.specs.List.{list_all};
 ghost use Rattle.sect_front.specs.Words.{is_name_byte as name_byte, begins, is_letter as letter_of};
 ghost use Rattle.sect_front.specs.Gaps.{is_blank as blank_of, begins_with as begins_so, after_gap as gap_of, skip};
+ghost use Rattle.sect_front.specs.Lexing.{IsFirst};
+ghost use Rattle.sect_front.specs.declared.token.Token.{Token as AToken};
 ghost use Rattle.sect_front.specs.steps.Recognition.{word_token as word_of, number_of, decimal_from, spelled};
 ghost use Rattle.sect_front.specs.steps.Recognition.{single_sign, double_sign};
 ghost use Rattle.sect_front.specs.steps.Lexeme.{sign_at, with_length, lexeme_of, begins_name};
@@ -192,6 +194,16 @@ pub fn lexeme(bytes: &[u8]) -> Option<(Token, usize)>
     } else {
         sign(*first, others)
     }
+}
+
+/// The token that stands at the front of these bytes, and how many of them spell it.
+pub fn first_token(bytes: &[u8]) -> Option<(Token, usize)>
+    // Each that stands there is given.
+    ensures each { (token : AToken) (count : ℕ) → IsFirst token count bytes.now → result ≡ Some (token, count) }
+    // And one that is given stands there.
+    ensures first { IfSome result (λ r. IsFirst r.0 r.1 bytes.now) }
+{
+    lexeme(bytes)
 }
 
 /// What follows so many bytes and the gap behind them.

@@ -25,7 +25,7 @@ mod words;
 pub use expecting::expected_kinds;
 pub use innermost::innermost_brace;
 pub use items::Items;
-pub use lexer::after_gap;
+pub use lexer::{after_gap, first_token};
 pub use limits::{MOST_BYTES, MOST_DEPTH, MOST_NAME_BYTES, limits_of_texts};
 pub use listing::tokens_of;
 pub use literal::Literal;

@@ -3,6 +3,8 @@ mod Counting
 mod Faulty
 mod Marked
 mod Parts
+mod Plainly
 mod Referring
 mod Telling
 mod Touching
+mod Worded

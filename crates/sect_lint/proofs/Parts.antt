@@ -46,10 +46,6 @@ order_from from total zero ss h = lower 0 from total ss (omega arith) h
 order_from from total (suc n) [] h = tt
 order_from from total (suc n) (s ∷ ss) h = order_from s.end total n ss h.3
 
--- the bytes of some of the last tokens of a text
-pub order_behind : (total n : ℕ) (ss : List Span) → AreInOrder 0 total ss → AreInOrder 0 total (drop n ss)
-order_behind total n ss h = order_from 0 total n ss h
-
 one_within : (from total : ℕ) (ss : List Span) (k : ℕ) → AreInOrder from total ss
     → IfSome (slice_get ss k) (IsWithin total)
 one_within from total [] k h = tt

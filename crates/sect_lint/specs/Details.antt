@@ -52,9 +52,9 @@ own_range tree item = get_or (item_tokens tree) item no_range
 abbrev pub own_tokens : TreeView → ℕ → List Token
 own_tokens tree item = take (own_range tree item).count (drop (own_range tree item).first (tokens_of tree))
 
--- of the bytes of all tokens those of its tokens and of what stands behind
+-- of the bytes of all tokens those of its tokens
 abbrev pub own_spans : TreeView → List Span → ℕ → List Span
-own_spans tree spans item = drop (own_range tree item).first spans
+own_spans tree spans item = take (own_range tree item).count (drop (own_range tree item).first spans)
 
 -- of a name that is declared twice it is said where it is first declared, of types that don't agree which they are, of
 -- a limit that is passed which that is, and of a call how many arguments and parameters there are. These are the tokens

@@ -2,3 +2,4 @@
 pub mod Laid
 pub mod Linked
 pub mod Spare
+pub mod Plain

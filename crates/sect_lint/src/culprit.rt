@@ -1,14 +1,14 @@
 //! What is at fault in a tree.
 
-ghost use Rattle.std.specs.Prelude.{◌≡◌, ◌<◌, ◌≤◌, ◌+◌, ◌^◌, length, get_or};
+ghost use Rattle.std.specs.Prelude.{◌≡◌, ◌<◌, ◌≤◌, ◌+◌, ◌^◌, IfOk};
 ghost use Rattle.sect_lint.specs.Places.{of_types, of_scheme, record_item as record_item_by, item_number, marked};
-ghost use Rattle.sect_lint.specs.Places.{no_range};
 
 use crate::mistake::Mistake;
 use sect_front::{Record, Tree};
 use sect_names::SchemeFault;
 use sect_places::TokenRange;
 use sect_types::TypeFault;
+use std::alloc::AllocError;
 
 /// What is at fault in a tree, by its number.
 #[derive(Clone, Copy, Debug)]
@@ -47,33 +47,39 @@ impl Culprit {
         }
     }
 
-    /// The tokens of the item that is at fault, where `ranges` has those of each item.
-    pub fn range(self, tree: &Tree, ranges: &[TokenRange]) -> TokenRange
-        requires { item_number tree.now self < length ranges.now }
-        ensures { result ≡ get_or ranges.now (item_number tree.now self) no_range }
+    /// The number of the item that is at fault.
+    pub fn item(self, tree: &Tree) -> Result<usize, AllocError>
+        ensures { IfOk result (λ item. item ≡ item_number tree.now self) }
     {
         match self {
-            Culprit::Item(item) => ranges[item],
-            Culprit::Record(number) => record_range(ranges, tree.records(), number),
+            Culprit::Item(item) => Ok(item),
+            Culprit::Record(number) => record_item(tree.records(), number),
         }
     }
 }
 
-/// The tokens of the item of a record, where `ranges` has those of each item.
-fn record_range(ranges: &[TokenRange], records: &[Record], number: usize) -> TokenRange
-    requires { record_item_by records.now number < length ranges.now }
-    ensures { result ≡ get_or ranges.now (record_item_by records.now number) no_range }
+/// The number of the item that stands so many behind another. At the end of a `usize` the answer is a want of memory,
+/// as no memory holds so many.
+fn past(item: usize, count: usize) -> Result<usize, AllocError>
+    ensures { IfOk result (λ n. n ≡ item + count) }
 {
-    let mut item = 0;
+    item.checked_add(count).ok_or(AllocError)
+}
+
+/// The number of the item of a record.
+fn record_item(records: &[Record], number: usize) -> Result<usize, AllocError>
+    ensures { IfOk result (λ item. item ≡ record_item_by records.now number) }
+{
+    let mut item = 0usize;
     let mut left = number;
     for declared in records {
         if left == 0 {
-            return ranges[item];
+            return Ok(item);
         }
-        item += 1 + declared.fields.as_slice().len();
+        item = past(item, 1 + declared.fields.as_slice().len())?;
         left -= 1;
     }
-    ranges[item]
+    Ok(item)
 }
 
 /// The tokens of an item that the carets stand under.

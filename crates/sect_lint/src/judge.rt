@@ -1,6 +1,6 @@
 //! Whether a source text is refused, for which mistake, and where that stands.
 
-ghost use Rattle.std.specs.Prelude.{◌≡◌, ◌≢◌, ◌≤◌, ℕ, Err, IfOk, IfErr, MatchOption, length};
+ghost use Rattle.std.specs.Prelude.{◌≡◌, ◌≢◌, ◌≤◌, ◌<◌, ℕ, Err, Some, IfOk, IfErr, MatchOption, length};
 ghost use Rattle.sect_front.specs.TreeView.{TreeView};
 ghost use Rattle.sect_front.specs.Front.{IsSpelled, IsFault};
 ghost use Rattle.sect_front.specs.FaultPlaces.{IsFaultSpan, IsWithin};
@@ -9,7 +9,10 @@ ghost use Rattle.sect_types.specs.Programs.{ProgramView};
 ghost use Rattle.sect_names.specs.Sources.{IsTypedText};
 ghost use Rattle.sect_names.specs.Verdicts as schemes;
 ghost use Rattle.sect_names.specs.declared.refusal.SourceRefusal.TheVariants as refusal;
-ghost use Rattle.sect_lint.specs.Places.{marked_name};
+ghost use Rattle.sect_types.specs.Items.{items};
+ghost use Rattle.sect_lint.specs.Places.{of_types, item_number, marked_name};
+ghost use Rattle.sect_lint.specs.Mistakes.{of_types as mistake_by};
+ghost use Rattle.sect_lint.specs.steps.Laid.{AreOwnWords};
 ghost use Rattle.sect_lint.specs.Details.{IsFrontDetail, IsDetailWithin, IsToldOf, item_detail as item_detail_by};
 ghost use Rattle.sect_lint.specs.Reports.{IsDiagnosisOf, IsJudged, IsNotJudged};
 
@@ -18,16 +21,17 @@ use crate::call_counts::counts_detail;
 use crate::circle::circle_detail;
 use crate::culprit::Culprit;
 use crate::diagnostic::{Detail, Diagnostic};
-use crate::layout::{item_span, layout_of, names_of, own_words};
+use crate::layout::{Words, item_span, words_of};
 use crate::limit::Limit;
 use crate::mistake::Mistake;
 use crate::naming::{declared_at, earlier_detail, found, unknown_name};
+use crate::plain::plain_detail;
 use sect_front::{
     FrontFault, PlacedFault, Span, Token, Tree, expected_kinds, innermost_brace, parse,
     parse_placed,
 };
 use sect_names::{Scheme, SchemeFault, SourceRefusal, check_k, scheme_of};
-use sect_places::NameSpan;
+use sect_places::{NameSpan, tree_names};
 use sect_types::{Mistyped, Program, TypeFault, check_tree};
 use std::alloc::{AllocError, Global};
 
@@ -153,6 +157,48 @@ fn told_of(
     }
 }
 
+/// What is said beside the carets of a text whose item of these tokens breaks a rule on types.
+fn told_item(
+    alloc: Global,
+    tree: &Tree,
+    names: &[NameSpan],
+    words: &Words,
+    fault: &TypeFault,
+) -> Result<Detail, AllocError>
+    ensures { IfOk result (IsToldOf names.now fault.now
+        (item_detail_by tree.now names.now words.now.tokens.items words.now.spans.items fault.now)) }
+{
+    let tokens = words.tokens.as_slice();
+    let other = item_detail(tree, names, tokens, words.spans.as_slice(), fault);
+    told_of(alloc, names, fault, other)
+}
+
+/// What is told of a text whose tree breaks a rule on types, by the names of the text. `words` are those of the item.
+fn named_diagnostic(
+    alloc: Global,
+    source: &[u8],
+    mistyped: &Mistyped,
+    words: &Words,
+    mistake: Mistake,
+) -> Result<Diagnostic, AllocError>
+    requires mistake { mistake_by mistyped.now.fault ≡ Some mistake }
+    requires there { item_number mistyped.now.tree (of_types mistyped.now.fault) < length (items mistyped.now.tree) }
+    requires words { AreOwnWords source.now mistyped.now.tree
+        (item_number mistyped.now.tree (of_types mistyped.now.fault)) words.now }
+    ensures { IfOk result (IsDiagnosisOf source.now (refusal.Types mistyped.now.fault)) }
+{
+    let Mistyped { fault, tree } = mistyped;
+    let names = tree_names(alloc, source, tree)?;
+    let whole = item_span(words, mistake);
+    let span = marked_span(names.as_slice(), fault, whole);
+    let detail = told_item(alloc, tree, names.as_slice(), words, fault)?;
+    Ok(Diagnostic {
+        mistake,
+        span,
+        detail,
+    })
+}
+
 /// What is told of a text whose tree breaks a rule on types.
 fn types_diagnostic(
     alloc: Global,
@@ -169,19 +215,24 @@ fn types_diagnostic(
     let Some(mistake) = Mistake::of_types(fault) else {
         return Err(SourceRefusal::Memory);
     };
-    let layout = layout_of(alloc, source, tree)?;
-    let names = names_of(alloc, source, tree, &layout)?;
     let culprit = Culprit::of_types(fault);
-    let item = item_span(source, tree, &layout, mistake, culprit);
-    let span = marked_span(names.as_slice(), fault, item);
-    let (tokens, spans) = own_words(source, tree, &layout, culprit);
-    let other = item_detail(tree, names.as_slice(), tokens, spans, fault);
-    let detail = told_of(alloc, names.as_slice(), fault, other)?;
-    Ok(Diagnostic {
-        mistake,
-        span,
-        detail,
-    })
+    let item = culprit.item(tree)?;
+    let words = words_of(alloc, source, tree, item)?;
+    let plain = plain_detail(alloc, tree, &words, fault)?;
+    match plain {
+        Some(detail) => {
+            let span = item_span(&words, mistake);
+            Ok(Diagnostic {
+                mistake,
+                span,
+                detail,
+            })
+        }
+        None => {
+            let diagnostic = named_diagnostic(alloc, source, mistyped, &words, mistake)?;
+            Ok(diagnostic)
+        }
+    }
 }
 
 /// What is told of a text whose program breaks a rule on hints.
@@ -200,8 +251,10 @@ fn hints_diagnostic(
         return Err(SourceRefusal::Memory);
     };
     let tree = tree_of(alloc, source)?;
-    let layout = layout_of(alloc, source, &tree)?;
-    let span = item_span(source, &tree, &layout, mistake, Culprit::of_scheme(fault));
+    let culprit = Culprit::of_scheme(fault);
+    let item = culprit.item(&tree)?;
+    let words = words_of(alloc, source, &tree, item)?;
+    let span = item_span(&words, mistake);
     Ok(Diagnostic {
         mistake,
         span,

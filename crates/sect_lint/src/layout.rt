@@ -1,94 +1,48 @@
-//! The tokens of a text, as they are laid out.
+//! The tokens of the item at fault, read off the text.
 
-ghost use Rattle.std.specs.Prelude.{◌≡◌, ◌<◌, IfOk, length};
+ghost use Rattle.std.specs.Prelude.{◌≡◌, ◌<◌, ℕ, IfOk, length};
 ghost use Rattle.sect_front.specs.Front.{IsSpelled};
 ghost use Rattle.sect_front.specs.FaultPlaces.{IsWithin};
 ghost use Rattle.sect_types.specs.Items.{items};
-ghost use Rattle.sect_places.specs.NameSpans.{AreNameSpans};
-ghost use Rattle.sect_lint.specs.Details.{own_tokens, own_spans};
-ghost use Rattle.sect_lint.specs.Places.{IsItemSpan, item_number};
-ghost use Rattle.sect_lint.specs.steps.Laid.{IsLaidOut};
+ghost use Rattle.sect_places.specs.Ranges.{range};
+ghost use Rattle.sect_places.specs.Spans.{AreInOrder, span_in};
+ghost use Rattle.sect_lint.specs.Places.{marked};
+ghost use Rattle.sect_lint.specs.steps.Laid.{AreOwnWords};
 
-use crate::culprit::{Culprit, marked_range};
+use crate::culprit::marked_range;
 use crate::mistake::Mistake;
-use sect_front::{Span, Token, Tree, tokens_of};
-use sect_places::{NameSpan, TokenRange, item_ranges, names_among, range_span, spans_of_tokens};
+use sect_front::{Span, Token, Tree};
+use sect_places::{TokenRange, item_range, range_span, range_words};
 use std::alloc::{AllocError, Global};
 
-/// The tokens of a text, the bytes of each, and which tokens each item has.
+/// The tokens of an item, and the bytes of each.
 #[derive(Drop)]
-pub struct Layout {
-    tokens: Vec<Token>,
-    spans: Vec<Span>,
-    ranges: Vec<TokenRange>,
+pub struct Words {
+    pub tokens: Vec<Token>,
+    pub spans: Vec<Span>,
 }
 
-/// The tokens of a tree that the text spells.
-pub fn layout_of(alloc: Global, source: &[u8], tree: &Tree) -> Result<Layout, AllocError>
-    requires { IsSpelled source.now tree.now }
-    ensures { IfOk result (IsLaidOut source.now tree.now) }
+/// The tokens of an item of a tree that the text spells.
+pub fn words_of(alloc: Global, source: &[u8], tree: &Tree, item: usize) -> Result<Words, AllocError>
+    requires spelled { IsSpelled source.now tree.now }
+    requires there { item < length (items tree.now) }
+    ensures { IfOk result (AreOwnWords source.now tree.now item) }
 {
-    let tokens = tokens_of(alloc, tree)?;
-    let spans = spans_of_tokens(alloc, source, tree, tokens.as_slice())?;
-    let ranges = item_ranges(alloc, tree)?;
-    Ok(Layout {
-        tokens,
-        spans,
-        ranges,
-    })
+    let range = item_range(tree, item);
+    let (tokens, spans) = range_words(alloc, source, tree, range)?;
+    Ok(Words { tokens, spans })
 }
 
-/// The names of a tree that is laid out.
-pub fn names_of(
-    alloc: Global,
-    source: &[u8],
-    tree: &Tree,
-    layout: &Layout,
-) -> Result<Vec<NameSpan>, AllocError>
-    requires { IsLaidOut source.now tree.now layout.now }
-    ensures { IfOk result (λ names. AreNameSpans source.now tree.now names.items) }
+/// The bytes of an item of these tokens, as far as they are marked for this mistake.
+pub fn item_span(words: &Words, mistake: Mistake) -> Span
+    requires { 0 < length words.now.spans.items }
+    ensures is { result ≡ span_in words.now.spans.items (marked mistake (range 0 (length words.now.spans.items))) }
+    ensures within { (total : ℕ) → AreInOrder 0 total words.now.spans.items → IsWithin total result }
 {
-    names_among(
-        alloc,
-        source,
-        tree,
-        layout.tokens.as_slice(),
-        layout.spans.as_slice(),
-    )
-}
-
-/// The bytes of the item at fault in a tree that the text spells, as far as they are marked for this mistake.
-pub fn item_span(
-    source: &[u8],
-    tree: &Tree,
-    layout: &Layout,
-    mistake: Mistake,
-    culprit: Culprit,
-) -> Span
-    requires laid { IsLaidOut source.now tree.now layout.now }
-    requires there { item_number tree.now culprit < length (items tree.now) }
-    ensures item { IsItemSpan source.now tree.now mistake culprit result }
-    ensures within { IsWithin (length source.now) result }
-{
-    let range = marked_range(mistake, culprit.range(tree, layout.ranges.as_slice()));
-    range_span(layout.spans.as_slice(), range)
-}
-
-/// The tokens of an item, and the bytes of them and of what stands behind.
-pub fn own_words<'a>(
-    source: &[u8],
-    tree: &Tree,
-    layout: &'a Layout,
-    culprit: Culprit,
-) -> (&'a [Token], &'a [Span])
-    requires laid { IsLaidOut source.now tree.now layout.now }
-    requires there { item_number tree.now culprit < length (items tree.now) }
-    ensures tokens { result.0.now ≡ own_tokens tree.now (item_number tree.now culprit) }
-    ensures spans { result.1.now ≡ own_spans tree.now layout.now.spans.items (item_number tree.now culprit) }
-{
-    let range = culprit.range(tree, layout.ranges.as_slice());
-    let (_, behind) = layout.tokens.as_slice().split_at(range.first);
-    let (tokens, _) = behind.split_at(range.count);
-    let (_, spans) = layout.spans.as_slice().split_at(range.first);
-    (tokens, spans)
+    let spans = words.spans.as_slice();
+    let whole = TokenRange {
+        first: 0,
+        count: spans.len(),
+    };
+    range_span(spans, marked_range(mistake, whole))
 }

@@ -18,6 +18,7 @@ mod layout;
 mod limit;
 mod mistake;
 mod naming;
+mod plain;
 mod report;
 mod sarif;
 mod typing;

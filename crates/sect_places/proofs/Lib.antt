@@ -4,6 +4,7 @@ mod Lining
 mod Following
 mod Walked
 mod Lists
+mod Seeking
 mod Expanding
 mod ItemPast
 mod Spanning
@@ -19,5 +20,7 @@ mod SectionItems
 mod Owned
 mod Within
 mod Whole
+mod Standing
+mod NamesRead
 mod OneFault
 pub mod shared

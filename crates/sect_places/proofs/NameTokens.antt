@@ -2,7 +2,7 @@
 use Rattle.std.proofs.Common.{◌≡◌, ℕ, ◌+◌, ◌<◌, Bool, true, false, List, [], ◌∷◌, ◌++◌, length, drop, map, get_or, refl}
 use Rattle.std.proofs.Common.{subst, sym, ap, ◌∙◌, arith, append-nil, append_assoc, if◌then◌else◌}
 use Rattle.std.specs.Prelude.{filter}
-use Rattle.std.proofs.lemmas.List.{drop_more, length-map}
+use Rattle.std.proofs.lemmas.List.{length-map}
 use Rattle.sect_front.specs.TreeView.{TreeView}
 use Rattle.sect_front.specs.TokenAt.{TokenAt}
 use Rattle.sect_front.specs.Front.{IsSpelled}
@@ -49,7 +49,7 @@ use Rattle.sect_places.specs.NameUses.{block_uses, declarations_uses, hints_uses
 use Rattle.sect_places.specs.NameUses.{procedures_uses, threads_uses, name_uses}
 use Rattle.sect_places.specs.NameSpans.{is_name_token, names_among, AreNameSpans}
 use Rattle.sect_places.specs.Spans.{AreInOrder, IsProper, AreProper}
-use Rattle.sect_places.specs.steps.Named.{spans_named}
+use Rattle.sect_places.proofs.Whole.{spans_order}
 
 -- the token of a name
 abbrev token_of : NameUse → Token
@@ -211,50 +211,6 @@ tree_named t =
     (procedures_named (first_procedure t) t.procedures (threads_tokens t.threads []) _
     (threads_named (first_thread t) t.threads [] [] refl)))
 
--- one more token of a list, whose span is kept where it is a name
-next_named : (ts : List Token) (ss : List Span) (i : ℕ) (t : Token) (d : Span) → i < length ts
-    → length ss ≡ length ts → t ≡ get_or ts i t
-    → spans_named (drop i ts) (drop i ss) ≡ (if is_name_token t
-    then get_or ss i d ∷ spans_named (drop (i + 1) ts) (drop (i + 1) ss)
-    else spans_named (drop (i + 1) ts) (drop (i + 1) ss))
-next_named ts ss i t d lt e is =
-    let ts_is = drop_more ts i t lt ∙ ap (λ x. x ∷ drop (i + 1) ts) (sym is) in
-    let ss_is = drop_more ss i d (omega (arith, lt, e)) in
-    λ j. spans_named (ts_is j) (ss_is j)
-
-pub span_kept : (ts : List Token) (ss : List Span) (i : ℕ) (t : Token) (d : Span) (old new total : List Span)
-    → i < length ts → length ss ≡ length ts → t ≡ get_or ts i t → is_name_token t ≡ true
-    → new ≡ old ++ get_or ss i d ∷ [] → old ++ spans_named (drop i ts) (drop i ss) ≡ total
-    → new ++ spans_named (drop (i + 1) ts) (drop (i + 1) ss) ≡ total
-span_kept ts ss i t d old new total lt e is named more h =
-    let rest : List Span = spans_named (drop (i + 1) ts) (drop (i + 1) ss) in
-    ap (λ l. l ++ rest) more
-    ∙ append_assoc old (get_or ss i d ∷ []) rest
-    ∙ ap (λ l. old ++ l) (sym (next_named ts ss i t d lt e is
-    ∙ ap (λ b. if b then get_or ss i d ∷ rest else rest) named)) ∙ h
-
-pub span_left : (ts : List Token) (ss : List Span) (i : ℕ) (t : Token) (d : Span) (old total : List Span)
-    → i < length ts → length ss ≡ length ts → t ≡ get_or ts i t → is_name_token t ≡ false
-    → old ++ spans_named (drop i ts) (drop i ss) ≡ total
-    → old ++ spans_named (drop (i + 1) ts) (drop (i + 1) ss) ≡ total
-span_left ts ss i t d old total lt e is other h =
-    let rest : List Span = spans_named (drop (i + 1) ts) (drop (i + 1) ss) in
-    ap (λ l. old ++ l) (sym (next_named ts ss i t d lt e is
-    ∙ ap (λ b. if b then get_or ss i d ∷ rest else rest) other)) ∙ h
-
--- the spans of the names among tokens with their places
-spans_among : (ps : List TokenAt) → spans_named (tokens_in ps) (map token_span ps) ≡ map token_span (names_among ps)
-spans_among [] = refl
-spans_among (p ∷ ps) = by_test p ps (is_name_token p.token) (spans_among ps)
-  where
-    by_test : (q : TokenAt) (qs : List TokenAt) (b : Bool)
-        → spans_named (tokens_in qs) (map token_span qs) ≡ map token_span (names_among qs)
-        → (if b then token_span q ∷ spans_named (tokens_in qs) (map token_span qs)
-        else spans_named (tokens_in qs) (map token_span qs))
-        ≡ map token_span (if b then q ∷ names_among qs else names_among qs)
-    by_test q qs true h = ap (λ l. token_span q ∷ l) h
-    by_test q qs false h = h
-
 tokens_among : (ps : List TokenAt)
     → filter is_name_token (tokens_in ps) ≡ map (λ (p : TokenAt). p.token) (names_among ps)
 tokens_among [] = refl
@@ -273,50 +229,41 @@ in_order_proper from total [] h = tt
 in_order_proper from total (x ∷ ss) h = ((h.1, h.2), in_order_proper x.end total ss h.3)
 
 -- and so have those of the names
-named_proper : (total : ℕ) (ts : List Token) (ss : List Span) → AreProper total ss
-    → AreProper total (spans_named ts ss)
-named_proper total [] ss h = tt
-named_proper total (x ∷ ts) [] h = tt
-named_proper total (x ∷ ts) (y ∷ ss) h = by_test total (is_name_token x) y (spans_named ts ss) h.0
-    (named_proper total ts ss h.1)
+named_proper : (total : ℕ) (ps : List TokenAt) → AreProper total (map token_span ps)
+    → AreProper total (map token_span (names_among ps))
+named_proper total [] h = tt
+named_proper total (p ∷ ps) h = by_test (is_name_token p.token) h.0 (named_proper total ps h.1)
   where
-    by_test : (m : ℕ) (b : Bool) (z : Span) (zs : List Span) → IsProper m z → AreProper m zs
-        → AreProper m (if b then z ∷ zs else zs)
-    by_test m true z zs h k = (h, k)
-    by_test m false z zs h k = k
+    by_test : (b : Bool) → IsProper total (token_span p) → AreProper total (map token_span (names_among ps))
+        → AreProper total (map token_span (if b then p ∷ names_among ps else names_among ps))
+    by_test true h k = (h, k)
+    by_test false h k = k
 
 map_map : {A B C : Type 0} (f : B → C) (g : A → B) (xs : List A) → map f (map g xs) ≡ map (λ x. f (g x)) xs
 map_map f g [] = refl
 map_map f g (x ∷ xs) = ap (λ l. f (g x) ∷ l) (map_map f g xs)
 
-module _ (bytes : List ℕ) (t : TreeView) (s : IsSpelled bytes t) (tokens : List Token) (all spans : List Span)
-    (uses : List NameUse) (et : tokens ≡ tokens_of t) (ea : all ≡ map token_span s.places)
-    (order : AreInOrder 0 (length bytes) all)
-    (es : spans ≡ spans_named tokens all) (eu : uses ≡ name_uses t) where
-  spans_are : spans ≡ map token_span (names_among s.places)
-  spans_are = es ∙ (λ j. spans_named ((et ∙ s.parses.tokens) j) (ea j)) ∙ spans_among s.places
+module _ (bytes : List ℕ) (t : TreeView) (s : IsSpelled bytes t) where
+  names_are : map token_of (name_uses t) ≡ map (λ (p : TokenAt). p.token) (names_among s.places)
+  names_are = sym (tree_named t) ∙ ap (filter is_name_token) s.parses.tokens ∙ tokens_among s.places
 
-  names_are : map token_of uses ≡ map (λ (p : TokenAt). p.token) (names_among s.places)
-  names_are = ap (map token_of) eu ∙ sym (tree_named t) ∙ ap (filter is_name_token) s.parses.tokens
-      ∙ tokens_among s.places
-
-  pub as_many_names : length spans ≡ length uses
+  -- the text has as many names as its tree
+  pub as_many_names : length (names_among s.places) ≡ length (name_uses t)
   as_many_names = omega (
     arith,
-    ap length spans_are,
-    length-map (names_among s.places) token_span,
     ap length names_are,
     length-map (names_among s.places) (λ (p : TokenAt). p.token),
-    length-map uses token_of,
+    length-map (name_uses t) token_of,
   )
 
-  pub are_name_spans : (names : List NameSpan) → map (λ (n : NameSpan). n.used) names ≡ uses
-      → map (λ (n : NameSpan). n.span) names ≡ spans → AreNameSpans bytes t names
+  pub are_name_spans : (names : List NameSpan) → map (λ (n : NameSpan). n.used) names ≡ name_uses t
+      → map (λ (n : NameSpan). n.span) names ≡ map token_span (names_among s.places) → AreNameSpans bytes t names
   are_name_spans names e f = record {
     spelled = s;
-    spans = f ∙ spans_are;
+    spans = f;
     named = sym (map_map token_of (λ (n : NameSpan). n.used) names) ∙ ap (map token_of) e ∙ names_are;
-    uses = e ∙ eu;
-    proper = subst (AreProper (length bytes)) (sym (f ∙ es))
-        (named_proper (length bytes) tokens all (in_order_proper 0 (length bytes) all order));
+    uses = e;
+    proper = subst (AreProper (length bytes)) (sym f) (named_proper (length bytes) s.places
+        (in_order_proper 0 (length bytes) (map token_span s.places)
+        (spans_order bytes t s (map token_span s.places) refl)));
   }

@@ -63,7 +63,7 @@ pub record StandsHere (bytes here : List ℕ) (places : List TokenAt) (i : ℕ) 
   pub rest : Reaches (length bytes) (drop (length (spelling_of t)) here) (drop (suc i) places) last
   pub passed : take (suc i) places ≡ take i places ++ p ∷ []
 
-first_length : (t : Token) (n : ℕ) (here : List ℕ) → IsFirst t n here → n ≡ length (spelling_of t)
+pub first_length : (t : Token) (n : ℕ) (here : List ℕ) → IsFirst t n here → n ≡ length (spelling_of t)
 first_length t n here f = sym (length-take-le n here f.within) ∙ ap length f.spells.is
 
 pub stands_here : (bytes : List ℕ) (tokens : List Token) (i : ℕ) (here : List ℕ) (spans : List Span) (t : Token)

@@ -24,7 +24,7 @@ pub walked_none : {X A : Type 0} (total : List X → ℕ) (all : ℕ → List X 
 walked_none total all xs at old = record { counted = refl; added = λ w. refl }
 
 -- what is left begins with the next part
-left : {X : Type 0} (xs : List X) (i : ℕ) (x : X) → i < length xs → x ≡ get_or xs i x
+pub left : {X : Type 0} (xs : List X) (i : ℕ) (x : X) → i < length xs → x ≡ get_or xs i x
     → drop i xs ≡ x ∷ drop (i + 1) xs
 left xs i x lt is = drop_more xs i x lt ∙ ap (λ y. y ∷ drop (i + 1) xs) (sym is)
 
@@ -49,7 +49,7 @@ walked_more size total each all is xs i from at next old now new x h lt e sum ad
       ∙ (ap (λ ys. now ++ all at ys w) (sym (left xs i x lt e)) ∙ h.added w)));
 }
 
-drop_all : {X : Type 0} (xs : List X) (i : ℕ) → length xs ≤ i → drop i xs ≡ []
+pub drop_all : {X : Type 0} (xs : List X) (i : ℕ) → length xs ≤ i → drop i xs ≡ []
 drop_all [] zero h = refl
 drop_all [] (suc i) h = refl
 drop_all (x ∷ xs) zero h = absurd (omega arith)

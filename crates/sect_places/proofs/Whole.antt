@@ -37,7 +37,7 @@ map_length : {A B : Type 0} (f : A → B) (xs : List A) → length (map f xs) �
 map_length f [] = λ i. 0
 map_length f (x ∷ xs) = ap suc (map_length f xs)
 
-tokens_length : (ps : List TokenAt) → length (tokens_in ps) ≡ length ps
+pub tokens_length : (ps : List TokenAt) → length (tokens_in ps) ≡ length ps
 tokens_length [] = λ i. 0
 tokens_length (p ∷ ps) = ap suc (tokens_length ps)
 

@@ -5,4 +5,5 @@ pub mod Passing
 pub mod Ending
 pub mod Calls
 pub mod Placed
-pub mod Named
+pub mod Seeking
+pub mod Standing

@@ -17,9 +17,11 @@ mod position;
 mod positions;
 mod range;
 mod sections;
+mod seek;
 mod spans;
 mod uses;
 mod walk;
+mod words;
 
 pub use declarations::{
     base_in, field_of, global_of, procedure_of, record_of, type_in, variable_of,
@@ -28,7 +30,7 @@ pub use faults::fault_span;
 pub use items::{item_ranges, item_spans, tree_spans};
 pub use lines::{NodeLine, node_lines};
 pub use name_use::{NameSpan, NameUse, Role, Thing};
-pub use named::{name_spans, names_among, tree_names};
+pub use named::{name_spans, tree_names};
 pub use nodes::node_origins;
 pub use origin::{NodeOrigins, Origin, Origins};
 pub use origin_spans::{NodeSpan, NodeSpans, node_spans};
@@ -36,4 +38,7 @@ pub use position::{Position, position_of};
 pub use positions::positions_of;
 pub use range::{TokenRange, range_span};
 pub use sections::section_items;
-pub use spans::{spans_of_tokens, token_spans};
+pub use seek::item_range;
+pub use spans::token_spans;
+pub use uses::name_uses;
+pub use words::range_words;

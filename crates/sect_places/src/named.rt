@@ -1,17 +1,14 @@
 //! Where the names of a text stand.
 
-ghost use Rattle.std.specs.Prelude.{◌≡◌, IfOk, MatchResult, length, map};
-ghost use Rattle.sect_front.specs.FaultPlaces.{token_span};
+ghost use Rattle.std.specs.Prelude.{◌≡◌, ◌<◌, ◌++◌, ◌∷◌, [], true, false, Some, IfOk, OnOk, MatchResult};
+ghost use Rattle.std.specs.Prelude.{length, slice_get};
 ghost use Rattle.sect_front.specs.Front.{IsSpelled, IsFault};
-ghost use Rattle.sect_front.specs.Grammar.{tokens_of as tokens_by};
-ghost use Rattle.sect_places.specs.Spans.{AreInOrder};
 ghost use Rattle.sect_places.specs.NameSpans.{is_name_token, AreNameSpans, HasNameSpans};
-ghost use Rattle.sect_places.specs.steps.Named.{spans_named};
+ghost use Rattle.sect_places.specs.declared.name_use.NameUse.{NameUse as AUse};
 
 use crate::name_use::{NameSpan, NameUse};
-use crate::spans::spans_of_tokens;
 use crate::uses::name_uses;
-use sect_front::{FrontFault, Span, Token, Tree, parse, tokens_of};
+use sect_front::{FrontFault, Span, Token, Tree, after_gap, first_token, parse};
 use std::alloc::{AllocError, Global};
 
 /// Whether a token is a name.
@@ -21,34 +18,26 @@ fn is_name(token: &Token) -> bool
     matches!(token, Token::Name(_))
 }
 
-/// The spans of those tokens that are names, where each token has one.
-fn named_spans(alloc: Global, tokens: &[Token], spans: &[Span]) -> Result<Vec<Span>, AllocError>
-    requires { length spans.now ≡ length tokens.now }
-    ensures { IfOk result (λ named. named.items ≡ spans_named tokens.now spans.now) }
+/// Adds a name that stands at these bytes, if the token is one: it does there what the next of the uses says.
+fn put_name(
+    names: &mut Vec<NameSpan>,
+    uses: &[NameUse],
+    token: &Token,
+    span: Span,
+) -> Result<(), AllocError>
+    requires { length names.old.items < length uses.now }
+    ensures name { OnOk result (is_name_token token.now ≡ true → (u : AUse)
+        → slice_get uses.now (length names.old.items) ≡ Some u
+        → names.new.items ≡ names.old.items ++ record { used = u; span = span } ∷ []) }
+    ensures other { OnOk result (is_name_token token.now ≡ false → names.new.items ≡ names.old.items) }
 {
-    let mut named = Vec::new(alloc);
-    for number in 0..tokens.len() {
-        if is_name(&tokens[number]) {
-            named.push(spans[number])?;
-        }
-    }
-    Ok(named)
-}
-
-/// Names with their spans.
-fn joined(alloc: Global, uses: &[NameUse], spans: &[Span]) -> Result<Vec<NameSpan>, AllocError>
-    requires { length spans.now ≡ length uses.now }
-    ensures used { IfOk result (λ names. map (λ n. n.used) names.items ≡ uses.now) }
-    ensures spans { IfOk result (λ names. map (λ n. n.span) names.items ≡ spans.now) }
-{
-    let mut names = Vec::with_capacity(alloc, uses.len())?;
-    for number in 0..uses.len() {
+    if is_name(token) {
         names.push(NameSpan {
-            used: uses[number],
-            span: spans[number],
+            used: uses[names.len()],
+            span,
         })?;
     }
-    Ok(names)
+    Ok(())
 }
 
 /// All names of a tree that the text spells, in text order.
@@ -56,29 +45,19 @@ pub fn tree_names(alloc: Global, source: &[u8], tree: &Tree) -> Result<Vec<NameS
     requires { IsSpelled source.now tree.now }
     ensures { IfOk result (λ names. AreNameSpans source.now tree.now names.items) }
 {
-    let tokens = tokens_of(alloc, tree)?;
-    let spans = spans_of_tokens(alloc, source, tree, tokens.as_slice())?;
-    names_among(alloc, source, tree, tokens.as_slice(), spans.as_slice())
-}
-
-/// The same, where the tokens of the tree are there with their bytes.
-pub fn names_among(
-    alloc: Global,
-    source: &[u8],
-    tree: &Tree,
-    tokens: &[Token],
-    spans: &[Span],
-) -> Result<Vec<NameSpan>, AllocError>
-    requires spelled { IsSpelled source.now tree.now }
-    requires tokens { tokens.now ≡ tokens_by tree.now }
-    requires spans { (spelled : IsSpelled source.now tree.now) → spans.now ≡ map token_span spelled.places }
-    requires many { length spans.now ≡ length tokens.now }
-    requires order { AreInOrder 0 (length source.now) spans.now }
-    ensures { IfOk result (λ names. AreNameSpans source.now tree.now names.items) }
-{
-    let named = named_spans(alloc, tokens, spans)?;
     let uses = name_uses(alloc, tree)?;
-    let names = joined(alloc, uses.as_slice(), named.as_slice())?;
+    let mut names = Vec::with_capacity(alloc, uses.len())?;
+    let mut here = after_gap(source);
+    while names.len() < uses.len() {
+        let start = source.len() - here.len();
+        let Some((token, count)) = first_token(here) else {
+            unreachable!();
+        };
+        let end = start + count;
+        put_name(&mut names, uses.as_slice(), &token, Span { start, end })?;
+        let (_, after) = here.split_at(count);
+        here = after_gap(after);
+    }
     Ok(names)
 }
 

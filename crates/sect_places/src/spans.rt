@@ -81,26 +81,6 @@ pub fn token_spans(alloc: Global, source: &[u8], tree: &Tree) -> Result<Vec<Span
     ensures order { IfOk result (λ spans. AreInOrder 0 (length source.now) spans.items) }
 {
     let tokens = tokens_of(alloc, tree)?;
-    spans_of_tokens(alloc, source, tree, tokens.as_slice())
-}
-
-/// The same, where the tokens of the tree are there.
-pub fn spans_of_tokens(
-    alloc: Global,
-    source: &[u8],
-    tree: &Tree,
-    tokens: &[Token],
-) -> Result<Vec<Span>, AllocError>
-    requires spelled { IsSpelled source.now tree.now }
-    requires tokens { tokens.now ≡ tokens_by tree.now }
-    // These are the bytes of the text's tokens.
-    ensures spans { IfOk result (λ spans. (spelled : IsSpelled source.now tree.now)
-        → spans.items ≡ map token_span spelled.places) }
-    // Each token of the tree has some.
-    ensures many { IfOk result (λ spans. length spans.items ≡ length (tokens_by tree.now)) }
-    // They lie in the text, one behind another.
-    ensures order { IfOk result (λ spans. AreInOrder 0 (length source.now) spans.items) }
-{
-    let spans = spans_of(alloc, source, tokens)?;
+    let spans = spans_of(alloc, source, tokens.as_slice())?;
     Ok(spans)
 }

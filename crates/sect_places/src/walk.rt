@@ -20,7 +20,7 @@ use sect_front::{
 };
 use std::alloc::AllocError;
 
-fn primitive_count(primitive: &Primitive) -> usize
+pub fn primitive_count(primitive: &Primitive) -> usize
     ensures count { result ≡ primitive_count_by primitive.now }
     ensures some { 2 < result }
 {
@@ -32,7 +32,7 @@ fn primitive_count(primitive: &Primitive) -> usize
     }
 }
 
-fn locking_count(locking: Locking) -> usize
+pub fn locking_count(locking: Locking) -> usize
     ensures { result ≡ locking_count_by locking }
 {
     match locking {
@@ -41,7 +41,7 @@ fn locking_count(locking: Locking) -> usize
     }
 }
 
-fn operands_count(values: &[Operand]) -> usize
+pub fn operands_count(values: &[Operand]) -> usize
     requires { operands_count_by values.now < 2 ^ 64 }
     ensures { result ≡ operands_count_by values.now }
 {
@@ -51,7 +51,7 @@ fn operands_count(values: &[Operand]) -> usize
     }
 }
 
-fn parameters_count(list: &[Declaration]) -> usize
+pub fn parameters_count(list: &[Declaration]) -> usize
     requires { parameters_count_by list.now < 2 ^ 64 }
     ensures { result ≡ parameters_count_by list.now }
 {

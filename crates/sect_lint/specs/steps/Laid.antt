@@ -1,21 +1,19 @@
--- The tokens of a text, as they are laid out.
-use Rattle.std.specs.Prelude.{◌≡◌, ℕ, List, length, map}
+-- The tokens of an item, read off a text.
+use Rattle.std.specs.Prelude.{◌≡◌, ◌<◌, ◌≤◌, ◌+◌, ℕ, List, length, map}
 use Rattle.sect_front.specs.TreeView.{TreeView}
 use Rattle.sect_front.specs.Front.{IsSpelled}
 use Rattle.sect_front.specs.FaultPlaces.{token_span}
 use Rattle.sect_front.specs.Grammar.{tokens_of}
-use Rattle.sect_types.specs.Items.{items}
-use Rattle.sect_places.specs.Ranges.{AreAmong, item_tokens}
 use Rattle.sect_places.specs.Spans.{AreInOrder}
-use Rattle.sect_lint.specs.declared.layout.Layout.{Layout}
+use Rattle.sect_lint.specs.Details.{own_range, own_tokens, own_spans}
+use Rattle.sect_lint.specs.declared.layout.Words.{Words}
 
--- the text spells the tree, and these are its tokens, their bytes, and which tokens each item has
-pub record IsLaidOut (source : List ℕ) (tree : TreeView) (layout : Layout) : Type 0 where
+-- the text spells the tree, and these are the tokens of the item, with their bytes
+pub record AreOwnWords (source : List ℕ) (tree : TreeView) (item : ℕ) (words : Words) : Type 0 where
   pub spelled : IsSpelled source tree
-  pub tokens : layout.tokens.items ≡ tokens_of tree
-  pub spans : (by : IsSpelled source tree) → layout.spans.items ≡ map token_span by.places
-  pub order : AreInOrder 0 (length source) layout.spans.items
-  pub many : length layout.spans.items ≡ length (tokens_of tree)
-  pub ranges : layout.ranges.items ≡ item_tokens tree
-  pub each : length layout.ranges.items ≡ length (items tree)
-  pub within : AreAmong (length (tokens_of tree)) layout.ranges.items
+  pub tokens : words.tokens.items ≡ own_tokens tree item
+  pub spans : (by : IsSpelled source tree) → words.spans.items ≡ own_spans tree (map token_span by.places) item
+  pub order : AreInOrder 0 (length source) words.spans.items
+  pub within : (own_range tree item).first + (own_range tree item).count ≤ length (tokens_of tree)
+  pub many : length words.spans.items ≡ (own_range tree item).count
+  pub some : 0 < length words.spans.items

@@ -1,5 +1,5 @@
 -- The bytes of tokens in a row lie in the text, and there are some.
-use Rattle.std.proofs.Common.{ℕ, zero, suc, ◌+◌, ◌-◌, ◌<◌, ◌≤◌, List, [], ◌∷◌, length, map, get_or, arith}
+use Rattle.std.proofs.Common.{ℕ, zero, suc, ◌+◌, ◌-◌, ◌<◌, ◌≤◌, List, [], ◌∷◌, length, map, get_or, arith, take, drop}
 use Rattle.sect_front.specs.declared.span.Span.{Span}
 use Rattle.sect_places.specs.declared.range.TokenRange.{TokenRange}
 use Rattle.sect_places.specs.Ranges.{AreAmong}
@@ -48,3 +48,20 @@ pub range_among : (total : ℕ) (rs : List TokenRange) (i : ℕ) (d : TokenRange
 range_among total [] i d h lt = absurd (omega (arith, lt))
 range_among total (r ∷ rs) zero d h lt = (h.0, h.1)
 range_among total (r ∷ rs) (suc i) d h lt = range_among total rs i d h.2 (omega (arith, lt))
+
+-- those of some of them, one after another, lie so too
+lower : (low from total : ℕ) (ss : List Span) → low ≤ from → AreInOrder from total ss → AreInOrder low total ss
+lower low from total [] le h = tt
+lower low from total (s ∷ ss) le h = (omega (arith, le, h.0), h.1, h.2, h.3)
+
+order_first : (from total n : ℕ) (ss : List Span) → AreInOrder from total ss → AreInOrder from total (take n ss)
+order_first from total zero ss h = tt
+order_first from total (suc n) [] h = tt
+order_first from total (suc n) (s ∷ ss) h = (h.0, h.1, h.2, order_first s.end total n ss h.3)
+
+pub order_within : (from total n k : ℕ) (ss : List Span) → AreInOrder from total ss
+    → AreInOrder 0 total (take n (drop k ss))
+order_within from total n zero ss h = lower 0 from total (take n ss) (omega arith) (order_first from total n ss h)
+order_within from total zero (suc k) [] h = tt
+order_within from total (suc n) (suc k) [] h = tt
+order_within from total n (suc k) (s ∷ ss) h = order_within s.end total n k ss h.3

@@ -1,0 +1,15 @@
+use Rattle.std.proofs.Common.{refl, sym, ap, ◌∙◌}
+use Rattle.sect_lint.specs.declared.diagnostic.Detail.TheVariants as detail
+use Rattle.sect_lint.specs.Naming.{found, declared_at}
+use Rattle.sect_lint.specs.Limits.{item_limit}
+use Rattle.sect_lint.proofs.Plainly.{same_limit}
+use Rattle.sect_lint.proofs.plain.plain_detail.Goals as goal
+
+pub returns-in_ok-uses-in-TooMany : goal.returns-in_ok-uses-in-TooMany
+returns-in_ok-uses-in-TooMany c = λ names e. rw c.in-TooMany.is (
+  ap detail.Limit (c.limit_in-limit.ensures
+      ∙ same_limit names c.as_slice.result.now c.in-TooMany.item c.as_slice-tokens.result.now
+      (e ∙ sym (c.as_slice.ensures.value ∙ c.in_ok-uses-in-TooMany.ensures))
+      ∙ ap (λ ts. item_limit (found names (declared_at names c.in-TooMany.item)) ts) c.as_slice-tokens.ensures.value),
+  refl,
+)

@@ -1,0 +1,34 @@
+-- What is said beside the carets, whatever the places of names are.
+use Rattle.std.specs.Prelude.{◌≡◌, ◌&&◌, ℕ, Bool, List, Option, Some, None, map, nat_eq, slice_get}
+use Rattle.sect_front.specs.TreeView.{TreeView}
+use Rattle.sect_front.specs.declared.span.Span.{Span}
+use Rattle.sect_front.specs.declared.token.Token.{Token}
+use Rattle.sect_types.specs.declared.rules.rule.TypeFault.{TypeFault}
+use Rattle.sect_places.specs.declared.name_use.NameUse.{NameUse}
+use Rattle.sect_places.specs.declared.name_use.NameSpan.{NameSpan}
+use Rattle.sect_places.specs.NameUses.{name_uses}
+use Rattle.sect_lint.specs.Naming.{is_declaration}
+use Rattle.sect_lint.specs.Places.{marked_name}
+use Rattle.sect_lint.specs.Limits.{limit_by, statement_limit}
+use Rattle.sect_lint.specs.Details.{IsToldOf, item_detail}
+use Rattle.sect_lint.specs.declared.limit.Limit.{Limit}
+use Rattle.sect_lint.specs.declared.diagnostic.Detail.{Detail}
+
+-- a name is declared in that item
+abbrev pub is_declared_there : ℕ → NameUse → Bool
+is_declared_there item u = nat_eq u.item item && is_declaration u.role
+
+abbrev pub by_use : Option NameUse → List Token → Limit
+by_use None tokens = statement_limit tokens
+by_use (Some u) tokens = limit_by u.role tokens
+
+-- the limit of an item of these tokens in which the name of this number is declared, if one is
+abbrev pub use_limit : List NameUse → Option ℕ → List Token → Limit
+use_limit uses None tokens = statement_limit tokens
+use_limit uses (Some k) tokens = by_use (slice_get uses k) tokens
+
+-- it is said of the tree, and its item at fault is marked whole, wherever its names stand
+abbrev pub IsPlain : TreeView → List Token → List Span → TypeFault → Detail → Type 0
+IsPlain tree tokens spans why told =
+    (names : List NameSpan) → map (λ n. n.used) names ≡ name_uses tree
+    → IsToldOf names why (item_detail tree names tokens spans why) told × (marked_name names why ≡ None)

@@ -1,0 +1,68 @@
+//! What is said beside the carets of a mistake, where that takes the place of no name but of those in the item at fault.
+
+ghost use Rattle.std.specs.Prelude.{◌≡◌, ◌<◌, ◌&&◌, IfOk, IfSome, length, position, nat_eq};
+ghost use Rattle.sect_lint.specs.Naming.{is_declaration};
+ghost use Rattle.sect_lint.specs.steps.Plain.{IsPlain, is_declared_there, use_limit};
+
+use crate::call_counts::counts_detail;
+use crate::diagnostic::Detail;
+use crate::layout::Words;
+use crate::limit::Limit;
+use sect_front::{Token, Tree};
+use sect_places::{NameUse, Role, name_uses};
+use sect_types::TypeFault;
+use std::alloc::{AllocError, Global};
+
+/// Whether a name is declared in an item.
+fn is_declared_in(used: &NameUse, item: usize) -> bool
+    ensures { result ≡ is_declared_there item used.now }
+{
+    used.item == item && matches!(used.role, Role::Declared(_))
+}
+
+/// The first name that is declared in an item.
+fn declared_in(uses: &[NameUse], item: usize) -> Option<usize>
+    ensures is { result ≡ position (is_declared_there item) uses.now }
+    ensures within { IfSome result (λ k. k < length uses.now) }
+{
+    uses.iter().position(|used| is_declared_in(used, item))
+}
+
+/// The limit that an item of these tokens may pass, where these are the names of the tree.
+fn limit_in(uses: &[NameUse], item: usize, tokens: &[Token]) -> Limit
+    ensures { result ≡ use_limit uses.now (position (is_declared_there item) uses.now) tokens.now }
+{
+    match declared_in(uses, item) {
+        Some(number) => match uses[number].role {
+            Role::Declared(thing) => Limit::of_thing(thing),
+            _ => Limit::of_statement(tokens),
+        },
+        None => Limit::of_statement(tokens),
+    }
+}
+
+/// What is said of an item of these tokens that breaks this rule, unless it takes the place of another name.
+pub fn plain_detail(
+    alloc: Global,
+    tree: &Tree,
+    words: &Words,
+    fault: &TypeFault,
+) -> Result<Option<Detail>, AllocError>
+    ensures { IfOk result (λ told. IfSome told
+        (IsPlain tree.now words.now.tokens.items words.now.spans.items fault.now)) }
+{
+    let tokens = words.tokens.as_slice();
+    match fault {
+        TypeFault::TooMany { item } => {
+            let uses = name_uses(alloc, tree)?;
+            let limit = limit_in(uses.as_slice(), *item as usize, tokens);
+            Ok(Some(Detail::Limit(limit)))
+        }
+        TypeFault::Arguments { .. } => {
+            let spans = words.spans.as_slice();
+            Ok(Some(counts_detail(tree.procedures(), tokens, spans)))
+        }
+        TypeFault::SharedOutside { .. } | TypeFault::Nested { .. } => Ok(Some(Detail::Nothing)),
+        _ => Ok(None),
+    }
+}

@@ -1,0 +1,15 @@
+-- Where a token of a text stands.
+use Rattle.std.specs.Prelude.{◌≡◌, ◌≤◌, ℕ, List, length, drop}
+use Rattle.sect_front.specs.TreeView.{TreeView}
+use Rattle.sect_front.specs.Front.{IsSpelled}
+use Rattle.sect_front.specs.Gaps.{after_gap}
+use Rattle.sect_front.specs.Lexing.{Reaches}
+
+-- the text spells the tree, and the token of this number stands here, or where there is none that many tokens have passed
+pub record StandsFrom (bytes : List ℕ) (tree : TreeView) (number : ℕ) (here : List ℕ) : Type 0 where
+  pub spelled : IsSpelled bytes tree
+  pub before : List ℕ
+  pub last : List ℕ
+  pub reaches : Reaches (length bytes) before (drop number spelled.places) last
+  pub gap : after_gap before ≡ here
+  pub fits : length here ≤ length bytes

@@ -42,6 +42,9 @@ pub struct Trail {
     pub steps: Vec<KeptLink>,
 }
 
+/// For how many numbers of a node there is room from the beginning.
+const ROOM: usize = 32;
+
 /// No numbers, for so many nodes.
 fn none_found(alloc: Global, count: usize) -> Result<Vec<Numbers>, AllocError>
     ensures count { IfOk result (λ found. length found.items ≡ count) }
@@ -49,7 +52,8 @@ fn none_found(alloc: Global, count: usize) -> Result<Vec<Numbers>, AllocError>
 {
     let mut found = Vec::new(alloc);
     for _ in 0..count {
-        found.push(Numbers::new(alloc))?;
+        let none = Numbers::with_room(alloc, ROOM, ROOM)?;
+        found.push(none)?;
     }
     Ok(found)
 }

@@ -68,13 +68,17 @@ fn base_of(word: &[u8]) -> Option<CertBase>
     Some(CertBase::InCall(name, number(call)?))
 }
 
+/// For how many fields of a path there is room from the beginning: the paths of valid certificates have no more.
+const ROOM: usize = 3;
+
 /// The path that a word is.
 fn path_of(alloc: Global, word: &[u8]) -> Result<CertPath, LineFault>
     ensures { ReadsAs result (path_in word.now) }
 {
     let (first, mut others) = Parts::of(word, b'.');
     let base = base_of(first).ok_or(LineFault::Bad)?;
-    let mut fields = Vec::new(alloc);
+    let room = if others.is_empty() { 0 } else { ROOM };
+    let mut fields = Vec::with_capacity(alloc, room)?;
     while let Some(piece) = others.next() {
         if !is_name(piece) {
             return Err(LineFault::Bad);

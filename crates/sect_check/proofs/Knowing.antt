@@ -1,5 +1,5 @@
 -- What is known of the elements of two lists at one place.
-use Rattle.std.proofs.Common.{ℕ, ◌<◌, ◌-◌, ◌≡◌, ◌∙◌, List, Some, take, sym, subst, arith}
+use Rattle.std.proofs.Common.{ℕ, ◌<◌, ◌-◌, ◌≡◌, ◌∙◌, List, Some, take, subst, arith}
 use Rattle.std.specs.Prelude.{slice_get}
 use Rattle.std.specs.List.{AllZip}
 use Rattle.sect_lemmas.proofs.Places.{zipped_at, one_at}

@@ -42,9 +42,6 @@ pub struct Trail {
     pub steps: Vec<KeptLink>,
 }
 
-/// For how many numbers of a node there is room from the beginning.
-const ROOM: usize = 32;
-
 /// No numbers, for so many nodes.
 fn none_found(alloc: Global, count: usize) -> Result<Vec<Numbers>, AllocError>
     ensures count { IfOk result (λ found. length found.items ≡ count) }
@@ -52,8 +49,7 @@ fn none_found(alloc: Global, count: usize) -> Result<Vec<Numbers>, AllocError>
 {
     let mut found = Vec::new(alloc);
     for _ in 0..count {
-        let none = Numbers::with_room(alloc, ROOM, ROOM)?;
-        found.push(none)?;
+        found.push(Numbers::new(alloc))?;
     }
     Ok(found)
 }

@@ -81,6 +81,8 @@ pub fn locks_of(alloc: Global, mut words: Parts<'_>) -> Result<Items<CertLock>, 
     while let Some(word) = words.next() {
         place = take_word(alloc, &mut locks, place, word)?;
     }
+    // A certificate has many lists, which stay as they are.
+    locks.shrink_to_fit();
     match place {
         ListWord::Whole => Ok(Items::from_vec(locks)),
         _ => Err(LineFault::Bad),

@@ -1,6 +1,6 @@
 //! What stands in a lock: its mode, and what it locks.
 
-ghost use Rattle.std.specs.Prelude.{◌≡◌, IsTrue};
+ghost use Rattle.std.specs.Prelude.{◌≡◌, ◌==◌, IsTrue, filter, length};
 ghost use Rattle.sect_cert.specs.steps.Readers.{ReadsAs};
 ghost use Rattle.sect_cert.specs.steps.Subjects.{base_of as base_in, path_of as path_in, mode_of as mode_in};
 ghost use Rattle.sect_cert.specs.steps.Subjects.{path_lock as path_lock_of, class_lock as class_lock_of};
@@ -68,13 +68,23 @@ fn base_of(word: &[u8]) -> Option<CertBase>
     Some(CertBase::InCall(name, number(call)?))
 }
 
+/// For how many fields of a path there is room at first, if it has so many: those of valid certificates have no more.
+const ROOM: usize = 3;
+
+/// How many points stand in a word.
+fn points_in(word: &[u8]) -> usize
+    ensures { result ≡ length (filter (λ b. b == 46) word.now) }
+{
+    word.iter().filter(|byte| **byte == b'.').count()
+}
+
 /// The path that a word is.
 fn path_of(alloc: Global, word: &[u8]) -> Result<CertPath, LineFault>
     ensures { ReadsAs result (path_in word.now) }
 {
     let (first, mut others) = Parts::of(word, b'.');
     let base = base_of(first).ok_or(LineFault::Bad)?;
-    let mut fields = Vec::new(alloc);
+    let mut fields = Vec::with_capacity(alloc, points_in(word).min(ROOM))?;
     while let Some(piece) = others.next() {
         if !is_name(piece) {
             return Err(LineFault::Bad);

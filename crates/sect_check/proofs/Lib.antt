@@ -2,6 +2,7 @@ mod Scanning
 mod Claimed
 mod Standing
 mod Resolving
+mod Knowing
 mod Linking
 mod Generating
 mod Edges

@@ -1,7 +1,8 @@
 //! What a certificate claims of a section, by the program's numbers.
 
-ghost use Rattle.std.specs.Prelude.{◌<◌, length, take};
+ghost use Rattle.std.specs.Prelude.{◌≡◌, ◌<◌, ℕ, Some, length, take, slice_get, IfSome};
 ghost use Rattle.std.specs.List.{AllZip};
+ghost use Rattle.sect_names.specs.Schemes.{SchemeView};
 ghost use Rattle.sect_check.specs.Names.{Denotes};
 ghost use Rattle.sect_check.specs.Meaning.{DenotesStep, DenotesChain, DenotesSection};
 ghost use Rattle.sect_check.specs.steps.Resolving.{Resolves, Extends};
@@ -10,6 +11,7 @@ use crate::claimed_links::ClaimedLinks;
 use crate::claims::{ChainClaim, Claims};
 use crate::locks::lock_of;
 use crate::naming::Naming;
+use crate::same::is_same_lock;
 use crate::unresolved::Unresolved;
 use sect_cert::{CertChain, CertLock, CertSection, ChainSteps, Runs};
 use sect_front::Items;
@@ -17,16 +19,91 @@ use sect_graph::Flow;
 use sect_names::Lock;
 use std::alloc::Global;
 
-/// The locks of a list.
+/// How many places of a list are searched for a lock.
+const NEAR: usize = 4;
+
+/// A list of a certificate, and the locks that it names.
+#[derive(Clone, Copy)]
+struct Known<'a> {
+    named: &'a [CertLock],
+    locks: &'a [Lock],
+}
+
+/// Where a list names a lock: at this place, or not far behind it.
+fn place_of(list: &[CertLock], from: usize, named: &CertLock) -> Option<usize>
+    ensures within { IfSome result (λ place. place < length list.now) }
+    ensures there { IfSome result (λ place. slice_get list.now place ≡ Some named.now) }
+{
+    let end = list.len().min(from.saturating_add(NEAR));
+    for place in from..end {
+        if is_same_lock(&list[place], named) {
+            return Some(place);
+        }
+    }
+    None
+}
+
+/// The lock that is named next in a list. One that a known list names from a place on isn't looked up again, and the
+/// place is then the one behind it.
+fn next_lock(
+    alloc: Global,
+    naming: &Naming,
+    known: Known<'_>,
+    from: &mut usize,
+    named: &CertLock,
+) -> Result<Lock, Unresolved>
+    requires { AllZip (Denotes naming.now.scheme naming.now.thread) known.named.now known.locks.now }
+    ensures { Resolves result (Denotes naming.now.scheme naming.now.thread named.now) }
+{
+    match place_of(known.named, *from, named) {
+        Some(place) => {
+            *from = place + 1;
+            Ok(known.locks[place].try_clone()?)
+        }
+        None => lock_of(alloc, naming, named),
+    }
+}
+
+/// The locks of a list, which has many of a known list's.
 #[tactic(auto, using(sect_lemmas::proofs::Places::zip_more))]
-fn locks_of(alloc: Global, naming: &Naming, list: &[CertLock]) -> Result<Items<Lock>, Unresolved>
+fn locks_of(
+    alloc: Global,
+    naming: &Naming,
+    known: Known<'_>,
+    list: &[CertLock],
+) -> Result<Items<Lock>, Unresolved>
+    requires { AllZip (Denotes naming.now.scheme naming.now.thread) known.named.now known.locks.now }
     ensures { Resolves result (AllZip (Denotes naming.now.scheme naming.now.thread) list.now) }
 {
     let mut locks = Vec::with_capacity(alloc, list.len())?;
+    let mut from = 0;
     for named in list {
-        locks.push(lock_of(alloc, naming, named)?)?;
+        locks.push(next_lock(alloc, naming, known, &mut from, named)?)?;
     }
     Ok(Items::from_vec(locks))
+}
+
+/// The list of the node before this one, and its locks; before the first node, none.
+fn known_before<'a>(
+    nodes: &'a Runs<Items<CertLock>>,
+    node: usize,
+    lists: &'a Runs<Items<Lock>>,
+) -> Known<'a>
+    requires there { node < length nodes.now }
+    requires count { length lists.now ≡ node }
+    ensures { (s : SchemeView) (thread : ℕ) → AllZip (AllZip (Denotes s thread)) (take node nodes.now) lists.now
+        → AllZip (Denotes s thread) result.named.now result.locks.now }
+{
+    if node == 0 {
+        return Known {
+            named: &[],
+            locks: &[],
+        };
+    }
+    Known {
+        named: nodes.at(node - 1).as_slice(),
+        locks: lists.at(node - 1).as_slice(),
+    }
 }
 
 /// Puts a node's list behind those of the nodes before. One that repeats the list before isn't looked up again.
@@ -45,7 +122,8 @@ fn next_list(
         lists.push_again()?;
         return Ok(());
     }
-    let list = locks_of(alloc, naming, nodes.at(node).as_slice())?;
+    let known = known_before(nodes, node, lists);
+    let list = locks_of(alloc, naming, known, nodes.at(node).as_slice())?;
     lists.push(list)?;
     Ok(())
 }
@@ -138,7 +216,11 @@ pub fn claims_of(
         return Err(Unresolved::Wrong);
     }
     let nodes = lists_of(alloc, naming, &section.nodes)?;
-    let entry = locks_of(alloc, naming, section.entry.as_slice())?;
+    let none = Known {
+        named: &[],
+        locks: &[],
+    };
+    let entry = locks_of(alloc, naming, none, section.entry.as_slice())?;
     let chains = chain_claims(alloc, naming, section.chains.as_slice())?;
     Ok(Claims {
         nodes,

@@ -15,6 +15,7 @@ mod lists;
 mod locks;
 mod names;
 mod naming;
+mod same;
 mod section;
 mod unresolved;
 

@@ -13,6 +13,7 @@ use crate::naming::Naming;
 use crate::unresolved::Unresolved;
 use sect_cert::{CertLock, CertPath};
 use sect_names::{Effect, Lock, Path, Right, Scheme};
+use sect_types::MOST_SITES;
 use std::alloc::Global;
 
 /// The path of these names.
@@ -60,14 +61,26 @@ fn path_lock(
     Ok(Lock::Path(path, effect))
 }
 
+/// The class of this number, if a site has it. The search ends at its first site.
+fn class_in(numbers: &[u16], class: u16) -> Option<u16>
+    ensures { MatchOption result (Has numbers.now class → ⊥) (λ found. (found ≡ class) × Has numbers.now found) }
+{
+    if numbers.contains(&class) {
+        Some(class)
+    } else {
+        None
+    }
+}
+
 /// The class of this number.
 fn class_of(scheme: &Scheme, number: u32) -> Option<u16>
     ensures { MatchOption result (Has scheme.now.classes.numbers number → ⊥)
         (λ class. (class ≡ number) × Has scheme.now.classes.numbers number) }
 {
-    if number < scheme.classes().class_count() as u32 {
-        Some(number as u16)
+    if number < MOST_SITES as u32 {
+        class_in(scheme.classes().numbers(), number as u16)
     } else {
+        let _facts = scheme.classes().class_count();
         None
     }
 }

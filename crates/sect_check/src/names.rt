@@ -1,6 +1,6 @@
 //! What a name of a certificate stands for in a program: a variable or a field.
 
-ghost use Rattle.std.specs.Prelude.{◌≡◌, ◌<◌, length, slice_index_or, [], IfSome, nat_eq};
+ghost use Rattle.std.specs.Prelude.{◌≡◌, ◌<◌, length, slice_index_or, [], IfSome, IsTrue, nat_eq};
 ghost use Rattle.std.specs.Cmp.Lexicographic.{pointwise};
 ghost use Rattle.sect_types.specs.Sight.{place, names_of_declared};
 ghost use Rattle.sect_types.specs.LocalNames.{all_local_names, place_of_local};
@@ -13,8 +13,9 @@ use sect_points::Variable;
 use sect_types::{Field, LocalName, Program, ValueType};
 
 /// Whether two names are one. Those of different lengths are told apart at once.
-fn is_same_name(one: &Name, other: &Name) -> bool
-    ensures { result ≡ pointwise nat_eq one.now other.now }
+pub fn is_same_name(one: &Name, other: &Name) -> bool
+    ensures tells { result ≡ pointwise nat_eq one.now other.now }
+    ensures same { IsTrue result → one.now ≡ other.now }
 {
     one.as_bytes().len() == other.as_bytes().len() && *one == *other
 }
@@ -49,7 +50,7 @@ fn is_same_call(one: Option<u32>, other: Option<u32>) -> bool
 fn is_same_local(one: &LocalName, other: &LocalName) -> bool
     ensures { result ≡ same_local one.now other.now }
 {
-    is_same_call(one.call, other.call) && one.name == other.name
+    is_same_call(one.call, other.call) && is_same_name(&one.name, &other.name)
 }
 
 /// The number of a thread's local that is called so.

@@ -95,6 +95,14 @@ entry_named s scheme i locks within inferred =
     all_named s scheme i locks within inferred locks.entry
     (Has-slice_get locks.at 0 locks.entry (inferred of.0 g.0 of.1 g.1).0.first)
 
+-- what a section takes at its entry is what is needed from its first node on
+pub entry_first : (s : SchemeView) → IsScheme s → (i : ℕ) (locks : LocksView) → i < length (sections_of s.program.texts)
+    → AreInferredAt s i locks → slice_get locks.at 0 ≡ Some locks.entry
+entry_first s scheme i locks within inferred =
+    let of = at_of (sections_of s.program.texts) i within in
+    let g = at_of s.graphs.sections i (omega (arith, within, scheme.graphed.section_count)) in
+    (inferred of.0 g.0 of.1 g.1).0.first
+
 -- what is kept of a section that the program has
 pub kept_at : (s : SchemeView) (all : List LocksView) (parts : List (List Grip)) → IsWhole s all parts
     → (v : CompiledView) → record { scheme = s; sets = entries_of all; parts = parts } ≡ v

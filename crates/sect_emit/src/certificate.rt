@@ -12,7 +12,7 @@ ghost use Rattle.sect_infer.specs.Sets.{AreInferredAt, AreAllInferred};
 ghost use Rattle.sect_emit.specs.Words.{IsChainNamed};
 ghost use Rattle.sect_emit.specs.steps.Spelled.{IsSectionSpelled, IsSpelled};
 
-use crate::words::{chains_of, list_of, lists_of};
+use crate::words::{chains_of, entry_of, lists_of};
 use sect_cert::{Cert, CertSection};
 use sect_chains::{Chain, chains};
 use sect_front::Items;
@@ -63,7 +63,7 @@ fn section_of(
     let count = scheme.graph().section(section).exit() + 1;
     Ok(CertSection {
         nodes: lists_of(alloc, program, locks, count)?,
-        entry: list_of(alloc, program, locks.entry())?,
+        entry: entry_of(alloc, program, locks)?,
         chains: chains_of(alloc, program, chains.as_slice())?,
     })
 }

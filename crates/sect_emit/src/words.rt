@@ -4,6 +4,7 @@ ghost use Rattle.std.specs.Prelude.{◌≡◌, ◌≢◌, ◌≤◌, ◌<◌, �
 ghost use Rattle.std.specs.Prelude.{slice_get, IfOk, OnOk, IsTrue};
 ghost use Rattle.sect_cert.specs.declared.certificate.CertStep.{CertStep};
 ghost use Rattle.std.specs.List.{AllByRecursion};
+ghost use Rattle.std.specs.Map.Iter.{deref};
 ghost use Rattle.sect_lemmas.specs.Lists.{Has};
 ghost use Rattle.sect_cert.specs.Texts.{IsBase, IsPath, IsLock, IsStep, IsChain};
 ghost use Rattle.sect_names.specs.declared.link.Link.{Link};
@@ -81,13 +82,9 @@ fn lock_of(alloc: Global, program: &Program, lock: &Lock) -> Result<CertLock, Al
 }
 
 /// A list of locks by their names.
-pub fn list_of(
-    alloc: Global,
-    program: &Program,
-    locks: &[Lock],
-) -> Result<Items<CertLock>, AllocError>
-    requires { AreNamed program.now locks.now }
-    ensures words { IfOk result (λ list. list ≡ list_words program.now.source locks.now) }
+fn list_of(alloc: Global, program: &Program, locks: &[&Lock]) -> Result<Items<CertLock>, AllocError>
+    requires { AreNamed program.now (map deref locks.now) }
+    ensures words { IfOk result (λ list. list ≡ list_words program.now.source (map deref locks.now)) }
     ensures good { IfOk result (λ list. AllByRecursion IsLock list) }
 {
     let mut list = Vec::with_capacity(alloc, locks.len())?;
@@ -95,6 +92,21 @@ pub fn list_of(
         list.push(lock_of(alloc, program, lock)?)?;
     }
     Ok(Items::from_vec(list))
+}
+
+/// The list of a section's entry by its names: it is that of the first node.
+pub fn entry_of(
+    alloc: Global,
+    program: &Program,
+    locks: &Locks,
+) -> Result<Items<CertLock>, AllocError>
+    requires first { slice_get locks.now.at 0 ≡ Some locks.now.entry }
+    requires named { AreNamed program.now locks.now.entry }
+    ensures words { IfOk result (λ list. list ≡ list_words program.now.source locks.now.entry) }
+    ensures good { IfOk result (λ list. AllByRecursion IsLock list) }
+{
+    let entry = locks.lent_at(alloc, 0)?;
+    list_of(alloc, program, entry.as_slice())
 }
 
 /// A step at a node.
@@ -215,7 +227,7 @@ fn next_list(
         lists.push_again()?;
         return Ok(());
     }
-    let needed = locks.at(alloc, node)?;
+    let needed = locks.lent_at(alloc, node)?;
     let list = list_of(alloc, program, needed.as_slice())?;
     lists.push(list)?;
     Ok(())

@@ -1,6 +1,7 @@
 //! The locks of a section, node by node.
 
 ghost use Rattle.std.specs.Prelude.{◌≡◌, ◌↔◌, ◌<◌, ℕ, List, map, length, slice_get, Some, IfOk, IsTrue};
+ghost use Rattle.std.specs.Map.Iter.{deref};
 ghost use Rattle.sect_lemmas.specs.Lists.{Has};
 ghost use Rattle.sect_names.specs.declared.lock.Lock.{Lock};
 ghost use Rattle.sect_infer.specs.Numbers.{AreApart};
@@ -82,6 +83,38 @@ fn is_kept(numbering: &Numbering, numbers: &Numbers, number: usize) -> bool
     numbers.has(number) && !numbering.is_under(numbers, number)
 }
 
+/// Those of the locks with these numbers that no other of them covers, in canonical order, where they are kept.
+fn lent<'a>(
+    alloc: Global,
+    numbering: &'a Numbering,
+    order: &[usize],
+    numbers: &[usize],
+) -> Result<Vec<&'a Lock>, AllocError>
+    requires { IsListable numbering.now order.now }
+    ensures { IfOk result (λ locks. map deref locks.items ≡ listed numbering.now order.now numbers.now) }
+{
+    let mut found = Numbers::with_room(alloc, numbers.len(), numbering.len())?;
+    found.insert_all(numbers)?;
+    let mut locks = Vec::with_capacity(alloc, numbers.len())?;
+    for number in order {
+        if is_kept(numbering, &found, *number) {
+            locks.push(numbering.lock(*number))?;
+        }
+    }
+    Ok(locks)
+}
+
+/// Locks equal to these.
+fn copies(alloc: Global, locks: &[&Lock]) -> Result<Vec<Lock>, AllocError>
+    ensures { IfOk result (λ copies. copies.items ≡ map deref locks.now) }
+{
+    let mut copies = Vec::with_capacity(alloc, locks.len())?;
+    for lock in locks {
+        copies.push(lock.try_clone()?)?;
+    }
+    Ok(copies)
+}
+
 /// Those of the locks with these numbers that no other of them covers, in canonical order.
 fn list(
     alloc: Global,
@@ -92,15 +125,8 @@ fn list(
     requires { IsListable numbering.now order.now }
     ensures { IfOk result (λ locks. locks.items ≡ listed numbering.now order.now numbers.now) }
 {
-    let mut found = Numbers::with_room(alloc, numbers.len(), numbering.len())?;
-    found.insert_all(numbers)?;
-    let mut locks = Vec::with_capacity(alloc, numbers.len())?;
-    for number in order {
-        if is_kept(numbering, &found, *number) {
-            locks.push(numbering.lock(*number).try_clone()?)?;
-        }
-    }
-    Ok(locks)
+    let locks = lent(alloc, numbering, order, numbers)?;
+    copies(alloc, locks.as_slice())
 }
 
 impl Locks {
@@ -135,6 +161,19 @@ impl Locks {
         ensures { IfOk result (λ locks. slice_get self.now.at node ≡ Some locks.items) }
     {
         list(
+            alloc,
+            &self.numbering,
+            self.order.as_slice(),
+            self.lists.of(node),
+        )
+    }
+
+    /// The locks of a node as `at` gives them, where they are kept.
+    pub fn lent_at(&self, alloc: Global, node: u16) -> Result<Vec<&Lock>, AllocError>
+        requires { node < length self.now.at }
+        ensures { IfOk result (λ locks. slice_get self.now.at node ≡ Some (map deref locks.items)) }
+    {
+        lent(
             alloc,
             &self.numbering,
             self.order.as_slice(),

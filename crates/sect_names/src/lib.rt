@@ -2,7 +2,6 @@
 #![tactic(auto)]
 
 mod carry;
-mod coverers;
 mod covers;
 mod fault;
 mod generate;

@@ -1,5 +1,7 @@
-use Rattle.std.proofs.Common.{List, subst, refl}
+use Rattle.std.proofs.Common.{List, take, subst, refl, arith}
 use Rattle.std.specs.List.{AllZip}
+use Rattle.std.proofs.lemmas.List.{length-take-le}
+use Rattle.std.proofs.lemmas.Slice.Zip.{AllZip-long}
 use Rattle.sect_cert.specs.declared.lock.CertLock.{CertLock}
 use Rattle.sect_names.specs.declared.lock.Lock.{Lock}
 use Rattle.sect_check.specs.Names.{Denotes}
@@ -12,6 +14,15 @@ returns-then-is_one c =
     let R : List CertLock → List Lock → Type 0 = AllZip (Denotes c.args.naming.now.scheme c.args.naming.now.thread) in
     zip_again R c.args.nodes.now c.args.node c.args.lists.now c.push_again.new.self c.if-node-gt0.true c.requires.there
     (c.if-is_one.ensures refl) c.requires.before c.in_ok-push_again.ensures.ok
+
+pub known_before-known-requires-clause-count : goal.known_before-known-requires-clause-count
+known_before-known-requires-clause-count c =
+    let R : List CertLock → List Lock → Type 0 = AllZip (Denotes c.args.naming.now.scheme c.args.naming.now.thread) in
+    omega (
+      arith,
+      AllZip-long R (take c.args.node c.args.nodes.now) c.args.lists.now c.requires.before,
+      length-take-le c.args.node c.args.nodes.now (omega (arith, c.requires.there)),
+    )
 
 pub returns-in_err-list : goal.returns-in_err-list
 returns-in_err-list c =

@@ -5,7 +5,7 @@ use Rattle.sect_graph.specs.Graphs.{GraphView}
 use Rattle.sect_names.specs.Printing.{AreNamed}
 use Rattle.sect_emit.specs.Words.{list_words}
 use Rattle.sect_emit.proofs.Spelling.{rising}
-use Rattle.sect_emit.proofs.Wholes.{all_named, entry_named, nodes_counted}
+use Rattle.sect_emit.proofs.Wholes.{all_named, entry_first, entry_named, nodes_counted}
 use Rattle.sect_cert.specs.Texts.{AreRising}
 use Rattle.sect_emit.proofs.certificate.section_of.Goals as goal
 
@@ -23,12 +23,16 @@ lists_of-requires-clause-named c = λ list has.
     subst (λ p. AreNamed p list) (sym c.program-program.ensures)
     (all_named s c.facts.ensures c.args.section c.args.locks.now c.requires.section c.requires.inferred list has)
 
-pub list_of-requires : goal.list_of-requires
-list_of-requires c =
+pub entry_of-requires-clause-first : goal.entry_of-requires-clause-first
+entry_of-requires-clause-first c =
+    entry_first c.args.scheme.now c.facts.ensures c.args.section c.args.locks.now c.requires.section
+    c.requires.inferred
+
+pub entry_of-requires-clause-named : goal.entry_of-requires-clause-named
+entry_of-requires-clause-named c =
     let s = c.args.scheme.now in
-    subst (λ p. AreNamed p c.entry.result.now) (sym c.program-program.ensures)
-    (subst (AreNamed s.program) (sym c.entry.ensures)
-    (entry_named s c.facts.ensures c.args.section c.args.locks.now c.requires.section c.requires.inferred))
+    subst (λ p. AreNamed p c.args.locks.now.entry) (sym c.program-program.ensures)
+    (entry_named s c.facts.ensures c.args.section c.args.locks.now c.requires.section c.requires.inferred)
 
 pub returns-clause-good : goal.returns-clause-good
 returns-clause-good c = record {
@@ -45,7 +49,7 @@ returns-clause-good c = record {
       omega (arith, most, f, n)
       );
   nodes = c.in_ok-lists_of.ensures.good;
-  entry = c.in_ok-list_of.ensures.good;
+  entry = c.in_ok-entry_of.ensures.good;
   chains = c.in_ok-chains_of.ensures.good;
   rising = subst AreRising (sym c.in_ok-chains_of.ensures.words)
       (rising c.program-program.result.now.source 0 c.as_slice.result.now);

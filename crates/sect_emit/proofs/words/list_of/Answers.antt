@@ -1,5 +1,7 @@
 use Rattle.std.proofs.Common.{◌<◌, length, arith, sym, subst}
+use Rattle.std.specs.Map.Iter.{deref}
 use Rattle.sect_lemmas.specs.Lists.{Has}
+use Rattle.sect_lemmas.proofs.Listing.{Has-map}
 use Rattle.sect_lemmas.proofs.Membership.{Has-get_or}
 use Rattle.sect_emit.proofs.words.list_of.Goals as goal
 
@@ -8,5 +10,5 @@ lock_of-requires c =
     let locks = c.args.locks.now in
     let i = c.loop-lock.lock-index in
     let within : i < length locks = omega arith in
-    c.requires c.lock-item.result (subst (Has locks) (sym c.lock-item.is)
-    (Has-get_or locks i c.lock-item.result within))
+    c.requires (deref c.lock-item.result) (Has-map deref locks c.lock-item.result
+    (subst (Has locks) (sym c.lock-item.is) (Has-get_or locks i c.lock-item.result within)))

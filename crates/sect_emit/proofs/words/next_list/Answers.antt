@@ -1,6 +1,6 @@
-use Rattle.std.proofs.Common.{◌≡◌, List, Some, sym, subst, refl}
-use Rattle.std.specs.Prelude.{slice_get}
+use Rattle.std.proofs.Common.{◌∙◌, List, Some, map, sym, ap, subst, refl}
 use Rattle.std.specs.List.{AllByRecursion}
+use Rattle.std.specs.Map.Iter.{deref}
 use Rattle.sect_lemmas.proofs.Membership.{Has-slice_get}
 use Rattle.sect_names.specs.Printing.{AreNamed}
 use Rattle.sect_cert.specs.declared.lock.CertLock.{CertLock}
@@ -10,8 +10,8 @@ use Rattle.sect_emit.proofs.words.next_list.Goals as goal
 
 pub list_of-requires : goal.list_of-requires
 list_of-requires c =
-    let needed = c.in_ok-needed.needed.items in
-    subst (AreNamed c.args.program.now) (sym c.as_slice.ensures.value)
+    let needed = map deref c.in_ok-needed.needed.items in
+    subst (AreNamed c.args.program.now) (ap (map deref) (sym c.as_slice.ensures.value))
     (c.requires.named needed (Has-slice_get c.args.locks.now.at c.args.node needed c.in_ok-needed.ensures))
 
 pub returns-then-are_one : goal.returns-then-are_one
@@ -27,9 +27,10 @@ returns c =
     let t = c.args.program.now.source in
     let at = c.args.locks.now.at in
     let list = c.in_ok-list.list in
-    let is = subst (λ l. slice_get at c.args.node ≡ Some l) (sym c.as_slice.ensures.value) c.in_ok-needed.ensures in
+    let needed = map deref c.as_slice.result.now in
+    let is = c.in_ok-needed.ensures ∙ ap Some (ap (map deref) (sym c.as_slice.ensures.value)) in
     let AreLocks : List CertLock → Type 0 = λ l. AllByRecursion IsLock l in record {
-      words = next_list t at c.args.node c.as_slice.result.now list _ _ is c.in_ok-list.ensures.words c.requires.words
+      words = next_list t at c.args.node needed list _ _ is c.in_ok-list.ensures.words c.requires.words
           c.in_ok-push.ensures.ok;
       good = subst (AllByRecursion AreLocks) (sym c.in_ok-push.ensures.ok)
           (all_more AreLocks c.args.lists.now list c.requires.good c.in_ok-list.ensures.good);

@@ -1,4 +1,4 @@
-use Rattle.std.proofs.Common.{◌∙◌, ◌<◌, ◌-◌, ◌≡◌, length, subst, sym, arith}
+use Rattle.std.proofs.Common.{◌-◌, subst, sym, arith}
 use Rattle.sect_lemmas.specs.Lists.{Has}
 use Rattle.sect_lemmas.proofs.Membership.{Has-get_or}
 use Rattle.sect_points.proofs.row.Row.has.Goals as goal

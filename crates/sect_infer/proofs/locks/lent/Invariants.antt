@@ -1,10 +1,11 @@
 use Rattle.std.proofs.Common.{◌≡◌, [], map, take}
 use Rattle.std.specs.List.{filter}
+use Rattle.std.specs.Map.Iter.{deref}
 use Rattle.sect_infer.specs.Numbers.{with_numbers}
 use Rattle.sect_infer.specs.Numberings.{lock_at}
 use Rattle.sect_infer.specs.steps.Listing.{is_kept}
-use Rattle.sect_infer.proofs.locks.list.Given as goal
+use Rattle.sect_infer.proofs.locks.lent.Given as goal
 
 abbrev pub invariant-loop-number : goal.invariant-loop-number
-invariant-loop-number l = l.locks.items ≡ map (lock_at l.numbering.keys)
+invariant-loop-number l = map deref l.locks.items ≡ map (lock_at l.numbering.keys)
     (filter (is_kept l.numbering.above (with_numbers [] l.numbers)) (take l.number-index l.order))

@@ -1,13 +1,14 @@
-use Rattle.std.proofs.Common.{◌≡◌, ◌<◌, ◌≤◌, ◌∙◌, Bool, List, ℕ, [], ◌∷◌, ◌++◌, length, get_or, map, sym, ap, arith}
+use Rattle.std.proofs.Common.{◌≡◌, ◌<◌, ◌≤◌, ◌∙◌, Bool, List, ℕ, [], ◌∷◌, length, get_or, map, sym, ap, arith}
 use Rattle.std.specs.List.{filter}
-use Rattle.std.proofs.lemmas.List.{get_or_default, take_all}
+use Rattle.std.specs.Map.Iter.{deref}
+use Rattle.std.proofs.lemmas.List.{get_or_default, take_all, map-append}
 use Rattle.sect_lemmas.proofs.Membership.{Has-get_or}
 use Rattle.sect_infer.specs.Numbers.{with_numbers}
 use Rattle.sect_infer.specs.Numberings.{lock_at}
 use Rattle.sect_infer.specs.steps.Listing.{is_kept}
 use Rattle.sect_infer.proofs.Listing.{list_next, list_skip}
-use Rattle.sect_infer.proofs.locks.list.Goals as goal
-use Rattle.sect_infer.proofs.locks.list.Goals.{then-is_kept+in_ok-try_clone+in_ok-push, else-is_kept}
+use Rattle.sect_infer.proofs.locks.lent.Goals as goal
+use Rattle.sect_infer.proofs.locks.lent.Goals.{then-is_kept+in_ok-push, else-is_kept}
 
 pub is_kept-requires : goal.is_kept-requires
 is_kept-requires c =
@@ -36,14 +37,13 @@ loop-number-preserved c =
     let p : ℕ → Bool = is_kept c.args.numbering.now.above once in
     let test : c.is_kept.result ≡ p n = c.is_kept.ensures ∙ ap (λ ns. is_kept c.args.numbering.now.above ns n) found in
     elim c.if-is_kept.branch [
-      | then-is_kept+in_ok-try_clone+in_ok-push w ↦
-          let copy = w.in_ok-try_clone.field-0 in
-          let same : copy ≡ w.lock.result.now = w.in_ok-try_clone.ensures in
-          rw w.locks-is (w.in_ok-push.ensures.items ∙ ap (λ l. c.loop-number.locks.items ++ l ∷ []) same
-          ∙ list_next keys p order i n within is c.loop-number.locks.items w.lock.result.now
+      | then-is_kept+in_ok-push w ↦
+          let before = c.loop-number.locks.items in
+          rw w.locks-is (ap (map deref) w.in_ok-push.ensures.items ∙ map-append deref before (w.lock.result ∷ [])
+          ∙ list_next keys p order i n within is (map deref before) w.lock.result.now
           (sym test ∙ w.if-is_kept.true) w.lock.ensures c.loop-number.invariant)
       | else-is_kept w ↦ rw w.locks-is
-          (list_skip keys p order i n within is c.loop-number.locks.items (sym test ∙ w.if-is_kept.false)
+          (list_skip keys p order i n within is (map deref c.loop-number.locks.items) (sym test ∙ w.if-is_kept.false)
           c.loop-number.invariant)
     ]
 

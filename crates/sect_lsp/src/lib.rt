@@ -21,7 +21,6 @@ mod referring;
 mod reply;
 mod server;
 mod session;
-mod site_records;
 mod symbols;
 mod text;
 mod warned;

@@ -14,10 +14,10 @@ ghost use Rattle.sect_lsp.specs.Hovering.{class_lines, IsNameTold};
 
 use crate::marks::put_others;
 use crate::referring::type_of;
-use crate::site_records::site_records;
 use sect_emit::Compiled;
 use sect_places::{NameSpan, Role, Thing};
 use sect_points::{Classes, Holder, PointsTo};
+use sect_store::site_records;
 use sect_types::{MOST_FIELDS, MOST_SITES};
 use std::alloc::{AllocError, Global};
 use std::fmt::Write;

@@ -15,6 +15,7 @@ pub use crate::object::{Object, Objects};
 pub use crate::outcome::Outcome;
 pub use crate::printer::Printer;
 pub use crate::printing::{put_global_name, put_object_name, put_outcome};
+pub use crate::site::site_records;
 pub use crate::statement::{act, finish_new};
 pub use crate::store::Store;
 pub use crate::work::Work;

@@ -1,7 +1,7 @@
 -- How the names of a tree are read off a text.
 use Rattle.std.proofs.Common.{◌≡◌, ℕ, zero, suc, ◌+◌, ◌<◌, ◌≤◌, Bool, true, false, List, [], ◌∷◌, ◌++◌, length, take, drop}
 use Rattle.std.proofs.Common.{map, Some, slice_get, refl, sym, ◌∙◌, ap, subst, arith, append-nil, append_assoc}
-use Rattle.std.proofs.Common.{length-append, length-take, if◌then◌else◌}
+use Rattle.std.proofs.Common.{length-append, if◌then◌else◌}
 use Rattle.std.proofs.lemmas.List.{length-map}
 use Rattle.sect_front.specs.TreeView.{TreeView}
 use Rattle.sect_front.specs.TokenAt.{TokenAt}

@@ -1,7 +1,7 @@
 -- How one range is found among those of the parts of a tree.
 use Rattle.std.proofs.Common.{◌≡◌, ℕ, zero, suc, ◌+◌, ◌-◌, ◌*◌, ◌<◌, ◌≤◌, List, [], ◌∷◌, Some, length, get_or, drop}
-use Rattle.std.proofs.Common.{slice_get, refl, sym, ◌∙◌, ap, arith}
-use Rattle.std.proofs.Common.{None, subst}
+use Rattle.std.proofs.Common.{slice_get, sym, ◌∙◌, ap, arith}
+use Rattle.std.proofs.Common.{subst}
 use Rattle.std.proofs.lemmas.Option.{slice_get_past}
 use Rattle.sect_lemmas.proofs.Options.{none_or_some}
 use Rattle.sect_lemmas.proofs.Places.{at_of}

@@ -1,5 +1,5 @@
 -- How a text is read token by token, where it spells a tree.
-use Rattle.std.proofs.Common.{◌≡◌, ◌≢◌, ℕ, zero, suc, ◌+◌, ◌-◌, ◌<◌, ◌≤◌, Bool, true, false, List, [], ◌∷◌, ◌++◌, length}
+use Rattle.std.proofs.Common.{◌≡◌, ℕ, zero, suc, ◌+◌, ◌-◌, ◌<◌, ◌≤◌, List, [], ◌∷◌, ◌++◌, length}
 use Rattle.std.proofs.Common.{take, drop, map, get_or, Option, Some, None, refl, sym, ◌∙◌, ap, subst, arith, length-drop}
 use Rattle.std.proofs.lemmas.List.{drop_more, drop-drop, take-map, drop-map}
 use Rattle.sect_lemmas.proofs.Options.{none_or_some, some_injective}
@@ -9,7 +9,6 @@ use Rattle.sect_front.specs.TokenAt.{TokenAt}
 use Rattle.sect_front.specs.Gaps.{after_gap}
 use Rattle.sect_front.specs.Front.{IsSpelled}
 use Rattle.sect_front.specs.FaultPlaces.{token_span}
-use Rattle.sect_front.specs.Faults.{tokens_in}
 use Rattle.sect_front.specs.Grammar.{tokens_of}
 use Rattle.sect_front.specs.Lexing.{IsFirst, Reaches}
 use Rattle.sect_front.specs.Spelling.{spelling_of}

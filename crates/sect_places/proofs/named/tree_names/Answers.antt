@@ -1,5 +1,4 @@
-use Rattle.std.proofs.Common.{◌≡◌, ◌<◌, ℕ, ◌+◌, ◌-◌, length, arith, refl, ap, length-drop}
-use Rattle.sect_front.specs.Grammar.{tokens_of}
+use Rattle.std.proofs.Common.{◌<◌, ℕ, ◌+◌, ◌-◌, length, arith, refl, ap}
 use Rattle.sect_front.proofs.shared.Lexings.{gap_fits}
 use Rattle.sect_places.specs.NameUses.{name_uses}
 use Rattle.sect_places.proofs.Placing.{span_from}

@@ -1,4 +1,4 @@
-use Rattle.std.proofs.Common.{◌<◌, ◌+◌, refl, sym, arith, ap, subst}
+use Rattle.std.proofs.Common.{arith, ap, subst}
 use Rattle.sect_lemmas.proofs.Results.{given}
 use Rattle.sect_front.specs.Trees.{statement_of, statement_size, block_size}
 use Rattle.sect_front.specs.Syntax.{BlockView}

@@ -1,4 +1,4 @@
-//! What is said beside the carets of a mistake, where that takes the place of no name but of those in the item at fault.
+//! What is said beside the carets of a mistake, where that takes the place of no name but of those in the item.
 
 ghost use Rattle.std.specs.Prelude.{◌≡◌, ◌<◌, ◌&&◌, IfOk, IfSome, length, position, nat_eq};
 ghost use Rattle.sect_lint.specs.Naming.{is_declaration};

@@ -16,7 +16,7 @@ use crate::range::TokenRange;
 use crate::walk::{locking_count, operands_count, parameters_count, primitive_count};
 use sect_front::{Block, Declaration, GlobalObject, Procedure, Record, Statement, Thread, Tree};
 
-/// Where the item that is sought stands: behind so many others, of which the first begins with this token or a later one.
+/// Where the item that is sought stands: behind so many others, of which the first begins with this token or behind it.
 #[derive(Clone, Copy)]
 pub struct Ahead {
     pub items: usize,

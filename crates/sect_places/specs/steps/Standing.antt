@@ -5,7 +5,7 @@ use Rattle.sect_front.specs.Front.{IsSpelled}
 use Rattle.sect_front.specs.Gaps.{after_gap}
 use Rattle.sect_front.specs.Lexing.{Reaches}
 
--- the text spells the tree, and the token of this number stands here, or where there is none that many tokens have passed
+-- the text spells the tree, and the token of this number stands here, or where there is none so many have passed
 pub record StandsFrom (bytes : List ℕ) (tree : TreeView) (number : ℕ) (here : List ℕ) : Type 0 where
   pub spelled : IsSpelled bytes tree
   pub before : List ℕ

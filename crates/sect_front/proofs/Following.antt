@@ -1,8 +1,7 @@
 -- Which kinds may follow the tokens that have been read.
 use Rattle.std.proofs.Common.{◌≡◌, ◌≢◌, ℕ, ◌+◌, ◌-◌, ◌<◌, ◌≤◌, Bool, true, false, List, [], ◌∷◌, ◌++◌, Option, Some, None}
-use Rattle.std.proofs.Common.{option_and_then, length, take, drop, refl, sym, ◌∙◌, ap, subst, arith, append_assoc}
+use Rattle.std.proofs.Common.{option_and_then, length, take, drop, refl, sym, ◌∙◌, ap, subst, arith, length-drop}
 use Rattle.std.proofs.Common.{append-nil, suc}
-use Rattle.std.proofs.lemmas.List.{map-append}
 use Rattle.std.proofs.lemmas.List.Elements.{filter-append}
 use Rattle.std.proofs.lemmas.Bool.Decides.{nat_tests}
 use Rattle.std.proofs.Math.Seq.{take-suc}
@@ -11,20 +10,18 @@ use Rattle.std.specs.List.{prefix_len}
 use Rattle.sect_front.specs.TreeView.{TreeView}
 use Rattle.sect_front.specs.Syntax.{BlockView, StatementView, End}
 use Rattle.sect_front.specs.Gaps.{after_gap}
-use Rattle.sect_front.specs.Lexing.{Reaches, Spells}
+use Rattle.sect_front.specs.Lexing.{Reaches}
 use Rattle.sect_front.specs.TokenAt.{TokenAt}
 use Rattle.sect_front.specs.Faults.{tokens_in, IsViable}
-use Rattle.sect_front.specs.Expected.{kind_of, all_kinds, MayFollow, AreExpected, tokens_before}
+use Rattle.sect_front.specs.Expected.{kind_of, all_kinds, MayFollow, AreExpected, AreExpectedAt, tokens_before}
 use Rattle.sect_front.specs.Trees.{append}
 use Rattle.sect_front.specs.steps.Advance.{advance_of}
-use Rattle.sect_front.specs.steps.Lexeme.{lexeme_of}
 use Rattle.sect_front.specs.Samples.{sample_of}
 use Rattle.sect_front.specs.steps.Step.{Next, Stays, Ends, Stuck, start_step, after_then, call_step}
 use Rattle.sect_front.specs.steps.Step.{moved_if, step_at, step_of}
 use Rattle.sect_front.specs.steps.ReaderView.{ReaderView}
 use Rattle.sect_front.specs.steps.Read.{read_one, read_at, read_outside, after, end_step, goes_on, fresh, body_step}
 use Rattle.sect_front.specs.steps.Taking.{is_taken, is_kind_taken}
-use Rattle.sect_front.specs.steps.Verdicts.{Reached}
 use Rattle.sect_front.specs.declared.token.Token.{Token}
 use Rattle.sect_front.specs.declared.token.Token.TheVariants as token
 use Rattle.sect_front.specs.declared.token_kind.TokenKind.{TokenKind}
@@ -57,10 +54,9 @@ use Rattle.sect_front.specs.declared.reader.Stage.{Stage}
 use Rattle.sect_front.specs.declared.reader.Stage.TheVariants as stage
 use Rattle.sect_front.proofs.Finish.{start}
 use Rattle.sect_front.proofs.Lexemes.{lexeme_only, pair}
-use Rattle.sect_front.proofs.Reach.{reached_none, reached_more, bad_at}
-use Rattle.sect_front.proofs.Texts.{token_here}
+use Rattle.sect_front.proofs.Texts.{ReadHere}
 use Rattle.sect_front.proofs.Verdict.{viable, after_one, not_viable}
-use Rattle.sect_front.proofs.shared.Lexings.{bad_or_lexed}
+use Rattle.sect_front.proofs.shared.Lexings.{gap_fits}
 use Rattle.sect_lemmas.proofs.Options.{some_injective}
 
 ends : (s : TreeView) (o : Owner) (ls : List Declaration) (b : BlockView) → is_some (end_step s o ls b) ≡ true
@@ -259,20 +255,6 @@ kinds_follow front r kinds h e = (
   e,
 )
 
--- nothing may follow what isn't viable
-pub nothing_follows : (front : List Token) → (IsViable front → ⊥) → AreExpected front []
-nothing_follows front stuck = (
-  λ k. false,
-  λ k. (
-    λ e. absurd (never e),
-    λ may. absurd (stuck (may.2.0, may.0 ∷ may.2.1, may.2.2 ∙ append_assoc front (may.0 ∷ []) may.2.1)),
-  ),
-  refl,
-)
-
-tokens_joined : (ps qs : List TokenAt) → tokens_in (ps ++ qs) ≡ tokens_in ps ++ tokens_in qs
-tokens_joined ps qs = map-append (λ (p : TokenAt). p.token) ps qs
-
 is_less : (a b : ℕ) → a < b → nat_lt a b ≡ true
 is_less a b h = grind (arith, nat_tests)
 
@@ -281,38 +263,34 @@ abbrev AreBefore : ℕ → List TokenAt → Type 0
 AreBefore at [] = ⊤
 AreBefore at (p ∷ ps) = (nat_lt p.at at ≡ true) × AreBefore at ps
 
-one_before : (at : ℕ) (ps : List TokenAt) (p : TokenAt) → AreBefore at ps → nat_lt p.at at ≡ true
-    → AreBefore at (ps ++ p ∷ [])
-one_before at [] p h lt = (lt, tt)
-one_before at (q ∷ ps) p h lt = (h.0, one_before at ps p h.1 lt)
+-- what is left is no longer than the text
+left_fits : (total : ℕ) (bytes : List ℕ) (ps : List TokenAt) (rest : List ℕ) → Reaches total bytes ps rest
+    → length rest ≤ length bytes
+left_fits total bytes [] rest h = omega (arith, ap length h)
+left_fits total bytes (p ∷ ps) rest h = omega (
+  arith,
+  left_fits total (drop h.0 (after_gap bytes)) ps rest h.3,
+  gap_fits bytes,
+  length-drop h.0 (after_gap bytes),
+)
 
--- so far the text has been read, up to this place
-pub record ReadBefore (bytes : List ℕ) (at : ℕ) (here : List ℕ) (r : ReaderView) : Type 0 where
-  pub places : List TokenAt
-  pub reached : Reached bytes places here
-  pub is : after start (tokens_in places) ≡ Some r
-  pub before : AreBefore at places
-
-pub nothing_read : (bytes : List ℕ) (at : ℕ) → ReadBefore bytes at (after_gap bytes) start
-nothing_read bytes at = record {
-  places = [];
-  reached = reached_none bytes;
-  is = refl;
-  before = tt;
-}
-
-pub one_read : (bytes : List ℕ) (at : ℕ) (here : List ℕ) (r m : ReaderView) (t : Token) (n : ℕ)
-    → ReadBefore bytes at here r → lexeme_of here ≡ Some (t, n) → read_one r t ≡ Some m
-    → length bytes - length here < at → ReadBefore bytes at (after_gap (drop n here)) m
-one_read bytes at here r m t n h e read lt =
-    let p : TokenAt = token_here bytes here t in
-    record {
-      places = h.places ++ p ∷ [];
-      reached = reached_more bytes h.places here p n h.reached (omega (arith, h.reached.fits)) e;
-      is = ap (after start) (tokens_joined h.places (p ∷ []))
-          ∙ (after_one (tokens_in h.places) r t [] h.is ∙ ap (option_and_then (λ x. after x [])) read);
-      before = one_before at h.places p h.before (is_less p.at at lt);
-    }
+-- the tokens that have been read begin before what is left
+read_before : (total : ℕ) (bytes : List ℕ) (ps : List TokenAt) (rest : List ℕ) → Reaches total bytes ps rest
+    → AreBefore (total - length (after_gap rest)) ps
+read_before total bytes [] rest h = tt
+read_before total bytes (p ∷ ps) rest h =
+    let behind : List ℕ = drop h.0 (after_gap bytes) in (
+      is_less p.at (total - length (after_gap rest)) (omega (
+        arith,
+        h.1,
+        h.2.within,
+        h.2.some,
+        length-drop h.0 (after_gap bytes),
+        left_fits total behind ps rest h.3,
+        gap_fits rest,
+      )),
+      read_before total behind ps rest h.3,
+    )
 
 -- a text that spells tokens goes on behind those that have been read
 goes_behind : (total : ℕ) (bytes : List ℕ) (ps : List TokenAt) (rest : List ℕ) (qs : List TokenAt) (end : List ℕ)
@@ -348,50 +326,29 @@ before_joined at (p ∷ ps) qs h =
     ap tokens_in (while_yes (λ q. nat_lt q.at at) p (ps ++ qs) h.0)
     ∙ ap (λ w. p.token ∷ w) (before_joined at ps qs h.1)
 
--- where what is left begins at the place or is nothing, these are all tokens before it
-pub all_before : (bytes : List ℕ) (at : ℕ) (here : List ℕ) (r : ReaderView) (h : ReadBefore bytes at here r)
-    → (0 < length here → at ≤ length bytes - length here) → (qs : List TokenAt) → Spells bytes qs
-    → tokens_in h.places ≡ tokens_before at qs
-all_before bytes at here r h far qs s =
-    let split = goes_behind (length bytes) bytes h.places h.reached.rest qs s.0 h.reached.reaches s.1 s.2 in
-    sym (ap (tokens_before at) split.1 ∙ (before_joined at h.places split.0 h.before
-    ∙ (ap (λ w. tokens_in h.places ++ w) (none_before split.0 split.2) ∙ append-nil (tokens_in h.places))))
-  where
-    none_before : (behind : List TokenAt) → Reaches (length bytes) h.reached.rest behind s.0 → tokens_before at behind ≡ []
-    none_before [] k = refl
-    none_before (q ∷ behind) k =
-        let gap : length (after_gap h.reached.rest) ≡ length here = ap length h.reached.gap in
-        let past : at ≤ q.at = omega (arith, k.1, gap, far (omega (arith, gap, k.2.within, k.2.some))) in
-        let later : nat_lt q.at at ≡ false = grind (arith, nat_tests) in
-        ap tokens_in (while_no (λ p. nat_lt p.at at) q behind later)
+-- nothing that follows begins before what is left
+none_before : (total : ℕ) (rest : List ℕ) (behind : List TokenAt) (end : List ℕ) → Reaches total rest behind end
+    → tokens_before (total - length (after_gap rest)) behind ≡ []
+none_before total rest [] end k = refl
+none_before total rest (q ∷ behind) end k =
+    let at : ℕ = total - length (after_gap rest) in
+    let later : nat_lt q.at at ≡ false = grind (arith, nat_tests) in
+    ap tokens_in (while_no (λ p. nat_lt p.at at) q behind later)
 
--- a token before the place that isn't taken
-pub none_follows : (bytes : List ℕ) (at : ℕ) (here : List ℕ) (r : ReaderView) (t : Token) (n : ℕ)
-    → ReadBefore bytes at here r → lexeme_of here ≡ Some (t, n) → read_one r t ≡ None
-    → length bytes - length here < at → (qs : List TokenAt) → Spells bytes qs
-    → AreExpected (tokens_before at qs) []
-none_follows bytes at here r t n h e none lt qs s =
-    let p : TokenAt = token_here bytes here t in
-    let reached = reached_more bytes h.places here p n h.reached (omega (arith, h.reached.fits)) e in
-    let split = goes_behind (length bytes) bytes (h.places ++ p ∷ []) reached.rest qs s.0 reached.reaches s.1 s.2 in
-    let all = one_before at h.places p h.before (is_less p.at at lt) in
-    let is : tokens_before at qs ≡ (tokens_in h.places ++ t ∷ []) ++ tokens_before at split.0 =
-    ap (tokens_before at) split.1 ∙ (before_joined at (h.places ++ p ∷ []) split.0 all
-    ∙ ap (λ w. w ++ tokens_before at split.0) (tokens_joined h.places (p ∷ []))) in
-    nothing_follows (tokens_before at qs) (λ v. not_viable (tokens_in h.places) r t h.is none (
-      v.0,
-      tokens_before at split.0 ++ v.1,
-      v.2 ∙ (ap (λ w. w ++ v.1) is
-          ∙ append_assoc (tokens_in h.places ++ t ∷ []) (tokens_before at split.0) v.1),
-    ))
-
--- no text is spelled where a lexeme is bad
-pub bad_spells_nothing : (bytes : List ℕ) (at : ℕ) (here : List ℕ) (r : ReaderView) → ReadBefore bytes at here r
-    → 0 < length here → lexeme_of here ≡ None → (qs : List TokenAt) → Spells bytes qs → ⊥
-bad_spells_nothing bytes at here r h some none qs s =
-    bad_or_lexed bytes (length bytes - length here) qs
-    (bad_at bytes h.places here (length bytes - length here) h.reached
-    (λ e. absurd (omega (arith, ap length e, some))) none (omega (arith, h.reached.fits))) s
+-- what is taken behind the tokens that have been read may stand there
+pub kinds_expected : (bytes here : List ℕ) (r : ReaderView) (k : ℕ) (kinds : List TokenKind) → ReadHere bytes here r k
+    → kinds ≡ filter (is_kind_taken r) all_kinds → AreExpectedAt bytes (length bytes - length here) kinds
+kinds_expected bytes here r k kinds h e = λ places spells.
+    let at : ℕ = length bytes - length (after_gap h.reached.rest) in
+    let ps : List TokenAt = h.places in
+    let split = goes_behind (length bytes) bytes ps h.reached.rest places spells.0 h.reached.reaches spells.1 spells.2 in
+    let all : tokens_before at places ≡ tokens_in ps =
+    ap (tokens_before at) split.1
+    ∙ (before_joined at ps split.0 (read_before (length bytes) bytes ps h.reached.rest h.reached.reaches)
+    ∙ (ap (λ w. tokens_in ps ++ w) (none_before (length bytes) h.reached.rest split.0 spells.0 split.2)
+    ∙ append-nil (tokens_in ps))) in
+    subst (λ xs. AreExpected (tokens_before (length bytes - length xs) places) kinds) h.reached.gap
+    (subst (λ front. AreExpected front kinds) (sym all) (kinds_follow (tokens_in ps) r kinds h.reads.is e))
 
 -- one more element that passes a test, and one that doesn't
 filtered_next : {X : Type 0} (p : X → Bool) (xs : List X) (i : ℕ) (d : X) → i < length xs

@@ -1,6 +1,7 @@
 -- Which kinds of tokens may follow others.
 use Rattle.std.specs.Prelude.{◌≡◌, ◌↔◌, ℕ, Bool, true, List, [], ◌∷◌, ◌++◌, filter, nat_lt, take_while}
 use Rattle.sect_front.specs.TokenAt.{TokenAt}
+use Rattle.sect_front.specs.Lexing.{Spells}
 use Rattle.sect_front.specs.Faults.{tokens_in, IsViable}
 use Rattle.sect_front.specs.declared.token.Token.{Token}
 use Rattle.sect_front.specs.declared.token.Token.TheVariants as token
@@ -62,3 +63,8 @@ AreExpected front kinds =
 -- the tokens that begin before a place
 abbrev pub tokens_before : ℕ → List TokenAt → List Token
 tokens_before at places = tokens_in (take_while (λ p. nat_lt p.at at) places)
+
+-- these are the kinds that may stand at a place of the text, by the tokens before it
+abbrev pub AreExpectedAt : List ℕ → ℕ → List TokenKind → Type 0
+AreExpectedAt bytes at kinds =
+    (places : List TokenAt) → Spells bytes places → AreExpected (tokens_before at places) kinds

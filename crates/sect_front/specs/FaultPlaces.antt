@@ -6,10 +6,12 @@ use Rattle.sect_front.specs.Spelling.{spelling_of}
 use Rattle.sect_front.specs.Lexing.{Spells, IsBadAt}
 use Rattle.sect_front.specs.Faults.{tokens_in, IsUnexpectedAt, IsTooDeepAt}
 use Rattle.sect_front.specs.Front.{line_of}
+use Rattle.sect_front.specs.Expected.{AreExpectedAt}
 use Rattle.sect_front.specs.TokenAt.{TokenAt}
 use Rattle.sect_front.specs.declared.span.Span.{Span}
 use Rattle.sect_front.specs.declared.token.Token.{Token}
 use Rattle.sect_front.specs.declared.token.Token.TheVariants as token
+use Rattle.sect_front.specs.declared.token_kind.TokenKind.{TokenKind}
 use Rattle.sect_front.specs.declared.parsing.FrontFault.{FrontFault}
 use Rattle.sect_front.specs.declared.parsing.FrontFault.TheVariants as fault
 
@@ -56,6 +58,11 @@ IsFaultSpan bytes (fault.TooDeep line) span = IsTokenSpan IsTooDeepAt bytes span
 IsFaultSpan bytes (fault.UnexpectedEnd line) span =
     (span ≡ record { start = length bytes - 1; end = length bytes }) × (line ≡ line_of bytes span.start)
 IsFaultSpan bytes fault.Memory span = ⊤
+
+-- of a token that can't stand where it does the kinds that may, and of any other fault none
+abbrev pub AreKindsFor : List ℕ → FrontFault → Span → List TokenKind → Type 0
+AreKindsFor bytes (fault.Unexpected line) span kinds = AreExpectedAt bytes span.start kinds
+AreKindsFor bytes _ span kinds = kinds ≡ []
 
 -- the places of the braces that are open, the innermost last, behind one more token that stands at this place
 abbrev pub open_behind : ℕ → List ℕ → Token → List ℕ

@@ -1,20 +1,18 @@
 //! Which tokens may follow those that have been read.
 
 ghost use Rattle.std.specs.Prelude.{◌≡◌, ℕ, List, IfOk, filter, is_some};
-ghost use Rattle.sect_front.specs.Lexing.{Spells};
-ghost use Rattle.sect_front.specs.TokenAt.{TokenAt};
 ghost use Rattle.sect_front.specs.TreeView.{TreeView};
-ghost use Rattle.sect_front.specs.Syntax.{BlockView};
+ghost use Rattle.sect_front.specs.Syntax.{BlockView, StatementView};
 ghost use Rattle.sect_front.specs.declared.within.OpenBlock.{OpenBlock};
+ghost use Rattle.sect_front.specs.declared.within.Partial.{Partial};
 ghost use Rattle.sect_front.specs.declared.reader.Owner.{Owner};
 ghost use Rattle.sect_front.specs.declared.tree.Declaration.{Declaration};
-ghost use Rattle.sect_front.specs.Expected.{AreExpected, tokens_before, all_kinds as all_kinds_by};
-ghost use Rattle.sect_front.specs.steps.Step.{start_step, call_step, step_of};
+ghost use Rattle.sect_front.specs.Expected.{all_kinds as all_kinds_by};
+ghost use Rattle.sect_front.specs.steps.Step.{start_step, after_then, call_step, step_of};
 ghost use Rattle.sect_front.specs.steps.Read.{begin_step, record_step, global_step, procedure_step, thread_step};
 ghost use Rattle.sect_front.specs.steps.Read.{body_step, read_outside, read_one};
 ghost use Rattle.sect_front.specs.steps.Taking.{is_taken, is_kind_taken};
 
-use crate::lexer::{after_gap, behind, lexeme};
 use crate::partial::{PartialCall, advance};
 use crate::reader::{
     BodyStage, GlobalStage, Outside, Part, ProcedureStage, Reader, RecordStage, Stage, ThreadStage,
@@ -22,7 +20,7 @@ use crate::reader::{
 use crate::token::Token;
 use crate::token_kind::{TokenKind, all_kinds};
 use crate::tree::Kind;
-use crate::within::{Partial, StepError, Within};
+use crate::within::{Partial, Within};
 use std::alloc::{AllocError, Global};
 
 /// Whether a statement, or the end of a block, may begin with a token.
@@ -42,8 +40,19 @@ fn starts_with(token: &Token) -> bool
     )
 }
 
+/// Whether a token may follow the first block of an `if`.
+pub fn then_takes(token: &Token) -> bool
+    ensures { (open_blocks : List OpenBlock) (before : BlockView) (statement : StatementView) (place : Partial)
+        → result ≡ is_taken (after_then open_blocks before statement place token.now) }
+{
+    match token {
+        Token::Else => true,
+        _ => starts_with(token),
+    }
+}
+
 /// Whether a call goes on with a token.
-fn call_takes(call: &PartialCall, token: &Token) -> bool
+pub fn call_takes(call: &PartialCall, token: &Token) -> bool
     ensures { (open_blocks : List OpenBlock) (before : BlockView)
         → result ≡ is_taken (call_step open_blocks before call.now token.now) }
 {
@@ -72,10 +81,7 @@ fn within_takes(within: &Within, token: &Token) -> bool
         Partial::Start => starts_with(token),
         Partial::Inside(line) => advance(line, token).is_some(),
         Partial::InCall(call) => call_takes(call, token),
-        Partial::AfterThen(_, _) => match token {
-            Token::Else => true,
-            _ => starts_with(token),
-        },
+        Partial::AfterThen(_, _) => then_takes(token),
         Partial::AfterElse(_, _) => matches!(token, Token::OpenBrace),
     }
 }
@@ -175,7 +181,7 @@ fn body_takes(stage: &BodyStage, token: &Token) -> bool
 }
 
 /// Whether a token may follow outside of statements.
-fn outside_takes(outside: &Outside, token: &Token) -> bool
+pub fn outside_takes(outside: &Outside, token: &Token) -> bool
     ensures { (source : TreeView) → result ≡ is_some (read_outside source outside.now token.now) }
 {
     match outside {
@@ -199,7 +205,7 @@ fn takes(reader: &Reader, token: &Token) -> bool
 }
 
 /// The kinds of which a reader takes a token.
-fn kinds_taken(alloc: Global, reader: &Reader) -> Result<Vec<TokenKind>, AllocError>
+pub fn kinds_taken(alloc: Global, reader: &Reader) -> Result<Vec<TokenKind>, AllocError>
     ensures { IfOk result (λ kinds. kinds.items ≡ filter (is_kind_taken reader.now) all_kinds_by) }
 {
     let all = all_kinds();
@@ -209,29 +215,5 @@ fn kinds_taken(alloc: Global, reader: &Reader) -> Result<Vec<TokenKind>, AllocEr
             kinds.push(*kind)?;
         }
     }
-    Ok(kinds)
-}
-
-/// The kinds of tokens that may follow those that begin before a place of a text, in the order of the language's table
-/// of tokens.
-pub fn expected_kinds(alloc: Global, bytes: &[u8], at: usize) -> Result<Vec<TokenKind>, AllocError>
-    // A kind may follow if some tree's tokens begin so.
-    ensures { IfOk result (λ kinds. (places : List TokenAt) → Spells bytes.now places
-        → AreExpected (tokens_before at places) kinds.items) }
-{
-    let mut reader = Reader::new(alloc);
-    let mut here = after_gap(bytes);
-    while !here.is_empty() && bytes.len() - here.len() < at {
-        let Some((token, length)) = lexeme(here) else {
-            return Ok(Vec::new(alloc));
-        };
-        here = behind(here, length);
-        match reader.step(alloc, &token) {
-            Ok(()) => {}
-            Err(StepError::Memory) => return Err(AllocError),
-            Err(StepError::Unexpected) => return Ok(Vec::new(alloc)),
-        }
-    }
-    let kinds = kinds_taken(alloc, &reader)?;
     Ok(kinds)
 }

@@ -22,7 +22,6 @@ mod tree;
 mod within;
 mod words;
 
-pub use expecting::expected_kinds;
 pub use innermost::innermost_brace;
 pub use items::Items;
 pub use lexer::{after_gap, first_token};

@@ -4,9 +4,9 @@
 //! by recursion on the text, so no text makes it use more stack. What walks over a tree, as its `Drop` and `print` do,
 //! goes as deep as its blocks stand in one another, at most 32.
 
-ghost use Rattle.std.specs.Prelude.{◌≡◌, ◌≢◌, ◌≤◌, IfOk, IfErr, length};
+ghost use Rattle.std.specs.Prelude.{◌≡◌, ◌≢◌, ◌≤◌, [], IfOk, IfErr, length};
 ghost use Rattle.sect_front.specs.Front.{IsSpelled, IsFault, Judges, Gives, Refuses, line_of as line};
-ghost use Rattle.sect_front.specs.FaultPlaces.{IsFaultSpan, IsWithin, word_span};
+ghost use Rattle.sect_front.specs.FaultPlaces.{IsFaultSpan, IsWithin, AreKindsFor, word_span};
 ghost use Rattle.sect_front.specs.Lexing.{IsBadAt};
 ghost use Rattle.sect_front.specs.TreeView.{TreeView};
 ghost use Rattle.sect_front.specs.Limits.{most_bytes};
@@ -14,6 +14,7 @@ ghost use Rattle.sect_front.specs.Limits.{most_bytes};
 use crate::limits::MOST_BYTES;
 use crate::reading::{ReadFault, read};
 use crate::span::Span;
+use crate::token_kind::TokenKind;
 use crate::tree::Tree;
 use crate::words::{is_digit, is_letter, word_length};
 use std::alloc::Global;
@@ -53,6 +54,22 @@ pub enum FrontFault {
 pub struct PlacedFault {
     pub fault: FrontFault,
     pub span: Span,
+    /// The kinds of tokens that may stand in the place of an unexpected one, each once and in the order of the
+    /// language's table of tokens, and of any other fault none.
+    pub expected: Vec<TokenKind>,
+}
+
+/// A fault that no token in another's place would mend.
+fn placed(alloc: Global, fault: FrontFault, span: Span) -> PlacedFault
+    ensures fault { result.fault ≡ fault }
+    ensures span { result.span ≡ span }
+    ensures none { result.expected.items ≡ [] }
+{
+    PlacedFault {
+        fault,
+        span,
+        expected: Vec::new(alloc),
+    }
 }
 
 /// The line of a place.
@@ -79,33 +96,26 @@ fn word_at(bytes: &[u8], at: usize) -> Span
 }
 
 /// The fault of a bad lexeme.
-fn bad(bytes: &[u8], at: usize) -> PlacedFault
+fn bad(alloc: Global, bytes: &[u8], at: usize) -> PlacedFault
     requires bad { IsBadAt bytes.now at }
     requires fits { length bytes.now ≤ most_bytes }
     ensures fault { IsFault bytes.now result.fault }
     ensures span { IsFaultSpan bytes.now result.fault result.span }
     ensures within { IsWithin (length bytes.now) result.span }
+    ensures expected { AreKindsFor bytes.now result.fault result.span result.expected.items }
 {
     let line = line_of(bytes, at);
     let word = word_at(bytes, at);
     if is_letter(bytes[at]) {
-        PlacedFault {
-            fault: FrontFault::LongName { line },
-            span: word,
-        }
+        placed(alloc, FrontFault::LongName { line }, word)
     } else if is_digit(bytes[at]) {
-        PlacedFault {
-            fault: FrontFault::BadNumber { line },
-            span: word,
-        }
+        placed(alloc, FrontFault::BadNumber { line }, word)
     } else {
-        PlacedFault {
-            fault: FrontFault::BadByte { line },
-            span: Span {
-                start: at,
-                end: at + 1,
-            },
-        }
+        let span = Span {
+            start: at,
+            end: at + 1,
+        };
+        placed(alloc, FrontFault::BadByte { line }, span)
     }
 }
 
@@ -138,40 +148,40 @@ pub fn parse_placed(alloc: Global, bytes: &[u8]) -> Result<Tree, PlacedFault>
     ensures span { IfErr result (λ placed. IsFaultSpan bytes.now placed.fault placed.span) }
     ensures within { IfErr result (λ placed. (placed.fault ≢ FrontFault.Memory)
         → IsWithin (length bytes.now) placed.span) }
+    // In place of a token that can't stand where it does, one of these kinds may.
+    ensures expected { IfErr result (λ placed. AreKindsFor bytes.now placed.fault placed.span placed.expected.items) }
 {
     if bytes.len() > MOST_BYTES {
-        return Err(PlacedFault {
-            fault: FrontFault::TooLarge,
-            span: Span { start: 0, end: 1 },
-        });
+        let span = Span { start: 0, end: 1 };
+        return Err(placed(alloc, FrontFault::TooLarge, span));
     }
     match read(alloc, bytes) {
         Ok(tree) => Ok(tree),
-        Err(ReadFault::Memory) => Err(PlacedFault {
-            fault: FrontFault::Memory,
-            span: Span { start: 0, end: 0 },
-        }),
-        Err(ReadFault::Bad(at)) => Err(bad(bytes, at)),
-        Err(ReadFault::Unexpected(span)) => {
+        Err(ReadFault::Memory) => {
+            let span = Span { start: 0, end: 0 };
+            Err(placed(alloc, FrontFault::Memory, span))
+        }
+        Err(ReadFault::Bad(at)) => Err(bad(alloc, bytes, at)),
+        Err(ReadFault::Unexpected(span, expected)) => {
             let line = line_of(bytes, span.start);
-            let fault = FrontFault::Unexpected { line };
-            Err(PlacedFault { fault, span })
+            Err(PlacedFault {
+                fault: FrontFault::Unexpected { line },
+                span,
+                expected,
+            })
         }
         Err(ReadFault::TooDeep(span)) => {
             let line = line_of(bytes, span.start);
-            let fault = FrontFault::TooDeep { line };
-            Err(PlacedFault { fault, span })
+            Err(placed(alloc, FrontFault::TooDeep { line }, span))
         }
         Err(ReadFault::Unfinished) => {
             let start = bytes.len().saturating_sub(1);
             let line = line_of(bytes, start);
-            Err(PlacedFault {
-                fault: FrontFault::UnexpectedEnd { line },
-                span: Span {
-                    start,
-                    end: bytes.len(),
-                },
-            })
+            let span = Span {
+                start,
+                end: bytes.len(),
+            };
+            Err(placed(alloc, FrontFault::UnexpectedEnd { line }, span))
         }
     }
 }

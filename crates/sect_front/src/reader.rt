@@ -1,16 +1,17 @@
 //! The declarations of a text, token by token.
 
-ghost use Rattle.std.specs.Prelude.{◌≡◌, ◌≤◌, []};
+ghost use Rattle.std.specs.Prelude.{◌≡◌, ◌≤◌, [], Some, IfOk};
 ghost use Rattle.std.specs.Option.{ForSome};
 ghost use Rattle.sect_front.specs.Limits.{most_depth};
 
+use crate::expecting::outside_takes;
 use crate::items::Items;
 use crate::name::Name;
 use crate::partial::PartialHead;
 use crate::token::Token;
 use crate::tree::{Block, Declarations, GlobalObject, Kind, Procedure, Record, Thread, Tree};
 use crate::within::{StepError, Within};
-use std::alloc::Global;
+use std::alloc::{AllocError, Global};
 use std::marker::Model;
 use std::mem;
 
@@ -172,7 +173,7 @@ impl Reader {
     ghost use Rattle.sect_front.specs.steps.Read.{global_step, parameter_step, procedure_step, thread_step};
     ghost use Rattle.sect_front.specs.steps.Read.{read_outside, body_step, after_kind_step, end_step, goes_on};
     ghost use Rattle.sect_front.specs.steps.Read.{finish_of};
-    ghost use Rattle.sect_front.specs.steps.Step.{step_of};
+    ghost use Rattle.sect_front.specs.steps.Step.{IsKept, step_of};
     ghost use Rattle.sect_front.specs.Depth.{depth};
 
     /// Nothing has been read.
@@ -202,12 +203,16 @@ impl Reader {
         self.stage = stage;
     }
 
-    /// Takes one more token.
+    /// Takes one more token, or changes nothing.
     pub fn step(&mut self, alloc: Global, token: &Token) -> Result<(), StepError>
-        ensures { Reads result self.new (read_one self.old token.now) }
+        ensures reads { Reads result self.new (read_one self.old token.now) }
+        ensures kept { IsKept result self.old self.new }
     {
         match &mut self.stage {
             Stage::Outside(outside) => {
+                if !outside_takes(outside, token) {
+                    return Err(StepError::Unexpected);
+                }
                 let outside = mem::replace(outside, Outside::Between(Part::Threads));
                 self.outside(alloc, outside, *token)
             }
@@ -218,7 +223,7 @@ impl Reader {
                 };
                 let owner = owner.take(alloc);
                 let locals = mem::replace(locals, Declarations::new(alloc));
-                self.end(owner, locals, body)
+                Ok(self.end(owner, locals, body)?)
             }
         }
     }
@@ -569,13 +574,13 @@ impl Reader {
                 self.lead_to(Stage::Inside(owner, locals, within));
                 Ok(())
             }
-            Some(body) => self.end(owner, locals, body),
+            Some(body) => Ok(self.end(owner, locals, body)?),
         }
     }
 
     /// The last brace of a procedure or a thread.
-    fn end(&mut self, owner: Owner, locals: Declarations, body: Block) -> Result<(), StepError>
-        ensures { Reads result self.new (end_step self.old.source owner locals body) }
+    fn end(&mut self, owner: Owner, locals: Declarations, body: Block) -> Result<(), AllocError>
+        ensures { IfOk result (λ _. end_step self.old.source owner locals body ≡ Some self.new) }
     {
         let next = match owner {
             Owner::Procedure(name, parameters) => {

@@ -1,8 +1,9 @@
 //! The tree that a text spells.
 
-ghost use Rattle.std.specs.Prelude.{◌≡◌, ◌<◌, ◌≤◌, length, List, Err, OnOk, IfErr};
+ghost use Rattle.std.specs.Prelude.{◌≡◌, ◌<◌, ◌≤◌, ◌++◌, length, List, Err, OnOk, IfErr, MatchOption};
 ghost use Rattle.sect_front.specs.Braces.{brace};
 ghost use Rattle.sect_front.specs.TokenAt.{TokenAt};
+ghost use Rattle.sect_front.specs.Lexing.{Spells, IsBadAt};
 ghost use Rattle.sect_front.specs.steps.Verdicts.{Reached, JudgesText, IsAnswerOf, IsReadFault};
 ghost use Rattle.sect_front.specs.steps.ReaderView.{reading, empty};
 ghost use Rattle.sect_front.specs.steps.Read.{finish_of};
@@ -13,27 +14,41 @@ ghost use Rattle.sect_front.specs.Depth.{depth};
 ghost use Rattle.std.specs.Option.{ForSome, ok_or};
 ghost use Rattle.sect_front.specs.Limits.{most_depth};
 
+use crate::expecting::kinds_taken;
 use crate::lexer::{after_gap, behind, lexeme};
 use crate::limits::MOST_DEPTH;
 use crate::reader::Reader;
 use crate::span::Span;
 use crate::token::Token;
+use crate::token_kind::TokenKind;
 use crate::tree::Tree;
 use crate::within::StepError;
-use std::alloc::Global;
+use std::alloc::{AllocError, Global};
 
 /// Why a text spells no tree. Places are offsets in the text.
-#[derive(Clone, Copy)]
+#[derive(Drop)]
 pub enum ReadFault {
     Memory,
     /// No token stands at this place, and all that stands before it is tokens.
     Bad(usize),
-    /// The tokens before the one with these bytes begin a tree, and with it they begin none.
-    Unexpected(Span),
+    /// The tokens before the one with these bytes begin a tree, and with it they begin none. A token of one of these
+    /// kinds may stand there.
+    Unexpected(Span, Vec<TokenKind>),
     /// The token with these bytes opens too many blocks.
     TooDeep(Span),
     /// The tokens begin a tree and are none.
     Unfinished,
+}
+
+impl From<AllocError> for ReadFault {
+    ghost use Rattle.std.specs.Prelude.{◌≡◌};
+    ghost use Rattle.sect_front.specs.declared.reading.ReadFault.TheVariants.{Memory};
+
+    ghost from_gives = { λ _ e. e ≡ Memory };
+
+    fn from(_error: AllocError) -> ReadFault {
+        ReadFault::Memory
+    }
 }
 
 /// The braces that are open after one more token.
@@ -48,20 +63,32 @@ fn braces(level: usize, token: &Token) -> usize
     }
 }
 
-/// The fault of a text in which this one comes before `here`: a bad lexeme anywhere in the text is named first.
-fn unless_bad(bytes: &[u8], here: &[u8], fault: ReadFault) -> ReadFault
+/// The place of the first bad lexeme from `here` on.
+fn bad_from(bytes: &[u8], here: &[u8]) -> Option<usize>
     requires { length here.now ≤ length bytes.now }
-    ensures { (before : List TokenAt) → Reached bytes.now before here.now → IsAnswerOf bytes.now before fault result }
+    ensures { (before : List TokenAt) → Reached bytes.now before here.now
+        → MatchOption result ((behind : List TokenAt) × Spells bytes.now (before ++ behind)) (IsBadAt bytes.now) }
 {
     let mut here = here;
     while !here.is_empty() {
         let at = bytes.len() - here.len();
         let Some((_, length)) = lexeme(here) else {
-            return ReadFault::Bad(at);
+            return Some(at);
         };
         here = behind(here, length);
     }
-    fault
+    None
+}
+
+/// The fault of a text in which this one comes before `here`: a bad lexeme anywhere in the text is named first.
+fn unless_bad(bytes: &[u8], here: &[u8], fault: ReadFault) -> ReadFault
+    requires { length here.now ≤ length bytes.now }
+    ensures { (before : List TokenAt) → Reached bytes.now before here.now → IsAnswerOf bytes.now before fault result }
+{
+    match bad_from(bytes, here) {
+        Some(at) => ReadFault::Bad(at),
+        None => fault,
+    }
 }
 
 /// Has a new reader take all tokens of a text, unless there is a fault.
@@ -87,7 +114,8 @@ fn take_all(alloc: Global, bytes: &[u8], reader: &mut Reader) -> Result<(), Read
             Ok(()) => {}
             Err(StepError::Memory) => return Err(ReadFault::Memory),
             Err(StepError::Unexpected) => {
-                return Err(unless_bad(bytes, here, ReadFault::Unexpected(span)));
+                let kinds = kinds_taken(alloc, reader)?;
+                return Err(unless_bad(bytes, here, ReadFault::Unexpected(span, kinds)));
             }
         }
         level = braces(level, &token);

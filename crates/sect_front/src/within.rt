@@ -3,6 +3,7 @@
 ghost use Rattle.std.specs.Prelude.{◌≡◌, ◌∷◌, [], OnOk};
 ghost use Rattle.sect_front.specs.Syntax.{End, If};
 
+use crate::expecting::{call_takes, then_takes};
 use crate::items::Items;
 use crate::name::Name;
 use crate::partial::{Branch, Move, PartialBranch, PartialCall, PartialHead, advance, operand};
@@ -91,8 +92,10 @@ impl Model for Within {
 }
 
 impl Within {
-    ghost use Rattle.sect_front.specs.steps.Step.{Steps, start_step, close_step, call_step, argument_step};
-    ghost use Rattle.sect_front.specs.steps.Step.{after_then, after_else, moved, stays, step_of};
+    ghost use Rattle.std.specs.Prelude.{IfOk, true};
+    ghost use Rattle.sect_front.specs.steps.Step.{Steps, IsKept, LeadsTo, start_step, close_step, call_step};
+    ghost use Rattle.sect_front.specs.steps.Step.{argument_step, after_then, moved, stays, step_of};
+    ghost use Rattle.sect_front.specs.steps.Taking.{is_taken};
     ghost use Rattle.sect_front.specs.steps.Advance.{operand_of};
     ghost use Rattle.sect_front.specs.Trees.{append, statement_of};
 
@@ -132,9 +135,10 @@ impl Within {
         self.place = place;
     }
 
-    /// Takes one more token. The whole body comes with its last brace.
+    /// Takes one more token, or changes nothing. The whole body comes with its last brace.
     pub fn step(&mut self, alloc: Global, token: &Token) -> Result<Option<Block>, StepError>
-        ensures { Steps result self.new (step_of self.old token.now) }
+        ensures steps { Steps result self.new (step_of self.old token.now) }
+        ensures kept { IsKept result self.old self.new }
     {
         match &mut self.place {
             Partial::Start => self.start(alloc, token),
@@ -145,19 +149,28 @@ impl Within {
                     *line = next;
                     Ok(None)
                 }
-                Some(to) => self.go(alloc, to),
+                Some(to) => Ok(self.go(alloc, to)?),
             },
             Partial::InCall(call) => {
+                if !call_takes(call, token) {
+                    return Err(StepError::Unexpected);
+                }
                 let call = mem::replace(call, PartialCall::AfterWord);
                 self.call(alloc, call, token)
             }
             Partial::AfterThen(test, then) => {
+                if !then_takes(token) {
+                    return Err(StepError::Unexpected);
+                }
                 let (test, then) = (*test, mem::replace(then, Block::new(alloc)));
                 self.after_then(alloc, test, then, token)
             }
             Partial::AfterElse(test, then) => {
+                let Token::OpenBrace = token else {
+                    return Err(StepError::Unexpected);
+                };
                 let (test, then) = (*test, mem::replace(then, Block::new(alloc)));
-                self.after_else(alloc, test, then, token)
+                Ok(self.open_else(alloc, test, then)?)
             }
         }
     }
@@ -185,30 +198,24 @@ impl Within {
         }
     }
 
-    /// A token after `else`.
-    fn after_else(
+    /// The brace after `else`.
+    fn open_else(
         &mut self,
         alloc: Global,
         test: Test,
         then: Block,
-        token: &Token,
-    ) -> Result<Option<Block>, StepError>
-        ensures { Steps result self.new
-            (after_else (OpenBlock.Else self.old.before test then ∷ self.old.open_blocks) End token.now) }
+    ) -> Result<Option<Block>, AllocError>
+        ensures { IfOk result (λ body. LeadsTo body self.new
+            (stays (OpenBlock.Else self.old.before test then ∷ self.old.open_blocks) End Partial.Start)) }
     {
-        match token {
-            Token::OpenBrace => {
-                let before = mem::replace(&mut self.before, Block::new(alloc));
-                self.open(OpenBlock::Else(before, test, then))
-            }
-            _ => Err(StepError::Unexpected),
-        }
+        let before = mem::replace(&mut self.before, Block::new(alloc));
+        self.open(OpenBlock::Else(before, test, then))
     }
 
     /// Adds a statement that has been read whole.
-    fn add(&mut self, statement: Statement) -> Result<Option<Block>, StepError>
-        ensures { Steps result self.new
-            (stays self.old.open_blocks (append self.old.before (statement_of statement)) Partial.Start) }
+    fn add(&mut self, statement: Statement) -> Result<Option<Block>, AllocError>
+        ensures { IfOk result (λ body. LeadsTo body self.new
+            (stays self.old.open_blocks (append self.old.before (statement_of statement)) Partial.Start)) }
     {
         self.before.push(statement)?;
         self.lead_to(Partial::Start);
@@ -216,8 +223,9 @@ impl Within {
     }
 
     /// Opens this block.
-    fn open(&mut self, open_block: OpenBlock) -> Result<Option<Block>, StepError>
-        ensures { Steps result self.new (stays (open_block ∷ self.old.open_blocks) self.old.before Partial.Start) }
+    fn open(&mut self, open_block: OpenBlock) -> Result<Option<Block>, AllocError>
+        ensures { IfOk result (λ body. LeadsTo body self.new
+            (stays (open_block ∷ self.old.open_blocks) self.old.before Partial.Start)) }
     {
         self.open_blocks.push(open_block)?;
         self.lead_to(Partial::Start);
@@ -226,7 +234,8 @@ impl Within {
 
     /// A token where a statement may start.
     fn start(&mut self, alloc: Global, token: &Token) -> Result<Option<Block>, StepError>
-        ensures { Steps result self.new (start_step self.old.open_blocks self.old.before token.now) }
+        ensures steps { Steps result self.new (start_step self.old.open_blocks self.old.before token.now) }
+        ensures kept { IsKept result self.old self.new }
     {
         let next = match token {
             Token::Name(x) => Partial::Inside(PartialHead::AfterName(*x)),
@@ -238,7 +247,7 @@ impl Within {
             )),
             Token::Atomic => Partial::Inside(PartialHead::AfterAtomic),
             Token::Call => Partial::InCall(PartialCall::AfterWord),
-            Token::CloseBrace => return self.close(alloc),
+            Token::CloseBrace => return Ok(self.close(alloc)?),
             _ => return Err(StepError::Unexpected),
         };
         self.lead_to(next);
@@ -331,14 +340,14 @@ impl Within {
             (call_step self.old.open_blocks self.old.before (PartialCall.AfterClose callee values) token.now) }
     {
         match token {
-            Token::Semicolon => self.add(Statement::Call(callee, values)),
+            Token::Semicolon => Ok(self.add(Statement::Call(callee, values))?),
             _ => Err(StepError::Unexpected),
         }
     }
 
     /// A closing brace.
-    fn close(&mut self, alloc: Global) -> Result<Option<Block>, StepError>
-        ensures { Steps result self.new (close_step self.old.open_blocks self.old.before) }
+    fn close(&mut self, alloc: Global) -> Result<Option<Block>, AllocError>
+        ensures { IfOk result (λ body. LeadsTo body self.new (close_step self.old.open_blocks self.old.before)) }
     {
         let Some(open_block) = self.open_blocks.pop() else {
             return Ok(Some(mem::replace(&mut self.before, Block::new(alloc))));
@@ -365,8 +374,8 @@ impl Within {
     }
 
     /// What follows a token inside a statement.
-    fn go(&mut self, alloc: Global, to: Move) -> Result<Option<Block>, StepError>
-        ensures { Steps result self.new (moved self.old.open_blocks self.old.before to) }
+    fn go(&mut self, alloc: Global, to: Move) -> Result<Option<Block>, AllocError>
+        ensures { IfOk result (λ body. LeadsTo body self.new (moved self.old.open_blocks self.old.before to)) }
     {
         match to {
             Move::To(line) => {

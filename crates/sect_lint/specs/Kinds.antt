@@ -1,10 +1,8 @@
 -- Which kinds of tokens are told.
 use Rattle.std.specs.Prelude.{ℕ, if◌then◌else◌, List, [], ◌∷◌, ◌++◌, take, length, codes, nat_lt}
 use Rattle.std.specs.List.{flat_map}
-use Rattle.sect_front.specs.Lexing.{Spells}
-use Rattle.sect_front.specs.TokenAt.{TokenAt}
 use Rattle.sect_front.specs.Samples.{kind_spelling}
-use Rattle.sect_front.specs.Expected.{AreExpected, tokens_before}
+use Rattle.sect_front.specs.Expected.{AreExpectedAt}
 use Rattle.sect_front.specs.declared.span.Span.{Span}
 use Rattle.sect_front.specs.declared.token_kind.TokenKind.{TokenKind}
 use Rattle.sect_front.specs.declared.token_kind.TokenKind.TheVariants as kind
@@ -47,6 +45,5 @@ kinds_text (k ∷ ks) =
 
 -- of a token that can't stand where it does it is told which kinds may, by the tokens before it
 abbrev pub AreKindsTold : List ℕ → Span → Detail → Type 0
-AreKindsTold source span (detail.Expected kinds) =
-    (places : List TokenAt) → Spells source places → AreExpected (tokens_before span.start places) kinds.items
+AreKindsTold source span (detail.Expected kinds) = AreExpectedAt source span.start kinds.items
 AreKindsTold source span _ = ⊥

@@ -3,7 +3,7 @@
 ghost use Rattle.std.specs.Prelude.{◌≡◌, ◌≢◌, ◌≤◌, ◌<◌, ℕ, Err, Some, IfOk, IfErr, MatchOption, length};
 ghost use Rattle.sect_front.specs.TreeView.{TreeView};
 ghost use Rattle.sect_front.specs.Front.{IsSpelled, IsFault};
-ghost use Rattle.sect_front.specs.FaultPlaces.{IsFaultSpan, IsWithin};
+ghost use Rattle.sect_front.specs.FaultPlaces.{IsFaultSpan, IsWithin, AreKindsFor};
 ghost use Rattle.sect_types.specs.First as types;
 ghost use Rattle.sect_types.specs.Programs.{ProgramView};
 ghost use Rattle.sect_names.specs.Sources.{IsTypedText};
@@ -26,10 +26,8 @@ use crate::limit::Limit;
 use crate::mistake::Mistake;
 use crate::naming::{declared_at, earlier_detail, found, unknown_name};
 use crate::plain::plain_detail;
-use sect_front::{
-    FrontFault, PlacedFault, Span, Token, Tree, expected_kinds, innermost_brace, parse,
-    parse_placed,
-};
+use sect_front::{FrontFault, PlacedFault, Span, Token, Tree, innermost_brace, parse_placed};
+use sect_hints::guards;
 use sect_names::{Scheme, SchemeFault, SourceRefusal, check_k, scheme_of};
 use sect_places::{NameSpan, tree_names};
 use sect_types::{Mistyped, Program, TypeFault, check_tree};
@@ -45,21 +43,20 @@ pub enum Judgment {
 }
 
 /// What is said beside the carets of a text that spells no tree.
-fn front_detail(alloc: Global, source: &[u8], placed: &PlacedFault) -> Result<Detail, AllocError>
-    requires { placed.now.span.start ≤ placed.now.span.end }
-    ensures detail { IfOk result (IsFrontDetail source.now placed.now.fault placed.now.span) }
+fn front_detail(alloc: Global, source: &[u8], placed: PlacedFault) -> Result<Detail, AllocError>
+    requires span { placed.span.start ≤ placed.span.end }
+    requires expected { AreKindsFor source.now placed.fault placed.span placed.expected.items }
+    ensures detail { IfOk result (IsFrontDetail source.now placed.fault placed.span) }
     ensures within { IfOk result (IsDetailWithin (length source.now)) }
 {
-    let detail = match &placed.fault {
+    let detail = match placed.fault {
         FrontFault::LongName { .. } => Detail::Bytes(placed.span.end - placed.span.start),
         FrontFault::TooLarge => Detail::Bytes(source.len()),
         FrontFault::UnexpectedEnd { .. } => match innermost_brace(alloc, source)? {
             Some(at) => Detail::OpenBrace(at),
             None => Detail::Nothing,
         },
-        FrontFault::Unexpected { .. } => {
-            Detail::Expected(expected_kinds(alloc, source, placed.span.start)?)
-        }
+        FrontFault::Unexpected { .. } => Detail::Expected(placed.expected),
         _ => Detail::Nothing,
     };
     Ok(detail)
@@ -69,38 +66,25 @@ fn front_detail(alloc: Global, source: &[u8], placed: &PlacedFault) -> Result<De
 fn front_diagnostic(
     alloc: Global,
     source: &[u8],
-    placed: &PlacedFault,
+    placed: PlacedFault,
 ) -> Result<Diagnostic, SourceRefusal>
-    requires span { IsFaultSpan source.now placed.now.fault placed.now.span }
-    requires within { placed.now.fault ≢ FrontFault.Memory → IsWithin (length source.now) placed.now.span }
-    ensures told { IfOk result (IsDiagnosisOf source.now (refusal.Front placed.now.fault)) }
-    ensures known { IfOk result (λ _. placed.now.fault ≢ FrontFault.Memory) }
+    requires span { IsFaultSpan source.now placed.fault placed.span }
+    requires within { placed.fault ≢ FrontFault.Memory → IsWithin (length source.now) placed.span }
+    requires expected { AreKindsFor source.now placed.fault placed.span placed.expected.items }
+    ensures told { IfOk result (IsDiagnosisOf source.now (refusal.Front placed.fault)) }
+    ensures known { IfOk result (λ _. placed.fault ≢ FrontFault.Memory) }
     ensures fails { IfErr result (λ why. why ≡ refusal.Memory) }
 {
-    match Mistake::of_front(&placed.fault) {
-        Some(mistake) => {
-            let detail = front_detail(alloc, source, placed)?;
-            Ok(Diagnostic {
-                mistake,
-                span: placed.span,
-                detail,
-            })
-        }
-        None => Err(SourceRefusal::Memory),
-    }
-}
-
-/// The tree of a text that spells one.
-fn tree_of(alloc: Global, source: &[u8]) -> Result<Tree, SourceRefusal>
-    requires { (tree : TreeView) × IsSpelled source.now tree }
-    ensures spelled { IfOk result (IsSpelled source.now) }
-    ensures same { (tree : TreeView) → IsSpelled source.now tree → IfOk result (λ given. given ≡ tree) }
-    ensures fails { IfErr result (λ why. why ≡ refusal.Memory) }
-{
-    match parse(alloc, source) {
-        Ok(tree) => Ok(tree),
-        Err(_) => Err(SourceRefusal::Memory),
-    }
+    let Some(mistake) = Mistake::of_front(&placed.fault) else {
+        return Err(SourceRefusal::Memory);
+    };
+    let span = placed.span;
+    let detail = front_detail(alloc, source, placed)?;
+    Ok(Diagnostic {
+        mistake,
+        span,
+        detail,
+    })
 }
 
 /// The bytes that are marked in an item that breaks a rule on types.
@@ -239,10 +223,12 @@ fn types_diagnostic(
 fn hints_diagnostic(
     alloc: Global,
     source: &[u8],
+    program: &Program,
     fault: &SchemeFault,
 ) -> Result<Diagnostic, SourceRefusal>
+    requires text { IsTypedText source.now program.now }
     requires known { fault.now ≢ SchemeFault.BadK }
-    requires refused { (k : ℕ) × (p : ProgramView) × IsTypedText source.now p × schemes.Judges p k (Err fault.now) }
+    requires refused { (k : ℕ) × schemes.Judges program.now k (Err fault.now) }
     ensures told { IfOk result (IsDiagnosisOf source.now (refusal.Scheme fault.now)) }
     ensures known { IfOk result (λ _. fault.now ≢ SchemeFault.Memory) }
     ensures fails { IfErr result (λ why. why ≡ refusal.Memory) }
@@ -250,10 +236,10 @@ fn hints_diagnostic(
     let Some(mistake) = Mistake::of_scheme(fault) else {
         return Err(SourceRefusal::Memory);
     };
-    let tree = tree_of(alloc, source)?;
+    let tree = program.tree();
     let culprit = Culprit::of_scheme(fault);
-    let item = culprit.item(&tree)?;
-    let words = words_of(alloc, source, &tree, item)?;
+    let item = culprit.item(tree)?;
+    let words = words_of(alloc, source, tree, item)?;
     let span = item_span(&words, mistake);
     Ok(Diagnostic {
         mistake,
@@ -274,13 +260,16 @@ fn lint_program(
     ensures judged { IfOk result (IsJudged source.now k) }
     ensures fails { IfErr result (λ why. why ≡ refusal.Memory) }
 {
-    match scheme_of(alloc, program, k) {
-        Ok(scheme) => {
+    // the program is still there for what is told of a hint
+    match guards(alloc, &program) {
+        Ok(_) => {
+            let scheme = scheme_of(alloc, program, k)?;
             scheme.facts();
             Ok(Judgment::Accepted(scheme))
         }
         Err(fault) => {
-            let diagnostic = hints_diagnostic(alloc, source, &fault)?;
+            let fault = SchemeFault::from(fault);
+            let diagnostic = hints_diagnostic(alloc, source, &program, &fault)?;
             Ok(Judgment::Refused(diagnostic))
         }
     }
@@ -317,7 +306,7 @@ pub fn lint(alloc: Global, source: &[u8], k: u16) -> Result<Judgment, SourceRefu
     match parse_placed(alloc, source) {
         Ok(tree) => lint_tree(alloc, source, tree, k),
         Err(placed) => {
-            let diagnostic = front_diagnostic(alloc, source, &placed)?;
+            let diagnostic = front_diagnostic(alloc, source, placed)?;
             Ok(Judgment::Refused(diagnostic))
         }
     }

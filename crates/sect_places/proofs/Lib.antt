@@ -9,6 +9,7 @@ mod Expanding
 mod ItemPast
 mod Spanning
 mod Using
+mod Keeping
 mod NameTokens
 mod Parts
 mod Coming
@@ -22,5 +23,6 @@ mod Within
 mod Whole
 mod Standing
 mod NamesRead
+mod WantedNames
 mod OneFault
 pub mod shared

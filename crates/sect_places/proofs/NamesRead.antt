@@ -143,13 +143,3 @@ module _ (bytes : List ℕ) (tree : TreeView) (names new : List NameSpan) (here 
     spans = with_places (map (λ (y : NameSpan). y.span) names)
         (ap (λ ps. map (λ (y : NameSpan). y.span) names ++ map token_span ps) (sym (among false is)) ∙ h.spans);
   })
-
-  -- whichever it is
-  pub named_either : (is_name_token t ≡ true → (u : NameUse) → slice_get (name_uses tree) (length names) ≡ Some u
-      → new ≡ names ++ record { used = u; span = s } ∷ []) → (is_name_token t ≡ false → new ≡ names)
-      → length names < length (name_uses tree) → NamedHere bytes tree new (after_gap (drop n here))
-  named_either name other lt = by (is_name_token t) refl
-    where
-      by : (b : Bool) → is_name_token t ≡ b → NamedHere bytes tree new (after_gap (drop n here))
-      by true is = named_more is (name is) lt
-      by false is = named_on is (other is)

@@ -13,6 +13,13 @@ pub record IsList {X A : Type 0} (size : X → ℕ) (total : List X → ℕ) (ea
   pub nothing : (n : ℕ) (w : List A) → all n [] w ≡ w
   pub step : (n : ℕ) (x : X) (xs : List X) (w : List A) → all n (x ∷ xs) w ≡ each n x (all (n + size x) xs w)
 
+-- what the first i parts give has gone by, and `at` is the next number; `behind` says what comes of a state and of what
+-- goes by then
+pub record WalkedBy {S X A : Type 0} (behind : S → List A → S) (total : List X → ℕ)
+    (all : ℕ → List X → List A → List A) (xs : List X) (i from at : ℕ) (old now : S) : Type 0 where
+  pub counted : at + total (drop i xs) ≡ from + total xs
+  pub added : (w : List A) → behind now (all at (drop i xs) w) ≡ behind old (all from xs w)
+
 -- what the first i parts give has been added, and `at` is the next number
 pub record Walked {X A : Type 0} (total : List X → ℕ) (all : ℕ → List X → List A → List A)
     (xs : List X) (i from at : ℕ) (old now : List A) : Type 0 where

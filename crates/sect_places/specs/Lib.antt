@@ -10,6 +10,7 @@ pub mod NodeOrigins
 pub mod SectionItems
 pub mod NameUses
 pub mod NameSpans
+pub mod Mattering
 pub mod Declarations
 pub mod steps
 pub mod NodeLines

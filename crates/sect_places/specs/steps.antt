@@ -7,3 +7,5 @@ pub mod Calls
 pub mod Placed
 pub mod Seeking
 pub mod Standing
+pub mod Wanting
+pub mod Wanted

@@ -30,7 +30,7 @@ pub use faults::fault_span;
 pub use items::{item_ranges, item_spans, tree_spans};
 pub use lines::{NodeLine, node_lines};
 pub use name_use::{NameSpan, NameUse, Role, Thing};
-pub use named::{name_spans, tree_names};
+pub use named::{item_names, name_spans, tree_names};
 pub use nodes::node_origins;
 pub use origin::{NodeOrigins, Origin, Origins};
 pub use origin_spans::{NodeSpan, NodeSpans, node_spans};

@@ -1,13 +1,16 @@
 //! Where the names of a text stand.
 
-ghost use Rattle.std.specs.Prelude.{◌≡◌, ◌<◌, ◌++◌, ◌∷◌, [], true, false, Some, IfOk, OnOk, MatchResult};
-ghost use Rattle.std.specs.Prelude.{length, slice_get};
+ghost use Rattle.std.specs.Prelude.{◌≡◌, ◌++◌, ◌∷◌, [], Some, IfOk, OnOk, MatchResult};
+ghost use Rattle.std.specs.Prelude.{List, length, slice_get};
 ghost use Rattle.sect_front.specs.Front.{IsSpelled, IsFault};
 ghost use Rattle.sect_places.specs.NameSpans.{is_name_token, AreNameSpans, HasNameSpans};
+ghost use Rattle.sect_places.specs.Mattering.{mattering};
+ghost use Rattle.sect_places.specs.steps.Wanted.{AreWanted};
 ghost use Rattle.sect_places.specs.declared.name_use.NameUse.{NameUse as AUse};
+ghost use Rattle.sect_places.specs.declared.name_use.NameSpan.{NameSpan};
 
-use crate::name_use::{NameSpan, NameUse};
-use crate::uses::name_uses;
+use crate::name_use::NameSpan;
+use crate::uses::{Kept, kept_uses};
 use sect_front::{FrontFault, Span, Token, Tree, after_gap, first_token, parse};
 use std::alloc::{AllocError, Global};
 
@@ -18,26 +21,56 @@ fn is_name(token: &Token) -> bool
     matches!(token, Token::Name(_))
 }
 
-/// Adds a name that stands at these bytes, if the token is one: it does there what the next of the uses says.
-fn put_name(
+/// Adds the name of this number among all, which stands at these bytes, if it is kept.
+fn put_kept(
     names: &mut Vec<NameSpan>,
-    uses: &[NameUse],
-    token: &Token,
+    kept: &Kept,
+    number: usize,
     span: Span,
 ) -> Result<(), AllocError>
-    requires { length names.old.items < length uses.now }
-    ensures name { OnOk result (is_name_token token.now ≡ true → (u : AUse)
-        → slice_get uses.now (length names.old.items) ≡ Some u
+    requires { length kept.now.numbers ≡ length kept.now.uses }
+    ensures kept { OnOk result (slice_get kept.now.numbers (length names.old.items) ≡ Some number → (u : AUse)
+        → slice_get kept.now.uses (length names.old.items) ≡ Some u
         → names.new.items ≡ names.old.items ++ record { used = u; span = span } ∷ []) }
-    ensures other { OnOk result (is_name_token token.now ≡ false → names.new.items ≡ names.old.items) }
+    ensures other { OnOk result ((slice_get kept.now.numbers (length names.old.items) ≡ Some number → ⊥)
+        → names.new.items ≡ names.old.items) }
 {
-    if is_name(token) {
-        names.push(NameSpan {
-            used: uses[names.len()],
-            span,
-        })?;
+    let next = names.len();
+    if next < kept.numbers.len() && kept.numbers[next] == number {
+        let used = kept.uses[next];
+        names.push(NameSpan { used, span })?;
     }
     Ok(())
+}
+
+/// The names of a tree that the text spells in text order, all or those that matter to an item.
+fn wanted_names(
+    alloc: Global,
+    source: &[u8],
+    tree: &Tree,
+    item: Option<usize>,
+) -> Result<Vec<NameSpan>, AllocError>
+    requires { IsSpelled source.now tree.now }
+    ensures { IfOk result (λ some. AreWanted source.now tree.now item some.items) }
+{
+    let kept = kept_uses(alloc, tree, item)?;
+    let mut names = Vec::with_capacity(alloc, kept.uses.len())?;
+    let mut number = 0;
+    let mut here = after_gap(source);
+    while number < kept.passed {
+        let start = source.len() - here.len();
+        let Some((token, count)) = first_token(here) else {
+            unreachable!();
+        };
+        if is_name(&token) {
+            let end = start + count;
+            put_kept(&mut names, &kept, number, Span { start, end })?;
+            number += 1;
+        }
+        let (_, after) = here.split_at(count);
+        here = after_gap(after);
+    }
+    Ok(names)
 }
 
 /// All names of a tree that the text spells, in text order.
@@ -45,20 +78,24 @@ pub fn tree_names(alloc: Global, source: &[u8], tree: &Tree) -> Result<Vec<NameS
     requires { IsSpelled source.now tree.now }
     ensures { IfOk result (λ names. AreNameSpans source.now tree.now names.items) }
 {
-    let uses = name_uses(alloc, tree)?;
-    let mut names = Vec::with_capacity(alloc, uses.len())?;
-    let mut here = after_gap(source);
-    while names.len() < uses.len() {
-        let start = source.len() - here.len();
-        let Some((token, count)) = first_token(here) else {
-            unreachable!();
-        };
-        let end = start + count;
-        put_name(&mut names, uses.as_slice(), &token, Span { start, end })?;
-        let (_, after) = here.split_at(count);
-        here = after_gap(after);
-    }
+    let names = wanted_names(alloc, source, tree, None)?;
     Ok(names)
+}
+
+/// The names of a tree that the text spells which matter to what is told of an item, in text order: its own, and of all
+/// others those that are declared, types, guards or called.
+pub fn item_names(
+    alloc: Global,
+    source: &[u8],
+    tree: &Tree,
+    item: usize,
+) -> Result<Vec<NameSpan>, AllocError>
+    requires { IsSpelled source.now tree.now }
+    ensures { IfOk result (λ some. (names : List NameSpan) × AreNameSpans source.now tree.now names
+        × (some.items ≡ mattering item names)) }
+{
+    let some = wanted_names(alloc, source, tree, Some(item))?;
+    Ok(some)
 }
 
 /// All names of a text, in text order, or the text's first fault. `Memory` is answered only where a growth was refused.

@@ -9,7 +9,8 @@ ghost use Rattle.sect_places.specs.NameUses.{argument_uses, statement_uses, bloc
 ghost use Rattle.sect_places.specs.NameUses.{hints_uses, records_uses, globals_uses, procedure_uses};
 ghost use Rattle.sect_places.specs.NameUses.{procedures_uses, thread_uses, threads_uses};
 ghost use Rattle.sect_places.specs.NameUses.{name_uses as name_uses_by};
-ghost use Rattle.sect_places.specs.steps.Adding.{Adds};
+ghost use Rattle.sect_places.specs.Mattering.{matters_to_all as matters_to_all_by};
+ghost use Rattle.sect_places.specs.steps.Wanting.{Passes, behind, nothing_kept, is_wanted as is_wanted_by};
 
 use crate::item_counts::past;
 use crate::name_use::{NameUse, Role, Thing};
@@ -18,33 +19,73 @@ use sect_front::{
     Test, Thread, Tree,
 };
 use std::alloc::{AllocError, Global};
+use std::marker::Model;
 
-/// Adds a name.
-fn put(
-    out: &mut Vec<NameUse>,
-    scope: usize,
-    item: usize,
-    role: Role,
-    name: Name,
-) -> Result<(), AllocError>
-    ensures { OnOk result (Adds out.old.items out.new.items (λ w. used scope item role name ∷ w)) }
+/// Names of a tree in text order, all or those that matter to an item.
+#[derive(Drop)]
+pub struct Kept {
+    item: Option<usize>,
+    /// How many names have gone by.
+    pub passed: usize,
+    /// The number of each name that is kept, among all names.
+    pub numbers: Vec<usize>,
+    pub uses: Vec<NameUse>,
+}
+
+impl Model for Kept {
+    ghost use Rattle.sect_places.specs.steps.Wanting.{KeptView};
+
+    ghost Value = { KeptView };
+
+    ghost view = { λ k. record {
+      item = k.item;
+      passed = k.passed;
+      numbers = k.numbers.items;
+      uses = k.uses.items;
+    } };
+}
+
+/// Whether a name may matter to an item in which it doesn't stand.
+fn matters_to_all(role: Role) -> bool
+    ensures { result ≡ matters_to_all_by role }
 {
-    out.push(NameUse {
+    matches!(
+        role,
+        Role::Declared(_) | Role::Type | Role::Guard | Role::Procedure
+    )
+}
+
+/// Whether a name is wanted: any is, unless an item is given to which it has to matter.
+fn is_wanted(item: Option<usize>, used: &NameUse) -> bool
+    ensures { result ≡ is_wanted_by item used.now }
+{
+    match item {
+        Some(item) => used.item == item || matters_to_all(used.role),
+        None => true,
+    }
+}
+
+/// Has a name go by.
+#[tactic(auto, unfolding(crate::specs::steps::Wanting::behind))]
+fn put(out: &mut Kept, scope: usize, item: usize, role: Role, name: Name) -> Result<(), AllocError>
+    ensures { OnOk result (Passes out.old out.new (λ w. used scope item role name ∷ w)) }
+{
+    let used = NameUse {
         scope,
         item,
         role,
         name,
-    })?;
+    };
+    if is_wanted(out.item, &used) {
+        out.numbers.push(out.passed)?;
+        out.uses.push(used)?;
+    }
+    out.passed = past(out.passed, 1)?;
     Ok(())
 }
 
-fn put_kind(
-    out: &mut Vec<NameUse>,
-    scope: usize,
-    item: usize,
-    kind: &Kind,
-) -> Result<(), AllocError>
-    ensures { OnOk result (Adds out.old.items out.new.items (kind_uses scope item kind.now)) }
+fn put_kind(out: &mut Kept, scope: usize, item: usize, kind: &Kind) -> Result<(), AllocError>
+    ensures { OnOk result (Passes out.old out.new (kind_uses scope item kind.now)) }
 {
     match kind {
         Kind::Int => Ok(()),
@@ -53,13 +94,13 @@ fn put_kind(
 }
 
 fn put_operand(
-    out: &mut Vec<NameUse>,
+    out: &mut Kept,
     scope: usize,
     item: usize,
     role: Role,
     operand: &Operand,
 ) -> Result<(), AllocError>
-    ensures { OnOk result (Adds out.old.items out.new.items (operand_uses scope item role operand.now)) }
+    ensures { OnOk result (Passes out.old out.new (operand_uses scope item role operand.now)) }
 {
     match operand {
         Operand::Number(_) => Ok(()),
@@ -69,12 +110,12 @@ fn put_operand(
 }
 
 fn put_primitive(
-    out: &mut Vec<NameUse>,
+    out: &mut Kept,
     scope: usize,
     item: usize,
     primitive: &Primitive,
 ) -> Result<(), AllocError>
-    ensures { OnOk result (Adds out.old.items out.new.items (primitive_uses scope item primitive.now)) }
+    ensures { OnOk result (Passes out.old out.new (primitive_uses scope item primitive.now)) }
 {
     match primitive {
         Primitive::Assign(x, v) => {
@@ -104,25 +145,20 @@ fn put_primitive(
     }
 }
 
-fn put_test(
-    out: &mut Vec<NameUse>,
-    scope: usize,
-    item: usize,
-    test: &Test,
-) -> Result<(), AllocError>
-    ensures { OnOk result (Adds out.old.items out.new.items (test_uses scope item test.now)) }
+fn put_test(out: &mut Kept, scope: usize, item: usize, test: &Test) -> Result<(), AllocError>
+    ensures { OnOk result (Passes out.old out.new (test_uses scope item test.now)) }
 {
     put_operand(out, scope, item, Role::Operand(0), &test.left)?;
     put_operand(out, scope, item, Role::Operand(1), &test.right)
 }
 
 fn put_arguments(
-    out: &mut Vec<NameUse>,
+    out: &mut Kept,
     scope: usize,
     item: usize,
     arguments: &[Operand],
 ) -> Result<(), AllocError>
-    ensures { OnOk result (Adds out.old.items out.new.items (argument_uses scope item 0 arguments.now)) }
+    ensures { OnOk result (Passes out.old out.new (argument_uses scope item 0 arguments.now)) }
 {
     for number in 0..arguments.len() {
         put_operand(out, scope, item, Role::Operand(number), &arguments[number])?;
@@ -133,13 +169,13 @@ fn put_arguments(
 /// Adds the names of a statement that is this item, and gives the item behind it.
 #[cycle(uses)]
 fn put_statement(
-    out: &mut Vec<NameUse>,
+    out: &mut Kept,
     scope: usize,
     item: usize,
     statement: &Statement,
 ) -> Result<usize, AllocError>
     ensures next { IfOk result (λ n. n ≡ item + items_in_statement (statement_of statement.now)) }
-    ensures uses { OnOk result (Adds out.old.items out.new.items
+    ensures uses { OnOk result (Passes out.old out.new
         (statement_uses scope item (statement_of statement.now))) }
 {
     match statement {
@@ -170,14 +206,9 @@ fn put_statement(
 }
 
 #[cycle(uses)]
-fn put_block(
-    out: &mut Vec<NameUse>,
-    scope: usize,
-    item: usize,
-    block: &Block,
-) -> Result<usize, AllocError>
+fn put_block(out: &mut Kept, scope: usize, item: usize, block: &Block) -> Result<usize, AllocError>
     ensures next { IfOk result (λ n. n ≡ item + items_in_block block.now) }
-    ensures uses { OnOk result (Adds out.old.items out.new.items (block_uses scope item block.now)) }
+    ensures uses { OnOk result (Passes out.old out.new (block_uses scope item block.now)) }
 {
     let mut next = item;
     for statement in block.as_slice() {
@@ -188,14 +219,14 @@ fn put_block(
 
 /// Adds the names of fields, parameters or locals, of which the first is this item.
 fn put_declarations(
-    out: &mut Vec<NameUse>,
+    out: &mut Kept,
     scope: usize,
     item: usize,
     thing: Thing,
     list: &[Declaration],
 ) -> Result<usize, AllocError>
     ensures next { IfOk result (λ n. n ≡ item + length list.now) }
-    ensures uses { OnOk result (Adds out.old.items out.new.items (declarations_uses scope item thing list.now)) }
+    ensures uses { OnOk result (Passes out.old out.new (declarations_uses scope item thing list.now)) }
 {
     let mut next = item;
     for declared in list {
@@ -206,8 +237,8 @@ fn put_declarations(
     Ok(next)
 }
 
-fn put_hints(out: &mut Vec<NameUse>, item: usize, hints: &[Name]) -> Result<(), AllocError>
-    ensures { OnOk result (Adds out.old.items out.new.items (hints_uses item hints.now)) }
+fn put_hints(out: &mut Kept, item: usize, hints: &[Name]) -> Result<(), AllocError>
+    ensures { OnOk result (Passes out.old out.new (hints_uses item hints.now)) }
 {
     for name in hints {
         put(out, item, item, Role::Guard, *name)?;
@@ -215,9 +246,9 @@ fn put_hints(out: &mut Vec<NameUse>, item: usize, hints: &[Name]) -> Result<(), 
     Ok(())
 }
 
-fn put_records(out: &mut Vec<NameUse>, item: usize, records: &[Record]) -> Result<usize, AllocError>
+fn put_records(out: &mut Kept, item: usize, records: &[Record]) -> Result<usize, AllocError>
     ensures next { IfOk result (λ n. n ≡ item + items_in_records records.now) }
-    ensures uses { OnOk result (Adds out.old.items out.new.items (records_uses item records.now)) }
+    ensures uses { OnOk result (Passes out.old out.new (records_uses item records.now)) }
 {
     let mut next = item;
     for declared in records {
@@ -240,13 +271,9 @@ fn put_records(out: &mut Vec<NameUse>, item: usize, records: &[Record]) -> Resul
     Ok(next)
 }
 
-fn put_globals(
-    out: &mut Vec<NameUse>,
-    item: usize,
-    globals: &[GlobalObject],
-) -> Result<usize, AllocError>
+fn put_globals(out: &mut Kept, item: usize, globals: &[GlobalObject]) -> Result<usize, AllocError>
     ensures next { IfOk result (λ n. n ≡ item + length globals.now) }
-    ensures uses { OnOk result (Adds out.old.items out.new.items (globals_uses item globals.now)) }
+    ensures uses { OnOk result (Passes out.old out.new (globals_uses item globals.now)) }
 {
     let mut next = item;
     for global in globals {
@@ -257,13 +284,9 @@ fn put_globals(
     Ok(next)
 }
 
-fn put_procedure(
-    out: &mut Vec<NameUse>,
-    item: usize,
-    procedure: &Procedure,
-) -> Result<usize, AllocError>
+fn put_procedure(out: &mut Kept, item: usize, procedure: &Procedure) -> Result<usize, AllocError>
     ensures next { IfOk result (λ n. n ≡ item + items_in_procedure procedure.now) }
-    ensures uses { OnOk result (Adds out.old.items out.new.items (procedure_uses item procedure.now)) }
+    ensures uses { OnOk result (Passes out.old out.new (procedure_uses item procedure.now)) }
 {
     put(
         out,
@@ -284,12 +307,12 @@ fn put_procedure(
 }
 
 fn put_procedures(
-    out: &mut Vec<NameUse>,
+    out: &mut Kept,
     item: usize,
     procedures: &[Procedure],
 ) -> Result<usize, AllocError>
     ensures next { IfOk result (λ n. n ≡ item + items_in_procedures procedures.now) }
-    ensures uses { OnOk result (Adds out.old.items out.new.items (procedures_uses item procedures.now)) }
+    ensures uses { OnOk result (Passes out.old out.new (procedures_uses item procedures.now)) }
 {
     let mut next = item;
     for procedure in procedures {
@@ -298,9 +321,9 @@ fn put_procedures(
     Ok(next)
 }
 
-fn put_thread(out: &mut Vec<NameUse>, item: usize, thread: &Thread) -> Result<usize, AllocError>
+fn put_thread(out: &mut Kept, item: usize, thread: &Thread) -> Result<usize, AllocError>
     ensures next { IfOk result (λ n. n ≡ item + items_in_thread thread.now) }
-    ensures uses { OnOk result (Adds out.old.items out.new.items (thread_uses item thread.now)) }
+    ensures uses { OnOk result (Passes out.old out.new (thread_uses item thread.now)) }
 {
     put(out, item, item, Role::Declared(Thing::Thread), thread.name)?;
     let body = put_declarations(
@@ -313,8 +336,8 @@ fn put_thread(out: &mut Vec<NameUse>, item: usize, thread: &Thread) -> Result<us
     put_block(out, item, body, &thread.body)
 }
 
-fn put_threads(out: &mut Vec<NameUse>, item: usize, threads: &[Thread]) -> Result<(), AllocError>
-    ensures { OnOk result (Adds out.old.items out.new.items (threads_uses item threads.now)) }
+fn put_threads(out: &mut Kept, item: usize, threads: &[Thread]) -> Result<(), AllocError>
+    ensures { OnOk result (Passes out.old out.new (threads_uses item threads.now)) }
 {
     let mut next = item;
     for thread in threads {
@@ -323,14 +346,26 @@ fn put_threads(out: &mut Vec<NameUse>, item: usize, threads: &[Thread]) -> Resul
     Ok(())
 }
 
+/// The names of a tree in text order, all or those that matter to an item.
+pub fn kept_uses(alloc: Global, tree: &Tree, item: Option<usize>) -> Result<Kept, AllocError>
+    ensures { IfOk result (λ kept. kept ≡ behind (nothing_kept item) (name_uses_by tree.now)) }
+{
+    let mut kept = Kept {
+        item,
+        passed: 0,
+        numbers: Vec::new(alloc),
+        uses: Vec::new(alloc),
+    };
+    let globals = put_records(&mut kept, 0, tree.records())?;
+    let procedures = put_globals(&mut kept, globals, tree.globals())?;
+    let threads = put_procedures(&mut kept, procedures, tree.procedures())?;
+    put_threads(&mut kept, threads, tree.threads())?;
+    Ok(kept)
+}
+
 /// The names of a tree, in text order.
 pub fn name_uses(alloc: Global, tree: &Tree) -> Result<Vec<NameUse>, AllocError>
     ensures { IfOk result (λ uses. uses.items ≡ name_uses_by tree.now) }
 {
-    let mut uses = Vec::new(alloc);
-    let globals = put_records(&mut uses, 0, tree.records())?;
-    let procedures = put_globals(&mut uses, globals, tree.globals())?;
-    let threads = put_procedures(&mut uses, procedures, tree.procedures())?;
-    put_threads(&mut uses, threads, tree.threads())?;
-    Ok(uses)
+    Ok(kept_uses(alloc, tree, None)?.uses)
 }

@@ -31,7 +31,7 @@ use Rattle.sect_chains.specs.Chains.{IsFirstChain}
 use Rattle.sect_emit.specs.Explaining.{section_at, IsChained}
 use Rattle.sect_emit.proofs.shared.TypedPrograms.{typed_program}
 use Rattle.sect_warnings.specs.ClassLocks.{class_lock, IsReason, IsTooLong}
-use Rattle.sect_warnings.specs.steps.Reasons.{is_on_path, IsLong, ArePathsBefore}
+use Rattle.sect_warnings.specs.steps.Reasons.{is_on_path, IsLong, IsTurn, ArePathsBefore}
 use Rattle.sect_warnings.proofs.Judging.{section_is, flow_is}
 use Rattle.sect_warnings.proofs.Reasoning.{last_stands, all_needable, turned}
 use Rattle.sect_warnings.proofs.Turning.{Turn, turning, turn_found}
@@ -104,34 +104,68 @@ module _ (c : CompiledView) (compiled : IsCompiled c) (i : ℕ)
         pub found_at : position (λ (a : Link). is_on_path a.lock) chain ≡ Some (suc turn.place)
         found_at = turn_found c.scheme (section_at c i).thread (end_of c.scheme i) nodes n e ends_so chain turn
 
-        pub number_is : (o : Option ℕ) (k : ℕ) → o ≡ position (λ (a : Link). is_on_path a.lock) chain → o ≡ Some k
-            → k ≡ suc turn.place
-        number_is o k found is = let same : Some k ≡ Some (suc turn.place) = sym is ∙ (found ∙ found_at) in cc
+        -- the steps on both sides, by the number that is found
+        module _ (k : ℕ) (a b : Link) (found : Some k ≡ position (λ (x : Link). is_on_path x.lock) chain) where
+          number_is : k ≡ suc turn.place
+          number_is = let same : Some k ≡ Some (suc turn.place) = found ∙ found_at in cc
 
-        module _ (k : ℕ) (d : Link) (is : k ≡ suc turn.place) where
-          pub here_at : slice_index_or chain (k - 1) d ≡ turn.here
+          here_at : slice_index_or chain (k - 1) a ≡ turn.here
           here_at =
-              let place : k - 1 ≡ turn.place = omega (arith, is) in
-              ap (λ m. slice_index_or chain m d) place ∙ get_or_from_slice_get chain turn.place turn.here d turn.first
+              let place : k - 1 ≡ turn.place = omega (arith, number_is) in
+              ap (λ m. slice_index_or chain m a) place ∙ get_or_from_slice_get chain turn.place turn.here a turn.first
 
-          pub next_at : slice_index_or chain k d ≡ turn.next
-          next_at = ap (λ m. slice_index_or chain m d) is
-              ∙ get_or_from_slice_get chain (suc turn.place) turn.next d turn.second
+          next_at : slice_index_or chain k b ≡ turn.next
+          next_at = ap (λ m. slice_index_or chain m b) number_is
+              ∙ get_or_from_slice_get chain (suc turn.place) turn.next b turn.second
 
-          pub here_there : (slice_index_or chain (k - 1) d).node < length nodes
+          pub turn_is : IsTurn chain (slice_index_or chain (k - 1) a).node (slice_index_or chain k b).lock
+          turn_is = record {
+            place = turn.place;
+            here = turn.here;
+            next = turn.next;
+            found = found_at;
+            first = turn.first;
+            second = turn.second;
+            stands = ap (λ (x : Link). x.node) (sym here_at);
+            on_path = ap (λ (x : Link). x.lock) (sym next_at);
+          }
+
+          pub here_there : (slice_index_or chain (k - 1) a).node < length nodes
           here_there = subst (λ (x : Link). x.node < length nodes) (sym here_at)
               (slice_get_within nodes turn.here.node turn.links.0 turn.links.1)
 
-          pub next_on_path : is_on_path (slice_index_or chain k d).lock ≡ true
+          pub next_on_path : is_on_path (slice_index_or chain k b).lock ≡ true
           next_on_path = ap is_on_path (ap (λ (x : Link). x.lock) next_at ∙ turn.on_path)
 
         -- there are two steps at least
         pub some_steps : 1 < length chain
         some_steps = let w = slice_get_within chain (suc turn.place) turn.next turn.second in omega (arith, w)
 
-        module _ (j : ℕ) (l : Lock) (paths : List PathView) (node : turn.here.node ≡ j) (same : turn.next.lock ≡ l)
-            (are : ArePathsBefore c i j l paths)
+        -- there is but one such place
+        module _ (j : ℕ) (l : Lock) (t : IsTurn chain j l) where
+          same_place : t.place ≡ turn.place
+          same_place = let same : Some (suc t.place) ≡ Some (suc turn.place) = sym t.found ∙ found_at in cc
+
+          same_here : turn.here.node ≡ j
+          same_here =
+              let same : Some turn.here ≡ Some t.here =
+              sym turn.first ∙ (ap (slice_get chain) (sym same_place) ∙ t.first) in
+              let one : turn.here ≡ t.here = cc in ap (λ (x : Link). x.node) one ∙ t.stands
+
+          same_next : turn.next.lock ≡ l
+          same_next =
+              let same : Some turn.next ≡ Some t.next =
+              sym turn.second ∙ (ap (λ m. slice_get chain (suc m)) (sym same_place) ∙ t.second) in
+              let one : turn.next ≡ t.next = cc in ap (λ (x : Link). x.lock) one ∙ t.on_path
+
+        module _ (j : ℕ) (l : Lock) (t : IsTurn chain j l) (paths : List PathView) (are : ArePathsBefore c i j l paths)
           where
+            node : turn.here.node ≡ j
+            node = same_here j l t
+
+            same : turn.next.lock ≡ l
+            same = same_next j l t
+
             -- one of the paths before the node gets too long
             pub one_long : (q : PathView) × Has paths q × IsLong c.scheme n q
             one_long =
@@ -188,12 +222,20 @@ has_within (s ∷ sets) zero l has = omega arith
 has_within (s ∷ sets) (suc i) l has = let w = has_within sets i l has in omega (arith, w)
 
 -- the lock of that number in the set of section i has its chain at that place
-pub reason_there : (c : CompiledView) (i : ℕ) (chains : List (List Link)) → IsChained c i chains → (l : Lock) (k : ℕ)
+reason_there : (c : CompiledView) (i : ℕ) (chains : List (List Link)) → IsChained c i chains → (l : Lock) (k : ℕ)
     → slice_get (slice_index_or c.sets i []) k ≡ Some l
     → (chain : List Link) × (slice_get chains k ≡ Some chain) × IsReason c i l chain
 reason_there c i chains chained l k at =
     zip_at (IsFirstChain c.scheme (section_at c i).thread (end_of c.scheme i) (flow_nodes (section_at c i).body))
     (slice_index_or c.sets i []) chains chained k l at
+
+-- and so has a lock of the section's set, by that
+pub kept_reason : (c : CompiledView) (i : ℕ) (chains : List (List Link)) → IsChained c i chains → (l : Lock)
+    → (set : List Lock) (k : ℕ) → slice_get c.sets i ≡ Some set → slice_get set k ≡ Some l
+    → (chain : List Link) × (slice_get chains k ≡ Some chain) × IsReason c i l chain
+kept_reason c i chains chained l set k own at =
+    reason_there c i chains chained l k
+    (subst (λ s. slice_get s k ≡ Some l) (sym (get_or_from_slice_get c.sets i set [] own)) at)
 
 -- a section that takes a lock is there
 pub taken_there : (c : CompiledView) → IsCompiled c → (i : ℕ) (l : Lock) → Has (slice_index_or c.sets i []) l

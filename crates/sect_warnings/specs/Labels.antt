@@ -23,7 +23,8 @@ IsLabelOf c i label = (l : Lock) × WouldDo c i l × (label ≡ would_take c.sch
 
 -- of a finding of section i, which is that item: the section itself, or what needs the class lock
 abbrev pub IsMarkedFor : List ℕ → List NameSpan → CompiledView → ℕ → ℕ → Finding → MarkView → Type 0
-IsMarkedFor source names c i item finding.NoLock m = (m.item ≡ item) × (m.label ≡ []) × (m.note ≡ note_of finding.NoLock)
+IsMarkedFor source names c i item finding.NoLock m =
+    (m.item ≡ item) × (m.label ≡ []) × (m.note ≡ note_of finding.NoLock)
 IsMarkedFor source names c i item finding.AllForOne m =
     (m.item ≡ item) × IsLabelOf c i m.label × (m.note ≡ note_of finding.AllForOne)
 IsMarkedFor source names c i item (finding.ClassLock n e) m =

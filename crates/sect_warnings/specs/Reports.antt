@@ -25,8 +25,8 @@ span_of source tree spelled item =
     span_in (map token_span spelled.places) (get_or (item_tokens tree) item no_range)
 
 -- the warning with the bytes that are marked for it, what is said of them, and what it means, by the text's names
-pub record IsPlaced (source : List ℕ) (names : List NameSpan) (c : CompiledView) (spelled : IsSpelled source c.scheme.program.source)
-    (w : Warning) (p : PlacedView) : Type 0
+pub record IsPlaced (source : List ℕ) (names : List NameSpan) (c : CompiledView)
+    (spelled : IsSpelled source c.scheme.program.source) (w : Warning) (p : PlacedView) : Type 0
   where
     pub told : p.told ≡ told.Section w
     pub mark : MarkView

@@ -18,7 +18,7 @@ ghost use Rattle.sect_names.specs.Printing.{IsNamed};
 ghost use Rattle.sect_warnings.specs.ClassLocks.{class_lock, need_text, limit_text, where_text, IsReason};
 ghost use Rattle.sect_warnings.specs.ClassLocks.{IsClassMarked};
 ghost use Rattle.sect_warnings.specs.steps.Reasons.{AreReasons, is_on_path as is_on_path_by, IsLong};
-ghost use Rattle.sect_warnings.specs.steps.Reasons.{ArePathsBefore, IsLabelled};
+ghost use Rattle.sect_warnings.specs.steps.Reasons.{ArePathsBefore, IsTurn, IsLabelled};
 
 use crate::hinting::touched_at;
 use crate::reasons::Reasons;
@@ -159,6 +159,53 @@ fn put_where(
     put_limit(text, compiled.scheme().k())
 }
 
+/// The chain of a class lock that a section takes.
+fn reason_in<'a>(compiled: &Compiled, reasons: &'a Reasons, lock: ClassLock) -> &'a [Link]
+    requires reasons { AreReasons compiled.now reasons.now }
+    requires taken { Has (set_at compiled.now reasons.now.section) (class_lock lock.class lock.effect) }
+    ensures reason { IsReason compiled.now reasons.now.section (class_lock lock.class lock.effect) result.now }
+    ensures named { IsChainNamed compiled.now.scheme.program result.now }
+{
+    compiled.facts();
+    let number = number_in(compiled.set(reasons.section), lock);
+    reasons.chains[number].links()
+}
+
+/// The last step of the chain of a class lock.
+fn last_link<'a>(compiled: &Compiled, section: u16, lock: ClassLock, links: &'a [Link]) -> &'a Link
+    requires section { section < length (sections_of compiled.now.scheme.program.texts) }
+    requires reason { IsReason compiled.now section (class_lock lock.class lock.effect) links.now }
+    ensures last { slice_get links.now (length links.now - 1) ≡ Some result.now }
+    ensures node { result.now.node < length (flow_nodes (section_at compiled.now section).body) }
+{
+    compiled.facts();
+    &links[links.len() - 1]
+}
+
+/// Where a chain goes from a class to a path.
+struct Turn<'a> {
+    /// The node of the last step whose lock is on the class.
+    node: u32,
+    /// The lock of the step behind it.
+    lock: &'a Lock,
+}
+
+/// Where the chain of a class lock goes from the class to a path.
+fn turn_in<'a>(compiled: &Compiled, section: u16, lock: ClassLock, links: &'a [Link]) -> Turn<'a>
+    requires section { section < length (sections_of compiled.now.scheme.program.texts) }
+    requires reason { IsReason compiled.now section (class_lock lock.class lock.effect) links.now }
+    ensures turn { IsTurn links.now result.node result.lock.now }
+    ensures node { result.node < length (flow_nodes (section_at compiled.now section).body) }
+    ensures path { is_on_path_by result.lock.now ≡ true }
+{
+    compiled.facts();
+    let turn = first_on_path(links).unwrap();
+    Turn {
+        node: links[turn - 1].node,
+        lock: &links[turn].lock,
+    }
+}
+
 /// What is said of the statement or the test at the end of the chain of a class lock.
 fn class_label_of(
     alloc: Global,
@@ -170,23 +217,23 @@ fn class_label_of(
     requires section { section < length (sections_of compiled.now.scheme.program.texts) }
     requires reason { IsReason compiled.now section (class_lock lock.class lock.effect) links.now }
     requires named { IsChainNamed compiled.now.scheme.program links.now }
-    ensures { IfOk result (λ text. IsLabelled compiled.now section lock.class lock.effect links.now (string_bytes text)) }
+    ensures { IfOk result (λ text.
+        IsLabelled compiled.now section lock.class lock.effect links.now (string_bytes text)) }
 {
     compiled.facts();
     let scheme = compiled.scheme();
-    let program = scheme.program();
-    let turn = first_on_path(links).unwrap();
-    let node = links[turn - 1].node;
-    let paths = paths_before(alloc, compiled, section, node, &links[turn].lock)?;
+    let turn = turn_in(compiled, section, lock, links);
+    let paths = paths_before(alloc, compiled, section, turn.node, turn.lock)?;
     let long = long_in(scheme, paths.as_slice(), lock.class);
+    let last = last_link(compiled, section, lock, links);
     let mut text = String::new(alloc);
-    put_need(&mut text, program, &links[links.len() - 1].lock, long)?;
-    put_where(&mut text, compiled, section, node)?;
+    put_need(&mut text, scheme.program(), &last.lock, long)?;
+    put_where(&mut text, compiled, section, turn.node)?;
     Ok(text)
 }
 
-/// Where a section needs a class lock that it takes, along the first chain of the lock: the item that is marked, what is
-/// said there, and the record of the object that is touched there.
+/// Where a section needs a class lock that it takes, along the chain of the lock: the item that is marked, what is said
+/// there, and the record of the object that is touched there.
 #[derive(Drop)]
 pub struct Need {
     pub item: usize,
@@ -211,9 +258,8 @@ pub fn need_of(
 {
     compiled.facts();
     let section = reasons.section;
-    let number = number_in(compiled.set(section), lock);
-    let links = reasons.chains[number].links();
-    let last = links[links.len() - 1].node;
+    let links = reason_in(compiled, reasons, lock);
+    let last = last_link(compiled, section, lock, links).node;
     let item = origins.section(section)[last as usize].item;
     let guarded = touched_at(compiled, section, last);
     let label = class_label_of(alloc, compiled, section, lock, links)?;

@@ -1,6 +1,7 @@
 //! Hints that would spare a section a lock on a whole class.
 
-ghost use Rattle.std.specs.Prelude.{◌≡◌, ◌<◌, ◌≤◌, ◌++◌, ℕ, List, Some, IfOk, IfSome, OnOk, length, position, slice_get};
+ghost use Rattle.std.specs.Prelude.{◌≡◌, ◌<◌, ◌≤◌, ◌++◌, ℕ, List, Some, IfOk, IfSome, OnOk};
+ghost use Rattle.std.specs.Prelude.{length, position, slice_get};
 ghost use Rattle.sect_places.specs.NameSpans.{AreNameSpans};
 ghost use Rattle.std.specs.String.{string_bytes};
 ghost use Rattle.sect_types.specs.Sections.{sections_of};
@@ -139,8 +140,8 @@ fn put_words(text: &mut String, name: &Name, guard: &str) -> Result<(), AllocErr
     Ok(())
 }
 
-/// Adds what a hint of a record comes to for a section with a class lock, where `named` declares the record and an object
-/// of this name may guard its objects; nothing where the text with the hint is refused.
+/// Adds what a hint of a record comes to for a section with a class lock, where `named` declares the record and an
+/// object of this name may guard its objects; nothing where the text with the hint is refused.
 fn put_tried(
     alloc: Global,
     text: &mut String,

@@ -40,8 +40,8 @@ impl Model for Mark {
     ghost view = { λ m. record { item = m.item; label = string_bytes m.label; note = string_bytes m.note } };
 }
 
-/// What was found for one warning, and is kept for the next: the chains of a section, and the program compiled for paths
-/// of the most fields.
+/// What was found for one warning, and is kept for the next: the chains of a section, and the program compiled for
+/// paths of the most fields.
 #[derive(Drop)]
 pub struct Kept {
     reasons: Option<Reasons>,

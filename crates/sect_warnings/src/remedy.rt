@@ -72,7 +72,8 @@ fn put_deep(
     Ok(())
 }
 
-/// What a class lock of a section means, what paths of the most fields come to, and what a hint of this record comes to.
+/// What a class lock of a section means, what paths of the most fields come to, and what a hint of this record comes
+/// to.
 pub fn class_note(
     alloc: Global,
     accepted: Accepted<'_>,

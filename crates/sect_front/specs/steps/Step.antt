@@ -96,9 +96,18 @@ step_at fs b (place.AfterElse v a) t = after_else (open_block.Else b v a ∷ fs)
 abbrev pub step_of : WithinView → Token → Next
 step_of s t = step_at s.open_blocks s.before s.place t
 
+-- what a token that is taken gives and leaves: the body comes with its last brace
+abbrev pub LeadsTo : Option BlockView → WithinView → Next → Type 0
+LeadsTo None new next = next ≡ Stays new
+LeadsTo (Some b) new next = next ≡ Ends b
+
 -- what a step of the code answers and leaves
 abbrev pub Steps : Result (Option BlockView) StepError → WithinView → Next → Type 0
-Steps (Ok None) new next = next ≡ Stays new
-Steps (Ok (Some b)) new next = next ≡ Ends b
+Steps (Ok body) new next = LeadsTo body new next
 Steps (Err error.Unexpected) new next = next ≡ Stuck
 Steps (Err error.Memory) new next = ⊤
+
+-- a token that isn't taken leaves everything as it was
+abbrev pub IsKept : {R A : Type 0} → Result R StepError → A → A → Type 0
+IsKept (Err error.Unexpected) old new = new ≡ old
+IsKept _ old new = ⊤

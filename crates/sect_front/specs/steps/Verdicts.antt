@@ -4,6 +4,7 @@ use Rattle.sect_front.specs.TreeView.{TreeView}
 use Rattle.sect_front.specs.TokenAt.{TokenAt}
 use Rattle.sect_front.specs.Gaps.{after_gap}
 use Rattle.sect_front.specs.Lexing.{Reaches, Spells, IsBadAt}
+use Rattle.sect_front.specs.Expected.{AreExpectedAt}
 use Rattle.sect_front.specs.FaultPlaces.{token_span}
 use Rattle.sect_front.specs.Faults.{tokens_in, IsTree, IsUnexpectedAt, IsTooDeepAt, IsUnfinished}
 use Rattle.sect_front.specs.declared.span.Span.{Span}
@@ -38,7 +39,8 @@ pub record SpellingAt (bytes : List ℕ) (span : Span) (holds : List Token → �
 -- the fault is the text's first
 abbrev pub IsReadFault : List ℕ → ReadFault → Type 0
 IsReadFault bytes (fault.Bad at) = IsBadAt bytes at
-IsReadFault bytes (fault.Unexpected span) = SpellingAt bytes span IsUnexpectedAt
+IsReadFault bytes (fault.Unexpected span kinds) =
+    SpellingAt bytes span IsUnexpectedAt × AreExpectedAt bytes span.start kinds.items
 IsReadFault bytes (fault.TooDeep span) = SpellingAt bytes span IsTooDeepAt
 IsReadFault bytes fault.Unfinished = Spelling bytes IsUnfinished
 IsReadFault bytes fault.Memory = ⊤

@@ -1,5 +1,5 @@
 -- The chains of a section that are kept, and what is looked for in them.
-use Rattle.std.specs.Prelude.{◌≡◌, ◌<◌, ◌↔◌, ℕ, ◌-◌, Bool, true, false, List, length, Some, slice_get}
+use Rattle.std.specs.Prelude.{◌≡◌, ◌<◌, ◌↔◌, ℕ, suc, ◌-◌, Bool, true, false, List, length, Some, slice_get, position}
 use Rattle.sect_lemmas.specs.Lists.{Has}
 use Rattle.sect_types.specs.Sections.{sections_of}
 use Rattle.sect_points.specs.Paths.{PathView}
@@ -31,6 +31,17 @@ pub record AreReasons (c : CompiledView) (r : ReasonsView) : Type 0 where
 abbrev pub is_on_path : Lock → Bool
 is_on_path (lock.Path p e) = true
 is_on_path _ = false
+
+-- a step of the chain at node j, and behind it the first whose lock is on a path, which is lock l
+pub record IsTurn (chain : List Link) (j : ℕ) (l : Lock) : Type 0 where
+  pub place : ℕ
+  pub here : Link
+  pub next : Link
+  pub found : position (λ (a : Link). is_on_path a.lock) chain ≡ Some (suc place)
+  pub first : slice_get chain place ≡ Some here
+  pub second : slice_get chain (suc place) ≡ Some next
+  pub stands : here.node ≡ j
+  pub on_path : next.lock ≡ l
 
 -- the path is of class n, and has more than k fields
 abbrev pub IsLong : SchemeView → ℕ → PathView → Type 0

@@ -1,13 +1,17 @@
-use Rattle.std.proofs.Common.{◌≡◌, ◌<◌, ◌-◌, ◌++◌, ◌∷◌, [], None, length, arith, refl, sym, ◌∙◌, ap, subst}
+use Rattle.std.proofs.Common.{◌≡◌, ◌<◌, ◌-◌, ◌++◌, ◌∷◌, [], length, arith, refl, sym, ◌∙◌, ap, subst}
 use Rattle.std.proofs.lemmas.Bool.Decides.{nat_tests}
+use Rattle.std.specs.Prelude.{filter}
+use Rattle.sect_front.specs.Expected.{all_kinds}
+use Rattle.sect_front.specs.steps.Taking.{is_kind_taken}
 use Rattle.sect_front.specs.Faults.{tokens_in, IsUnexpectedAt, IsTooDeepAt}
 use Rattle.sect_front.specs.steps.Verdicts.{SpellingAt}
-use Rattle.sect_front.specs.steps.Read.{read_one, finish_of}
+use Rattle.sect_front.specs.steps.Read.{finish_of}
 use Rattle.sect_front.proofs.Lexemes.{lexeme_first}
 use Rattle.sect_front.proofs.Reach.{reached_none, bad_at, lexed}
 use Rattle.sect_front.proofs.Verdict.{reads_nothing, finished, is_low, brace_most}
 use Rattle.sect_front.proofs.Texts.{token_here, span_here, passed, reads_on, shorter, unexpected_at, too_deep_at}
 use Rattle.sect_front.proofs.Texts.{text_ends, nothing_left}
+use Rattle.sect_front.proofs.Following.{kinds_expected}
 use Rattle.sect_front.proofs.reading.take_all.Goals as goal
 
 pub loop-here-init : goal.loop-here-init
@@ -48,17 +52,22 @@ pub returns-in-Err-Unexpected-clause-fault : goal.returns-in-Err-Unexpected-clau
 returns-in-Err-Unexpected-clause-fault c =
     let bytes = c.args.bytes.now in
     let here = c.loop-here.here.now in
+    let r = c.loop-here.reader in
     let read = c.loop-here.invariant in
     let token = c.in-Some.token in
+    let kinds = c.in_ok-kinds-in-Err-Unexpected.kinds.items in
     let span = span_here bytes here token c.in-Some.length (sym c.lexeme.ensures ∙ c.in-Some.is) read.reached.fits in
-    let none : read_one c.loop-here.reader token ≡ None =
-    rw c.in-Err-Unexpected.field-0-is at c.in-Err-Unexpected.ensures in
+    let stuck = rw c.in-Err-Unexpected.field-0-is at c.in-Err-Unexpected.ensures in
+    let taken : kinds ≡ filter (is_kind_taken r) all_kinds =
+    c.in_ok-kinds-in-Err-Unexpected.ensures ∙ ap (λ x. filter (is_kind_taken x) all_kinds) stuck.kept in
     c.unless_bad.ensures (read.places ++ token_here bytes here token ∷ [])
-    (rw c.behind-here.ensures (passed bytes here c.loop-here.reader c.loop-here.level token c.in-Some.length read
+    (rw c.behind-here.ensures (passed bytes here r c.loop-here.level token c.in-Some.length read
     (sym c.lexeme.ensures ∙ c.in-Some.is)))
-    (λ behind spells. subst (λ span. SpellingAt bytes span IsUnexpectedAt) (sym span.0)
-    (unexpected_at bytes here c.loop-here.reader c.loop-here.level (token_here bytes here token) read none span.1 behind
-    spells))
+    (λ behind spells. (
+      subst (λ span. SpellingAt bytes span IsUnexpectedAt) (sym span.0)
+          (unexpected_at bytes here r c.loop-here.level (token_here bytes here token) read stuck.reads span.1 behind spells),
+      kinds_expected bytes here r c.loop-here.level kinds read taken,
+    ))
 
 pub braces-level-requires : goal.braces-level-requires
 braces-level-requires c = omega (arith, is_low _ _ _ c.loop-here.invariant.reads)
@@ -89,7 +98,7 @@ returns-then-level-gt-MOST_DEPTH-clause-fault c =
     (sym c.lexeme.ensures ∙ c.in-Some.is)))
     (λ behind spells. subst (λ span. SpellingAt bytes span IsTooDeepAt) (sym span.0)
     (too_deep_at bytes here c.loop-here.reader c.step.new.self c.loop-here.level (token_here bytes here token) read
-    c.in-Ok.ensures (sym c.braces-level.ensures ∙ deep) span.1 behind spells))
+    c.in-Ok.ensures.reads (sym c.braces-level.ensures ∙ deep) span.1 behind spells))
 
 pub loop-here-smaller : goal.loop-here-smaller
 loop-here-smaller c = rw c.behind-here.ensures
@@ -98,7 +107,7 @@ loop-here-smaller c = rw c.behind-here.ensures
 pub loop-here-preserved : goal.loop-here-preserved
 loop-here-preserved c = rw (c.behind-here.ensures, c.braces-level.ensures)
     (reads_on c.args.bytes.now c.loop-here.here.now c.loop-here.reader c.step.new.self c.loop-here.level c.in-Some.token
-    c.in-Some.length c.loop-here.invariant (sym c.lexeme.ensures ∙ c.in-Some.is) c.in-Ok.ensures
+    c.in-Some.length c.loop-here.invariant (sym c.lexeme.ensures ∙ c.in-Some.is) c.in-Ok.ensures.reads
     (omega (arith, c.braces-level.ensures)))
 
 pub returns-clause-shallow : goal.returns-clause-shallow

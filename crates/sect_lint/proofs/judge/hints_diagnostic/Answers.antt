@@ -1,7 +1,6 @@
 use Rattle.std.proofs.Common.{◌≡◌, ◌<◌, length, subst, sym, refl, ap, ◌∙◌}
 use Rattle.sect_front.specs.TreeView.{TreeView}
 use Rattle.sect_types.specs.Items.{items}
-use Rattle.sect_types.specs.Programs.{ProgramView}
 use Rattle.sect_lint.specs.Places.{of_scheme, item_number}
 use Rattle.sect_lint.proofs.Faulty.{broken_within, scheme_known}
 use Rattle.sect_lint.specs.steps.Laid.{AreOwnWords}
@@ -10,27 +9,23 @@ use Rattle.sect_lint.proofs.judge.hints_diagnostic.Goals as goal
 
 pub words_of-requires-clause-there : goal.words_of-requires-clause-there
 words_of-requires-clause-there c =
-    let refused = c.requires.refused in
-    let program : ProgramView = refused.1 in
+    let program = c.args.program.now in
     let fault = c.args.fault.now in
-    let same = c.in_ok-tree.ensures.same program.source refused.2.spelled in
     rw (c.in_ok-item.ensures, c.of_scheme-culprit.ensures)
-    (subst (λ (t : TreeView). item_number t (of_scheme fault) < length (items t)) (sym same)
-    (broken_within program refused.0 fault (scheme_known fault c.in-Some.mistake c.in-Some.ensures) c.requires.known
-    refused.3))
+    (subst (λ (t : TreeView). item_number t (of_scheme fault) < length (items t)) (sym c.tree-tree.ensures.tree)
+    (broken_within program c.requires.refused.0 fault (scheme_known fault c.in-Some.mistake c.in-Some.ensures)
+    c.requires.known c.requires.refused.1))
 
 pub returns-clause-told : goal.returns-clause-told
 returns-clause-told c =
     let source = c.args.source.now in
     let fault = c.args.fault.now in
-    let refused = c.requires.refused in
-    let program : ProgramView = refused.1 in
-    let tree = c.in_ok-tree.tree in
+    let program = c.args.program.now in
+    let tree = c.tree-tree.result.now in
     let words = c.in_ok-words.words in
-    let same = c.in_ok-tree.ensures.same program.source refused.2.spelled in
-    let there = subst (λ (t : TreeView). item_number t (of_scheme fault) < length (items t)) (sym same)
-    (broken_within program refused.0 fault (scheme_known fault c.in-Some.mistake c.in-Some.ensures) c.requires.known
-    refused.3) in
+    let there = subst (λ (t : TreeView). item_number t (of_scheme fault) < length (items t)) (sym c.tree-tree.ensures.tree)
+    (broken_within program c.requires.refused.0 fault (scheme_known fault c.in-Some.mistake c.in-Some.ensures)
+    c.requires.known c.requires.refused.1) in
     let at : c.in_ok-item.item ≡ item_number tree (of_scheme fault) =
     c.in_ok-item.ensures ∙ ap (item_number tree) c.of_scheme-culprit.ensures in
     let laid = subst (λ n. AreOwnWords source tree n words) at c.in_ok-words.ensures in

@@ -1,6 +1,7 @@
 use Rattle.std.proofs.Common.{◌≡◌, ◌+◌, ◌*◌}
 use Rattle.sect_front.specs.Trees.{statement_of, block_of, statement_size, block_size}
-use Rattle.sect_places.proofs.Walked.{Walked}
+use Rattle.sect_places.specs.steps.Wanting.{behind}
+use Rattle.sect_places.proofs.Walked.{WalkedBy}
 use Rattle.sect_places.proofs.Expanding.{total_items}
 use Rattle.sect_places.proofs.Using.{all_uses}
 use Rattle.sect_places.proofs.uses.+uses.Given as goal
@@ -14,4 +15,4 @@ decreases-put_block l = 2 * block_size l.block.now + 1
 abbrev pub invariant-put_block-loop-statement : goal.invariant-put_block-loop-statement
 invariant-put_block-loop-statement l =
     (block_of l.statement-items ≡ l.block)
-    × Walked total_items (all_uses l.scope) l.statement-items l.statement-index l.item l.next l.fn.out.items l.out.items
+    × WalkedBy behind total_items (all_uses l.scope) l.statement-items l.statement-index l.item l.next l.fn.out l.out

@@ -1,8 +1,9 @@
+use Rattle.sect_places.specs.steps.Wanting.{behind}
 use Rattle.sect_places.specs.NameUses.{procedures_uses}
 use Rattle.sect_places.specs.ItemCounts.{items_in_procedures}
-use Rattle.sect_places.proofs.Walked.{Walked}
+use Rattle.sect_places.proofs.Walked.{WalkedBy}
 use Rattle.sect_places.proofs.uses.put_procedures.Given as goal
 
 abbrev pub invariant-loop-procedure : goal.invariant-loop-procedure
 invariant-loop-procedure l =
-    Walked items_in_procedures procedures_uses l.procedures l.procedure-index l.item l.next l.fn.out.items l.out.items
+    WalkedBy behind items_in_procedures procedures_uses l.procedures l.procedure-index l.item l.next l.fn.out l.out

@@ -1,8 +1,9 @@
+use Rattle.sect_places.specs.steps.Wanting.{behind}
 use Rattle.sect_places.specs.NameUses.{records_uses}
 use Rattle.sect_places.specs.ItemCounts.{items_in_records}
-use Rattle.sect_places.proofs.Walked.{Walked}
+use Rattle.sect_places.proofs.Walked.{WalkedBy}
 use Rattle.sect_places.proofs.uses.put_records.Given as goal
 
 abbrev pub invariant-loop-declared : goal.invariant-loop-declared
 invariant-loop-declared l =
-    Walked items_in_records records_uses l.records l.declared-index l.item l.next l.fn.out.items l.out.items
+    WalkedBy behind items_in_records records_uses l.records l.declared-index l.item l.next l.fn.out l.out

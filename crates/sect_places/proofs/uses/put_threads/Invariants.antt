@@ -1,8 +1,9 @@
+use Rattle.sect_places.specs.steps.Wanting.{behind}
 use Rattle.sect_places.specs.NameUses.{threads_uses}
 use Rattle.sect_places.proofs.Expanding.{items_in_threads}
-use Rattle.sect_places.proofs.Walked.{Walked}
+use Rattle.sect_places.proofs.Walked.{WalkedBy}
 use Rattle.sect_places.proofs.uses.put_threads.Given as goal
 
 abbrev pub invariant-loop-thread : goal.invariant-loop-thread
 invariant-loop-thread l =
-    Walked items_in_threads threads_uses l.threads l.thread-index l.item l.next l.fn.out.items l.out.items
+    WalkedBy behind items_in_threads threads_uses l.threads l.thread-index l.item l.next l.fn.out l.out

@@ -1,6 +1,6 @@
 use Rattle.std.proofs.Common.{length}
 use Rattle.sect_front.proofs.Texts.{Leads}
-use Rattle.sect_front.proofs.reading.unless_bad.Given as goal
+use Rattle.sect_front.proofs.reading.bad_from.Given as goal
 
 abbrev pub invariant-loop-here : goal.invariant-loop-here
 invariant-loop-here l = Leads l.bytes l.here-2 l.here

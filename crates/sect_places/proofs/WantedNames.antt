@@ -1,0 +1,174 @@
+-- How the wanted names of a tree are read off a text.
+use Rattle.std.proofs.Common.{◌≡◌, ℕ, suc, ◌+◌, ◌<◌, ◌≤◌, Bool, true, false, List, [], ◌∷◌, ◌++◌, length, take, drop, map}
+use Rattle.std.proofs.Common.{Option, Some, None, slice_get, refl, sym, ◌∙◌, ap, subst, arith, append-nil, if◌then◌else◌}
+use Rattle.std.specs.Prelude.{filter}
+use Rattle.std.proofs.lemmas.List.{length-map, take-append-drop, drop_more, length-take-le}
+use Rattle.std.proofs.Common.{length-append}
+use Rattle.std.proofs.lemmas.Option.{slice_get_within, get_or_from_slice_get}
+use Rattle.std.proofs.lemmas.List.Elements.{filter-append}
+use Rattle.sect_lemmas.proofs.Places.{at_of}
+use Rattle.sect_lemmas.proofs.Options.{some_injective}
+use Rattle.sect_front.specs.TreeView.{TreeView}
+use Rattle.sect_front.specs.Front.{IsSpelled}
+use Rattle.sect_front.specs.FaultPlaces.{token_span}
+use Rattle.sect_front.specs.Gaps.{after_gap}
+use Rattle.sect_front.specs.Grammar.{tokens_of}
+use Rattle.sect_front.specs.declared.span.Span.{Span}
+use Rattle.sect_front.specs.declared.token.Token.{Token}
+use Rattle.sect_places.specs.declared.name_use.NameUse.{NameUse}
+use Rattle.sect_places.specs.declared.name_use.NameSpan.{NameSpan}
+use Rattle.sect_places.specs.NameUses.{name_uses}
+use Rattle.sect_places.specs.NameSpans.{is_name_token, AreNameSpans}
+use Rattle.sect_places.specs.steps.Wanting.{KeptView, behind, nothing_kept, is_wanted, numbers_from}
+use Rattle.sect_places.specs.steps.Wanted.{wanted, AreWanted}
+use Rattle.sect_places.proofs.Keeping.{kept_of, numbers_behind, no_earlier, kept_all, as_many_numbers}
+use Rattle.sect_places.proofs.NamesRead.{NamedHere, named_none, named_more, named_on, named_all, token_left}
+use Rattle.sect_places.proofs.Standing.{OneRead}
+
+-- so many names have been read, these are wanted of them, and here the next token stands
+pub record WantedHere (bytes : List ℕ) (tree : TreeView) (item : Option ℕ) (some : List NameSpan) (number : ℕ)
+    (here : List ℕ) : Type 0
+  where
+    pub names : List NameSpan
+    pub named : NamedHere bytes tree names here
+    pub count : number ≡ length names
+    pub are : some ≡ wanted item names
+
+pub wanted_none : (bytes : List ℕ) (tree : TreeView) (item : Option ℕ) → IsSpelled bytes tree
+    → WantedHere bytes tree item [] 0 (after_gap bytes)
+wanted_none bytes tree item s = record { names = []; named = named_none bytes tree s; count = refl; are = refl }
+
+-- what names do that are wanted is what is kept of what all do
+wanted_used : (item : Option ℕ) (names : List NameSpan)
+    → map (λ (n : NameSpan). n.used) (wanted item names) ≡ kept_of item (map (λ (n : NameSpan). n.used) names)
+wanted_used item [] = refl
+wanted_used item (n ∷ names) = step (is_wanted item n.used) (wanted item names) _ (wanted_used item names)
+  where
+    step : (b : Bool) (ns : List NameSpan) (us : List NameUse) → map (λ (n : NameSpan). n.used) ns ≡ us
+        → map (λ (n : NameSpan). n.used) (if b then n ∷ ns else ns) ≡ (if b then n.used ∷ us else us)
+    step true ns us e = ap (λ vs. n.used ∷ vs) e
+    step false ns us e = e
+
+-- what stands behind others
+behind_others : {A : Type 0} (xs ys : List A) → slice_get (xs ++ ys) (length xs) ≡ slice_get ys 0
+behind_others [] ys = refl
+behind_others (x ∷ xs) ys = behind_others xs ys
+
+module _ (bytes : List ℕ) (tree : TreeView) (item : Option ℕ) (some : List NameSpan) (number : ℕ) (here : List ℕ)
+    (h : WantedHere bytes tree item some number here) (kept : KeptView)
+    (all : kept ≡ behind (nothing_kept item) (name_uses tree)) where
+  abbrev uses : List NameUse
+  uses = name_uses tree
+
+  abbrev parts : (kept.passed ≡ length uses) × (kept.numbers ≡ numbers_from item 0 uses) × (kept.uses ≡ kept_of item uses)
+  parts = kept_all item uses kept all
+
+  pub numbered : length kept.numbers ≡ length kept.uses
+  numbered = ap length parts.1 ∙ (as_many_numbers item 0 uses ∙ ap length (sym parts.2))
+
+  pub fewer : number < kept.passed → length h.names < length uses
+  fewer lt = omega (arith, lt, h.count, parts.0)
+
+  pub left_to_read : number < kept.passed → h.named.number < length (tokens_of tree)
+  left_to_read lt = token_left bytes tree h.names here h.named (fewer lt)
+
+  -- at the end these are all that are wanted
+  pub wanted_all : kept.passed ≤ number → AreWanted bytes tree item some
+  wanted_all end = (h.names, named_all bytes tree h.names here h.named (omega (arith, end, h.count, parts.0)), h.are)
+
+  -- a token that is no name
+  pub wanted_on : (t : Token) (n : ℕ) (r : OneRead bytes tree h.named.number here h.named.stands t n) (s : Span)
+      → s ≡ token_span r.first.p → is_name_token t ≡ false
+      → WantedHere bytes tree item some number (after_gap (drop n here))
+  wanted_on t n r s place is = record {
+    names = h.names;
+    named = named_on bytes tree h.names h.names here h.named t n r s place is refl;
+    count = h.count;
+    are = h.are;
+  }
+
+  -- a name
+  module _ (lt : number < kept.passed) (new : List NameSpan) (s : Span)
+      (yes : slice_get kept.numbers (length some) ≡ Some number → (u : NameUse)
+      → slice_get kept.uses (length some) ≡ Some u → new ≡ some ++ record { used = u; span = s } ∷ [])
+      (no : (slice_get kept.numbers (length some) ≡ Some number → ⊥) → new ≡ some) where
+    abbrev front : List NameUse
+    front = take (length h.names) uses
+
+    abbrev next : (u : NameUse) × (slice_get uses (length h.names) ≡ Some u)
+    next = at_of uses (length h.names) (fewer lt)
+
+    abbrev later : List NameUse
+    later = drop (length h.names + 1) uses
+
+    split : front ++ next.0 ∷ later ≡ uses
+    split = ap (λ us. front ++ us) (sym (left uses (length h.names) next.0 next.1))
+        ∙ take-append-drop (length h.names) uses
+      where
+        left : {A : Type 0} (xs : List A) (i : ℕ) (x : A) → slice_get xs i ≡ Some x → drop i xs ≡ x ∷ drop (i + 1) xs
+        left xs i x at = drop_more xs i x (slice_get_within xs i x at)
+            ∙ ap (λ y. y ∷ drop (i + 1) xs) (get_or_from_slice_get xs i x x at)
+
+    as_many : length some ≡ length (kept_of item front)
+    as_many = ap length h.are ∙ (sym (length-map (wanted item h.names) (λ (n : NameSpan). n.used))
+        ∙ ap length (wanted_used item h.names ∙ ap (kept_of item) h.named.used))
+
+    number_there : slice_get kept.numbers (length some) ≡ slice_get (numbers_from item number (next.0 ∷ later)) 0
+    number_there =
+        let fits : length front ≡ number = length-take-le (length h.names) uses (omega (arith, fewer lt)) ∙ sym h.count in
+        ap (λ ns. slice_get ns (length some)) (parts.1 ∙ ap (numbers_from item 0) (sym split))
+        ∙ (ap (slice_get (numbers_from item 0 (front ++ next.0 ∷ later))) as_many
+        ∙ (numbers_behind item 0 front (next.0 ∷ later)
+        ∙ ap (λ k. slice_get (numbers_from item k (next.0 ∷ later)) 0) (omega (arith, fits))))
+
+    use_there : is_wanted item next.0 ≡ true → slice_get kept.uses (length some) ≡ Some next.0
+    use_there is =
+        ap (λ us. slice_get us (length some)) (parts.2 ∙ (ap (kept_of item) (sym split)
+        ∙ filter-append (is_wanted item) front (next.0 ∷ later)))
+        ∙ (ap (slice_get (kept_of item front ++ kept_of item (next.0 ∷ later))) as_many
+        ∙ (behind_others (kept_of item front) (kept_of item (next.0 ∷ later))
+        ∙ ap (λ (b : Bool). slice_get (if b then next.0 ∷ kept_of item later else kept_of item later) 0) is))
+
+    is_new : new ≡ wanted item (h.names ++ record { used = next.0; span = s } ∷ [])
+    is_new = by (is_wanted item next.0) refl
+      where
+        x : NameSpan
+        x = record { used = next.0; span = s }
+
+        joined : (b : Bool) → is_wanted item next.0 ≡ b
+            → some ++ (if b then x ∷ [] else []) ≡ wanted item (h.names ++ x ∷ [])
+        joined b e = ap (λ ns. ns ++ (if b then x ∷ [] else [])) h.are
+            ∙ (ap (λ (c : Bool). wanted item h.names ++ (if c then x ∷ [] else [])) (sym e)
+            ∙ sym (filter-append (λ (n : NameSpan). is_wanted item n.used) h.names (x ∷ [])))
+
+        by : (b : Bool) → is_wanted item next.0 ≡ b → new ≡ wanted item (h.names ++ x ∷ [])
+        by true e = yes (number_there
+            ∙ ap (λ (b : Bool). slice_get (if b then number ∷ numbers_from item (number + 1) later
+            else numbers_from item (number + 1) later) 0) e) next.0 (use_there e) ∙ joined true e
+        by false e = no (λ at. (let early = no_earlier item (number + 1) number later
+            (sym (ap (λ (b : Bool). slice_get (if b then number ∷ numbers_from item (number + 1) later
+            else numbers_from item (number + 1) later) 0) e) ∙ (sym number_there ∙ at)) in absurd (omega (arith, early))))
+            ∙ (sym (append-nil some) ∙ joined false e)
+
+    pub wanted_more : (t : Token) (n : ℕ) (r : OneRead bytes tree h.named.number here h.named.stands t n)
+        → s ≡ token_span r.first.p → is_name_token t ≡ true
+        → WantedHere bytes tree item new (number + 1) (after_gap (drop n here))
+    wanted_more t n r place is =
+        let x : NameSpan = record { used = next.0; span = s } in
+        record {
+          names = h.names ++ x ∷ [];
+          named = named_more bytes tree h.names (h.names ++ x ∷ []) here h.named t n r s place is
+              (λ u at. (let same : next.0 ≡ u = some_injective next.0 u (sym next.1 ∙ at) in
+              ap (λ (v : NameUse). h.names ++ record { used = v; span = s } ∷ []) same)) (fewer lt);
+          count = omega (arith, h.count, length-append h.names (x ∷ []));
+          are = is_new;
+        }
+
+-- where any is wanted these are all
+pub all_names : (bytes : List ℕ) (tree : TreeView) (names : List NameSpan) → AreWanted bytes tree None names
+    → AreNameSpans bytes tree names
+all_names bytes tree names w = subst (AreNameSpans bytes tree) (sym (w.2 ∙ every w.0)) w.1
+  where
+    every : (ns : List NameSpan) → wanted None ns ≡ ns
+    every [] = refl
+    every (n ∷ ns) = ap (λ ms. n ∷ ms) (every ns)

@@ -1,0 +1,82 @@
+use Rattle.std.proofs.Common.{◌≡◌, ◌<◌, ◌≤◌, ℕ, ◌+◌, ◌-◌, length, arith, refl, sym, ◌∙◌, ap}
+use Rattle.sect_front.proofs.shared.Lexings.{gap_fits}
+use Rattle.sect_places.specs.steps.Wanting.{KeptView}
+use Rattle.sect_places.proofs.Placing.{span_from}
+use Rattle.sect_places.proofs.Standing.{is_some, one_read, read_span}
+use Rattle.sect_places.proofs.WantedNames.{wanted_none, numbered, left_to_read, wanted_all, wanted_on, wanted_more}
+use Rattle.sect_places.proofs.named.wanted_names.Goals.{then-is_name+in_ok-put_kept, else-is_name}
+use Rattle.sect_places.proofs.named.wanted_names.Goals as goal
+
+pub loop-number-init : goal.loop-number-init
+loop-number-init c =
+    rw (c.after_gap-here.ensures, c.in_ok-names.ensures.items)
+    (wanted_none c.args.source.now c.args.tree.now c.args.item c.requires)
+
+pub unreachable-requires : goal.unreachable-requires
+unreachable-requires c =
+    let h = c.loop-number.invariant in
+    let here = c.loop-number.here.now in
+    let passed = ap (λ (k : KeptView). k.passed) c.kept.view_is in
+    let left = left_to_read c.args.source.now c.args.tree.now c.args.item c.loop-number.names.items c.loop-number.number
+    here h c.in_ok-kept.kept c.in_ok-kept.ensures (omega (arith, c.loop-number-test.true, passed)) in
+    is_some c.args.source.now c.args.tree.now h.named.number here h.named.stands left c.first_token.result
+    c.first_token.ensures.each c.in_default.is
+
+pub put_kept-requires : goal.put_kept-requires
+put_kept-requires c =
+    numbered c.args.source.now c.args.tree.now c.args.item c.loop-number.names.items c.loop-number.number
+    c.loop-number.here.now c.loop-number.invariant c.in_ok-kept.kept c.in_ok-kept.ensures
+
+pub loop-number-smaller : goal.loop-number-smaller
+loop-number-smaller c =
+    let h = c.loop-number.invariant in
+    let here = c.loop-number.here.now in
+    let passed = ap (λ (k : KeptView). k.passed) c.kept.view_is in
+    let left = left_to_read c.args.source.now c.args.tree.now c.args.item c.loop-number.names.items c.loop-number.number
+    here h c.in_ok-kept.kept c.in_ok-kept.ensures (omega (arith, c.loop-number-test.true, passed)) in
+    let read = one_read c.args.source.now c.args.tree.now h.named.number here h.named.stands left c.first_token.result
+    c.first_token.ensures.each c.in-Some.token c.in-Some.count c.in-Some.is in
+    omega (
+      arith,
+      ap length c.after_gap-here-in-loop-number.ensures,
+      gap_fits c.split_at.result.1.now,
+      c.split_at.ensures.back_len,
+      read.some,
+      read.within,
+    )
+
+pub loop-number-preserved : goal.loop-number-preserved
+loop-number-preserved c =
+    let source = c.args.source.now in
+    let tree = c.args.tree.now in
+    let some = c.loop-number.names.items in
+    let number = c.loop-number.number in
+    let here = c.loop-number.here.now in
+    let h = c.loop-number.invariant in
+    let kept = c.in_ok-kept.kept in
+    let all = c.in_ok-kept.ensures in
+    let passed = ap (λ (k : KeptView). k.passed) c.kept.view_is in
+    let lt : number < kept.passed = omega (arith, c.loop-number-test.true, passed) in
+    let left = left_to_read source tree c.args.item some number here h kept all lt in
+    let read = one_read source tree h.named.number here h.named.stands left c.first_token.result
+    c.first_token.ensures.each c.in-Some.token c.in-Some.count c.in-Some.is in
+    let start : ℕ = length source - length here in
+    let s = span_from start (start + c.in-Some.count) in
+    let place = read_span (length source) h.named.number h.named.stands.spelled.places here read.first start
+    c.in-Some.count refl read.count in
+    rw (c.after_gap-here-in-loop-number.ensures, c.split_at.ensures.back) (elim c.if-is_name.branch [
+      | then-is_name+in_ok-put_kept w ↦ rw (w.names-is, w.number-is)
+          (wanted_more source tree c.args.item some number here h kept all lt w.put_kept.new.names.items s
+          w.in_ok-put_kept.ensures.kept w.in_ok-put_kept.ensures.other c.in-Some.token c.in-Some.count read place
+          (sym c.is_name.ensures ∙ w.if-is_name.true))
+      | else-is_name w ↦ rw (w.names-is, w.number-is)
+          (wanted_on source tree c.args.item some number here h kept all c.in-Some.token c.in-Some.count read s place
+          (sym c.is_name.ensures ∙ w.if-is_name.false))
+    ])
+
+pub returns : goal.returns
+returns c =
+    let passed = ap (λ (k : KeptView). k.passed) c.kept.view_is in
+    wanted_all c.args.source.now c.args.tree.now c.args.item c.loop-number.names.items c.loop-number.number
+    c.loop-number.here.now c.loop-number.invariant c.in_ok-kept.kept c.in_ok-kept.ensures
+    (omega (arith, c.loop-number-test.false, passed))

@@ -1,0 +1,9 @@
+use Rattle.std.proofs.Common.{length}
+use Rattle.sect_places.proofs.WantedNames.{WantedHere}
+use Rattle.sect_places.proofs.named.wanted_names.Given as goal
+
+abbrev pub invariant-loop-number : goal.invariant-loop-number
+invariant-loop-number l = WantedHere l.source l.tree l.fn.item l.names.items l.number l.here
+
+abbrev pub decreases-loop-number : goal.decreases-loop-number
+decreases-loop-number l = length l.here

@@ -183,6 +183,7 @@ fn last_link<'a>(compiled: &Compiled, section: u16, lock: ClassLock, links: &'a 
 }
 
 /// Where a chain goes from a class to a path.
+#[derive(Clone, Copy)]
 struct Turn<'a> {
     /// The node of the last step whose lock is on the class.
     node: u32,

@@ -24,7 +24,6 @@ pub struct CertChain {
 }
 
 /// What is said of one section.
-#[derive(Drop)]
 pub struct CertSection {
     /// For each node, by number and the exit counted, the locks that are needed from there on.
     pub nodes: Runs<Items<CertLock>>,
@@ -32,6 +31,16 @@ pub struct CertSection {
     pub entry: Items<CertLock>,
     /// The chains, by rising numbers where the certificate has a text.
     pub chains: Items<CertChain>,
+}
+
+impl Drop for CertSection {
+    fn drop(self) {
+        let CertSection {
+            nodes: _,
+            entry: _,
+            chains: _,
+        } = self;
+    }
 }
 
 /// A certificate: what was inferred for each section, and why.

@@ -11,10 +11,15 @@ use std::alloc::{AllocError, Global};
 use std::marker::Model;
 
 /// Steps, as many as there may be. A lock that is that of the step before is kept once.
-#[derive(Drop)]
 pub struct ChainSteps {
     nodes: Vec<u32>,
     locks: Runs<CertLock>,
+}
+
+impl Drop for ChainSteps {
+    fn drop(self) {
+        let ChainSteps { nodes: _, locks: _ } = self;
+    }
 }
 
 impl Model for ChainSteps {

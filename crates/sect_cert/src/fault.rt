@@ -26,7 +26,7 @@ pub enum CertFault {
 }
 
 /// Why a line isn't taken.
-#[derive(Clone, Copy, Debug)]
+#[derive(Clone, Copy)]
 pub enum LineFault {
     /// Want of memory.
     Memory,

@@ -7,10 +7,18 @@ use std::alloc::{AllocError, Global};
 use std::marker::Model;
 
 /// A list of any length. An element that is added again is kept once.
-#[derive(Drop)]
 pub struct Runs<T: Drop> {
     kept: Vec<T>,
     numbers: Vec<usize>,
+}
+
+impl<T: Drop> Drop for Runs<T> {
+    fn drop(self) {
+        let Runs {
+            kept: _,
+            numbers: _,
+        } = self;
+    }
 }
 
 impl<T: Drop> Model for Runs<T> {

@@ -50,7 +50,7 @@ pub enum FrontFault {
 }
 
 /// A fault, and the bytes at which it stands.
-#[derive(Debug, Drop)]
+#[derive(Drop)]
 pub struct PlacedFault {
     pub fault: FrontFault,
     pub span: Span,

@@ -11,7 +11,7 @@ use crate::token::Token;
 use crate::tree::Comparison;
 
 /// What a token is, where it makes no difference which name or which integer.
-#[derive(Clone, Copy, Debug, PartialEq, Eq)]
+#[derive(Clone, Copy)]
 pub enum TokenKind {
     Name,
     Record,

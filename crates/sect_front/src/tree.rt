@@ -19,7 +19,7 @@ pub enum Operand {
 }
 
 /// How a test compares its two operands.
-#[derive(Clone, Copy, Debug, PartialEq, Eq)]
+#[derive(Clone, Copy)]
 pub enum Comparison {
     Equal,
     NotEqual,
@@ -44,7 +44,7 @@ impl Comparison {
 }
 
 /// How a statement joins two integers.
-#[derive(Clone, Copy, PartialEq, Eq)]
+#[derive(Clone, Copy)]
 pub enum Operator {
     Add,
     Subtract,
@@ -60,7 +60,7 @@ pub struct Test {
 }
 
 /// Which locks a section takes.
-#[derive(Clone, Copy, Debug, PartialEq, Eq)]
+#[derive(Clone, Copy)]
 pub enum Locking {
     /// Those that its statements need, as they are inferred: `atomic { .. }`.
     Inferred,

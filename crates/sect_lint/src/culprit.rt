@@ -11,7 +11,7 @@ use sect_types::TypeFault;
 use std::alloc::AllocError;
 
 /// What is at fault in a tree, by its number.
-#[derive(Clone, Copy, Debug)]
+#[derive(Clone, Copy)]
 pub enum Culprit {
     Item(usize),
     Record(usize),

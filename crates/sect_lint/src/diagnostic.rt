@@ -5,7 +5,7 @@ use crate::mistake::Mistake;
 use sect_front::{Span, TokenKind};
 
 /// What is wrong with a source text, and where.
-#[derive(Debug, Drop)]
+#[derive(Drop)]
 pub struct Diagnostic {
     pub mistake: Mistake,
     /// The bytes that the carets stand under.
@@ -14,7 +14,7 @@ pub struct Diagnostic {
 }
 
 /// What is said beside the carets.
-#[derive(Debug, Drop)]
+#[derive(Drop)]
 pub enum Detail {
     Nothing,
     /// How many bytes there are.
@@ -38,7 +38,7 @@ pub enum Detail {
 }
 
 /// What a part of a text is, by its type.
-#[derive(Clone, Copy, Debug)]
+#[derive(Clone, Copy)]
 pub enum Shape {
     Int,
     /// The reference to no object.
@@ -50,14 +50,14 @@ pub enum Shape {
 }
 
 /// A part of a text, by its bytes, and what it is.
-#[derive(Clone, Copy, Debug)]
+#[derive(Clone, Copy)]
 pub struct Typed {
     pub span: Span,
     pub shape: Shape,
 }
 
 /// A call with another number of arguments than the procedure has parameters.
-#[derive(Clone, Copy, Debug)]
+#[derive(Clone, Copy)]
 pub struct Counts {
     /// The name of the procedure.
     pub procedure: Span,

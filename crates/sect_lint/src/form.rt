@@ -8,7 +8,7 @@ ghost use Rattle.sect_lint.specs.Forms.{first_form as first_by};
 use sect_front::Token;
 
 /// The statement or the test that an item is.
-#[derive(Clone, Copy, Debug, PartialEq, Eq)]
+#[derive(Clone, Copy)]
 pub enum Form {
     /// `print v`
     Print,

@@ -17,7 +17,7 @@ use serde_json::Value;
 use std::alloc::{AllocError, Global};
 
 /// How a diagnostic is printed.
-#[derive(Clone, Copy, Debug, PartialEq, Eq)]
+#[derive(Clone, Copy)]
 pub enum Format {
     /// For a reader.
     Text,

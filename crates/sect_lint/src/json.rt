@@ -32,9 +32,7 @@ pub fn span_value(alloc: Global, source: &[u8], span: Span) -> Result<Value, All
     requires { IsWithin (length source.now) span }
     ensures { IfOk result (λ v. view v ≡ span_json source.now span) }
 {
-    let start = place_value(alloc, source, span.start)?;
-    let end = place_value(alloc, source, span.end)?;
-    json!(in alloc; {"end": end, "start": start})
+    json!(in alloc; {"end": place_value(alloc, source, span.end)?, "start": place_value(alloc, source, span.start)?})
 }
 
 /// What is said of a span.
@@ -47,8 +45,7 @@ pub fn label_value(
     requires { IsWithin (length source.now) span }
     ensures { IfOk result (λ v. view v ≡ label_json source.now message.now span) }
 {
-    let span = span_value(alloc, source, span)?;
-    json!(in alloc; {"message": message, "span": span})
+    json!(in alloc; {"message": message, "span": span_value(alloc, source, span)?})
 }
 
 /// What a part of a text is.
@@ -78,9 +75,7 @@ fn types_value(alloc: Global, source: &[u8], left: Typed, right: Typed) -> Resul
     ensures { IfOk result (λ v. view v ≡ list (label_json source.now (typed_text source.now left) left.span
         ∷ label_json source.now (typed_text source.now right) right.span ∷ [])) }
 {
-    let left = typed_value(alloc, source, left)?;
-    let right = typed_value(alloc, source, right)?;
-    json!(in alloc; [left, right])
+    json!(in alloc; [typed_value(alloc, source, left)?, typed_value(alloc, source, right)?])
 }
 
 /// Which kinds of tokens may stand somewhere.
@@ -121,6 +116,13 @@ fn circle_value(alloc: Global, source: &[u8], calls: &[Span]) -> Result<Value, A
     Ok(Value::Array(values))
 }
 
+/// A list of one value.
+pub fn one_of(alloc: Global, value: Value) -> Result<Value, AllocError>
+    ensures { IfOk result (λ v. view v ≡ list (view value ∷ [])) }
+{
+    json!(in alloc; [value])
+}
+
 /// What is said beside the carets.
 fn labels_value(alloc: Global, source: &[u8], diagnostic: &Diagnostic) -> Result<Value, AllocError>
     requires span { IsWithin (length source.now) diagnostic.now.span }
@@ -131,38 +133,42 @@ fn labels_value(alloc: Global, source: &[u8], diagnostic: &Diagnostic) -> Result
         Detail::Nothing => json!(in alloc; []),
         Detail::Bytes(count) => {
             let message = format!(in alloc; "{count} bytes")?;
-            let label = label_value(alloc, source, message.as_str(), diagnostic.span)?;
-            json!(in alloc; [label])
+            one_of(
+                alloc,
+                label_value(alloc, source, message.as_str(), diagnostic.span)?,
+            )
         }
         Detail::OpenBrace(at) => {
             let brace = Span {
                 start: *at,
                 end: *at + 1,
             };
-            let label = label_value(alloc, source, "this `{` is open", brace)?;
-            json!(in alloc; [label])
+            one_of(
+                alloc,
+                label_value(alloc, source, "this `{` is open", brace)?,
+            )
         }
         Detail::Earlier(span) => {
-            let label = label_value(alloc, source, "first declared here", *span)?;
-            json!(in alloc; [label])
+            one_of(
+                alloc,
+                label_value(alloc, source, "first declared here", *span)?,
+            )
         }
-        Detail::Type(part) => {
-            let label = typed_value(alloc, source, *part)?;
-            json!(in alloc; [label])
-        }
+        Detail::Type(part) => one_of(alloc, typed_value(alloc, source, *part)?),
         Detail::Types(left, right) => types_value(alloc, source, *left, *right),
         Detail::Limit(limit) => {
-            let label = label_value(alloc, source, limit.words(), diagnostic.span)?;
-            json!(in alloc; [label])
+            one_of(
+                alloc,
+                label_value(alloc, source, limit.words(), diagnostic.span)?,
+            )
         }
-        Detail::Counts(counts) => {
-            let label = counts_value(alloc, source, *counts)?;
-            json!(in alloc; [label])
-        }
+        Detail::Counts(counts) => one_of(alloc, counts_value(alloc, source, *counts)?),
         Detail::Circle(calls) => circle_value(alloc, source, calls.as_slice()),
         Detail::Expected(kinds) => {
-            let label = kinds_value(alloc, source, kinds.as_slice(), diagnostic.span)?;
-            json!(in alloc; [label])
+            one_of(
+                alloc,
+                kinds_value(alloc, source, kinds.as_slice(), diagnostic.span)?,
+            )
         }
     }
 }
@@ -177,11 +183,9 @@ pub fn diagnostic_value(
     requires detail { IsDetailWithin (length source.now) diagnostic.now.detail }
     ensures { IfOk result (λ v. view v ≡ diagnostic_json source.now diagnostic.now) }
 {
-    let labels = labels_value(alloc, source, diagnostic)?;
-    let span = span_value(alloc, source, diagnostic.span)?;
     let code = diagnostic.mistake.number();
     let title = diagnostic.mistake.title();
     let note = diagnostic.mistake.note();
-    json!(in alloc; {"code": code, "labels": labels, "message": title, "notes": [note],
-        "severity": "error", "span": span})
+    json!(in alloc; {"code": code, "labels": labels_value(alloc, source, diagnostic)?, "message": title,
+        "notes": [note], "severity": "error", "span": span_value(alloc, source, diagnostic.span)?})
 }

@@ -8,7 +8,7 @@ use sect_front::Token;
 use sect_places::{NameSpan, Role, Thing};
 
 /// What there is too much of.
-#[derive(Clone, Copy, Debug, PartialEq, Eq)]
+#[derive(Clone, Copy)]
 pub enum Limit {
     Records,
     Fields,

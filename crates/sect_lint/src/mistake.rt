@@ -8,7 +8,7 @@ use sect_names::SchemeFault;
 use sect_types::TypeFault;
 
 /// What may be wrong with a source text.
-#[derive(Clone, Copy, Debug, PartialEq, Eq)]
+#[derive(Clone, Copy)]
 pub enum Mistake {
     /// A byte with which no token begins.
     BadByte,

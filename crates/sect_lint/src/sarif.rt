@@ -12,6 +12,7 @@ ghost use Rattle.sect_lint.specs.Sarif.{result_json, rule_json, tool_json};
 ghost use Rattle.sect_lint.specs.Sarif.{run_json, log_json, diagnostic_log as log_by, empty_log as empty_by};
 
 use crate::diagnostic::{Detail, Diagnostic};
+use crate::json::one_of;
 use crate::kinds::put_kinds;
 use crate::label::{put_counts, put_quoted, put_typed, put_types};
 use crate::mistake::Mistake;
@@ -40,8 +41,8 @@ pub fn location_value(alloc: Global, source: &[u8], span: Span) -> Result<Value,
     requires { IsWithin (length source.now) span }
     ensures { IfOk result (λ v. view v ≡ location_json source.now span) }
 {
-    let region = region_value(alloc, source, span)?;
-    json!(in alloc; {"physicalLocation": {"artifactLocation": {"uri": "stdin"}, "region": region}})
+    json!(in alloc; {"physicalLocation": {"artifactLocation": {"uri": "stdin"},
+        "region": region_value(alloc, source, span)?}})
 }
 
 /// What is said of another place.
@@ -54,9 +55,8 @@ fn related_value(
     requires { IsWithin (length source.now) span }
     ensures { IfOk result (λ v. view v ≡ related_json source.now message.now span) }
 {
-    let region = region_value(alloc, source, span)?;
     json!(in alloc; {"message": {"text": message},
-        "physicalLocation": {"artifactLocation": {"uri": "stdin"}, "region": region}})
+        "physicalLocation": {"artifactLocation": {"uri": "stdin"}, "region": region_value(alloc, source, span)?}})
 }
 
 /// A call of a circle.
@@ -93,12 +93,16 @@ fn related_values(alloc: Global, source: &[u8], detail: &Detail) -> Result<Value
                 start: *at,
                 end: *at + 1,
             };
-            let related = related_value(alloc, source, "this `{` is open", brace)?;
-            json!(in alloc; [related])
+            one_of(
+                alloc,
+                related_value(alloc, source, "this `{` is open", brace)?,
+            )
         }
         Detail::Earlier(span) => {
-            let related = related_value(alloc, source, "first declared here", *span)?;
-            json!(in alloc; [related])
+            one_of(
+                alloc,
+                related_value(alloc, source, "first declared here", *span)?,
+            )
         }
         Detail::Circle(calls) => circle_value(alloc, source, calls.as_slice()),
         _ => json!(in alloc; []),
@@ -153,13 +157,10 @@ fn result_value(alloc: Global, source: &[u8], diagnostic: &Diagnostic) -> Result
     requires detail { IsDetailWithin (length source.now) diagnostic.now.detail }
     ensures { IfOk result (λ v. view v ≡ result_json source.now diagnostic.now) }
 {
-    let location = location_value(alloc, source, diagnostic.span)?;
-    let message = message_of(alloc, source, diagnostic)?;
-    let text = message.as_str();
-    let related = related_values(alloc, source, &diagnostic.detail)?;
-    let rule = format!(in alloc; "{}", diagnostic.mistake.number())?;
-    json!(in alloc; {"level": "error", "locations": [location], "message": {"text": text},
-        "relatedLocations": related, "ruleId": rule})
+    json!(in alloc; {"level": "error", "locations": [location_value(alloc, source, diagnostic.span)?],
+        "message": {"text": message_of(alloc, source, diagnostic)?},
+        "relatedLocations": related_values(alloc, source, &diagnostic.detail)?,
+        "ruleId": format!(in alloc; "{}", diagnostic.mistake.number())?})
 }
 
 /// What a mistake is.
@@ -168,8 +169,8 @@ fn rule_value(alloc: Global, mistake: Mistake) -> Result<Value, AllocError>
 {
     let note = mistake.note();
     let title = mistake.title();
-    let rule = format!(in alloc; "{}", mistake.number())?;
-    json!(in alloc; {"help": {"text": note}, "id": rule, "shortDescription": {"text": title}})
+    json!(in alloc; {"help": {"text": note}, "id": format!(in alloc; "{}", mistake.number())?,
+        "shortDescription": {"text": title}})
 }
 
 /// The program that looked, with these rules.
@@ -203,13 +204,10 @@ pub fn diagnostic_log(
     requires detail { IsDetailWithin (length source.now) diagnostic.now.detail }
     ensures { IfOk result (λ v. view v ≡ log_by source.now diagnostic.now) }
 {
-    let result = result_value(alloc, source, diagnostic)?;
-    let rule = rule_value(alloc, diagnostic.mistake)?;
-    let rules = json!(in alloc; [rule])?;
+    let rules = one_of(alloc, rule_value(alloc, diagnostic.mistake)?)?;
     let tool = tool_value(alloc, rules)?;
-    let results = json!(in alloc; [result])?;
-    let run = run_value(alloc, results, tool)?;
-    log_value(alloc, run)
+    let results = one_of(alloc, result_value(alloc, source, diagnostic)?)?;
+    log_value(alloc, run_value(alloc, results, tool)?)
 }
 
 /// The log of a text of which nothing is told.
@@ -219,6 +217,5 @@ pub fn empty_log(alloc: Global) -> Result<Value, AllocError>
     let rules = json!(in alloc; [])?;
     let tool = tool_value(alloc, rules)?;
     let results = json!(in alloc; [])?;
-    let run = run_value(alloc, results, tool)?;
-    log_value(alloc, run)
+    log_value(alloc, run_value(alloc, results, tool)?)
 }

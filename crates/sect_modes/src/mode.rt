@@ -7,7 +7,7 @@ ghost use Rattle.sect_modes.specs.Mode.{mode_text};
 use std::fmt;
 
 /// What the holder of a key may do with it and with its parts. `Display` is its usual short name.
-#[derive(Clone, Copy, Debug, PartialEq, Eq, Hash)]
+#[derive(Clone, Copy, Debug, PartialEq, Eq)]
 pub enum Mode {
     /// Parts of it are held to be read.
     IntentionShared,

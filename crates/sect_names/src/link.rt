@@ -7,7 +7,7 @@ use std::alloc::AllocError;
 
 /// A step of a chain: a node of a section's graph by its number, the exit as the number behind the last node's, and a
 /// lock that is needed from there on.
-#[derive(Drop, PartialEq, Eq, Hash)]
+#[derive(Drop, PartialEq, Eq)]
 pub struct Link {
     pub node: u32,
     pub lock: Lock,

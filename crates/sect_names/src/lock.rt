@@ -8,14 +8,14 @@ use std::alloc::AllocError;
 use std::cmp::Ordering;
 
 /// What a path lock allows of its object. Writing allows reading.
-#[derive(Clone, Copy, Debug, PartialEq, Eq, PartialOrd, Ord, Hash)]
+#[derive(Clone, Copy, PartialEq, Eq, PartialOrd, Ord, Hash)]
 pub enum Effect {
     Read,
     Write,
 }
 
 /// What a class lock allows of all objects of its class. Writing allows reading and making.
-#[derive(Clone, Copy, Debug, PartialEq, Eq, PartialOrd, Ord, Hash)]
+#[derive(Clone, Copy, PartialEq, Eq, PartialOrd, Ord, Hash)]
 pub enum Right {
     Read,
     Write,

@@ -19,10 +19,15 @@ use std::marker::Model;
 
 /// A path: a variable, then fields that are references, the first to be followed first. The fields of a scheme's
 /// paths are at most 3, so they are kept inline.
-#[derive(Drop)]
 pub struct Path {
     base: Variable,
     fields: SmallVec<Field, 3>,
+}
+
+impl Drop for Path {
+    fn drop(self) {
+        let Path { base: _, fields: _ } = self;
+    }
 }
 
 impl Model for Path {

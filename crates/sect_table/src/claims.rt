@@ -5,21 +5,21 @@ use std::alloc::AllocError;
 use thiserror::Error;
 
 /// A key that a thread holds, and in which mode.
-#[derive(Clone, Copy, Debug, PartialEq, Eq)]
+#[derive(Clone, Copy)]
 pub struct Hold {
     pub key: Key,
     pub mode: Mode,
 }
 
 /// A thread that holds a key or waits for it, and in which mode.
-#[derive(Clone, Copy, Debug, PartialEq, Eq)]
+#[derive(Clone, Copy)]
 pub struct Claim {
     pub thread: u16,
     pub mode: Mode,
 }
 
 /// A thread that came to hold a key, and in which mode.
-#[derive(Clone, Copy, Debug, PartialEq, Eq)]
+#[derive(Clone, Copy, PartialEq, Eq)]
 pub struct Grant {
     pub thread: u16,
     pub key: Key,

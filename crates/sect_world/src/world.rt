@@ -76,10 +76,18 @@ impl Moment {
 }
 
 /// A moment of a run of a compiled program, with the events that led to it.
-#[derive(Drop)]
 pub struct World<'a> {
     compiled: &'a Compiled,
     moment: Moment,
+}
+
+impl Drop for World<'_> {
+    fn drop(self) {
+        let World {
+            compiled: _,
+            moment: _,
+        } = self;
+    }
 }
 
 impl<'a> Model for World<'a> {
@@ -240,7 +248,10 @@ impl<'a> World<'a> {
         ensures serial { AllEnded self.entry.state → (e : SerialEndView) × IsComplete self.entry.state e
             × RunsWhole (program_of self.entry.compiled) self.entry.fuel self.entry.order e }
     {
-        let World { moment, .. } = self;
+        let World {
+            compiled: _,
+            moment,
+        } = self;
         let Moment {
             trace,
             order,
@@ -262,7 +273,10 @@ impl<'a> World<'a> {
         ensures moment { IsMoment self.entry.compiled result }
         ensures same { world_at self.entry.compiled result ≡ self.entry }
     {
-        let World { moment, .. } = self;
+        let World {
+            compiled: _,
+            moment,
+        } = self;
         moment
     }
 

@@ -12,9 +12,14 @@ use std::marker::Model;
 pub const MOST_NAMES: usize = 65535;
 
 /// Different names, numbered from 0 in the order in which they were first seen.
-#[derive(Drop)]
 pub struct Names {
     set: IndexSet<Name>,
+}
+
+impl Drop for Names {
+    fn drop(self) {
+        let Names { set: _ } = self;
+    }
 }
 
 impl Model for Names {
@@ -73,9 +78,14 @@ impl Names {
 }
 
 /// Names of which only the membership counts, any number of them.
-#[derive(Drop)]
 pub struct NameSet {
     set: IndexSet<Name>,
+}
+
+impl Drop for NameSet {
+    fn drop(self) {
+        let NameSet { set: _ } = self;
+    }
 }
 
 impl Model for NameSet {

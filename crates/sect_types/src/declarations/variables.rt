@@ -9,10 +9,15 @@ use std::alloc::{AllocError, Global};
 use std::marker::Model;
 
 /// The variables of a procedure, with their names.
-#[derive(Drop)]
 pub struct Variables {
     list: Vec<Declaration>,
     names: Names,
+}
+
+impl Drop for Variables {
+    fn drop(self) {
+        let Variables { list: _, names: _ } = self;
+    }
 }
 
 impl Model for Variables {

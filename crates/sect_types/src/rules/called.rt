@@ -173,11 +173,20 @@ fn mark(marked: &mut Vec<bool>, found: &mut Vec<usize>, number: usize) -> Result
 }
 
 /// The procedures of a text by name, with the callers of each.
-#[derive(Drop)]
 pub struct Called<'a> {
     procedures: &'a [Procedure],
     numbers: IndexMap<Name, usize>,
     callers: Vec<Callers>,
+}
+
+impl Drop for Called<'_> {
+    fn drop(self) {
+        let Called {
+            procedures: _,
+            numbers: _,
+            callers: _,
+        } = self;
+    }
 }
 
 impl<'a> Model for Called<'a> {

@@ -326,5 +326,22 @@ lexeme_only bytes t n f =
       free = f.free;
     })
 
+with_count : (n m : ℕ) (o : Option Token) (t : Token) → with_length n o ≡ Some (t, m) → n ≡ m
+with_count n m None t e = absurd (none_or_some (pair t m) e)
+with_count n m (Some u) t e = ap (λ z. z.1) (some_injective (pair u n) (pair t m) e)
+
+-- where a word stands at the front the token has all its bytes, and else it is a sign
+module _ (b : ℕ) (bs : List ℕ) (t : Token) (n : ℕ) (f : IsFirst t n (b ∷ bs)) where
+  abbrev front : List ℕ
+  front = take_while is_name_byte (b ∷ bs)
+
+  pub word_count : is_name_byte b ≡ true → length front ≡ n
+  word_count p = with_count (length front) n (spelled front) t
+      (ap (λ c. cond c (with_length (length front) (spelled front)) (sign_at b bs)) (sym p) ∙ lexeme_only (b ∷ bs) t n f)
+
+  pub sign_there : is_name_byte b ≡ false → sign_at b bs ≡ Some (pair t n)
+  sign_there p =
+      ap (λ c. cond c (with_length (length front) (spelled front)) (sign_at b bs)) (sym p) ∙ lexeme_only (b ∷ bs) t n f
+
 pub lexeme_bad : (bytes : List ℕ) → lexeme_of bytes ≡ None → IsBad bytes
 lexeme_bad bytes e t n f = none_or_some (pair t n) (sym e ∙ lexeme_only bytes t n f)

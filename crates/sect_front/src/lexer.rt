@@ -206,6 +206,22 @@ pub fn first_token(bytes: &[u8]) -> Option<(Token, usize)>
     lexeme(bytes)
 }
 
+/// How many bytes spell the token that stands at the front of these, if one does: which token that is isn't told.
+pub fn first_length(bytes: &[u8]) -> usize
+    ensures { (token : AToken) (count : ℕ) → IsFirst token count bytes.now → result ≡ count }
+{
+    let Some((first, others)) = bytes.split_first() else {
+        return 0;
+    };
+    if is_name_byte(*first) {
+        return word_length(bytes);
+    }
+    match sign(*first, others) {
+        Some((_, count)) => count,
+        None => 0,
+    }
+}
+
 /// What follows so many bytes and the gap behind them.
 pub fn behind(here: &[u8], count: usize) -> &[u8]
     requires { count ≤ length here.now }

@@ -24,7 +24,7 @@ mod words;
 
 pub use innermost::innermost_brace;
 pub use items::Items;
-pub use lexer::{after_gap, first_token};
+pub use lexer::{after_gap, first_length, first_token};
 pub use limits::{MOST_BYTES, MOST_DEPTH, MOST_NAME_BYTES, limits_of_texts};
 pub use listing::tokens_of;
 pub use literal::Literal;

@@ -8,7 +8,7 @@ ghost use Rattle.sect_places.specs.Spans.{AreInOrder};
 ghost use Rattle.sect_places.specs.steps.Standing.{StandsFrom};
 
 use crate::range::TokenRange;
-use sect_front::{Span, Token, Tree, after_gap, first_token};
+use sect_front::{Span, Token, Tree, after_gap, first_length, first_token};
 use std::alloc::{AllocError, Global};
 
 /// What stands from the token of this number on.
@@ -19,10 +19,7 @@ fn from_token<'a>(source: &'a [u8], tree: &Tree, number: usize) -> &'a [u8]
 {
     let mut here = after_gap(source);
     for _passed in 0..number {
-        let Some((_, count)) = first_token(here) else {
-            unreachable!();
-        };
-        let (_, after) = here.split_at(count);
+        let (_, after) = here.split_at(first_length(here));
         here = after_gap(after);
     }
     here

@@ -19,7 +19,7 @@ use std::alloc::{AllocError, Global};
 
 /// Where a node comes from: the line of its statement, and if that is a procedure's the line of the call in the thread.
 /// Lines are counted from 1.
-#[derive(Clone, Copy, Debug, PartialEq, Eq)]
+#[derive(Clone, Copy)]
 pub struct NodeLine {
     pub line: usize,
     pub call: Option<usize>,

@@ -3,7 +3,7 @@
 use sect_front::{Name, Span};
 
 /// What is declared.
-#[derive(Clone, Copy, Debug, PartialEq, Eq)]
+#[derive(Clone, Copy)]
 pub enum Thing {
     Record,
     Field,
@@ -15,7 +15,7 @@ pub enum Thing {
 }
 
 /// What a name does in its item.
-#[derive(Clone, Copy, Debug, PartialEq, Eq)]
+#[derive(Clone, Copy)]
 pub enum Role {
     /// It is declared there.
     Declared(Thing),

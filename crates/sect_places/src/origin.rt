@@ -5,7 +5,7 @@ ghost use Rattle.std.specs.Prelude.{◌≡◌, ◌<◌, length, slice_get, Some}
 use std::marker::Model;
 
 /// Where a node comes from.
-#[derive(Clone, Copy, Debug, PartialEq, Eq)]
+#[derive(Clone, Copy)]
 pub struct Origin {
     /// The number of the item that says what the node does: a statement; or a parameter or a local of a procedure,
     /// which a call sets.

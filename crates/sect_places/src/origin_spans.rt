@@ -17,7 +17,7 @@ use std::marker::Model;
 
 /// Where a node comes from: the bytes of the item that says what it does, and if that is a procedure's those of the
 /// call in the thread.
-#[derive(Clone, Copy, Debug)]
+#[derive(Clone, Copy)]
 pub struct NodeSpan {
     pub item: Span,
     pub call: Option<Span>,
@@ -39,11 +39,20 @@ impl Model for TextSpans {
 }
 
 /// Where the nodes of each thread and of each section of a program come from, and the bytes of each section's `atomic`.
-#[derive(Drop)]
 pub struct NodeSpans {
     threads: Vec<TextSpans>,
     sections: Vec<TextSpans>,
     heads: Vec<Span>,
+}
+
+impl Drop for NodeSpans {
+    fn drop(self) {
+        let NodeSpans {
+            threads: _,
+            sections: _,
+            heads: _,
+        } = self;
+    }
 }
 
 impl Model for NodeSpans {

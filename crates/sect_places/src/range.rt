@@ -6,7 +6,7 @@ ghost use Rattle.sect_places.specs.Spans.{span_in};
 use sect_front::Span;
 
 /// Tokens in a row: the number of the first, counted from 0 over the whole text, and how many there are.
-#[derive(Clone, Copy, Debug, PartialEq, Eq)]
+#[derive(Clone, Copy)]
 pub struct TokenRange {
     pub first: usize,
     pub count: usize,

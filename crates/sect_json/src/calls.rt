@@ -87,9 +87,11 @@ fn call_value(
     requires { IsWithin (length source.now) named.now.span }
     ensures { IfOk result (λ v. view v ≡ call_json source.now number named.now) }
 {
-    let name = format!(in alloc; "{}", named.used.name)?;
-    let place = span_value(alloc, source, named.span)?;
-    json!(in alloc; {"call": number, "place": place, "procedure": name})
+    json!(in alloc; {
+        "call": number,
+        "place": span_value(alloc, source, named.span)?,
+        "procedure": format!(in alloc; "{}", named.used.name)?
+    })
 }
 
 /// Adds a call, and then those of the procedure that it calls, where these stand in one another at most so deep.

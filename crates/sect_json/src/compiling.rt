@@ -115,9 +115,7 @@ fn grips_value(alloc: Global, program: &Program, grips: &[Grip]) -> Result<Value
 fn grip_value(alloc: Global, program: &Program, grip: Grip) -> Result<Value, AllocError>
     ensures { IfOk result (λ v. view v ≡ grip_json program.now grip) }
 {
-    let key = key_value(alloc, program, grip.key)?;
-    let mode = mode_value(alloc, grip.mode)?;
-    json!(in alloc; {"key": key, "mode": mode})
+    json!(in alloc; {"key": key_value(alloc, program, grip.key)?, "mode": mode_value(alloc, grip.mode)?})
 }
 
 /// All threads, by number.

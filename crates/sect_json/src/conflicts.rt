@@ -37,8 +37,7 @@ fn conflicts_value(
     requires { AreConflictsNamed program.now pairs.now }
     ensures { IfOk result (λ v. view v ≡ conflicts_json program.now pairs.now) }
 {
-    let pairs = section_pairs_value(alloc, program, pairs)?;
-    json!(in alloc; {"pairs": pairs})
+    json!(in alloc; {"pairs": section_pairs_value(alloc, program, pairs)?})
 }
 
 /// All pairs of sections.
@@ -69,13 +68,21 @@ fn section_pair_value(
     let (first, second) = (pair.first, pair.second);
     match &pair.conflict {
         Conflict::Always(clash) => {
-            let key = key_value(alloc, program, clash.key)?;
-            let modes = modes_value(alloc, clash)?;
-            json!(in alloc; {"first": first, "key": key, "meet": "exclude", "modes": modes, "second": second})
+            json!(in alloc; {
+                "first": first,
+                "key": key_value(alloc, program, clash.key)?,
+                "meet": "exclude",
+                "modes": modes_value(alloc, clash)?,
+                "second": second
+            })
         }
         Conflict::Sometimes(pairs) => {
-            let paths = path_pairs_value(alloc, program, pairs.as_slice())?;
-            json!(in alloc; {"first": first, "meet": "where", "paths": paths, "second": second})
+            json!(in alloc; {
+                "first": first,
+                "meet": "where",
+                "paths": path_pairs_value(alloc, program, pairs.as_slice())?,
+                "second": second
+            })
         }
         Conflict::Never => json!(in alloc; {"first": first, "meet": "together", "second": second}),
     }
@@ -85,9 +92,7 @@ fn section_pair_value(
 fn modes_value(alloc: Global, clash: &KeyClash) -> Result<Value, AllocError>
     ensures { IfOk result (λ v. view v ≡ modes_json clash.now) }
 {
-    let first = mode_value(alloc, clash.first)?;
-    let second = mode_value(alloc, clash.second)?;
-    json!(in alloc; [first, second])
+    json!(in alloc; [mode_value(alloc, clash.first)?, mode_value(alloc, clash.second)?])
 }
 
 /// Pairs of paths.
@@ -111,7 +116,8 @@ fn path_pair_value(alloc: Global, program: &Program, pair: &PathPair) -> Result<
     requires { IsPairNamed program.now pair.now }
     ensures { IfOk result (λ v. view v ≡ path_pair_json program.now.source pair.now) }
 {
-    let first = path_value(alloc, program, &pair.first)?;
-    let second = path_value(alloc, program, &pair.second)?;
-    json!(in alloc; {"first": first, "second": second})
+    json!(in alloc; {
+        "first": path_value(alloc, program, &pair.first)?,
+        "second": path_value(alloc, program, &pair.second)?
+    })
 }

@@ -79,13 +79,14 @@ pub fn lock_value(alloc: Global, program: &Program, lock: &Lock) -> Result<Value
     match lock {
         Lock::All => json!(in alloc; {"kind": "all", "right": "W"}),
         Lock::Class(class, right) => {
-            let right = format!(in alloc; "{right}")?;
-            json!(in alloc; {"class": *class, "kind": "class", "right": right})
+            json!(in alloc; {"class": *class, "kind": "class", "right": format!(in alloc; "{right}")?})
         }
         Lock::Path(path, effect) => {
-            let path = path_value(alloc, program, path)?;
-            let right = format!(in alloc; "{effect}")?;
-            json!(in alloc; {"kind": "path", "path": path, "right": right})
+            json!(in alloc; {
+                "kind": "path",
+                "path": path_value(alloc, program, path)?,
+                "right": format!(in alloc; "{effect}")?
+            })
         }
     }
 }

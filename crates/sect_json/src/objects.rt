@@ -84,8 +84,7 @@ fn field_value(
     if let Some(field) = declared.get(number) {
         write!(name, "{}", field.name)?;
     }
-    let value = datum_value(alloc, program, datum)?;
-    json!(in alloc; {"name": name, "value": value})
+    json!(in alloc; {"name": name, "value": datum_value(alloc, program, datum)?})
 }
 
 /// What a field holds.

@@ -35,8 +35,7 @@ fn outcomes_value(
 ) -> Result<Value, AllocError>
     ensures { IfOk result (λ v. view v ≡ outcomes_json program.now outcomes.now) }
 {
-    let found = found_values(alloc, program, outcomes)?;
-    json!(in alloc; {"outcomes": found, "states": outcomes.states()})
+    json!(in alloc; {"outcomes": found_values(alloc, program, outcomes)?, "states": outcomes.states()})
 }
 
 /// Each outcome with an order that gives it.
@@ -80,11 +79,12 @@ pub fn outcome_value(
 ) -> Result<Value, AllocError>
     ensures { IfOk result (λ v. view v ≡ outcome_json printer.now outcome.now) }
 {
-    let objects = objects_value(alloc, printer, outcome.store())?;
-    let order = order_value(alloc, outcome.order())?;
-    let output = output_value(alloc, outcome.output())?;
-    let threads = threads_value(alloc, outcome.ends())?;
-    json!(in alloc; {"objects": objects, "order": order, "output": output, "threads": threads})
+    json!(in alloc; {
+        "objects": objects_value(alloc, printer, outcome.store())?,
+        "order": order_value(alloc, outcome.order())?,
+        "output": output_value(alloc, outcome.output())?,
+        "threads": threads_value(alloc, outcome.ends())?
+    })
 }
 
 /// The threads whose sections ran, in their order.
@@ -126,9 +126,6 @@ fn thread_value(alloc: Global, end: Option<End>) -> Result<Value, AllocError>
 {
     match end {
         None => json!(in alloc; {"state": "running"}),
-        Some(end) => {
-            let state = format!(in alloc; "{end}")?;
-            json!(in alloc; {"state": state})
-        }
+        Some(end) => json!(in alloc; {"state": format!(in alloc; "{end}")?}),
     }
 }

@@ -78,7 +78,5 @@ pub fn span_value(alloc: Global, source: &PlacedText<'_>, span: Span) -> Result<
     requires { IsWithin (length source.now) span }
     ensures { IfOk result (λ v. view v ≡ span_json source.now span) }
 {
-    let start = place_value(alloc, source, span.start)?;
-    let end = place_value(alloc, source, span.end)?;
-    json!(in alloc; {"end": end, "start": start})
+    json!(in alloc; {"end": place_value(alloc, source, span.end)?, "start": place_value(alloc, source, span.start)?})
 }

@@ -41,15 +41,11 @@ fn progress_value(
         (blocks_of progress.now.made.items progress.now.run.events.items) progress.now.run.outcome) }
 {
     let run = &progress.run;
-    let turns = turn_values(
-        alloc,
-        program,
-        progress.made.as_slice(),
-        run.events.as_slice(),
-    )?;
     let printer = Printer::new(alloc, program)?;
-    let outcome = outcome_value(alloc, &printer, &run.outcome)?;
-    json!(in alloc; {"outcome": outcome, "turns": turns})
+    json!(in alloc; {
+        "outcome": outcome_value(alloc, &printer, &run.outcome)?,
+        "turns": turn_values(alloc, program, progress.made.as_slice(), run.events.as_slice())?
+    })
 }
 
 /// All turns. `made` says of each turn how many of the events are its own.
@@ -93,9 +89,12 @@ fn event_value(alloc: Global, program: &Program, event: Event) -> Result<Value, 
         Deed::Local => plain_event_value(alloc, "local", thread),
         Deed::Enter => plain_event_value(alloc, "enter", thread),
         Deed::Take { key, mode } => {
-            let key = key_value(alloc, program, key)?;
-            let mode = mode_value(alloc, mode)?;
-            json!(in alloc; {"deed": "take", "key": key, "mode": mode, "thread": thread})
+            json!(in alloc; {
+                "deed": "take",
+                "key": key_value(alloc, program, key)?,
+                "mode": mode_value(alloc, mode)?,
+                "thread": thread
+            })
         }
         Deed::Begin => plain_event_value(alloc, "begin", thread),
         Deed::Again => plain_event_value(alloc, "again", thread),

@@ -12,7 +12,7 @@ use sect_places::Thing;
 use std::alloc::{AllocError, Global};
 
 /// In what a word stands.
-#[derive(Clone, Copy, Debug, PartialEq, Eq)]
+#[derive(Clone, Copy)]
 pub enum Head {
     /// Before the first declaration.
     Nothing,

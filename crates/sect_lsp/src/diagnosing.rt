@@ -31,8 +31,7 @@ pub fn judge(alloc: Global, k: u16, uri: &str, text: &[u8]) -> Result<Judged, Al
     };
     match judgment {
         Judgment::Refused(diagnostic) => {
-            let value = mistake_value(alloc, uri, text, &diagnostic)?;
-            let diagnostics = json!(in alloc; [value])?;
+            let diagnostics = json!(in alloc; [mistake_value(alloc, uri, text, &diagnostic)?])?;
             Ok(Judged {
                 diagnostics,
                 compiled: None,

@@ -18,7 +18,7 @@ const MOST_HEADER: usize = 1024;
 const MOST_MESSAGE: usize = 16_777_216;
 
 /// What stands at the front of a stream.
-#[derive(Clone, Copy, Debug, PartialEq, Eq)]
+#[derive(Clone, Copy)]
 pub enum Front {
     /// A message of so many bytes, behind a header of so many.
     Message { header: usize, body: usize },

@@ -60,8 +60,7 @@ fn hint_value(alloc: Global, source: &[u8], head: Span, text: String) -> Result<
     requires { IsWithin (length source.now) head }
     ensures { IfOk result (λ v. view v ≡ hint_json source.now head (string_bytes text)) }
 {
-    let position = place_value(alloc, source, head.end)?;
-    json!(in alloc; {"label": text, "paddingLeft": true, "position": position})
+    json!(in alloc; {"label": text, "paddingLeft": true, "position": place_value(alloc, source, head.end)?})
 }
 
 /// Whether a line is one of a range.
@@ -254,8 +253,7 @@ fn lens_value(alloc: Global, source: &[u8], head: Span, title: String) -> Result
     requires { IsWithin (length source.now) head }
     ensures { IfOk result (λ v. view v ≡ lens_json source.now head (string_bytes title)) }
 {
-    let range = range_value(alloc, source, head)?;
-    json!(in alloc; {"command": {"command": "", "title": title}, "range": range})
+    json!(in alloc; {"command": {"command": "", "title": title}, "range": range_value(alloc, source, head)?})
 }
 
 /// The lens of a section.

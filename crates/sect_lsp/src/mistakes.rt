@@ -24,8 +24,7 @@ fn related_value(
     requires { IsWithin (length source.now) span }
     ensures { IfOk result (λ v. view v ≡ related_json uri.now source.now message.now span) }
 {
-    let location = location_value(alloc, uri, source, span)?;
-    json!(in alloc; {"location": location, "message": message})
+    json!(in alloc; {"location": location_value(alloc, uri, source, span)?, "message": message})
 }
 
 /// The places beside that of a mistake.
@@ -44,12 +43,10 @@ fn related_values(
                 start: *at,
                 end: *at + 1,
             };
-            let related = related_value(alloc, uri, source, "this `{` is open", brace)?;
-            json!(in alloc; [related])
+            json!(in alloc; [related_value(alloc, uri, source, "this `{` is open", brace)?])
         }
         Detail::Earlier(span) => {
-            let related = related_value(alloc, uri, source, "first declared here", *span)?;
-            json!(in alloc; [related])
+            json!(in alloc; [related_value(alloc, uri, source, "first declared here", *span)?])
         }
         _ => json!(in alloc; []),
     }
@@ -66,11 +63,14 @@ pub fn mistake_value(
     requires detail { IsDetailWithin (length source.now) diagnostic.now.detail }
     ensures { IfOk result (λ v. view v ≡ mistake_json uri.now source.now diagnostic.now) }
 {
-    let range = range_value(alloc, source, diagnostic.span)?;
-    let related = related_values(alloc, uri, source, &diagnostic.detail)?;
     let code = diagnostic.mistake.number();
     let (title, note) = (diagnostic.mistake.title(), diagnostic.mistake.note());
-    let message = format!(in alloc; "{title}: {note}")?;
-    json!(in alloc; {"code": code, "message": message, "range": range, "relatedInformation": related,
-        "severity": 1, "source": "sectc"})
+    json!(in alloc; {
+        "code": code,
+        "message": format!(in alloc; "{title}: {note}")?,
+        "range": range_value(alloc, source, diagnostic.span)?,
+        "relatedInformation": related_values(alloc, uri, source, &diagnostic.detail)?,
+        "severity": 1,
+        "source": "sectc"
+    })
 }

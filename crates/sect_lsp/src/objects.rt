@@ -23,7 +23,7 @@ use std::alloc::{AllocError, Global};
 use std::fmt::Write;
 
 /// What may refer to objects.
-#[derive(Clone, Copy, Debug, PartialEq, Eq)]
+#[derive(Clone, Copy)]
 pub enum Referrer {
     /// The global of this number.
     Global(usize),

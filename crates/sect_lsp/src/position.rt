@@ -7,7 +7,7 @@ ghost use Rattle.sect_lsp.specs.Positions.{offset as offset_by, replaced as repl
 use std::alloc::{AllocError, Global};
 
 /// How places on a line are counted.
-#[derive(Clone, Copy, Debug, PartialEq, Eq)]
+#[derive(Clone, Copy)]
 pub enum Encoding {
     /// By bytes.
     Utf8,
@@ -16,14 +16,14 @@ pub enum Encoding {
 }
 
 /// A line, and units of the encoding on it, both counted from 0.
-#[derive(Clone, Copy, Debug, PartialEq, Eq)]
+#[derive(Clone, Copy)]
 pub struct Place {
     pub line: u64,
     pub column: u64,
 }
 
 /// From one place to another.
-#[derive(Clone, Copy, Debug, PartialEq, Eq)]
+#[derive(Clone, Copy)]
 pub struct Range {
     pub start: Place,
     pub end: Place,

@@ -10,7 +10,7 @@ use serde_json::{Value, json};
 use std::alloc::{AllocError, Global};
 
 /// Why a request has no result.
-#[derive(Clone, Copy, Debug, PartialEq, Eq)]
+#[derive(Clone, Copy)]
 pub enum RequestError {
     /// The message is no JSON.
     ParseError,
@@ -93,8 +93,7 @@ pub fn result_message(alloc: Global, id: &Value, value: Value) -> Result<Value, 
 pub fn error_message(alloc: Global, id: &Value, why: RequestError) -> Result<Value, AllocError>
     ensures { IfOk result (λ v. view v ≡ response_json (view id.now) (ErrorView why)) }
 {
-    let error = error_value(alloc, why)?;
-    json!(in alloc; {"error": error, "id": id, "jsonrpc": "2.0"})
+    json!(in alloc; {"error": error_value(alloc, why)?, "id": id, "jsonrpc": "2.0"})
 }
 
 /// That a message is no request.

@@ -27,7 +27,7 @@ use serde_json::{Value, json};
 use std::alloc::{AllocError, Global};
 
 /// What may be asked of a document that its names tell.
-#[derive(Clone, Copy, Debug, PartialEq, Eq)]
+#[derive(Clone, Copy)]
 pub enum Query {
     /// Where the name at a place is declared.
     Definition,
@@ -149,8 +149,7 @@ fn highlight_value(alloc: Global, source: &[u8], span: Span) -> Result<Value, Al
     requires { IsWithin (length source.now) span }
     ensures { IfOk result (λ v. view v ≡ highlight_json source.now span) }
 {
-    let range = range_value(alloc, source, span)?;
-    json!(in alloc; {"range": range})
+    json!(in alloc; {"range": range_value(alloc, source, span)?})
 }
 
 /// Some places that are marked.
@@ -215,8 +214,7 @@ fn edit_value(alloc: Global, source: &[u8], name: &str, span: Span) -> Result<Va
     requires { IsWithin (length source.now) span }
     ensures { IfOk result (λ v. view v ≡ edit_json source.now name.now span) }
 {
-    let range = range_value(alloc, source, span)?;
-    json!(in alloc; {"newText": name, "range": range})
+    json!(in alloc; {"newText": name, "range": range_value(alloc, source, span)?})
 }
 
 /// Changes of some places to a name.
@@ -248,9 +246,8 @@ fn rename_value(
         (uses_by subject.now.names.now (Some declared.now))) }
 {
     let spans = uses(alloc, subject.source, subject.names, Some(*declared))?;
-    let edits = edits_value(alloc, subject.source, name, spans.as_slice())?;
     let uri = subject.uri;
-    json!(in alloc; {"changes": {(uri): edits}})
+    json!(in alloc; {"changes": {(uri): edits_value(alloc, subject.source, name, spans.as_slice())?}})
 }
 
 /// What is answered where another name is wanted.

@@ -25,9 +25,7 @@ pub fn range_value(alloc: Global, source: &[u8], span: Span) -> Result<Value, Al
     requires { IsWithin (length source.now) span }
     ensures { IfOk result (λ v. view v ≡ range_json source.now span) }
 {
-    let start = place_value(alloc, source, span.start)?;
-    let end = place_value(alloc, source, span.end)?;
-    json!(in alloc; {"end": end, "start": start})
+    json!(in alloc; {"end": place_value(alloc, source, span.end)?, "start": place_value(alloc, source, span.start)?})
 }
 
 /// Some bytes of a document.
@@ -40,6 +38,5 @@ pub fn location_value(
     requires { IsWithin (length source.now) span }
     ensures { IfOk result (λ v. view v ≡ location_json uri.now source.now span) }
 {
-    let range = range_value(alloc, source, span)?;
-    json!(in alloc; {"range": range, "uri": uri})
+    json!(in alloc; {"range": range_value(alloc, source, span)?, "uri": uri})
 }

@@ -30,7 +30,7 @@ use std::marker::Model;
 const DEFAULT_K: u16 = 2;
 
 /// What may come now.
-#[derive(Clone, Copy, Debug, PartialEq, Eq)]
+#[derive(Clone, Copy)]
 pub enum Phase {
     /// Nothing but `initialize` may be asked.
     Waiting,
@@ -44,7 +44,7 @@ pub enum Phase {
 }
 
 /// What an editor asks.
-#[derive(Clone, Copy, Debug, PartialEq, Eq)]
+#[derive(Clone, Copy)]
 pub enum Asked {
     Initialize,
     Shutdown,
@@ -54,7 +54,7 @@ pub enum Asked {
 }
 
 /// What an editor tells.
-#[derive(Clone, Copy, Debug, PartialEq, Eq)]
+#[derive(Clone, Copy)]
 pub enum Told {
     Exit,
     Opened,
@@ -175,12 +175,10 @@ fn completion_options(alloc: Global) -> Result<Value, AllocError>
 fn able_value(alloc: Global, encoding: Encoding) -> Result<Value, AllocError>
     ensures { IfOk result (λ v. view v ≡ able_json encoding) }
 {
-    let sync = sync_value(alloc)?;
-    let completion = completion_options(alloc)?;
     let name = name_of(encoding);
     json!(in alloc; {
         "codeLensProvider": {},
-        "completionProvider": completion,
+        "completionProvider": completion_options(alloc)?,
         "definitionProvider": true,
         "documentHighlightProvider": true,
         "documentSymbolProvider": true,
@@ -189,7 +187,7 @@ fn able_value(alloc: Global, encoding: Encoding) -> Result<Value, AllocError>
         "positionEncoding": name,
         "referencesProvider": true,
         "renameProvider": true,
-        "textDocumentSync": sync
+        "textDocumentSync": sync_value(alloc)?
     })
 }
 
@@ -197,8 +195,7 @@ fn able_value(alloc: Global, encoding: Encoding) -> Result<Value, AllocError>
 fn capabilities(alloc: Global, encoding: Encoding) -> Result<Value, AllocError>
     ensures { IfOk result (λ v. view v ≡ capabilities_json encoding) }
 {
-    let able = able_value(alloc, encoding)?;
-    json!(in alloc; {"capabilities": able, "serverInfo": {"name": "sectc"}})
+    json!(in alloc; {"capabilities": able_value(alloc, encoding)?, "serverInfo": {"name": "sectc"}})
 }
 
 /// The message that the diagnostics of a document are these.

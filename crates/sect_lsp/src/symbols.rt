@@ -51,10 +51,12 @@ fn symbol_value(
     requires { IsWithin (length source.now) named.now.span }
     ensures { IfOk result (λ v. view v ≡ symbol_json source.now named.now kind) }
 {
-    let name = format!(in alloc; "{}", named.used.name)?;
-    let range = range_value(alloc, source, named.span)?;
-    let selection = range_value(alloc, source, named.span)?;
-    json!(in alloc; {"kind": kind, "name": name, "range": range, "selectionRange": selection})
+    json!(in alloc; {
+        "kind": kind,
+        "name": format!(in alloc; "{}", named.used.name)?,
+        "range": range_value(alloc, source, named.span)?,
+        "selectionRange": range_value(alloc, source, named.span)?
+    })
 }
 
 /// Adds a name to what is listed, if it is.
@@ -107,9 +109,13 @@ fn section_value(
     ensures { IfOk result (λ v. view v
         ≡ section_with source.now head (string_bytes thread) (string_bytes name)) }
 {
-    let range = range_value(alloc, source, head)?;
-    let selection = range_value(alloc, source, head)?;
-    json!(in alloc; {"detail": thread, "kind": 24, "name": name, "range": range, "selectionRange": selection})
+    json!(in alloc; {
+        "detail": thread,
+        "kind": 24,
+        "name": name,
+        "range": range_value(alloc, source, head)?,
+        "selectionRange": range_value(alloc, source, head)?
+    })
 }
 
 /// The name of the thread of a section.

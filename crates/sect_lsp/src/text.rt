@@ -4,7 +4,7 @@ use crate::position::Encoding;
 use sect_emit::Compiled;
 
 /// How a text is read: how many fields a path may have, at most 3, and how places are counted.
-#[derive(Clone, Copy, Debug, PartialEq, Eq)]
+#[derive(Clone, Copy)]
 pub struct Reading {
     pub k: u16,
     pub encoding: Encoding,

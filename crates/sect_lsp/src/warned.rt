@@ -42,11 +42,14 @@ fn warning_value(alloc: Global, source: &[u8], placed: &Placed) -> Result<Value,
     ensures { IfOk result (λ v. view v ≡ warning_json source.now placed.now) }
 {
     let told = placed.told();
-    let range = range_value(alloc, source, placed.span())?;
-    let tags = tags(alloc, told)?;
-    let message = message_of(alloc, placed)?;
-    json!(in alloc; {"code": told.name(), "message": message, "range": range, "severity": 2, "source": "sectc",
-        "tags": tags})
+    json!(in alloc; {
+        "code": told.name(),
+        "message": message_of(alloc, placed)?,
+        "range": range_value(alloc, source, placed.span())?,
+        "severity": 2,
+        "source": "sectc",
+        "tags": tags(alloc, told)?
+    })
 }
 
 /// Some warnings.

@@ -47,7 +47,11 @@ pub struct NodeSpans {
 
 impl Drop for NodeSpans {
     fn drop(self) {
-        let NodeSpans { threads: _, sections: _, heads: _ } = self;
+        let NodeSpans {
+            threads: _,
+            sections: _,
+            heads: _,
+        } = self;
     }
 }
 

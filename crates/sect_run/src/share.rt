@@ -35,10 +35,15 @@ impl Naming for Brand {
 }
 
 /// What lies under the lock: the run that J names, put aside between two turns. It is taken out while a turn is made.
-#[derive(Drop)]
 pub struct SharedRun<J: Naming> {
     moment: Option<Moment>,
     name: PhantomData<J>,
+}
+
+impl<J: Naming> Drop for SharedRun<J> {
+    fn drop(self) {
+        let SharedRun { moment: _, name: _ } = self;
+    }
 }
 
 impl<J: Naming> Model for SharedRun<J> {
@@ -87,7 +92,8 @@ impl<J: Naming> SharedRun<J> {
         requires { J.compiled ≡ Some compiled.now }
         ensures { (result.compiled ≡ compiled.now) × (result.fuel ≡ J.fuel) }
     {
-        match self.moment {
+        let SharedRun { moment, name: _ } = self;
+        match moment {
             Some(moment) => moment.resume(compiled),
             None => unreachable!(),
         }

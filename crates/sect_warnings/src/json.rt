@@ -18,10 +18,7 @@ fn labels_value(alloc: Global, source: &[u8], placed: &Placed) -> Result<Value, 
 {
     match placed.label().as_bytes() {
         [] => json!(in alloc; []),
-        _ => {
-            let label = label_value(alloc, source, placed.label(), placed.span())?;
-            json!(in alloc; [label])
-        }
+        _ => json!(in alloc; [label_value(alloc, source, placed.label(), placed.span())?]),
     }
 }
 
@@ -31,10 +28,13 @@ pub fn warning_value(alloc: Global, source: &[u8], placed: &Placed) -> Result<Va
     ensures { IfOk result (λ v. view v ≡ warning_json source.now placed.now) }
 {
     let told = placed.told();
-    let span = span_value(alloc, source, placed.span())?;
-    let labels = labels_value(alloc, source, placed)?;
-    let message = title(alloc, told)?;
     let (code, note) = (told.name(), placed.note());
-    json!(in alloc; {"code": code, "labels": labels, "message": message, "notes": [note],
-        "severity": "warning", "span": span})
+    json!(in alloc; {
+        "code": code,
+        "labels": labels_value(alloc, source, placed)?,
+        "message": title(alloc, told)?,
+        "notes": [note],
+        "severity": "warning",
+        "span": span_value(alloc, source, placed.span())?
+    })
 }

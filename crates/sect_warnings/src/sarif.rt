@@ -32,10 +32,13 @@ fn result_value(alloc: Global, source: &[u8], placed: &Placed) -> Result<Value, 
     requires { IsWithin (length source.now) placed.now.span }
     ensures { IfOk result (λ v. view v ≡ result_json source.now placed.now) }
 {
-    let location = location_value(alloc, source, placed.span())?;
-    let message = message_of(alloc, placed)?;
     let rule = placed.told().name();
-    json!(in alloc; {"level": "warning", "locations": [location], "message": {"text": message}, "ruleId": rule})
+    json!(in alloc; {
+        "level": "warning",
+        "locations": [location_value(alloc, source, placed.span())?],
+        "message": {"text": message_of(alloc, placed)?},
+        "ruleId": rule
+    })
 }
 
 /// All of them.
@@ -75,19 +78,14 @@ fn spare_value(alloc: Global, spare: Spare) -> Result<Value, AllocError>
 fn rules_value(alloc: Global) -> Result<Value, AllocError>
     ensures { IfOk result (λ v. view v ≡ rules_by) }
 {
-    let no_lock = finding_value(alloc, Finding::NoLock)?;
-    let all_for_one = finding_value(alloc, Finding::AllForOne)?;
-    let class_lock = finding_value(
-        alloc,
-        Finding::ClassLock {
-            class: 0,
-            effect: Effect::Read,
-        },
-    )?;
-    let never_filled = finding_value(alloc, Finding::NeverFilled { node: 0, local: 0 })?;
-    let unused = spare_value(alloc, Spare::Unused(Thing::Local))?;
-    let hint = spare_value(alloc, Spare::Hint)?;
-    json!(in alloc; [no_lock, all_for_one, class_lock, never_filled, unused, hint])
+    json!(in alloc; [
+        finding_value(alloc, Finding::NoLock)?,
+        finding_value(alloc, Finding::AllForOne)?,
+        finding_value(alloc, Finding::ClassLock { class: 0, effect: Effect::Read })?,
+        finding_value(alloc, Finding::NeverFilled { node: 0, local: 0 })?,
+        spare_value(alloc, Spare::Unused(Thing::Local))?,
+        spare_value(alloc, Spare::Hint)?
+    ])
 }
 
 /// The log of the warnings of a source text.
@@ -95,9 +93,7 @@ pub fn warnings_log(alloc: Global, source: &[u8], placed: &[Placed]) -> Result<V
     requires { AreWithin (length source.now) placed.now }
     ensures { IfOk result (λ v. view v ≡ log_by source.now placed.now) }
 {
+    let tool = tool_value(alloc, rules_value(alloc)?)?;
     let results = results_value(alloc, source, placed)?;
-    let rules = rules_value(alloc)?;
-    let tool = tool_value(alloc, rules)?;
-    let run = run_value(alloc, results, tool)?;
-    log_value(alloc, run)
+    log_value(alloc, run_value(alloc, results, tool)?)
 }

@@ -8,7 +8,7 @@ use sect_names::Effect;
 use sect_places::Thing;
 
 /// What may be told of a section of a program that is accepted.
-#[derive(Clone, Copy, Debug, PartialEq, Eq)]
+#[derive(Clone, Copy)]
 pub enum Finding {
     /// The section takes no lock.
     NoLock,
@@ -52,7 +52,7 @@ impl Finding {
 }
 
 /// A warning: the section that it is of, what is told, and the item that it stands at.
-#[derive(Clone, Copy, Debug, PartialEq, Eq)]
+#[derive(Clone, Copy)]
 pub struct Warning {
     pub section: u16,
     pub finding: Finding,
@@ -60,7 +60,7 @@ pub struct Warning {
 }
 
 /// What may be told of a declaration of a program that is accepted.
-#[derive(Clone, Copy, Debug, PartialEq, Eq)]
+#[derive(Clone, Copy)]
 pub enum Spare {
     /// No name refers to it.
     Unused(Thing),
@@ -106,7 +106,7 @@ impl Spare {
 }
 
 /// What is told, of a section or of a declaration.
-#[derive(Clone, Copy, Debug, PartialEq, Eq)]
+#[derive(Clone, Copy)]
 pub enum Told {
     Section(Warning),
     Declaration(Spare),

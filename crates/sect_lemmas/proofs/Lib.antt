@@ -4,6 +4,7 @@ pub mod Changed
 pub mod Distinct
 pub mod Elements
 pub mod Finding
+pub mod Firsts
 pub mod Inserting
 pub mod Listing
 pub mod Making

@@ -7,13 +7,14 @@ ghost use Rattle.sect_graph.specs.declared.flow.Node.{Node};
 ghost use Rattle.sect_names.specs.declared.link.Link.{Link};
 ghost use Rattle.sect_names.specs.Needed.{end_of};
 ghost use Rattle.sect_chains.specs.Chains.{AreChains};
-ghost use Rattle.sect_cert.specs.Texts.{IsSection, HasText};
+ghost use Rattle.std.specs.List.{AllByRecursion};
+ghost use Rattle.sect_cert.specs.Texts.{IsChain, AreRising, IsSection, HasText};
 ghost use Rattle.sect_infer.specs.Sets.{AreInferredAt, AreAllInferred};
 ghost use Rattle.sect_emit.specs.Words.{IsChainNamed};
-ghost use Rattle.sect_emit.specs.steps.Spelled.{IsSectionSpelled, IsSpelled};
+ghost use Rattle.sect_emit.specs.steps.Spelled.{AreChainsSpelled, IsSectionSpelled, IsSpelled};
 
 use crate::words::{chains_of, entry_of, lists_of};
-use sect_cert::{Cert, CertSection};
+use sect_cert::{Cert, CertChain, CertSection};
 use sect_chains::{Chain, chains};
 use sect_front::Items;
 use sect_infer::Locks;
@@ -45,6 +46,26 @@ pub fn found(
     chains(alloc, scheme, locks, section)
 }
 
+/// The chains of a section, by the names of the text. Their steps are let go with the answer.
+fn named_chains(
+    alloc: Global,
+    scheme: &Scheme,
+    locks: &Locks,
+    section: u16,
+) -> Result<Items<CertChain>, AllocError>
+    requires section { section < length (sections_of scheme.now.program.texts) }
+    requires inferred { AreInferredAt scheme.now section locks.now }
+    ensures words { (of : SectionView) (g : List Node)
+        → slice_get (sections_of scheme.now.program.texts) section ≡ Some of
+        → slice_get scheme.now.graphs.sections section ≡ Some g
+        → IfOk result (AreChainsSpelled scheme.now of.thread (end_of scheme.now section) g locks.now.entry) }
+    ensures good { IfOk result (AllByRecursion IsChain) }
+    ensures rising { IfOk result AreRising }
+{
+    let chains = found(alloc, scheme, locks, section)?;
+    chains_of(alloc, scheme.program(), chains.as_slice())
+}
+
 /// What is inferred of a section, by the names of the text.
 fn section_of(
     alloc: Global,
@@ -58,13 +79,13 @@ fn section_of(
     ensures good { IfOk result IsSection }
 {
     scheme.facts();
-    let chains = found(alloc, scheme, locks, section)?;
+    let chains = named_chains(alloc, scheme, locks, section)?;
     let program = scheme.program();
     let count = scheme.graph().section(section).exit() + 1;
     Ok(CertSection {
         nodes: lists_of(alloc, program, locks, count)?,
         entry: entry_of(alloc, program, locks)?,
-        chains: chains_of(alloc, program, chains.as_slice())?,
+        chains,
     })
 }
 

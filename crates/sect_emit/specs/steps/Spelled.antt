@@ -3,13 +3,22 @@ use Rattle.std.specs.Prelude.{◌≡◌, ℕ, List, Some, length, slice_get}
 use Rattle.sect_types.specs.Sections.{SectionView, sections_of}
 use Rattle.sect_graph.specs.declared.flow.Node.{Node}
 use Rattle.sect_names.specs.declared.link.Link.{Link}
+use Rattle.sect_names.specs.declared.lock.Lock.{Lock}
 use Rattle.sect_names.specs.Needed.{end_of}
 use Rattle.sect_names.specs.Schemes.{SchemeView}
 use Rattle.sect_chains.specs.Chains.{AreChains}
+use Rattle.sect_cert.specs.declared.certificate.CertChain.{CertChain}
 use Rattle.sect_cert.specs.declared.certificate.CertSection.{CertSection}
 use Rattle.sect_cert.specs.declared.certificate.Cert.{Cert}
 use Rattle.sect_infer.specs.Sets.{LocksView}
-use Rattle.sect_emit.specs.Words.{section_words}
+use Rattle.sect_emit.specs.Words.{chains_words, section_words}
+
+-- these are by names chains of the entry's locks
+abbrev pub AreChainsSpelled :
+    SchemeView → ℕ → List Lock → List Node → List Lock → List CertChain → Type 0
+AreChainsSpelled s thread last g entry list =
+    (chains : List (List Link)) × AreChains s thread last g entry chains
+    × (list ≡ chains_words s.program.source 0 chains)
 
 -- it says by names which locks section i needs at its nodes and at its entry, with a chain for each of the entry's
 abbrev pub IsSectionSpelled : SchemeView → ℕ → LocksView → CertSection → Type 0

@@ -1,12 +1,11 @@
-use Rattle.std.proofs.Common.{◌≡◌, Some, length, arith, sym, ap, ◌∙◌, subst}
+use Rattle.std.proofs.Common.{◌≡◌, Some, length, map, arith, refl, sym, ap, ◌∙◌, subst}
 use Rattle.std.specs.Prelude.{slice_get}
 use Rattle.std.proofs.lemmas.List.{length-map}
+use Rattle.sect_types.specs.Programs.{ProgramView}
 use Rattle.sect_graph.specs.Graphs.{GraphView}
 use Rattle.sect_names.specs.Printing.{AreNamed}
 use Rattle.sect_emit.specs.Words.{list_words}
-use Rattle.sect_emit.proofs.Spelling.{rising}
 use Rattle.sect_emit.proofs.Wholes.{all_named, entry_first, entry_named, nodes_counted}
-use Rattle.sect_cert.specs.Texts.{AreRising}
 use Rattle.sect_emit.proofs.certificate.section_of.Goals as goal
 
 pub lists_of-requires-clause-count : goal.lists_of-requires-clause-count
@@ -50,7 +49,17 @@ returns-clause-good c = record {
       );
   nodes = c.in_ok-lists_of.ensures.good;
   entry = c.in_ok-entry_of.ensures.good;
-  chains = c.in_ok-chains_of.ensures.good;
-  rising = subst AreRising (sym c.in_ok-chains_of.ensures.words)
-      (rising c.program-program.result.now.source 0 c.as_slice.result.now);
+  chains = c.in_ok-chains.ensures.good;
+  rising = c.in_ok-chains.ensures.rising;
 }
+
+pub returns-clause-words : goal.returns-clause-words
+returns-clause-words c = λ of g at graph.
+    let told = c.in_ok-chains.ensures.words of g at graph in
+    let source = c.args.scheme.now.program.source in
+    let locks = c.args.locks.now in
+    let lists = c.in_ok-lists_of.ensures.words
+    ∙ ap (λ (p : ProgramView). map (list_words p.source) locks.at) c.program-program.ensures in
+    let entry = c.in_ok-entry_of.ensures.words
+    ∙ ap (λ (p : ProgramView). list_words p.source locks.entry) c.program-program.ensures in
+    (told.0, told.1, rw (lists, entry, told.2) refl)

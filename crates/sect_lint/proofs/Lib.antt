@@ -1,6 +1,9 @@
 mod Circling
 mod Counting
 mod Faulty
+mod Keeping
+mod KeepingTold
+mod KeepingTypes
 mod Marked
 mod Parts
 mod Plainly

@@ -29,7 +29,7 @@ use crate::plain::plain_detail;
 use sect_front::{FrontFault, PlacedFault, Span, Token, Tree, innermost_brace, parse_placed};
 use sect_hints::guards;
 use sect_names::{Scheme, SchemeFault, SourceRefusal, check_k, scheme_of};
-use sect_places::{NameSpan, tree_names};
+use sect_places::{NameSpan, item_names};
 use sect_types::{Mistyped, Program, TypeFault, check_tree};
 use std::alloc::{AllocError, Global};
 
@@ -157,7 +157,8 @@ fn told_item(
     told_of(alloc, names, fault, other)
 }
 
-/// What is told of a text whose tree breaks a rule on types, by the names of the text. `words` are those of the item.
+/// What is told of a text whose tree breaks a rule on types, by the names of the text that matter to the item at fault.
+/// `words` are those of the item.
 fn named_diagnostic(
     alloc: Global,
     source: &[u8],
@@ -172,7 +173,9 @@ fn named_diagnostic(
     ensures { IfOk result (IsDiagnosisOf source.now (refusal.Types mistyped.now.fault)) }
 {
     let Mistyped { fault, tree } = mistyped;
-    let names = tree_names(alloc, source, tree)?;
+    let culprit = Culprit::of_types(fault);
+    let item = culprit.item(tree)?;
+    let names = item_names(alloc, source, tree, item)?;
     let whole = item_span(words, mistake);
     let span = marked_span(names.as_slice(), fault, whole);
     let detail = told_item(alloc, tree, names.as_slice(), words, fault)?;

@@ -1,4 +1,4 @@
-use Rattle.std.proofs.Common.{◌≡◌, Err, inr, subst, sym}
+use Rattle.std.proofs.Common.{Err, inr, subst, sym}
 use Rattle.sect_names.specs.Verdicts as schemes
 use Rattle.sect_names.specs.declared.refusal.SourceRefusal.TheVariants as refusal
 use Rattle.sect_lint.proofs.Faulty.{hint_judged}

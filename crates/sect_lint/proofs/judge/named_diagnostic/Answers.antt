@@ -1,8 +1,11 @@
 use Rattle.std.proofs.Common.{◌≡◌, length, map, subst, ap, ◌∙◌}
+use Rattle.std.specs.Prelude.{MatchOption}
 use Rattle.sect_front.specs.FaultPlaces.{token_span}
+use Rattle.sect_places.specs.Mattering.{mattering}
 use Rattle.sect_lint.specs.Places.{of_types, item_number, marked_name}
 use Rattle.sect_lint.specs.Details.{IsToldOf, own_tokens, own_spans, item_detail}
 use Rattle.sect_lint.specs.declared.diagnostic.Detail.{Detail}
+use Rattle.sect_lint.proofs.KeepingTold.{marked_same, detail_same, told_more}
 use Rattle.sect_lint.proofs.Marked.{is_marked, marked_within, detail_within, told_within}
 use Rattle.sect_lint.proofs.Worded.{item_span_is}
 use Rattle.sect_lint.proofs.judge.named_diagnostic.Goals as goal
@@ -12,14 +15,28 @@ returns c =
     let source = c.args.source.now in
     let fault = c.args.mistyped.now.fault in
     let tree = c.args.mistyped.now.tree in
-    let names = c.in_ok-names.names.items in
-    let are = c.in_ok-names.ensures in
+    let some = c.in_ok-names.names.items in
+    let names = c.in_ok-names.ensures.0 in
+    let are = c.in_ok-names.ensures.1 in
     let words = c.args.words.now in
     let item = item_number tree (of_types fault) in
+    let mattered : some ≡ mattering item names =
+    c.in_ok-names.ensures.2
+    ∙ ap (λ i. mattering i names) (c.in_ok-item.ensures ∙ ap (item_number tree) c.of_types-culprit.ensures) in
     let laid = c.requires.words in
-    let marked = rw c.as_slice.ensures.value at c.marked_span-span.ensures in
-    let told : IsToldOf names fault (item_detail tree names words.tokens.items words.spans.items fault)
+    let whole = c.item_span-whole.result in
+    let span = c.marked_span-span.result in
+    let marked : MatchOption (marked_name names fault) (span ≡ whole) (λ n. span ≡ n.span) =
+    subst (λ o. MatchOption o (span ≡ whole) (λ n. span ≡ n.span)) (marked_same tree fault names some mattered)
+    (rw c.as_slice.ensures.value at c.marked_span-span.ensures) in
+    let said : IsToldOf some fault (item_detail tree some words.tokens.items words.spans.items fault)
     c.in_ok-detail.detail = rw c.as_slice-2.ensures.value at c.in_ok-detail.ensures in
+    let told : IsToldOf names fault (item_detail tree names words.tokens.items words.spans.items fault)
+    c.in_ok-detail.detail =
+    told_more tree fault names some mattered (item_detail tree names words.tokens.items words.spans.items fault)
+    c.in_ok-detail.detail
+    (subst (λ (d : Detail). IsToldOf some fault d c.in_ok-detail.detail)
+    (detail_same tree words.tokens.items words.spans.items fault names some mattered) said) in
     let other : item_detail tree names words.tokens.items words.spans.items fault
     ≡ item_detail tree names (own_tokens tree item) (own_spans tree (map token_span are.spelled.places) item) fault =
     ap (λ ts. item_detail tree names ts words.spans.items fault) laid.tokens
@@ -30,12 +47,11 @@ returns c =
         tree,
         names,
         are,
-        is_marked source tree c.args.mistake (of_types fault)
-            (marked_name names fault) c.item_span-whole.result c.marked_span-span.result
-            (item_span_is source tree c.args.mistake (of_types fault) words laid c.requires.there
-            c.item_span-whole.result c.item_span-whole.ensures.is) marked,
+        is_marked source tree c.args.mistake (of_types fault) (marked_name names fault) whole span
+            (item_span_is source tree c.args.mistake (of_types fault) words laid c.requires.there whole
+            c.item_span-whole.ensures.is) marked,
       );
-      within = marked_within (length source) names are.proper fault c.item_span-whole.result c.marked_span-span.result
+      within = marked_within (length source) names are.proper fault whole span
           (c.item_span-whole.ensures.within (length source) laid.order) marked;
       detail = (tree, names, are, subst (λ (d : Detail). IsToldOf names fault d c.in_ok-detail.detail) other told);
       told_within = told_within (length source) names are.proper fault

@@ -1,0 +1,72 @@
+-- What the names that matter to the item at fault tell of a mistake, all names tell.
+use Rattle.std.proofs.Common.{◌≡◌, ℕ, List, [], ◌∷◌, refl, ap, subst}
+use Rattle.sect_lemmas.specs.Lists.{Has}
+use Rattle.sect_front.specs.TreeView.{TreeView}
+use Rattle.sect_front.specs.declared.span.Span.{Span}
+use Rattle.sect_front.specs.declared.token.Token.{Token}
+use Rattle.sect_types.specs.declared.rules.rule.TypeFault.{TypeFault}
+use Rattle.sect_types.specs.declared.rules.rule.TypeFault.TheVariants as types
+use Rattle.sect_places.specs.declared.name_use.NameSpan.{NameSpan}
+use Rattle.sect_places.specs.Mattering.{matters, mattering}
+use Rattle.sect_lint.specs.declared.diagnostic.Detail.{Detail}
+use Rattle.sect_lint.specs.declared.diagnostic.Detail.TheVariants as detail
+use Rattle.sect_lint.specs.Naming.{earlier_detail}
+use Rattle.sect_lint.specs.Limits.{item_limit}
+use Rattle.sect_lint.specs.Places.{of_types, item_number, marked_name}
+use Rattle.sect_lint.specs.Details.{IsToldOf, item_detail}
+use Rattle.sect_lint.specs.Calls.{Leads, IsCircleTold}
+use Rattle.sect_lint.proofs.Circling.{filter_has}
+use Rattle.sect_lint.proofs.Keeping.{unknown_same, declared_same, earlier_same}
+use Rattle.sect_lint.proofs.KeepingTypes.{mistyped_same}
+
+module _ (item : ℕ) (names some : List NameSpan) (are : some ≡ mattering item names) where
+  has_more : (n : NameSpan) → Has some n → Has names n
+  has_more n h = filter_has (λ n. matters item n.used) names n (subst (λ list. Has list n) are h)
+
+  leads_more : (from to : NameSpan) (calls : List NameSpan) → Leads some from to calls → Leads names from to calls
+  leads_more from to [] h = h
+  leads_more from to (x ∷ calls) (there, stands, (next, has, called, rest)) =
+      (has_more x there, stands, (next, has_more next has, called, leads_more next to calls rest))
+
+  circle_more : (told : Detail) → IsCircleTold some item told → IsCircleTold names item told
+  circle_more (detail.Circle spans) (calls, circle, is) = (
+    calls,
+    record {
+      first = circle.first;
+      others = circle.others;
+      are = circle.are;
+      stands = circle.stands;
+      procedure = circle.procedure;
+      leads = leads_more circle.procedure circle.procedure calls circle.leads;
+    },
+    is,
+  )
+  circle_more _ h = h
+
+-- the item at fault
+abbrev fault_item : TreeView → TypeFault → ℕ
+fault_item tree fault = item_number tree (of_types fault)
+
+-- the name that is marked is the same
+pub marked_same : (tree : TreeView) (fault : TypeFault) (names some : List NameSpan)
+    → some ≡ mattering (fault_item tree fault) names → marked_name some fault ≡ marked_name names fault
+marked_same tree (types.Unknown item) names some are = unknown_same item names some are
+marked_same tree _ names some are = refl
+
+-- and what is said
+pub detail_same : (tree : TreeView) (ts : List Token) (ss : List Span) (fault : TypeFault)
+    (names some : List NameSpan) → some ≡ mattering (fault_item tree fault) names
+    → item_detail tree some ts ss fault ≡ item_detail tree names ts ss fault
+detail_same tree ts ss (types.Twice item) names some are = ap earlier_detail (earlier_same item names some are)
+detail_same tree ts ss (types.WrongType item) names some are =
+    mistyped_same item names some are tree.procedures ts ss
+detail_same tree ts ss (types.TooMany item) names some are =
+    ap (λ n. detail.Limit (item_limit n ts)) (declared_same item names some are)
+detail_same tree ts ss _ names some are = refl
+
+-- what is told by the names that matter is told by all
+pub told_more : (tree : TreeView) (fault : TypeFault) (names some : List NameSpan)
+    → some ≡ mattering (fault_item tree fault) names → (other told : Detail)
+    → IsToldOf some fault other told → IsToldOf names fault other told
+told_more tree (types.Recursion item) names some are other told h = circle_more item names some are told h
+told_more tree _ names some are other told h = h

@@ -14,7 +14,7 @@ pub trait Gate: Sync {
 }
 
 /// A gate that keeps nobody.
-#[derive(Clone, Copy, Debug)]
+#[derive(Clone, Copy)]
 pub struct OpenGate;
 
 impl Gate for OpenGate {

@@ -10,7 +10,7 @@ use std::alloc::AllocError;
 use thiserror::Error;
 
 /// Why what is claimed of a section isn't right. Nodes, locks of the entry list and steps are numbered from 0.
-#[derive(Clone, Copy, Debug)]
+#[derive(Clone, Copy)]
 pub enum SectionFault {
     /// Want of memory.
     Memory,

@@ -6,7 +6,7 @@ ghost use Rattle.sect_check.specs.declared.unresolved.Unresolved.TheVariants.{Me
 use std::alloc::{AllocError, AllocFailed};
 
 /// Why the names of a certificate aren't a program's.
-#[derive(Clone, Copy, Debug)]
+#[derive(Clone, Copy)]
 pub enum Unresolved {
     /// Want of memory.
     Memory,

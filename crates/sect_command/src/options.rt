@@ -30,7 +30,7 @@ pub const DEFAULT_K: u16 = 2;
 pub const DEFAULT_WORKERS: u16 = 1;
 
 /// What is answered to the whole input.
-#[derive(Debug, Drop)]
+#[derive(Drop)]
 pub enum Request {
     /// The lock set of each section, whose paths have at most k fields.
     Locks {
@@ -106,7 +106,7 @@ pub enum Request {
 }
 
 /// What the words of a command line ask for.
-#[derive(Debug, Drop)]
+#[derive(Drop)]
 pub enum Wanted {
     /// A session with an editor.
     Session,
@@ -115,7 +115,7 @@ pub enum Wanted {
 }
 
 /// How a compiled program is printed.
-#[derive(Clone, Copy, Debug)]
+#[derive(Clone, Copy)]
 pub enum Form {
     Listing,
     Document,
@@ -370,32 +370,41 @@ fn requested(alloc: Global, name: &str, options: &ArgMatches<'_>) -> Result<Requ
         "schedule" => schedule_request(alloc, options),
         "run" => run_request(alloc, options),
         "compile" => compile_request(alloc, options),
-        "explain" => Ok(Request::Explain {
-            k: k_of(alloc, options)?,
-            format: format_of(alloc, options)?,
-        }),
-        "conflicts" => Ok(Request::Conflicts {
-            k: k_of(alloc, options)?,
-            format: format_of(alloc, options)?,
-        }),
-        "graph" => Ok(Request::Graph {
-            k: k_of(alloc, options)?,
-            section: section_of(alloc, options)?,
-        }),
-        "lint" => Ok(Request::Lint {
-            k: k_of(alloc, options)?,
-            format: lint_format_of(alloc, options)?,
-        }),
-        "inspect" => Ok(Request::Inspect {
-            k: k_of(alloc, options)?,
-        }),
-        "check" => Ok(Request::Check {
-            k: k_of(alloc, options)?,
-        }),
-        _locks => Ok(Request::Locks {
-            k: k_of(alloc, options)?,
-            format: format_of(alloc, options)?,
-        }),
+        _ => inferred_request(alloc, name, options),
+    }
+}
+
+/// What a command of this name asks for that takes `--k N`, and runs nothing.
+fn inferred_request(
+    alloc: Global,
+    name: &str,
+    options: &ArgMatches<'_>,
+) -> Result<Request, UsageFault> {
+    let k = k_of(alloc, options)?;
+    match name {
+        "inspect" => Ok(Request::Inspect { k }),
+        "check" => Ok(Request::Check { k }),
+        "graph" => {
+            let section = section_of(alloc, options)?;
+            Ok(Request::Graph { k, section })
+        }
+        "lint" => {
+            let format = lint_format_of(alloc, options)?;
+            Ok(Request::Lint { k, format })
+        }
+        _ => {
+            let format = format_of(alloc, options)?;
+            Ok(told_request(name, k, format))
+        }
+    }
+}
+
+/// What a command of this name asks for that is told in either format.
+fn told_request(name: &str, k: u16, format: Format) -> Request {
+    match name {
+        "explain" => Request::Explain { k, format },
+        "conflicts" => Request::Conflicts { k, format },
+        _locks => Request::Locks { k, format },
     }
 }
 

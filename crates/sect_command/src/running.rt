@@ -70,16 +70,26 @@ pub fn thread_words<'a>(alloc: Global, help: &'a str) -> Arg<'a>
         .action(ArgAction::Append)
 }
 
+/// A command that takes `--fuel N`.
+fn fueled_command<'a>(
+    alloc: Global,
+    name: &'a str,
+    about: &'a str,
+) -> Result<Command<'a>, AllocError>
+    ensures { IfOk result (λ c. (fields_of c).has_globals ≡ false) }
+{
+    Command::new(alloc, name)
+        .about(about)
+        .arg(fuel_option(alloc))
+}
+
 /// The command `serial` and what it takes.
 pub fn serial_command<'a>(alloc: Global) -> Result<Command<'a>, AllocError>
     ensures { IfOk result (λ c. (fields_of c).has_globals ≡ false) }
 {
     let about =
         "runs the program of the source text by whole sections in an order, and prints the outcome";
-    let command = Command::new(alloc, "serial")
-        .about(about)
-        .arg(fuel_option(alloc))?;
-    let command = command.arg(format_option(alloc))?;
+    let command = fueled_command(alloc, "serial", about)?.arg(format_option(alloc))?;
     let threads = "the threads of the sections, in their order";
     command.arg(thread_words(alloc, threads))
 }
@@ -91,10 +101,7 @@ pub fn outcomes_command<'a>(alloc: Global) -> Result<Command<'a>, AllocError>
     let about = "prints every outcome that a run of the program of the source text can have";
     let most =
         "the most states between sections that are looked at, 1 to 10000000 (default 100000)";
-    let command = Command::new(alloc, "outcomes")
-        .about(about)
-        .arg(fuel_option(alloc))?;
-    let command = command.arg(numeral(alloc, "most", most))?;
+    let command = fueled_command(alloc, "outcomes", about)?.arg(numeral(alloc, "most", most))?;
     command.arg(format_option(alloc))
 }
 

@@ -5,7 +5,7 @@ use sect_names::Path;
 
 /// A key that two sections ask for in every state, and the strongest mode in which each of them does; the modes aren't
 /// compatible.
-#[derive(Clone, Copy, Debug, PartialEq, Eq)]
+#[derive(Clone, Copy)]
 pub struct KeyClash {
     pub key: Key,
     pub first: Mode,

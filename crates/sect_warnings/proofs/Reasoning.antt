@@ -1,6 +1,6 @@
 -- What the steps of a chain need, and where the last stands.
-use Rattle.std.proofs.Common.{◌≡◌, ◌<◌, ℕ, zero, suc, List, [], ◌∷◌, length, Some, refl, sym, ap, ◌∙◌, subst}
-use Rattle.std.proofs.Common.{inl, inr, arith}
+use Rattle.std.proofs.Common.{◌≡◌, ◌<◌, ℕ, zero, suc, List, [], ◌∷◌, length, Some, refl, sym, ◌∙◌, subst}
+use Rattle.std.proofs.Common.{inl, inr}
 use Rattle.std.specs.Prelude.{slice_get}
 use Rattle.std.proofs.lemmas.Option.{slice_get_within}
 use Rattle.sect_lemmas.specs.Lists.{Has}
@@ -9,14 +9,13 @@ use Rattle.sect_points.specs.Paths.{PathView}
 use Rattle.sect_points.specs.Partitions.{HasClass}
 use Rattle.sect_names.specs.declared.link.Link.{Link}
 use Rattle.sect_names.specs.declared.lock.Effect.{Effect}
-use Rattle.sect_names.specs.declared.lock.Effect.TheVariants as effect
 use Rattle.sect_names.specs.declared.lock.Lock.{Lock}
 use Rattle.sect_names.specs.declared.lock.Lock.TheVariants as lock
 use Rattle.sect_names.specs.Schemes.{SchemeView}
-use Rattle.sect_names.specs.Locks.{depth, PathTo}
+use Rattle.sect_names.specs.Locks.{depth}
 use Rattle.sect_names.specs.Records.{IsNeedable}
-use Rattle.sect_names.specs.Carrying.{Generated, CarriedBack, Before, LockOn}
-use Rattle.sect_names.specs.Chains.{AreLinked, LinksTo, IsGeneratedAt}
+use Rattle.sect_names.specs.Carrying.{Generated, CarriedBack, Before}
+use Rattle.sect_names.specs.Chains.{AreLinked, LinksTo}
 use Rattle.sect_warnings.specs.ClassLocks.{class_lock}
 
 module _ (s : SchemeView) (t : ℕ) (last : List Lock) (g : List Node) (ended : (l : Lock) → Has last l → lock.All ≡ l)

@@ -1,5 +1,5 @@
 -- Where a path gets too long along the chain of a class lock.
-use Rattle.std.proofs.Common.{◌≡◌, ◌≤◌, ◌<◌, ℕ, zero, suc, ◌+◌, List, [], ◌∷◌, length, Option, Some, None, true, false}
+use Rattle.std.proofs.Common.{◌≡◌, ◌<◌, ℕ, zero, suc, List, [], ◌∷◌, length, Option, Some, None, false}
 use Rattle.std.proofs.Common.{refl, sym, ap, ◌∙◌, subst, inl, inr, arith, get_or}
 use Rattle.std.specs.Prelude.{slice_get, cond, nat_lt}
 use Rattle.std.specs.List.{position}
@@ -19,7 +19,7 @@ use Rattle.sect_names.specs.declared.lock.Lock.{Lock}
 use Rattle.sect_names.specs.declared.lock.Lock.TheVariants as lock
 use Rattle.sect_names.specs.Schemes.{SchemeView, guard_of}
 use Rattle.sect_names.specs.Carrying.{Generated, Makes, CarriedBack}
-use Rattle.sect_names.specs.Chains.{AreLinked, LinksTo, IsGeneratedAt}
+use Rattle.sect_names.specs.Chains.{AreLinked, LinksTo}
 use Rattle.sect_warnings.specs.ClassLocks.{class_lock}
 use Rattle.sect_warnings.specs.steps.Reasons.{is_on_path}
 

@@ -1,6 +1,6 @@
 //! Why a section locks a whole class: the statement that needs it, and the path that gets too long.
 
-ghost use Rattle.std.specs.Prelude.{◌≡◌, ◌<◌, ◌↔◌, ◌++◌, Some, length, slice_get, true, IfOk, IsTrue, OnOk};
+ghost use Rattle.std.specs.Prelude.{◌≡◌, ◌<◌, ◌↔◌, ◌-◌, ◌++◌, Some, length, slice_get, true, IfOk, IsTrue, OnOk};
 ghost use Rattle.std.specs.List.{position};
 ghost use Rattle.std.specs.String.{string_bytes};
 ghost use Rattle.sect_lemmas.specs.Lists.{Has};

@@ -1,4 +1,4 @@
-use Rattle.std.proofs.Common.{◌≡◌, Some, sym, ◌∙◌, subst, arith}
+use Rattle.std.proofs.Common.{sym, ◌∙◌, arith}
 use Rattle.sect_warnings.proofs.Searching.{option_is}
 use Rattle.sect_warnings.proofs.class_mark.is_long.Goals as goal
 

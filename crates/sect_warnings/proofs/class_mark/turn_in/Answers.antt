@@ -1,4 +1,4 @@
-use Rattle.std.proofs.Common.{sym, ◌∙◌, subst, refl, arith, omega}
+use Rattle.std.proofs.Common.{sym, ◌∙◌, subst, refl}
 use Rattle.std.specs.Option.{IsSome}
 use Rattle.sect_warnings.proofs.ClassMarks.{found_at, turn_is, here_there, next_on_path}
 use Rattle.sect_warnings.proofs.class_mark.turn_in.Goals as goal

@@ -1,5 +1,6 @@
 -- Names of a tree that are kept as they go by.
-use Rattle.std.specs.Prelude.{◌≡◌, ℕ, ◌+◌, Bool, true, List, [], ◌∷◌, ◌++◌, Option, Some, None, length, filter, if◌then◌else◌}
+use Rattle.std.specs.Prelude.{◌≡◌, ℕ, ◌+◌, Bool, true, List, [], ◌∷◌, ◌++◌, Option, Some, None, length, filter}
+use Rattle.std.specs.Prelude.{if◌then◌else◌}
 use Rattle.sect_places.specs.declared.name_use.NameUse.{NameUse}
 use Rattle.sect_places.specs.Mattering.{matters}
 

@@ -1,5 +1,5 @@
 -- The bytes that the nodes of a program come from.
-use Rattle.std.specs.Prelude.{◌≡◌, ◌≤◌, ⊤, ℕ, List, All, Option, Some, None, map, length, get_or}
+use Rattle.std.specs.Prelude.{◌≡◌, ⊤, ℕ, List, All, Option, Some, None, map, length, get_or}
 use Rattle.std.specs.Option.{option_map}
 use Rattle.sect_front.specs.FaultPlaces.{IsWithin}
 use Rattle.sect_front.specs.declared.span.Span.{Span}

@@ -6,6 +6,7 @@ use Rattle.std.specs.List.{position, AllZip}
 use Rattle.std.proofs.lemmas.Option.{slice_get-get_or, slice_get_within, get_or_from_slice_get}
 use Rattle.sect_front.specs.declared.tree.Locking.TheVariants as locking
 use Rattle.sect_lemmas.specs.Lists.{Has}
+use Rattle.sect_lemmas.proofs.Membership.{Has-slice_get}
 use Rattle.sect_types.specs.Sections.{sections_of}
 use Rattle.sect_graph.specs.declared.flow.Node.{Node}
 use Rattle.sect_graph.specs.Layout.{flow_nodes}
@@ -29,9 +30,10 @@ use Rattle.sect_names.proofs.shared.Sounding.{path_there}
 use Rattle.sect_emit.specs.Compiled.{CompiledView, IsCompiled}
 use Rattle.sect_chains.specs.Chains.{IsFirstChain}
 use Rattle.sect_emit.specs.Explaining.{section_at, IsChained}
+use Rattle.sect_emit.specs.Words.{IsChainNamed}
 use Rattle.sect_emit.proofs.shared.TypedPrograms.{typed_program}
 use Rattle.sect_warnings.specs.ClassLocks.{class_lock, IsReason, IsTooLong}
-use Rattle.sect_warnings.specs.steps.Reasons.{is_on_path, IsLong, IsTurn, ArePathsBefore}
+use Rattle.sect_warnings.specs.steps.Reasons.{ReasonsView, AreReasons, is_on_path, IsLong, IsTurn, ArePathsBefore}
 use Rattle.sect_warnings.proofs.Judging.{section_is, flow_is}
 use Rattle.sect_warnings.proofs.Reasoning.{last_stands, all_needable, turned}
 use Rattle.sect_warnings.proofs.Turning.{Turn, turning, turn_found}
@@ -229,13 +231,20 @@ reason_there c i chains chained l k at =
     zip_at (IsFirstChain c.scheme (section_at c i).thread (end_of c.scheme i) (flow_nodes (section_at c i).body))
     (slice_index_or c.sets i []) chains chained k l at
 
--- and so has a lock of the section's set, by that
-pub kept_reason : (c : CompiledView) (i : ℕ) (chains : List (List Link)) → IsChained c i chains → (l : Lock)
-    → (set : List Lock) (k : ℕ) → slice_get c.sets i ≡ Some set → slice_get set k ≡ Some l
-    → (chain : List Link) × (slice_get chains k ≡ Some chain) × IsReason c i l chain
-kept_reason c i chains chained l set k own at =
-    reason_there c i chains chained l k
-    (subst (λ s. slice_get s k ≡ Some l) (sym (get_or_from_slice_get c.sets i set [] own)) at)
+-- where the chains of a section are kept that of a lock of its set is among them, and what it names is there
+pub kept_reason : (c : CompiledView) (r s : ReasonsView) → r ≡ s → AreReasons c s → (l : Lock) (set : List Lock) (k : ℕ)
+    → slice_get c.sets r.section ≡ Some set → slice_get set k ≡ Some l
+    → (chain : List Link) × (slice_get r.chains k ≡ Some chain) × IsReason c s.section l chain
+    × IsChainNamed c.scheme.program chain
+kept_reason c r s same are l set k own at =
+    let own_are : AreReasons c r = subst (AreReasons c) (sym same) are in
+    let there = reason_there c r.section r.chains own_are.chained l k
+    (subst (λ ls. slice_get ls k ≡ Some l) (sym (get_or_from_slice_get c.sets r.section set [] own)) at) in (
+      there.0,
+      there.1,
+      subst (λ (x : ReasonsView). IsReason c x.section l there.0) same there.2,
+      own_are.named there.0 (Has-slice_get r.chains k there.0 there.1),
+    )
 
 -- a section that takes a lock is there
 pub taken_there : (c : CompiledView) → IsCompiled c → (i : ℕ) (l : Lock) → Has (slice_index_or c.sets i []) l

@@ -1,4 +1,4 @@
-use Rattle.std.proofs.Common.{◌∷◌, Some, length, sym, ◌∙◌, ap, subst}
+use Rattle.std.proofs.Common.{length, sym, ◌∙◌, ap, subst}
 use Rattle.sect_lemmas.proofs.Options.{some_injective, none_or_some}
 use Rattle.std.specs.Prelude.{take_while}
 use Rattle.sect_front.specs.Words.{is_name_byte}

@@ -1,4 +1,4 @@
-use Rattle.std.proofs.Common.{◌≡◌, ◌<◌, ◌≤◌, ℕ, ◌+◌, ◌-◌, length, arith, refl, sym, ◌∙◌, ap}
+use Rattle.std.proofs.Common.{◌<◌, ℕ, ◌+◌, ◌-◌, length, arith, refl, sym, ◌∙◌, ap}
 use Rattle.sect_front.proofs.shared.Lexings.{gap_fits}
 use Rattle.sect_places.specs.steps.Wanting.{KeptView}
 use Rattle.sect_places.proofs.Placing.{span_from}

@@ -1,6 +1,6 @@
-use Rattle.std.proofs.Common.{◌∙◌, ap}
+use Rattle.std.proofs.Common.{◌∙◌}
 use Rattle.sect_places.specs.NameUses.{name_uses}
-use Rattle.sect_places.specs.steps.Wanting.{KeptView, behind}
+use Rattle.sect_places.specs.steps.Wanting.{behind}
 use Rattle.sect_places.proofs.Keeping.{all_gone_by}
 use Rattle.sect_places.proofs.uses.kept_uses.Goals as goal
 

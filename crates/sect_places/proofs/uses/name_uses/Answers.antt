@@ -1,4 +1,4 @@
-use Rattle.std.proofs.Common.{None, ◌∙◌, ap}
+use Rattle.std.proofs.Common.{◌∙◌, ap}
 use Rattle.sect_places.specs.NameUses.{name_uses}
 use Rattle.sect_places.specs.steps.Wanting.{KeptView, behind}
 use Rattle.sect_places.proofs.Keeping.{all_wanted}

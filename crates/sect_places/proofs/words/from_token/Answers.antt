@@ -1,4 +1,4 @@
-use Rattle.std.proofs.Common.{◌≤◌, length, arith, subst}
+use Rattle.std.proofs.Common.{arith}
 use Rattle.sect_places.proofs.Standing.{stands_none, first_here, stands_more, places_count}
 use Rattle.sect_places.proofs.words.from_token.Goals as goal
 

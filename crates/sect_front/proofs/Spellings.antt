@@ -1,14 +1,15 @@
 -- The tokens that are recognised are those that the bytes spell.
 use Rattle.std.proofs.Common.{◌≡◌, ℕ, ◌<◌, Bool, true, false, ◌&&◌, cond, eqb, nat_lt, List, [], ◌∷◌, Option, Some}
-use Rattle.std.proofs.Common.{None, length, refl, sym, ◌∙◌, ap, subst, arith}
-use Rattle.std.specs.Prelude.{is_some}
+use Rattle.std.proofs.Common.{None, length, refl, sym, ◌∙◌, ap, subst, arith, not}
+use Rattle.std.specs.Prelude.{is_some, is_none}
 use Rattle.std.specs.List.{list_all}
 use Rattle.std.specs.Str.{bytes_eq}
 use Rattle.std.specs.Fmt.{decimal}
 use Rattle.std.specs.Cmp.Lexicographic.{same_text}
 use Rattle.std.proofs.lemmas.Bool.{eqb-true, and_parts}
 use Rattle.std.proofs.lemmas.Bool.Decides.{nat_tests}
-use Rattle.sect_front.specs.Words.{is_letter, is_digit, is_name_byte, is_name}
+use Rattle.sect_front.specs.Words.{is_letter, is_digit, is_name_byte, is_name, begins}
+use Rattle.sect_front.specs.NameTokens.{is_name_token}
 use Rattle.sect_front.specs.Spelling.{spelling_of, is_proper, IsSpelling}
 use Rattle.sect_front.specs.steps.Recognition.{keyword_of, keyword_table, token_beside, or_name, word_token, number_of}
 use Rattle.sect_front.specs.steps.Recognition.{as_number, single_sign, double_sign, sign_token, spelled}
@@ -16,7 +17,7 @@ use Rattle.sect_front.specs.declared.token.Token.{Token}
 use Rattle.sect_front.specs.declared.tree.Comparison.TheVariants as comparison
 use Rattle.sect_front.specs.declared.token.Token.TheVariants as token
 use Rattle.sect_front.proofs.Choices.{chosen, if_some_so}
-use Rattle.sect_front.proofs.NamesLemmas.{named, is_named, keyword_known}
+use Rattle.sect_front.proofs.NamesLemmas.{named, is_named, keyword_known, keyword_free}
 use Rattle.sect_front.proofs.Numbers.{number_decimal, number_back, decimal_digits, decimal_some}
 use Rattle.sect_lemmas.proofs.Options.{some_injective, none_or_some}
 use Rattle.sect_front.specs.Limits.{most_name_bytes}
@@ -96,6 +97,58 @@ spelled_proper (token.Comparison comparison.Equal) h = refl
 spelled_proper (token.Comparison comparison.NotEqual) h = refl
 spelled_proper (token.Comparison comparison.Less) h = refl
 spelled_proper (token.Comparison comparison.LessOrEqual) h = refl
+
+-- the spelling of a token begins with a letter and is no keyword
+abbrev begins_free : List ℕ → Bool
+begins_free bytes = begins is_letter bytes && is_none (keyword_of bytes)
+
+digits_begin : (ds : List ℕ) → list_all is_digit ds ≡ true → begins_free ds ≡ false
+digits_begin [] h = refl
+digits_begin (d ∷ ds) h =
+    ap (λ b. b && is_none (keyword_of (d ∷ ds)))
+    (no_letter d (and_parts (is_digit d) (list_all is_digit ds) h).0)
+
+-- so are the names alone
+free_names : (t : Token) → is_proper t ≡ true → begins_free (spelling_of t) ≡ is_name_token t
+free_names (token.Name n) h =
+    let m = named n h in
+    (λ j. m.letter j && keyword_free n j) ∙ ap not m.free
+free_names (token.Number n) h = digits_begin (decimal n) (decimal_digits n (below_back n 9223372036854775808 h))
+free_names token.Record h = refl
+free_names token.ProtectedBy h = refl
+free_names token.Global h = refl
+free_names token.Proc h = refl
+free_names token.Thread h = refl
+free_names token.Int h = refl
+free_names token.New h = refl
+free_names token.Null h = refl
+free_names token.Print h = refl
+free_names token.If h = refl
+free_names token.Else h = refl
+free_names token.While h = refl
+free_names token.Atomic h = refl
+free_names token.All h = refl
+free_names token.Call h = refl
+free_names token.Class h = refl
+free_names token.OpenBrace h = refl
+free_names token.CloseBrace h = refl
+free_names token.OpenParen h = refl
+free_names token.CloseParen h = refl
+free_names token.Semicolon h = refl
+free_names token.Comma h = refl
+free_names token.Dot h = refl
+free_names token.Equal h = refl
+free_names token.Plus h = refl
+free_names token.Minus h = refl
+free_names token.Star h = refl
+free_names (token.Comparison comparison.Equal) h = refl
+free_names (token.Comparison comparison.NotEqual) h = refl
+free_names (token.Comparison comparison.Less) h = refl
+free_names (token.Comparison comparison.LessOrEqual) h = refl
+
+pub named_spelling : (bytes : List ℕ) (t : Token) → IsSpelling t bytes
+    → (begins is_letter bytes && is_none (keyword_of bytes)) ≡ is_name_token t
+named_spelling bytes t s = ap begins_free s.is ∙ free_names t s.proper
 
 -- a fact of each token of a table, where the bytes are those beside it
 abbrev EachSo : (Token → Type 0) → List ℕ → List (List ℕ × Token) → Type 0

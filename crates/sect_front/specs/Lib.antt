@@ -11,6 +11,7 @@ pub mod Grammar
 pub mod Tokens
 pub mod Gaps
 pub mod Spelling
+pub mod NameTokens
 pub mod Layout
 pub mod TokenAt
 pub mod Lexing

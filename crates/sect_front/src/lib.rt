@@ -39,4 +39,4 @@ pub use tree::{
     Block, Comparison, Declaration, Declarations, GlobalObject, Kind, Locking, Operand, Operator,
     Primitive, Procedure, Record, Statement, Test, Thread, Tree,
 };
-pub use words::is_name;
+pub use words::{is_name, spells_name};

@@ -5,6 +5,9 @@ ghost use Rattle.std.specs.List.{list_all};
 ghost use Rattle.std.specs.Str.{bytes_eq};
 ghost use Rattle.sect_front.specs.Words.{is_letter as letter_of, is_digit as digit_of, is_name_byte as name_byte};
 ghost use Rattle.sect_front.specs.Words.{is_name as name_of, begins};
+ghost use Rattle.sect_front.specs.NameTokens.{is_name_token};
+ghost use Rattle.sect_front.specs.Spelling.{IsSpelling};
+ghost use Rattle.sect_front.specs.declared.token.Token.{Token as AToken};
 ghost use Rattle.sect_front.specs.steps.Recognition.{keyword_of, keywords_of, token_beside};
 
 use crate::limits::MOST_NAME_BYTES;
@@ -175,4 +178,12 @@ pub fn is_name(bytes: &[u8]) -> bool
         return false;
     }
     bytes.len() <= MOST_NAME_BYTES && keyword(bytes).is_none()
+}
+
+/// Whether the token that these bytes spell is a name.
+#[tactic(auto, using(crate::proofs::Spellings::named_spelling))]
+pub fn spells_name(bytes: &[u8]) -> bool
+    ensures { (token : AToken) → IsSpelling token bytes.now → result ≡ is_name_token token }
+{
+    begins_letter(bytes) && keyword(bytes).is_none()
 }

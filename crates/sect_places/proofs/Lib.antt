@@ -1,6 +1,7 @@
 mod Placing
 mod Passing
 mod Lining
+mod Columns
 mod Following
 mod Walked
 mod Lists

@@ -34,6 +34,7 @@ use Rattle.sect_front.specs.declared.tree.GlobalObject.{GlobalObject}
 use Rattle.sect_front.specs.declared.tree.Procedure.{Procedure}
 use Rattle.sect_front.specs.declared.tree.Thread.{Thread}
 use Rattle.sect_front.proofs.shared.Listed.{tokens_before}
+use Rattle.sect_front.specs.NameTokens.{is_name_token}
 use Rattle.sect_places.specs.declared.name_use.NameUse.{NameUse}
 use Rattle.sect_places.specs.declared.name_use.NameSpan.{NameSpan}
 use Rattle.sect_places.specs.declared.name_use.Thing.{Thing}
@@ -47,7 +48,7 @@ use Rattle.sect_places.specs.NameUses.{kind_uses, operand_uses, primitive_uses, 
 use Rattle.sect_places.specs.NameUses.{statement_uses}
 use Rattle.sect_places.specs.NameUses.{block_uses, declarations_uses, hints_uses, records_uses, globals_uses}
 use Rattle.sect_places.specs.NameUses.{procedures_uses, threads_uses, name_uses}
-use Rattle.sect_places.specs.NameSpans.{is_name_token, names_among, AreNameSpans}
+use Rattle.sect_places.specs.NameSpans.{names_among, AreNameSpans}
 use Rattle.sect_places.specs.Spans.{AreInOrder, IsProper, AreProper}
 use Rattle.sect_places.proofs.Whole.{spans_order}
 

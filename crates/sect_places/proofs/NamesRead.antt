@@ -11,11 +11,12 @@ use Rattle.sect_front.specs.Gaps.{after_gap}
 use Rattle.sect_front.specs.Grammar.{tokens_of}
 use Rattle.sect_front.specs.declared.span.Span.{Span}
 use Rattle.sect_front.specs.declared.token.Token.{Token}
+use Rattle.sect_front.specs.NameTokens.{is_name_token}
 use Rattle.sect_lemmas.proofs.Places.{at_of}
 use Rattle.sect_places.specs.declared.name_use.NameUse.{NameUse}
 use Rattle.sect_places.specs.declared.name_use.NameSpan.{NameSpan}
 use Rattle.sect_places.specs.NameUses.{name_uses}
-use Rattle.sect_places.specs.NameSpans.{is_name_token, names_among, AreNameSpans}
+use Rattle.sect_places.specs.NameSpans.{names_among, AreNameSpans}
 use Rattle.sect_places.specs.steps.Standing.{StandsFrom}
 use Rattle.sect_places.proofs.NameTokens.{as_many_names, are_name_spans}
 use Rattle.sect_places.proofs.Standing.{OneRead, stands_none, map_push, places_count, same_places}

@@ -11,7 +11,7 @@ use Rattle.sect_front.specs.Front.{IsSpelled}
 use Rattle.sect_front.specs.FaultPlaces.{token_span}
 use Rattle.sect_front.specs.Grammar.{tokens_of}
 use Rattle.sect_front.specs.Lexing.{IsFirst, Reaches}
-use Rattle.sect_front.specs.Spelling.{spelling_of}
+use Rattle.sect_front.specs.Spelling.{spelling_of, IsSpelling}
 use Rattle.sect_front.specs.declared.span.Span.{Span}
 use Rattle.sect_front.specs.declared.token.Token.{Token}
 use Rattle.sect_front.proofs.shared.Lexings.{gap_fits, one_lexing}
@@ -120,6 +120,32 @@ module _ (bytes : List ℕ) (tree : TreeView) (number : ℕ) (here : List ℕ) (
         some = omega (arith, count, the_first.first.some);
         more = stands_more bytes tree number here h the_first n count;
       }
+
+-- a token is passed by its length
+module _ (bytes : List ℕ) (tree : TreeView) (number : ℕ) (here : List ℕ) (h : StandsFrom bytes tree number here)
+    (lt : number < length (tokens_of tree)) (count : ℕ)
+    (each : (t : Token) (n : ℕ) → IsFirst t n here → count ≡ n) where
+  pub one_passed : (t : Token) × OneRead bytes tree number here h t count
+  one_passed =
+      let first : first_of bytes tree number here h =
+      first_here bytes tree number here h (omega (arith, lt, places_count bytes tree h.spelled)) in
+      let same : count ≡ length (spelling_of first.p.token) = each first.p.token _ first.first in
+      (first.p.token, record {
+        first = first;
+        token = refl;
+        count = same;
+        within = omega (arith, same, first.first.within);
+        some = omega (arith, same, first.first.some);
+        more = stands_more bytes tree number here h first count same;
+      })
+
+-- these bytes spell it
+pub read_spelling : (bytes : List ℕ) (tree : TreeView) (number : ℕ) (here : List ℕ)
+    (h : StandsFrom bytes tree number here) (t : Token) (n : ℕ) → OneRead bytes tree number here h t n
+    → IsSpelling t (take n here)
+read_spelling bytes tree number here h t n r =
+    subst (λ u. IsSpelling u (take n here)) (sym r.token)
+    (subst (λ k. IsSpelling r.first.p.token (take k here)) (sym r.count) r.first.first.spells)
 
 -- it has the bytes that are passed
 pub read_span : (total number : ℕ) (places : List TokenAt) (here : List ℕ) → (f : FirstHere places total number here)

@@ -14,10 +14,11 @@ use Rattle.sect_front.specs.Gaps.{after_gap}
 use Rattle.sect_front.specs.Grammar.{tokens_of}
 use Rattle.sect_front.specs.declared.span.Span.{Span}
 use Rattle.sect_front.specs.declared.token.Token.{Token}
+use Rattle.sect_front.specs.NameTokens.{is_name_token}
 use Rattle.sect_places.specs.declared.name_use.NameUse.{NameUse}
 use Rattle.sect_places.specs.declared.name_use.NameSpan.{NameSpan}
 use Rattle.sect_places.specs.NameUses.{name_uses}
-use Rattle.sect_places.specs.NameSpans.{is_name_token, AreNameSpans}
+use Rattle.sect_places.specs.NameSpans.{AreNameSpans}
 use Rattle.sect_places.specs.steps.Wanting.{KeptView, behind, nothing_kept, is_wanted, numbers_from}
 use Rattle.sect_places.specs.steps.Wanted.{wanted, AreWanted}
 use Rattle.sect_places.proofs.Keeping.{kept_of, numbers_behind, no_earlier, kept_all, as_many_numbers}

@@ -1,18 +1,14 @@
 -- Where the names of a text stand.
-use Rattle.std.specs.Prelude.{◌≡◌, ℕ, Bool, true, false, List, map, filter, length}
+use Rattle.std.specs.Prelude.{◌≡◌, ℕ, List, map, filter, length}
 use Rattle.sect_front.specs.TreeView.{TreeView}
 use Rattle.sect_front.specs.TokenAt.{TokenAt}
 use Rattle.sect_front.specs.Front.{IsSpelled}
 use Rattle.sect_front.specs.FaultPlaces.{token_span}
-use Rattle.sect_front.specs.declared.token.Token.{Token}
+use Rattle.sect_front.specs.NameTokens.{is_name_token}
 use Rattle.sect_front.specs.declared.token.Token.TheVariants as token
 use Rattle.sect_places.specs.declared.name_use.NameSpan.{NameSpan}
 use Rattle.sect_places.specs.NameUses.{name_uses}
 use Rattle.sect_places.specs.Spans.{AreProper}
-
-abbrev pub is_name_token : Token → Bool
-is_name_token (token.Name x) = true
-is_name_token _ = false
 
 -- the names of a text, with their places
 abbrev pub names_among : List TokenAt → List TokenAt

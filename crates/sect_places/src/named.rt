@@ -3,7 +3,7 @@
 ghost use Rattle.std.specs.Prelude.{◌≡◌, ◌++◌, ◌∷◌, [], Some, IfOk, OnOk, MatchResult};
 ghost use Rattle.std.specs.Prelude.{List, length, slice_get};
 ghost use Rattle.sect_front.specs.Front.{IsSpelled, IsFault};
-ghost use Rattle.sect_places.specs.NameSpans.{is_name_token, AreNameSpans, HasNameSpans};
+ghost use Rattle.sect_places.specs.NameSpans.{AreNameSpans, HasNameSpans};
 ghost use Rattle.sect_places.specs.Mattering.{mattering};
 ghost use Rattle.sect_places.specs.steps.Wanted.{AreWanted};
 ghost use Rattle.sect_places.specs.declared.name_use.NameUse.{NameUse as AUse};
@@ -11,15 +11,8 @@ ghost use Rattle.sect_places.specs.declared.name_use.NameSpan.{NameSpan};
 
 use crate::name_use::NameSpan;
 use crate::uses::{Kept, kept_uses};
-use sect_front::{FrontFault, Span, Token, Tree, after_gap, first_token, parse};
+use sect_front::{FrontFault, Span, Tree, after_gap, first_length, parse, spells_name};
 use std::alloc::{AllocError, Global};
-
-/// Whether a token is a name.
-fn is_name(token: &Token) -> bool
-    ensures { result ≡ is_name_token token.now }
-{
-    matches!(token, Token::Name(_))
-}
 
 /// Adds the name of this number among all, which stands at these bytes, if it is kept.
 fn put_kept(
@@ -59,15 +52,13 @@ fn wanted_names(
     let mut here = after_gap(source);
     while number < kept.passed {
         let start = source.len() - here.len();
-        let Some((token, count)) = first_token(here) else {
-            unreachable!();
-        };
-        if is_name(&token) {
+        let count = first_length(here);
+        let (word, after) = here.split_at(count);
+        if spells_name(word) {
             let end = start + count;
             put_kept(&mut names, &kept, number, Span { start, end })?;
             number += 1;
         }
-        let (_, after) = here.split_at(count);
         here = after_gap(after);
     }
     Ok(names)

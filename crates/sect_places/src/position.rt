@@ -4,6 +4,8 @@ ghost use Rattle.std.specs.Prelude.{◌≡◌, ◌≤◌, ◌+◌, length};
 ghost use Rattle.sect_front.specs.Front.{line_of as line};
 ghost use Rattle.sect_places.specs.Positions.{position, column_of as column};
 
+use memchr::memrchr;
+
 /// A line and a column, both counted from 1, and columns in bytes.
 #[derive(Clone, Copy, Debug, PartialEq, Eq)]
 pub struct Position {
@@ -16,7 +18,13 @@ fn line_of(source: &[u8], at: usize) -> usize
     requires { at ≤ length source.now }
     ensures { result ≡ line source.now at }
 {
-    source[..at].iter().filter(|byte| **byte == b'\n').count() + 1
+    let mut line = 1;
+    for byte in &source[..at] {
+        if *byte == b'\n' {
+            line += 1;
+        }
+    }
+    line
 }
 
 /// The column of a place.
@@ -26,11 +34,10 @@ fn column_of(source: &[u8], at: usize) -> usize
     ensures least { 1 ≤ result }
     ensures most { result ≤ at + 1 }
 {
-    let mut column = 1;
-    for byte in &source[..at] {
-        column = if *byte == b'\n' { 1 } else { column + 1 };
+    match memrchr(b'\n', &source[..at]) {
+        Some(feed) => at - feed,
+        None => at + 1,
     }
-    column
 }
 
 /// The line and the column of a place.

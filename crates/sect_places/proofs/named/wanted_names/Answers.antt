@@ -1,10 +1,11 @@
-use Rattle.std.proofs.Common.{◌<◌, ℕ, ◌+◌, ◌-◌, length, arith, refl, sym, ◌∙◌, ap}
+use Rattle.std.proofs.Common.{◌<◌, ℕ, ◌+◌, ◌-◌, length, arith, refl, sym, ◌∙◌, ap, subst}
+use Rattle.sect_front.specs.Spelling.{IsSpelling}
 use Rattle.sect_front.proofs.shared.Lexings.{gap_fits}
 use Rattle.sect_places.specs.steps.Wanting.{KeptView}
 use Rattle.sect_places.proofs.Placing.{span_from}
-use Rattle.sect_places.proofs.Standing.{is_some, one_read, read_span}
+use Rattle.sect_places.proofs.Standing.{one_passed, read_span, read_spelling}
 use Rattle.sect_places.proofs.WantedNames.{wanted_none, numbered, left_to_read, wanted_all, wanted_on, wanted_more}
-use Rattle.sect_places.proofs.named.wanted_names.Goals.{then-is_name+in_ok-put_kept, else-is_name}
+use Rattle.sect_places.proofs.named.wanted_names.Goals.{then-spells_name+in_ok-put_kept, else-spells_name}
 use Rattle.sect_places.proofs.named.wanted_names.Goals as goal
 
 pub loop-number-init : goal.loop-number-init
@@ -12,15 +13,16 @@ loop-number-init c =
     rw (c.after_gap-here.ensures, c.in_ok-names.ensures.items)
     (wanted_none c.args.source.now c.args.tree.now c.args.item c.requires)
 
-pub unreachable-requires : goal.unreachable-requires
-unreachable-requires c =
+pub split_at-requires : goal.split_at-requires
+split_at-requires c =
     let h = c.loop-number.invariant in
     let here = c.loop-number.here.now in
     let passed = ap (λ (k : KeptView). k.passed) c.kept.view_is in
     let left = left_to_read c.args.source.now c.args.tree.now c.args.item c.loop-number.names.items c.loop-number.number
     here h c.in_ok-kept.kept c.in_ok-kept.ensures (omega (arith, c.loop-number-test.true, passed)) in
-    is_some c.args.source.now c.args.tree.now h.named.number here h.named.stands left c.first_token.result
-    c.first_token.ensures.each c.in_default.is
+    let read = one_passed c.args.source.now c.args.tree.now h.named.number here h.named.stands left
+    c.first_length-count.result c.first_length-count.ensures in
+    read.1.within
 
 pub put_kept-requires : goal.put_kept-requires
 put_kept-requires c =
@@ -34,15 +36,15 @@ loop-number-smaller c =
     let passed = ap (λ (k : KeptView). k.passed) c.kept.view_is in
     let left = left_to_read c.args.source.now c.args.tree.now c.args.item c.loop-number.names.items c.loop-number.number
     here h c.in_ok-kept.kept c.in_ok-kept.ensures (omega (arith, c.loop-number-test.true, passed)) in
-    let read = one_read c.args.source.now c.args.tree.now h.named.number here h.named.stands left c.first_token.result
-    c.first_token.ensures.each c.in-Some.token c.in-Some.count c.in-Some.is in
+    let read = one_passed c.args.source.now c.args.tree.now h.named.number here h.named.stands left
+    c.first_length-count.result c.first_length-count.ensures in
     omega (
       arith,
       ap length c.after_gap-here-in-loop-number.ensures,
       gap_fits c.split_at.result.1.now,
       c.split_at.ensures.back_len,
-      read.some,
-      read.within,
+      read.1.some,
+      read.1.within,
     )
 
 pub loop-number-preserved : goal.loop-number-preserved
@@ -55,23 +57,27 @@ loop-number-preserved c =
     let h = c.loop-number.invariant in
     let kept = c.in_ok-kept.kept in
     let all = c.in_ok-kept.ensures in
+    let count = c.first_length-count.result in
     let passed = ap (λ (k : KeptView). k.passed) c.kept.view_is in
     let lt : number < kept.passed = omega (arith, c.loop-number-test.true, passed) in
     let left = left_to_read source tree c.args.item some number here h kept all lt in
-    let read = one_read source tree h.named.number here h.named.stands left c.first_token.result
-    c.first_token.ensures.each c.in-Some.token c.in-Some.count c.in-Some.is in
+    let read = one_passed source tree h.named.number here h.named.stands left count c.first_length-count.ensures in
     let start : ℕ = length source - length here in
-    let s = span_from start (start + c.in-Some.count) in
-    let place = read_span (length source) h.named.number h.named.stands.spelled.places here read.first start
-    c.in-Some.count refl read.count in
-    rw (c.after_gap-here-in-loop-number.ensures, c.split_at.ensures.back) (elim c.if-is_name.branch [
-      | then-is_name+in_ok-put_kept w ↦ rw (w.names-is, w.number-is)
+    let s = span_from start (start + count) in
+    let place = read_span (length source) h.named.number h.named.stands.spelled.places here read.1.first start count refl
+    read.1.count in
+    let spelled : IsSpelling read.0 c.split_at.result.0.now =
+    subst (IsSpelling read.0) (sym c.split_at.ensures.front)
+    (read_spelling source tree h.named.number here h.named.stands read.0 count read.1) in
+    let named = c.spells_name.ensures read.0 spelled in
+    rw (c.after_gap-here-in-loop-number.ensures, c.split_at.ensures.back) (elim c.if-spells_name.branch [
+      | then-spells_name+in_ok-put_kept w ↦ rw (w.names-is, w.number-is)
           (wanted_more source tree c.args.item some number here h kept all lt w.put_kept.new.names.items s
-          w.in_ok-put_kept.ensures.kept w.in_ok-put_kept.ensures.other c.in-Some.token c.in-Some.count read place
-          (sym c.is_name.ensures ∙ w.if-is_name.true))
-      | else-is_name w ↦ rw (w.names-is, w.number-is)
-          (wanted_on source tree c.args.item some number here h kept all c.in-Some.token c.in-Some.count read s place
-          (sym c.is_name.ensures ∙ w.if-is_name.false))
+          w.in_ok-put_kept.ensures.kept w.in_ok-put_kept.ensures.other read.0 count read.1 place
+          (sym named ∙ w.if-spells_name.true))
+      | else-spells_name w ↦ rw (w.names-is, w.number-is)
+          (wanted_on source tree c.args.item some number here h kept all read.0 count read.1 s place
+          (sym named ∙ w.if-spells_name.false))
     ])
 
 pub returns : goal.returns

@@ -9,11 +9,15 @@ pub trait Gate: Sync {
     /// where the system can't start one.
     fn starts(&self, thread: u16) -> bool;
 
+    /// Whether threads needn't pass here: then nobody tells the gate of an event, and a worker may make several turns of
+    /// its thread in a row.
+    fn is_open(&self) -> bool;
+
     /// This thread has made an event of this kind.
     fn at(&self, thread: u16, kind: EventKind);
 }
 
-/// A gate that keeps nobody.
+/// A gate that is open.
 #[derive(Clone, Copy)]
 pub struct OpenGate;
 
@@ -22,5 +26,16 @@ impl Gate for OpenGate {
         true
     }
 
+    fn is_open(&self) -> bool {
+        true
+    }
+
     fn at(&self, _thread: u16, _kind: EventKind) {}
+}
+
+/// Tells the gate of an event of a thread, unless it is open.
+pub fn tell<G: Gate>(gate: &G, thread: u16, kind: EventKind) {
+    if !gate.is_open() {
+        gate.at(thread, kind);
+    }
 }

@@ -5,7 +5,7 @@ ghost use Rattle.sect_run.specs.steps.Shares.{IsSameRun};
 ghost use Rattle.sect_world.specs.Worlds.{AllEnded};
 
 use crate::fault::RunFault;
-use crate::gate::Gate;
+use crate::gate::{Gate, tell};
 use crate::turn::turn_of;
 use sect_emit::Compiled;
 use sect_world::{Turned, World};
@@ -18,7 +18,7 @@ fn make_round<G: Gate>(gate: &G, compiled: &Compiled, world: &mut World<'_>) -> 
 {
     for thread in 0..compiled.scheme().program().thread_count() {
         match turn_of(world, thread)? {
-            Turned::Moved(kind) => gate.at(thread, kind),
+            Turned::Moved(kind) => tell(gate, thread, kind),
             Turned::Waits | Turned::Ended => {}
         }
     }

@@ -75,11 +75,11 @@ fn run_named<J: Naming + Send + Sync, R: Threads + Wait + Sync, G: Gate>(
 }
 
 /// Runs a compiled program from its start, with so much fuel for each thread, by a worker for each thread: each makes
-/// the turns of its thread under one lock, one turn after another, and tells the gate of each event of its own turns
-/// without the lock. A worker whose thread has to wait for a key waits without the lock, and is woken by whoever lets
-/// its thread in. A worker that isn't or can't be started leaves its thread to the caller, who makes what turns are
-/// left once all workers have stopped. `Memory` is answered only where a growth was refused; all workers have stopped
-/// then too.
+/// the turns of its thread under one lock, and tells the gate, unless that is open, of each event of its own turns
+/// without the lock. Where the gate is open it may make several turns before it gives the lock away. A worker whose
+/// thread has to wait for a key waits without the lock, and is woken by whoever lets its thread in. A worker that isn't
+/// or can't be started leaves its thread to the caller, who makes what turns are left once all workers have stopped.
+/// `Memory` is answered only where a growth was refused; all workers have stopped then too.
 pub fn run_threads<R: Threads + Wait + Sync, G: Gate>(
     rt: &R,
     alloc: Global,

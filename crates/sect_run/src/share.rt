@@ -4,7 +4,7 @@ ghost use Rattle.std.specs.Prelude.{◌≡◌, ◌<◌, Some, OnOk, IfOk};
 ghost use Rattle.sect_run.specs.steps.Shares.{AreBelow, threads_in};
 
 use crate::fault::RunFault;
-use crate::turn::waking_turn_of;
+use crate::turn::waking_turns_of;
 use crossbeam_utils::sync::Parker;
 use sect_emit::Compiled;
 use sect_world::{Moment, Turned, World};
@@ -67,11 +67,13 @@ impl<J: Naming> SharedRun<J> {
         }
     }
 
-    /// The turn of a thread, and whom it lets in. Their numbers take the place of those that stood in `woken`.
-    pub fn turn(
+    /// Turns of a thread, one at least and at most so many: until it can't move, or lets others in. The numbers of those
+    /// take the place of those that stood in `woken`.
+    pub fn turns(
         &mut self,
         compiled: &Compiled,
         thread: u16,
+        most: u16,
         woken: &mut Vec<u16>,
     ) -> Result<Turned, RunFault>
         requires compiled { J.compiled ≡ Some compiled.now }
@@ -82,7 +84,7 @@ impl<J: Naming> SharedRun<J> {
             Some(moment) => moment.resume(compiled),
             None => unreachable!(),
         };
-        let turned = waking_turn_of(&mut world, thread, woken);
+        let turned = waking_turns_of(&mut world, thread, most, woken);
         self.moment = Some(world.suspend());
         turned
     }

@@ -41,3 +41,30 @@ pub fn waking_turn_of(
     woken.extend_from_slice(world.granted())?;
     Ok(turned)
 }
+
+/// Whether a thread whose turn came to this may make another at once: it has moved, and lets nobody in.
+fn may_go_on(turned: &Turned, woken: &[u16]) -> bool {
+    matches!(turned, Turned::Moved(_)) && woken.is_empty()
+}
+
+/// Turns of a thread, one at least and at most so many: until it can't move, or lets others in. The answer is what the
+/// last turn came to, and the numbers of those whom it lets in take the place of those that stood in `woken`.
+pub fn waking_turns_of(
+    world: &mut World<'_>,
+    thread: u16,
+    most: u16,
+    woken: &mut Vec<u16>,
+) -> Result<Turned, RunFault>
+    requires { thread < threads_in world.old.compiled }
+    ensures same { IsSameRun world.old world.new }
+    ensures below { OnOk result (AreBelow (threads_in world.old.compiled) woken.new.items) }
+{
+    let mut turned = waking_turn_of(world, thread, woken)?;
+    for _made in 1..most {
+        if !may_go_on(&turned, woken.as_slice()) {
+            break;
+        }
+        turned = waking_turn_of(world, thread, woken)?;
+    }
+    Ok(turned)
+}

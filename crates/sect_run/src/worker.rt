@@ -4,7 +4,7 @@ ghost use Rattle.std.specs.Prelude.{◌≡◌, ◌<◌, Some, OnOk, length};
 ghost use Rattle.sect_run.specs.steps.Shares.{AreBelow, threads_in};
 
 use crate::fault::RunFault;
-use crate::gate::Gate;
+use crate::gate::{Gate, tell};
 use crate::share::{Naming, Post, SharedRun};
 use crossbeam_utils::sync::Unparker;
 use sect_emit::Compiled;
@@ -22,19 +22,29 @@ pub struct Shared<'a, J: Naming> {
     pub refused: &'a AtomicBool,
 }
 
-/// Makes one turn under the lock.
-fn turn_under<J: Naming, R: Wait>(
+/// The most turns that a worker makes without giving the lock away.
+const MOST_TURNS: u16 = 64;
+
+/// How many turns a worker may make in a row: one, unless the gate is open.
+fn turns_at<G: Gate>(gate: &G) -> u16 {
+    if gate.is_open() { MOST_TURNS } else { 1 }
+}
+
+/// Makes turns of a thread under the lock, at most so many.
+fn turns_under<J: Naming, R: Wait>(
     rt: &R,
     run: &Mutex<SharedRun<J>>,
     compiled: &Compiled,
-    thread: u16,
-    woken: &mut Vec<u16>,
+    most: u16,
+    post: &mut Post<J>,
 ) -> Result<Turned, RunFault>
     requires compiled { J.compiled ≡ Some compiled.now }
-    requires thread { thread < threads_in compiled.now }
-    ensures { OnOk result (AreBelow (threads_in compiled.now) woken.new.items) }
+    requires thread { post.old.thread < threads_in compiled.now }
+    ensures same { post.new.thread ≡ post.old.thread }
+    ensures woken { OnOk result (AreBelow (threads_in compiled.now) post.new.woken.items) }
 {
-    run.lock(rt).turn(compiled, thread, woken)
+    run.lock(rt)
+        .turns(compiled, post.thread, most, &mut post.woken)
 }
 
 /// Wakes the workers of these threads.
@@ -67,15 +77,15 @@ fn work<J: Naming, R: Wait, G: Gate>(
     requires threads { J.threads ≡ threads_in compiled.now }
     requires unparkers { length shared.now.unparkers.now ≡ J.threads }
 {
-    let thread = post.thread;
+    let most = turns_at(gate);
     for _ in rt.forever() {
         if shared.refused.load(Ordering::SeqCst) {
             return;
         }
-        match turn_under(rt, shared.run, compiled, thread, &mut post.woken) {
+        match turns_under(rt, shared.run, compiled, most, &mut post) {
             Ok(Turned::Moved(kind)) => {
                 wake(shared.unparkers, post.woken.as_slice());
-                gate.at(thread, kind);
+                tell(gate, post.thread, kind);
             }
             Ok(Turned::Waits) => post.parker.park(rt),
             Ok(Turned::Ended) => return,

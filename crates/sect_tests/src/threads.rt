@@ -102,6 +102,10 @@ impl Gate for Counts {
         thread >= self.first
     }
 
+    fn is_open(&self) -> bool {
+        false
+    }
+
     fn at(&self, thread: u16, kind: EventKind) {
         if let Some(count) = self.counts.get(thread as usize * KINDS + place_of(kind)) {
             count.fetch_add(1, Ordering::SeqCst);
@@ -173,6 +177,52 @@ fn caller_makes_all_turns_where_no_worker_is_started(rt: HostRuntime) -> Result<
     expect_told(&rt, ADDING, &OWN, 2)
 }
 
+/// An open gate that counts what it is told all the same, and has all workers started, or none.
+#[derive(Drop)]
+struct CountsOpen {
+    starts: bool,
+    told: AtomicU32,
+}
+
+impl Gate for CountsOpen {
+    fn starts(&self, _thread: u16) -> bool {
+        self.starts
+    }
+
+    fn is_open(&self) -> bool {
+        true
+    }
+
+    fn at(&self, _thread: u16, _kind: EventKind) {
+        self.told.fetch_add(1, Ordering::SeqCst);
+    }
+}
+
+/// A run whose gate is open goes to its end, and the gate is told nothing.
+fn expect_untold(
+    rt: &(impl Threads + Wait + Sync + AllocGlobal + Abort),
+    starts: bool,
+) -> Result<(), Fail> {
+    let compiled = compiled(rt.alloc(), ADDING)?;
+    let gate = CountsOpen {
+        starts,
+        told: AtomicU32::new(0),
+    };
+    let run = run_threads(rt, rt.alloc(), &compiled, 10_000, &gate)?;
+    assert_eq!(rt; gate.told.load(Ordering::SeqCst), 0);
+    for thread in 0..2u16 {
+        assert_eq!(rt; made(&run, thread, EventKind::Act), 3);
+        assert_eq!(rt; made(&run, thread, EventKind::Leave), 1);
+    }
+    Ok(())
+}
+
+#[test]
+fn open_gate_is_told_nothing(rt: HostRuntime) -> Result<(), Fail> {
+    expect_untold(&rt, true)?;
+    expect_untold(&rt, false)
+}
+
 /// Keeps the readers before their sections until the writer has begun, the writer in its section until the three wait
 /// for its key, and each reader in its section until all three are in theirs.
 #[derive(Drop)]
@@ -207,6 +257,10 @@ impl<'a> KeepsReaders<'a> {
 impl<'a> Gate for KeepsReaders<'a> {
     fn starts(&self, _thread: u16) -> bool {
         true
+    }
+
+    fn is_open(&self) -> bool {
+        false
     }
 
     fn at(&self, thread: u16, kind: EventKind) {

@@ -1,4 +1,3 @@
-use Rattle.std.proofs.Common.{◌≡◌}
 use Rattle.sect_run.specs.steps.Shares.{IsSameRun}
 use Rattle.sect_run.proofs.rest.run_rest.Given as goal
 

@@ -1,9 +1,6 @@
 use Rattle.std.proofs.Common.{rules}
-use denote.Param.{param}
-use denote.Param.Send.{IsSend, IsSync, sendable}
+use denote.Param.Send.{IsSync, sendable}
 use Rattle.sect_emit.proofs.shared.Crossing.{compiled_sync}
-use Rattle.sect_run.specs.contracts.share.Post as Post
-use Rattle.sect_run.specs.contracts.worker.Shared as Shared
 use Rattle.sect_run.proofs.share.Post.TheSendSync as PostSend
 use Rattle.sect_run.proofs.worker.Shared.TheSendSync as SharedSend
 use Rattle.sect_run.proofs.worker.fn.start_workers.scope.Goals as goal

@@ -23,7 +23,7 @@ pub struct Shared<'a, J: Naming> {
 }
 
 /// The most turns that a worker makes without giving the lock away.
-const MOST_TURNS: u16 = 64;
+const MOST_TURNS: u16 = 16;
 
 /// How many turns a worker may make in a row: one, unless the gate is open.
 fn turns_at<G: Gate>(gate: &G) -> u16 {

@@ -3,7 +3,7 @@
 use crate::failure::Failure;
 use sect_cert::{
     Cert, CertBase, CertChain, CertFault, CertLock, CertPath, CertSection, CertStep, ChainSteps,
-    Runs, read_cert, write_cert,
+    Runs, SharedPath, read_cert, write_cert,
 };
 use sect_front::{Items, Name};
 use std::alloc::{AllocError, Global};
@@ -99,13 +99,14 @@ fn lock(alloc: Global, number: u32) -> Result<CertLock, AllocError> {
 }
 
 /// A path of no field to three, by the number.
-fn path(alloc: Global, number: u32) -> Result<CertPath, AllocError> {
+fn path(alloc: Global, number: u32) -> Result<SharedPath, AllocError> {
     let mut fields = Items::new(alloc);
     for _ in 0..number % 4 {
         fields.push(Name::new(b"next"))?;
     }
-    Ok(CertPath {
+    let path = CertPath {
         base: CertBase::Name(Name::new(b"first_of_the_list")),
         fields,
-    })
+    };
+    Ok(SharedPath::new(alloc, path)?)
 }

@@ -1,5 +1,6 @@
 mod RunsLemmas
 mod SteppingLemmas
+mod KnownLemmas
 mod Counts
 mod PartsLemmas
 mod ZerosLemmas

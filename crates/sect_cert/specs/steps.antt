@@ -6,6 +6,7 @@ pub mod Runs
 pub mod Stepping
 pub mod Writes
 pub mod Subjects
+pub mod Known
 pub mod Lists
 pub mod Chains
 pub mod Reading

@@ -8,10 +8,10 @@ ghost use Rattle.sect_cert.specs.steps.Subjects.{subject_of};
 use crate::certificate::CertStep;
 use crate::chain_steps::ChainSteps;
 use crate::fault::LineFault;
+use crate::known_paths::KnownPaths;
 use crate::numbers::number;
 use crate::parts::Parts;
 use crate::subject::{CertMode, class_lock, is_same_mode, mode_of, subject};
-use std::alloc::Global;
 
 /// What the next word of a chain is to be.
 #[derive(Clone, Copy)]
@@ -52,7 +52,7 @@ fn are_same(one: LockWords<'_>, other: LockWords<'_>) -> bool
 
 /// Adds a step at a node with a lock that isn't read again where it is the last step's.
 fn put_step(
-    alloc: Global,
+    paths: &mut KnownPaths,
     steps: &mut ChainSteps,
     node: u32,
     lock: LockWords<'_>,
@@ -67,14 +67,14 @@ fn put_step(
             return Ok(());
         }
     }
-    let lock = subject(alloc, lock.mode, lock.word)?;
+    let lock = subject(paths, lock.mode, lock.word)?;
     steps.push(CertStep { node, lock })?;
     Ok(())
 }
 
 /// Takes one more word.
 fn walk_word<'a>(
-    alloc: Global,
+    paths: &mut KnownPaths,
     steps: &mut ChainSteps,
     walk: Walk<'a>,
     word: &'a [u8],
@@ -103,7 +103,7 @@ fn walk_word<'a>(
                 return Ok(Walk { spot, last });
             }
             let lock = LockWords { mode, word };
-            put_step(alloc, steps, node, lock, last)?;
+            put_step(paths, steps, node, lock, last)?;
             let spot = ChainWord::Whole;
             let last = Some(lock);
             Ok(Walk { spot, last })
@@ -125,16 +125,16 @@ fn walk_word<'a>(
 }
 
 /// The steps of the chain that these words are.
-pub fn steps_of(alloc: Global, mut words: Parts<'_>) -> Result<ChainSteps, LineFault>
+pub fn steps_of(paths: &mut KnownPaths, mut words: Parts<'_>) -> Result<ChainSteps, LineFault>
     ensures { ReadsAs result (steps_at words.entry) }
 {
-    let mut steps = ChainSteps::new(alloc);
+    let mut steps = ChainSteps::new(paths.alloc());
     let mut walk = Walk {
         spot: ChainWord::Node,
         last: None,
     };
     while let Some(word) = words.next() {
-        walk = walk_word(alloc, &mut steps, walk, word)?;
+        walk = walk_word(paths, &mut steps, walk, word)?;
     }
     match walk.spot {
         ChainWord::Whole => Ok(steps),

@@ -12,12 +12,12 @@ ghost use Rattle.sect_cert.specs.steps.Reading.{colon_number as colon_number_at}
 use crate::certificate::CertChain;
 use crate::chain::steps_of;
 use crate::fault::LineFault;
+use crate::known_paths::KnownPaths;
 use crate::list::locks_of;
 use crate::lock::CertLock;
 use crate::numbers::{ends_with, number, without_end};
 use crate::parts::Parts;
 use sect_front::Items;
-use std::alloc::Global;
 
 /// A line, by its form.
 #[derive(Drop)]
@@ -71,21 +71,21 @@ fn colon_number(word: &[u8]) -> Option<u32>
 }
 
 /// The line of a node, by the words after `node`.
-fn node_line(alloc: Global, mut words: Parts<'_>) -> Result<CertLine, LineFault>
+fn node_line(paths: &mut KnownPaths, mut words: Parts<'_>) -> Result<CertLine, LineFault>
     ensures { ReadsAs result (node_at words.entry) }
 {
     let word = words.next().ok_or(LineFault::Bad)?;
     let node = colon_number(word).ok_or(LineFault::Bad)?;
-    Ok(CertLine::Node(node, locks_of(alloc, words)?))
+    Ok(CertLine::Node(node, locks_of(paths, words)?))
 }
 
 /// The line of a chain, by the words after `chain`.
-fn chain_line(alloc: Global, mut words: Parts<'_>) -> Result<CertLine, LineFault>
+fn chain_line(paths: &mut KnownPaths, mut words: Parts<'_>) -> Result<CertLine, LineFault>
     ensures { ReadsAs result (chain_at words.entry) }
 {
     let word = words.next().ok_or(LineFault::Bad)?;
     let lock = colon_number(word).ok_or(LineFault::Bad)?;
-    let steps = steps_of(alloc, words)?;
+    let steps = steps_of(paths, words)?;
     Ok(CertLine::Chain(CertChain { lock, steps }))
 }
 
@@ -115,7 +115,7 @@ pub fn is_node(head: &[u8], number: usize) -> bool
 }
 
 /// The line that a text is, where no zero leads its numbers.
-pub fn line_of(alloc: Global, text: &[u8]) -> Result<CertLine, LineFault>
+pub fn line_of(paths: &mut KnownPaths, text: &[u8]) -> Result<CertLine, LineFault>
     ensures { ReadsAs result (line_at (parts 32 text.now)) }
 {
     let (head, words) = Parts::of(text, b' ');
@@ -126,11 +126,11 @@ pub fn line_of(alloc: Global, text: &[u8]) -> Result<CertLine, LineFault>
     } else if head == b"section".as_slice() {
         section_line(words).ok_or(LineFault::Bad)
     } else if head == b"node".as_slice() {
-        node_line(alloc, words)
+        node_line(paths, words)
     } else if head == b"entry:".as_slice() {
-        Ok(CertLine::Entry(locks_of(alloc, words)?))
+        Ok(CertLine::Entry(locks_of(paths, words)?))
     } else if head == b"chain".as_slice() {
-        chain_line(alloc, words)
+        chain_line(paths, words)
     } else if head == b"end".as_slice() {
         end_line(words).ok_or(LineFault::Bad)
     } else {

@@ -6,12 +6,12 @@ ghost use Rattle.sect_cert.specs.steps.Numbers.{ends_with as ends_with_of};
 ghost use Rattle.sect_cert.specs.steps.Lists.{place_behind, StepsTo, step_of, list_of};
 
 use crate::fault::LineFault;
+use crate::known_paths::KnownPaths;
 use crate::lock::CertLock;
 use crate::numbers::{ends_with, number, without_end};
 use crate::parts::Parts;
 use crate::subject::{CertMode, class_lock, mode_of, subject};
 use sect_front::Items;
-use std::alloc::Global;
 
 /// What the next word of a list is to be.
 #[derive(Clone, Copy)]
@@ -39,7 +39,7 @@ fn place_after(word: &[u8]) -> ListWord
 
 /// Takes one more word.
 fn take_word(
-    alloc: Global,
+    paths: &mut KnownPaths,
     locks: &mut Vec<CertLock>,
     place: ListWord,
     word: &[u8],
@@ -52,7 +52,7 @@ fn take_word(
             if word == b"class".as_slice() {
                 return Ok(ListWord::Class(mode));
             }
-            locks.push(subject(alloc, mode, without_end(word, b','))?)?;
+            locks.push(subject(paths, mode, without_end(word, b','))?)?;
             Ok(place_after(word))
         }
         ListWord::Class(mode) => {
@@ -65,10 +65,10 @@ fn take_word(
 }
 
 /// The locks of the list that these words are.
-pub fn locks_of(alloc: Global, mut words: Parts<'_>) -> Result<Items<CertLock>, LineFault>
+pub fn locks_of(paths: &mut KnownPaths, mut words: Parts<'_>) -> Result<Items<CertLock>, LineFault>
     ensures { ReadsAs result (list_of words.entry) }
 {
-    let mut locks = Vec::new(alloc);
+    let mut locks = Vec::new(paths.alloc());
     let first = words.next().ok_or(LineFault::Bad)?;
     if words.is_empty() {
         return if first == b"none".as_slice() {
@@ -77,9 +77,9 @@ pub fn locks_of(alloc: Global, mut words: Parts<'_>) -> Result<Items<CertLock>, 
             Err(LineFault::Bad)
         };
     }
-    let mut place = take_word(alloc, &mut locks, ListWord::Mode, first)?;
+    let mut place = take_word(paths, &mut locks, ListWord::Mode, first)?;
     while let Some(word) = words.next() {
-        place = take_word(alloc, &mut locks, place, word)?;
+        place = take_word(paths, &mut locks, place, word)?;
     }
     // A certificate has many lists, which stay as they are.
     locks.shrink_to_fit();

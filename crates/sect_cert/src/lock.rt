@@ -1,6 +1,10 @@
 //! Locks of a certificate, by the names that stand in a program's text.
 
+ghost use Rattle.std.specs.Prelude.{◌≡◌, IfOk};
+
+use crate::shared_path::SharedPath;
 use sect_front::{Items, Name};
+use std::alloc::AllocError;
 
 /// What a path begins at.
 #[derive(Clone, Copy)]
@@ -26,13 +30,29 @@ pub enum CertLock {
     /// `W all`
     WriteAll,
     /// `R p`
-    ReadPath(CertPath),
+    ReadPath(SharedPath),
     /// `W p`
-    WritePath(CertPath),
+    WritePath(SharedPath),
     /// `R class c`
     ReadClass(u32),
     /// `W class c`
     WriteClass(u32),
     /// `M class c`
     MakeClass(u32),
+}
+
+impl CertLock {
+    /// A lock equal to this one, whose path is kept once for both.
+    pub fn share(&self) -> Result<CertLock, AllocError>
+        ensures { IfOk result (λ lock. lock ≡ self.now) }
+    {
+        match self {
+            CertLock::WriteAll => Ok(CertLock::WriteAll),
+            CertLock::ReadPath(path) => Ok(CertLock::ReadPath(path.share()?)),
+            CertLock::WritePath(path) => Ok(CertLock::WritePath(path.share()?)),
+            CertLock::ReadClass(class) => Ok(CertLock::ReadClass(*class)),
+            CertLock::WriteClass(class) => Ok(CertLock::WriteClass(*class)),
+            CertLock::MakeClass(class) => Ok(CertLock::MakeClass(*class)),
+        }
+    }
 }

@@ -8,6 +8,7 @@ ghost use Rattle.sect_cert.specs.steps.Closing.{is_finished_of, Closes, IsFaultO
 use crate::again::Lines;
 use crate::certificate::Cert;
 use crate::fault::{CertFault, LineFault};
+use crate::known_paths::KnownPaths;
 use crate::parts::Parts;
 use crate::stage::{CertStage, read_line};
 use std::alloc::Global;
@@ -47,7 +48,7 @@ fn fault_on(fault: LineFault, line: usize) -> CertFault
 }
 
 /// Reads a text line by line; one of version 1 has a bad first line.
-fn read_lines(alloc: Global, bytes: &[u8]) -> Result<Cert, CertFault>
+fn read_lines(paths: &mut KnownPaths, bytes: &[u8]) -> Result<Cert, CertFault>
     ensures { JudgesLines bytes.now result }
 {
     let (mut text, mut others) = Parts::of(bytes, b'\n');
@@ -58,7 +59,7 @@ fn read_lines(alloc: Global, bytes: &[u8]) -> Result<Cert, CertFault>
         if is_finished(&stage) {
             return Err(CertFault::NotCanonical { line });
         }
-        stage = match read_line(alloc, stage, Lines { before, text }) {
+        stage = match read_line(paths, stage, Lines { before, text }) {
             Ok(stage) => stage,
             Err(fault) => return Err(fault_on(fault, line)),
         };
@@ -83,7 +84,8 @@ fn judge(alloc: Global, bytes: &[u8]) -> Result<Cert, CertFault>
     if is_old(bytes) {
         return Err(CertFault::OldVersion);
     }
-    read_lines(alloc, bytes)
+    let mut paths = KnownPaths::new(alloc);
+    read_lines(&mut paths, bytes)
 }
 
 /// The certificate of which these bytes are the text, or why they are the text of none: the first line with which no

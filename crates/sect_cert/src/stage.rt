@@ -9,6 +9,7 @@ ghost use Rattle.sect_cert.specs.steps.Stages.{later_of, header_of, read_of, is_
 use crate::again::{Lines, is_next};
 use crate::certificate::{Cert, CertChain, CertSection};
 use crate::fault::LineFault;
+use crate::known_paths::KnownPaths;
 use crate::line::{CertLine, line_of};
 use crate::lock::CertLock;
 use crate::runs::Runs;
@@ -200,22 +201,22 @@ fn header(text: &[u8]) -> Result<CertStage, LineFault>
 /// Takes the text of a line after the first, and reads all of it. One with leading zeros is read without them, and then
 /// refused.
 #[tactic(auto, using(crate::proofs::ZerosLemmas::plain_exact))]
-fn whole(alloc: Global, stage: CertStage, text: &[u8]) -> Result<CertStage, LineFault>
+fn whole(paths: &mut KnownPaths, stage: CertStage, text: &[u8]) -> Result<CertStage, LineFault>
     ensures { GoesTo result (later_of stage text.now) }
 {
     if is_exact(text) {
-        let line = line_of(alloc, text)?;
-        return take_line(alloc, stage, line);
+        let line = line_of(paths, text)?;
+        return take_line(paths.alloc(), stage, line);
     }
-    let plain = without_zeros(alloc, text)?;
-    let line = line_of(alloc, plain.as_slice())?;
-    take_line(alloc, stage, line)?;
+    let plain = without_zeros(paths.alloc(), text)?;
+    let line = line_of(paths, plain.as_slice())?;
+    take_line(paths.alloc(), stage, line)?;
     Err(LineFault::Odd)
 }
 
 /// Takes the text of a line in a section's nodes. The list of the node before isn't read again.
 fn behind_nodes(
-    alloc: Global,
+    paths: &mut KnownPaths,
     begun: Open,
     count: u32,
     mut lists: Runs<Items<CertLock>>,
@@ -229,28 +230,32 @@ fn behind_nodes(
         lists.push_again()?;
         return Ok(CertStage::Nodes(begun, count, lists));
     }
-    whole(alloc, CertStage::Nodes(begun, count, lists), lines.text)
+    whole(paths, CertStage::Nodes(begun, count, lists), lines.text)
 }
 
 /// Takes the text of a line after the first.
-fn later(alloc: Global, stage: CertStage, lines: Lines<'_>) -> Result<CertStage, LineFault>
+fn later(paths: &mut KnownPaths, stage: CertStage, lines: Lines<'_>) -> Result<CertStage, LineFault>
     requires { IsAfter stage lines.before.now }
     ensures { GoesTo result (later_of stage lines.entry.text.now) }
 {
     match stage {
-        CertStage::Nodes(begun, count, lists) => behind_nodes(alloc, begun, count, lists, lines),
-        other => whole(alloc, other, lines.text),
+        CertStage::Nodes(begun, count, lists) => behind_nodes(paths, begun, count, lists, lines),
+        other => whole(paths, other, lines.text),
     }
 }
 
 /// Takes the text of one more line.
-pub fn read_line(alloc: Global, stage: CertStage, lines: Lines<'_>) -> Result<CertStage, LineFault>
+pub fn read_line(
+    paths: &mut KnownPaths,
+    stage: CertStage,
+    lines: Lines<'_>,
+) -> Result<CertStage, LineFault>
     requires { IsAfter stage lines.before.now }
     ensures { GoesTo result (read_of stage lines.entry.text.now) }
 {
     if is_header(&stage) {
         header(lines.text)
     } else {
-        later(alloc, stage, lines)
+        later(paths, stage, lines)
     }
 }

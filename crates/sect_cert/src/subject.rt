@@ -7,9 +7,11 @@ ghost use Rattle.sect_cert.specs.steps.Subjects.{path_lock as path_lock_of, clas
 ghost use Rattle.sect_cert.specs.steps.Subjects.{all_lock as all_lock_of, subject_of};
 
 use crate::fault::LineFault;
+use crate::known_paths::KnownPaths;
 use crate::lock::{CertBase, CertLock, CertPath};
 use crate::numbers::number;
 use crate::parts::Parts;
+use crate::shared_path::SharedPath;
 use sect_front::{Items, Name, is_name};
 use std::alloc::Global;
 
@@ -79,7 +81,7 @@ fn points_in(word: &[u8]) -> usize
 }
 
 /// The path that a word is.
-fn path_of(alloc: Global, word: &[u8]) -> Result<CertPath, LineFault>
+pub fn path_of(alloc: Global, word: &[u8]) -> Result<CertPath, LineFault>
     ensures { ReadsAs result (path_in word.now) }
 {
     let (first, mut others) = Parts::of(word, b'.');
@@ -98,7 +100,7 @@ fn path_of(alloc: Global, word: &[u8]) -> Result<CertPath, LineFault>
 }
 
 /// The lock of a path in a mode; none makes an object at a path.
-fn path_lock(mode: CertMode, path: CertPath) -> Option<CertLock>
+fn path_lock(mode: CertMode, path: SharedPath) -> Option<CertLock>
     ensures { result ≡ path_lock_of mode path }
 {
     match mode {
@@ -130,12 +132,12 @@ fn all_lock(mode: CertMode) -> Option<CertLock>
 }
 
 /// The lock that a mode and the word after it are, where that word isn't `class`.
-pub fn subject(alloc: Global, mode: CertMode, word: &[u8]) -> Result<CertLock, LineFault>
+pub fn subject(paths: &mut KnownPaths, mode: CertMode, word: &[u8]) -> Result<CertLock, LineFault>
     ensures { ReadsAs result (subject_of mode word.now) }
 {
     if word == b"all".as_slice() {
         return all_lock(mode).ok_or(LineFault::Bad);
     }
-    let path = path_of(alloc, word)?;
+    let path = paths.path(word)?;
     path_lock(mode, path).ok_or(LineFault::Bad)
 }

@@ -18,6 +18,7 @@ use crate::chain_steps::ChainSteps;
 use crate::fault::CertFault;
 use crate::lock::{CertBase, CertLock, CertPath};
 use crate::runs::Runs;
+use crate::shared_path::SharedPath;
 use itoa::Buffer;
 use sect_front::{Items, Name};
 use std::alloc::{AllocError, Global};
@@ -89,11 +90,11 @@ fn put_path(out: &mut Vec<u8>, path: &CertPath) -> Result<(), AllocError>
 }
 
 /// Writes the words of a lock of a path, each behind a blank.
-fn put_path_lock(out: &mut Vec<u8>, mode: u8, path: &CertPath) -> Result<(), AllocError>
+fn put_path_lock(out: &mut Vec<u8>, mode: u8, path: &SharedPath) -> Result<(), AllocError>
     ensures { OnOk result (out.new.items ≡ out.old.items ++ spaced ((mode ∷ []) ∷ path_text path.now ∷ [])) }
 {
     put_letter(out, mode)?;
-    put_path(out, path)
+    put_path(out, path.path())
 }
 
 /// Writes the words of a lock of a class, each behind a blank.

@@ -102,8 +102,8 @@ pub fn lock_of(alloc: Global, naming: &Naming, named: &CertLock) -> Result<Lock,
 {
     match named {
         CertLock::WriteAll => Ok(Lock::All),
-        CertLock::ReadPath(path) => path_lock(alloc, naming, path, Effect::Read),
-        CertLock::WritePath(path) => path_lock(alloc, naming, path, Effect::Write),
+        CertLock::ReadPath(path) => path_lock(alloc, naming, path.path(), Effect::Read),
+        CertLock::WritePath(path) => path_lock(alloc, naming, path.path(), Effect::Write),
         CertLock::ReadClass(number) => class_lock(naming, *number, Right::Read),
         CertLock::WriteClass(number) => class_lock(naming, *number, Right::Write),
         CertLock::MakeClass(number) => class_lock(naming, *number, Right::Make),

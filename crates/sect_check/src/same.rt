@@ -44,11 +44,11 @@ pub fn is_same_lock(one: &CertLock, other: &CertLock) -> bool
     match one {
         CertLock::WriteAll => matches!(other, CertLock::WriteAll),
         CertLock::ReadPath(path) => match other {
-            CertLock::ReadPath(second) => is_same_path(path, second),
+            CertLock::ReadPath(second) => is_same_path(path.path(), second.path()),
             _ => false,
         },
         CertLock::WritePath(path) => match other {
-            CertLock::WritePath(second) => is_same_path(path, second),
+            CertLock::WritePath(second) => is_same_path(path.path(), second.path()),
             _ => false,
         },
         CertLock::ReadClass(class) => match other {

@@ -1,7 +1,7 @@
 //! Locks and chains by the names that stand in a program's text.
 
 ghost use Rattle.std.specs.Prelude.{◌≡◌, ◌≢◌, ◌≤◌, ◌<◌, ◌+◌, ◌-◌, List, [], ◌∷◌, ◌++◌, map, take, length, Some};
-ghost use Rattle.std.specs.Prelude.{slice_get, IfOk, OnOk, IsTrue};
+ghost use Rattle.std.specs.Prelude.{slice_get, IfOk, IfSome, OnOk, IsTrue};
 ghost use Rattle.sect_cert.specs.declared.certificate.CertStep.{CertStep};
 ghost use Rattle.std.specs.List.{AllByRecursion};
 ghost use Rattle.std.specs.Map.Iter.{deref};
@@ -9,13 +9,15 @@ ghost use Rattle.sect_lemmas.specs.Lists.{Has};
 ghost use Rattle.sect_cert.specs.Texts.{IsBase, IsPath, IsLock, IsStep, IsChain};
 ghost use Rattle.sect_names.specs.declared.link.Link.{Link};
 ghost use Rattle.sect_names.specs.declared.lock.Lock.{Lock};
+ghost use Rattle.sect_front.specs.TreeView.{TreeView};
 ghost use Rattle.sect_names.specs.Locks.{IsVariable, IsPathOf};
 ghost use Rattle.sect_check.specs.Names.{words_of_variable};
 ghost use Rattle.sect_names.specs.Printing.{IsNamed, AreNamed};
 ghost use Rattle.sect_emit.specs.Words.{path_words, lock_words, list_words, step_words, chain_words, chains_words};
 ghost use Rattle.sect_emit.specs.Words.{IsChainNamed};
+ghost use Rattle.sect_emit.specs.steps.Spelled.{IsLastNamed};
 
-use sect_cert::{CertBase, CertLock, CertPath, CertStep, ChainSteps, Runs};
+use sect_cert::{CertBase, CertLock, CertPath, CertStep, ChainSteps, Runs, SharedPath};
 use sect_chains::Chain;
 use sect_front::Items;
 use sect_infer::Locks;
@@ -48,7 +50,7 @@ fn base_of(program: &Program, variable: Variable) -> CertBase
 }
 
 /// A path by its names.
-fn path_of(alloc: Global, program: &Program, path: &Path) -> Result<CertPath, AllocError>
+fn path_of(alloc: Global, program: &Program, path: &Path) -> Result<SharedPath, AllocError>
     requires { IsPathOf program.now path.now }
     ensures words { IfOk result (λ words. words ≡ path_words program.now.source path.now) }
     ensures good { IfOk result IsPath }
@@ -59,10 +61,11 @@ fn path_of(alloc: Global, program: &Program, path: &Path) -> Result<CertPath, Al
         let _facts = name.as_bytes();
         fields.push(*name)?;
     }
-    Ok(CertPath {
+    let path = CertPath {
         base: base_of(program, path.base()),
         fields: Items::from_vec(fields),
-    })
+    };
+    SharedPath::new(alloc, path)
 }
 
 /// A lock by its names.
@@ -81,15 +84,78 @@ fn lock_of(alloc: Global, program: &Program, lock: &Lock) -> Result<CertLock, Al
     }
 }
 
-/// A list of locks by their names.
-fn list_of(alloc: Global, program: &Program, locks: &[&Lock]) -> Result<Items<CertLock>, AllocError>
-    requires { AreNamed program.now (map deref locks.now) }
+/// How many places of a list are searched for a lock.
+const NEAR: usize = 4;
+
+/// Locks, and what they are by their names.
+#[derive(Clone, Copy)]
+struct Known<'a> {
+    locks: &'a [&'a Lock],
+    named: &'a [CertLock],
+}
+
+/// Whether two locks are equal.
+fn are_equal(one: &Lock, other: &Lock) -> bool
+    ensures { IsTrue result → one.now ≡ other.now }
+{
+    *one == *other
+}
+
+/// Where a list has a lock: at this place, or not far behind it.
+fn place_of(locks: &[&Lock], from: usize, lock: &Lock) -> Option<usize>
+    ensures within { IfSome result (λ place. place < length locks.now) }
+    ensures there { IfSome result (λ place. slice_get (map deref locks.now) place ≡ Some lock.now) }
+{
+    let end = locks.len().min(from.saturating_add(NEAR));
+    for place in from..end {
+        if are_equal(locks[place], lock) {
+            return Some(place);
+        }
+    }
+    None
+}
+
+/// The lock that is next in a list, by its names. One that a known list has from a place on isn't named again, and the
+/// place is then the one behind it.
+fn next_lock(
+    alloc: Global,
+    program: &Program,
+    known: Known<'_>,
+    from: &mut usize,
+    lock: &Lock,
+) -> Result<CertLock, AllocError>
+    requires named { IsNamed program.now lock.now }
+    requires known { known.named.now ≡ list_words program.now.source (map deref known.locks.now) }
+    requires good { AllByRecursion IsLock known.named.now }
+    ensures words { IfOk result (λ words. words ≡ lock_words program.now.source lock.now) }
+    ensures good { IfOk result IsLock }
+{
+    match place_of(known.locks, *from, lock) {
+        Some(place) => {
+            *from = place + 1;
+            known.named[place].share()
+        }
+        None => lock_of(alloc, program, lock),
+    }
+}
+
+/// A list of locks by their names, which has many of a known list's.
+fn list_of(
+    alloc: Global,
+    program: &Program,
+    known: Known<'_>,
+    locks: &[&Lock],
+) -> Result<Items<CertLock>, AllocError>
+    requires named { AreNamed program.now (map deref locks.now) }
+    requires known { known.named.now ≡ list_words program.now.source (map deref known.locks.now) }
+    requires good { AllByRecursion IsLock known.named.now }
     ensures words { IfOk result (λ list. list ≡ list_words program.now.source (map deref locks.now)) }
     ensures good { IfOk result (λ list. AllByRecursion IsLock list) }
 {
     let mut list = Vec::with_capacity(alloc, locks.len())?;
+    let mut from = 0;
     for lock in locks {
-        list.push(lock_of(alloc, program, lock)?)?;
+        list.push(next_lock(alloc, program, known, &mut from, lock)?)?;
     }
     Ok(Items::from_vec(list))
 }
@@ -106,7 +172,11 @@ pub fn entry_of(
     ensures good { IfOk result (λ list. AllByRecursion IsLock list) }
 {
     let entry = locks.lent_at(alloc, 0)?;
-    list_of(alloc, program, entry.as_slice())
+    let none = Known {
+        locks: &[],
+        named: &[],
+    };
+    list_of(alloc, program, none, entry.as_slice())
 }
 
 /// A step at a node.
@@ -145,7 +215,7 @@ fn step_again(steps: &mut ChainSteps, node: u32) -> Result<(), AllocError>
 fn have_one_lock(one: &Link, other: &Link) -> bool
     ensures { IsTrue result → one.now.lock ≡ other.now.lock }
 {
-    one.lock == other.lock
+    are_equal(&one.lock, &other.lock)
 }
 
 /// Puts a step of a chain by its names behind those before it. Mostly its lock is the one before.
@@ -208,28 +278,58 @@ pub fn chains_of(
     Ok(Items::from_vec(list))
 }
 
+/// The lists of nodes by their names, and the locks of the last.
+#[derive(Drop)]
+struct NamedLists<'a> {
+    lists: Runs<Items<CertLock>>,
+    last: Vec<&'a Lock>,
+}
+
+/// The last list, and its locks; where there is no list, none.
+fn last_of<'a>(named: &'a NamedLists<'_>) -> Known<'a>
+    ensures words { (t : TreeView) → IsLastNamed t named.now.lists (map deref named.now.last.items)
+        → result.named.now ≡ list_words t (map deref result.locks.now) }
+    ensures good { AllByRecursion (λ list. AllByRecursion IsLock list) named.now.lists
+        → AllByRecursion IsLock result.named.now }
+{
+    let count = named.lists.len();
+    if count == 0 {
+        return Known {
+            locks: &[],
+            named: &[],
+        };
+    }
+    Known {
+        locks: named.last.as_slice(),
+        named: named.lists.at(count - 1).as_slice(),
+    }
+}
+
 /// Puts a node's list by its names behind those of the nodes before. Mostly it repeats the list before.
-fn next_list(
+fn next_list<'a>(
     alloc: Global,
     program: &Program,
-    locks: &Locks,
+    locks: &'a Locks,
     node: u16,
-    lists: &mut Runs<Items<CertLock>>,
+    named: &mut NamedLists<'a>,
 ) -> Result<(), AllocError>
     requires there { node < length locks.now.at }
     requires named { (list : List Lock) → Has locks.now.at list → AreNamed program.now list }
-    requires words { lists.old ≡ map (list_words program.now.source) (take node locks.now.at) }
-    requires good { AllByRecursion (λ list. AllByRecursion IsLock list) lists.old }
-    ensures words { OnOk result (lists.new ≡ map (list_words program.now.source) (take (node + 1) locks.now.at)) }
-    ensures good { OnOk result (AllByRecursion (λ list. AllByRecursion IsLock list) lists.new) }
+    requires words { named.old.lists ≡ map (list_words program.now.source) (take node locks.now.at) }
+    requires last { IsLastNamed program.now.source named.old.lists (map deref named.old.last.items) }
+    requires good { AllByRecursion (λ list. AllByRecursion IsLock list) named.old.lists }
+    ensures words { OnOk result (named.new.lists ≡ map (list_words program.now.source) (take (node + 1) locks.now.at)) }
+    ensures last { OnOk result (IsLastNamed program.now.source named.new.lists (map deref named.new.last.items)) }
+    ensures good { OnOk result (AllByRecursion (λ list. AllByRecursion IsLock list) named.new.lists) }
 {
     if 0 < node && locks.are_one(node, node - 1) {
-        lists.push_again()?;
+        named.lists.push_again()?;
         return Ok(());
     }
     let needed = locks.lent_at(alloc, node)?;
-    let list = list_of(alloc, program, needed.as_slice())?;
-    lists.push(list)?;
+    let list = list_of(alloc, program, last_of(named), needed.as_slice())?;
+    named.lists.push(list)?;
+    named.last = needed;
     Ok(())
 }
 
@@ -245,9 +345,12 @@ pub fn lists_of(
     ensures words { IfOk result (λ lists. lists ≡ map (list_words program.now.source) locks.now.at) }
     ensures good { IfOk result (λ lists. AllByRecursion (λ list. AllByRecursion IsLock list) lists) }
 {
-    let mut lists = Runs::new(alloc);
+    let mut named = NamedLists {
+        lists: Runs::new(alloc),
+        last: Vec::new(alloc),
+    };
     for node in 0..count {
-        next_list(alloc, program, locks, node, &mut lists)?;
+        next_list(alloc, program, locks, node, &mut named)?;
     }
-    Ok(lists)
+    Ok(named.lists)
 }

@@ -4,7 +4,7 @@
 use crate::programs::printed;
 use sect_cert::{
     Cert, CertBase, CertChain, CertFault, CertLock, CertPath, CertSection, CertStep, ChainSteps,
-    Runs, read_cert, write_cert,
+    Runs, SharedPath, read_cert, write_cert,
 };
 use sect_front::{Items, Name, is_name};
 use std::alloc::{AllocError, Global};
@@ -145,8 +145,8 @@ fn leads_to_the_store(rt: &impl Abort, chain: &CertChain) -> Result<(), Fail> {
     assert_eq!(rt; node, 2);
     match lock {
         CertLock::WritePath(path) => {
-            assert_eq!(rt; path.fields.len(), 0);
-            match path.base {
+            assert_eq!(rt; path.path().fields.len(), 0);
+            match path.path().base {
                 CertBase::Name(name) => {
                     assert!(rt; name.as_bytes() == b"a".as_slice());
                     Ok(())
@@ -175,11 +175,12 @@ fn of_one<T: Drop>(alloc: Global, item: T) -> Result<Items<T>, AllocError> {
 }
 
 /// A path of one field.
-fn made_path(alloc: Global) -> Result<CertPath, Fail> {
-    Ok(CertPath {
+fn made_path(alloc: Global) -> Result<SharedPath, Fail> {
+    let path = CertPath {
         base: CertBase::Name(name(b"head")?),
         fields: of_one(alloc, name(b"next")?)?,
-    })
+    };
+    Ok(SharedPath::new(alloc, path)?)
 }
 
 /// The lists of two nodes: a path and a class, and nothing.

@@ -1,5 +1,6 @@
 -- What a certificate says of a compiled program.
-use Rattle.std.specs.Prelude.{◌≡◌, ℕ, List, Some, length, slice_get}
+use Rattle.std.specs.Prelude.{◌≡◌, ℕ, ◌-◌, List, Some, length, slice_get}
+use Rattle.sect_front.specs.TreeView.{TreeView}
 use Rattle.sect_types.specs.Sections.{SectionView, sections_of}
 use Rattle.sect_graph.specs.declared.flow.Node.{Node}
 use Rattle.sect_names.specs.declared.link.Link.{Link}
@@ -7,11 +8,12 @@ use Rattle.sect_names.specs.declared.lock.Lock.{Lock}
 use Rattle.sect_names.specs.Needed.{end_of}
 use Rattle.sect_names.specs.Schemes.{SchemeView}
 use Rattle.sect_chains.specs.Chains.{AreChains}
+use Rattle.sect_cert.specs.declared.lock.CertLock.{CertLock}
 use Rattle.sect_cert.specs.declared.certificate.CertChain.{CertChain}
 use Rattle.sect_cert.specs.declared.certificate.CertSection.{CertSection}
 use Rattle.sect_cert.specs.declared.certificate.Cert.{Cert}
 use Rattle.sect_infer.specs.Sets.{LocksView}
-use Rattle.sect_emit.specs.Words.{chains_words, section_words}
+use Rattle.sect_emit.specs.Words.{list_words, chains_words, section_words}
 
 -- these are by names chains of the entry's locks
 abbrev pub AreChainsSpelled :
@@ -34,3 +36,8 @@ pub record IsSpelled (s : SchemeView) (all : List LocksView) (a : Cert) : Type 0
   pub count : length a.sections ≡ length (sections_of s.program.texts)
   pub each : (i : ℕ) (locks : LocksView) (x : CertSection) → slice_get all i ≡ Some locks
       → slice_get a.sections i ≡ Some x → IsSectionSpelled s i locks x
+
+-- where there is a list, the last is by names these locks
+abbrev pub IsLastNamed : TreeView → List (List CertLock) → List Lock → Type 0
+IsLastNamed t lists last =
+    (list : List CertLock) → slice_get lists (length lists - 1) ≡ Some list → list ≡ list_words t last

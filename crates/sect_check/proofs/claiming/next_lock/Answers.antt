@@ -1,4 +1,4 @@
-use Rattle.std.proofs.Common.{◌∙◌, sym, subst, arith}
+use Rattle.std.proofs.Common.{◌∙◌, rules, sym, subst, arith}
 use Rattle.std.proofs.lemmas.Option.{get_or_from_slice_get}
 use Rattle.std.proofs.lemmas.Slice.Zip.{AllZip-long}
 use Rattle.sect_lemmas.proofs.Places.{at_of}
@@ -11,6 +11,9 @@ bounds-known-place c =
     let n = c.args.naming.now in
     let long = AllZip-long (Denotes n.scheme n.thread) c.args.known.named.now c.args.known.locks.now c.requires in
     omega (arith, long, c.in-Some.ensures.within)
+
+pub offset_bounds-known-place : goal.offset_bounds-known-place
+offset_bounds-known-place c = let within = bounds-known-place c in search (rules, within)
 
 pub returns-in_ok-try_clone-in-Some : goal.returns-in_ok-try_clone-in-Some
 returns-in_ok-try_clone-in-Some c =

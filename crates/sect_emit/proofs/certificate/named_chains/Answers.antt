@@ -1,4 +1,4 @@
-use Rattle.std.proofs.Common.{◌≡◌, ◌∙◌, ap, subst, sym}
+use Rattle.std.proofs.Common.{◌∙◌, ap, subst, sym}
 use Rattle.sect_types.specs.Programs.{ProgramView}
 use Rattle.sect_cert.specs.Texts.{AreRising}
 use Rattle.sect_emit.specs.Words.{chains_words}

@@ -11,8 +11,8 @@ use Rattle.sect_emit.proofs.words.entry_of.Goals as goal
 pub lent_at-requires : goal.lent_at-requires
 lent_at-requires c = slice_get_within c.args.locks.now.at 0 c.args.locks.now.entry c.requires.first
 
-pub list_of-requires : goal.list_of-requires
-list_of-requires c =
+pub list_of-requires-clause-named : goal.list_of-requires-clause-named
+list_of-requires-clause-named c =
     let lent = map deref c.in_ok-entry.entry.items in
     let same : c.args.locks.now.entry ≡ lent =
     one_at c.args.locks.now.at 0 c.args.locks.now.entry lent c.requires.first c.in_ok-entry.ensures in

@@ -5,10 +5,10 @@ use Rattle.sect_lemmas.proofs.Listing.{Has-map}
 use Rattle.sect_lemmas.proofs.Membership.{Has-get_or}
 use Rattle.sect_emit.proofs.words.list_of.Goals as goal
 
-pub lock_of-requires : goal.lock_of-requires
-lock_of-requires c =
+pub next_lock-requires-clause-named : goal.next_lock-requires-clause-named
+next_lock-requires-clause-named c =
     let locks = c.args.locks.now in
     let i = c.loop-lock.lock-index in
     let within : i < length locks = omega arith in
-    c.requires (deref c.lock-item.result) (Has-map deref locks c.lock-item.result
+    c.requires.named (deref c.lock-item.result) (Has-map deref locks c.lock-item.result
     (subst (Has locks) (sym c.lock-item.is) (Has-get_or locks i c.lock-item.result within)))

@@ -6,7 +6,7 @@ use Rattle.sect_types.specs.declared.expansion.action.Label.TheVariants.{Test}
 use Rattle.sect_types.specs.declared.expansion.action.Condition.{Condition}
 use Rattle.sect_types.specs.declared.expansion.text.Step.{Step}
 use Rattle.sect_types.specs.declared.expansion.text.Step.TheVariants as step
-use Rattle.sect_types.specs.Statements.{TextView, Stop, Choose}
+use Rattle.sect_types.specs.Statements.{TextView, Stop, Choose, Loop}
 use Rattle.sect_types.specs.Texts.{step_then, statements_of}
 use Rattle.sect_types.specs.Traces.{node_count}
 use Rattle.sect_graph.specs.declared.flow.Node.{Node}
@@ -142,6 +142,23 @@ nodes_if s t a b old n1 n2 n3 start other first second next is e0 e0' e1 e2 f1 f
     let g3 : n3 ≡ ((old ++ x ∷ []) ++ xs) ++ ys = f3 ∙ rw (l2, g2) refl in
     let flat : ((old ++ x ∷ []) ++ xs) ++ ys ≡ old ++ x ∷ (xs ++ (ys ++ [])) = simp (append_assoc, append-nil) in
     g3 ∙ flat ∙ ap (λ f. old ++ nodes_of f (length old) next) (sym is)
+
+-- those of a `while`
+pub nodes_while : (s : Step) (t : Condition) (a : TextView) (old n1 n2 : List Node) (start first next : ℕ)
+    → step_then s Stop ≡ Loop t a Stop
+    → start ≡ length old → first ≡ entry_of a (start + 1) start
+    → n1 ≡ old ++ node (Test t) (Branch first next) ∷ []
+    → n2 ≡ n1 ++ nodes_of a (length n1) start
+    → n2 ≡ old ++ nodes_of (step_then s Stop) (length old) next
+nodes_while s t a old n1 n2 start first next is e0 e1 f1 f2 =
+    let l1 : length n1 ≡ length old + 1 =
+    omega (arith, ap length f1, length-append old (node (Test t) (Branch first next) ∷ [])) in
+    let x = node (Test t) (Branch (entry_of a (length old + 1) (length old)) next) in
+    let xs = nodes_of a (length old + 1) (length old) in
+    let g1 : n1 ≡ old ++ x ∷ [] = rw (f1, e1, e0) refl in
+    let g2 : n2 ≡ (old ++ x ∷ []) ++ xs = f2 ∙ rw (l1, e0, g1) refl in
+    let flat : (old ++ x ∷ []) ++ xs ≡ old ++ x ∷ (xs ++ []) = simp (append_assoc, append-nil) in
+    g2 ∙ flat ∙ ap (λ f. old ++ nodes_of f (length old) next) (sym is)
 
 -- there is room for the second side of an `if`
 pub room_if : (s : Step) (t : Condition) (a b : TextView) (old n1 n2 : List Node) (x : Node) (next most : ℕ)

@@ -1,9 +1,5 @@
-mod Choosing
 mod Finding
 mod Going
 mod Answering
 mod Keeping
-mod Listing
-mod Within
-mod Wording
 pub mod shared

@@ -1,33 +1,25 @@
 -- Changes of a text, as an editor tells them.
-use Rattle.std.specs.Prelude.{ℕ, List, Option, Some, None, option_map, option_and_then, codes}
+use Rattle.std.specs.Prelude.{ℕ, max, List, ◌++◌, take, drop, Option, Some, None, option_map, option_and_then, codes}
 use Rattle.serde_json.specs.Data.{Data, Items, no_items, item}
-use Rattle.serde_json.specs.Find.{get, as_str, as_number, as_u64}
-use Rattle.sect_lsp.specs.declared.position.Encoding.{Encoding}
-use Rattle.sect_lsp.specs.declared.position.Place.{Place}
-use Rattle.sect_lsp.specs.declared.position.Range.{Range}
-use Rattle.sect_lsp.specs.Positions.{edited}
+use Rattle.serde_json.specs.Find.{get, as_str}
+use Rattle.sect_editor.specs.declared.position.Encoding.{Encoding}
+use Rattle.sect_editor.specs.declared.position.Range.{Range}
+use Rattle.sect_editor.specs.Positions.{offset, range_in}
 
--- the number of a member
-abbrev pub number_in : List ℕ → Data → Option ℕ
-number_in key d = option_and_then as_u64 (option_and_then as_number (get key d))
+-- the text with other bytes in place of those of a range. A range that ends before it begins is empty
+abbrev pub replaced : Encoding → Range → List ℕ → List ℕ → List ℕ
+replaced encoding range bytes text =
+    take (offset encoding range.start text) text ++ bytes
+    ++ drop (max (offset encoding range.start text) (offset encoding range.end text)) text
+
+-- the text after a change: other bytes in place of a range, or in place of all
+abbrev pub edited : Encoding → Option Range → List ℕ → List ℕ → List ℕ
+edited encoding None bytes text = bytes
+edited encoding (Some range) bytes text = replaced encoding range bytes text
 
 -- the text of a member
 abbrev pub text_in : List ℕ → Data → Option (List ℕ)
 text_in key d = option_and_then as_str (get key d)
-
--- a position
-abbrev pub place_in : Data → Option Place
-place_in d =
-    option_and_then (λ line. option_map (λ column. record { line = line; column = column })
-    (number_in (codes "character") d)) (number_in (codes "line") d)
-
-abbrev pub place_at : List ℕ → Data → Option Place
-place_at key d = option_and_then place_in (get key d)
-
-abbrev pub range_in : Data → Option Range
-range_in d =
-    option_and_then (λ start. option_map (λ end. record { start = start; end = end }) (place_at (codes "end") d))
-    (place_at (codes "start") d)
 
 -- a change of all has no range
 abbrev pub range_of : Option Data → Option (Option Range)

@@ -55,6 +55,11 @@ pub data ReplyView : Type 0 where
   Result : (value : Data) → ReplyView
   Error : (why : RequestError) → ReplyView
 
+-- what can't be done isn't asked by the parameters of a method
+abbrev pub reply_with : Option Data → ReplyView
+reply_with (Some value) = Result value
+reply_with None = Error fault.InvalidParams
+
 abbrev pub error_json : RequestError → Data
 error_json why =
     object (member (codes "code") (number (negative (code_of why))) (member (codes "message") (string (words_of why))

@@ -5,14 +5,14 @@ use Rattle.std.specs.Str.{bytes_eq}
 use Rattle.serde_json.specs.Data.{Data, null, boolean, number, unsigned, string, array, object, Items, no_items, item}
 use Rattle.serde_json.specs.Data.{no_members, member}
 use Rattle.serde_json.specs.Find.{pointer, as_str, as_array, as_number, as_u64}
-use Rattle.sect_lsp.specs.declared.position.Encoding.{Encoding}
-use Rattle.sect_lsp.specs.declared.position.Encoding.TheVariants.{Utf8, Utf16}
+use Rattle.sect_editor.specs.declared.position.Encoding.{Encoding}
+use Rattle.sect_editor.specs.declared.position.Encoding.TheVariants.{Utf8, Utf16}
 use Rattle.sect_lsp.specs.declared.protocol.RequestError.{RequestError}
 use Rattle.sect_lsp.specs.declared.protocol.RequestError.TheVariants as fault
-use Rattle.sect_lsp.specs.declared.query.Query.TheVariants as query
-use Rattle.sect_lsp.specs.declared.question.Question.{Question}
-use Rattle.sect_lsp.specs.declared.question.Question.TheVariants as question
-use Rattle.sect_lsp.specs.declared.text.Reading.{Reading}
+use Rattle.sect_editor.specs.declared.query.Query.TheVariants as query
+use Rattle.sect_editor.specs.declared.question.Question.{Question}
+use Rattle.sect_editor.specs.declared.question.Question.TheVariants as question
+use Rattle.sect_editor.specs.declared.text.Reading.{Reading}
 use Rattle.sect_lsp.specs.declared.server.Phase.{Phase}
 use Rattle.sect_lsp.specs.declared.server.Phase.TheVariants as phase
 use Rattle.sect_lsp.specs.declared.server.Asked.{Asked}
@@ -22,11 +22,11 @@ use Rattle.sect_lsp.specs.declared.server.Told.TheVariants as told
 use Rattle.sect_lsp.specs.declared.documents.TheConstants.{MOST_K}
 use Rattle.sect_lsp.specs.declared.server.TheConstants.{DEFAULT_K}
 use Rattle.sect_lsp.specs.Changes.{after_changes}
-use Rattle.sect_lsp.specs.Diagnosing.{AreDiagnostics}
+use Rattle.sect_editor.specs.Diagnosing.{AreDiagnostics}
 use Rattle.sect_lsp.specs.Documents.{DocumentView, text_of, closed, opened}
-use Rattle.sect_lsp.specs.Asking.{IsReplyTo}
+use Rattle.sect_editor.specs.Asking.{IsAnswerTo}
 use Rattle.sect_lsp.specs.Protocol.{Kind, Request, Notification, Response, Invalid, kind_of, ReplyView, Result, Error}
-use Rattle.sect_lsp.specs.Protocol.{IsRead, response_json, notification_json}
+use Rattle.sect_lsp.specs.Protocol.{IsRead, reply_with, response_json, notification_json}
 
 -- what the server knows: what may come now, the most fields of a path, how columns are counted, and the open documents
 pub record ServerView : Type 0 where
@@ -150,7 +150,8 @@ reading_of s = record { k = s.k; encoding = s.encoding }
 -- of a document that isn't open nothing is answered
 abbrev pub IsTextReply : ServerView → Question → Data → List ℕ → Option (List ℕ) → ReplyView → Type 0
 IsTextReply s q d uri None reply = reply ≡ Error fault.InvalidParams
-IsTextReply s q d uri (Some source) reply = IsReplyTo q (reading_of s) d uri source reply
+IsTextReply s q d uri (Some source) reply =
+    (answer : Option Data) × IsAnswerTo q (reading_of s) d uri source answer × (reply ≡ reply_with answer)
 
 abbrev pub IsDocumentReply : ServerView → Question → Data → Option (List ℕ) → ReplyView → Type 0
 IsDocumentReply s q d None reply = reply ≡ Error fault.InvalidParams

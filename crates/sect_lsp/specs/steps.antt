@@ -2,8 +2,4 @@
 pub mod Fronts
 pub mod Replying
 pub mod Underway
-pub mod Naming
-pub mod Judging
 pub mod Keeping
-pub mod Marking
-pub mod Pointing

@@ -1,52 +1,55 @@
 //! Changes of a text, as an editor tells them.
 
-ghost use Rattle.std.specs.Prelude.{◌≡◌, IfOk, option_map, option_and_then};
+ghost use Rattle.std.specs.Prelude.{◌≡◌, IfOk, option_map};
 ghost use Rattle.serde_json.specs.View.{view, items_view};
-ghost use Rattle.sect_lsp.specs.Changes.{number_in as number_by, text_in as text_by, place_in as place_by};
-ghost use Rattle.sect_lsp.specs.Changes.{place_at as place_at_by, range_in as range_by, range_of as range_of_by};
+ghost use Rattle.sect_lsp.specs.Changes.{replaced as replaced_by, edited as edited_by};
+ghost use Rattle.sect_lsp.specs.Changes.{text_in as text_by, range_of as range_of_by};
 ghost use Rattle.sect_lsp.specs.Changes.{after_change as after_change_by, after_changes as after_changes_by};
 
-use crate::position::{Encoding, Place, Range, edited};
+use sect_editor::{Encoding, Range, offset, range_in};
 use serde_json::Value;
 use std::alloc::{AllocError, Global};
 
-/// The number of a member.
-pub fn number_in(value: &Value, key: &str) -> Option<u64>
-    ensures { result ≡ number_by key.now (view value.now) }
+/// The text with other bytes in place of those of a range.
+fn replaced(
+    alloc: Global,
+    encoding: Encoding,
+    text: &[u8],
+    range: Range,
+    bytes: &[u8],
+) -> Result<Vec<u8>, AllocError>
+    ensures { IfOk result (λ after. after.items ≡ replaced_by encoding range bytes.now text.now) }
 {
-    value.get(key).and_then(Value::as_u64)
+    let start = offset(encoding, text, range.start);
+    let end = offset(encoding, text, range.end).max(start);
+    let mut after = Vec::new(alloc);
+    after.extend_from_slice(&text[..start])?;
+    after.extend_from_slice(bytes)?;
+    after.extend_from_slice(&text[end..])?;
+    Ok(after)
+}
+
+/// The text after a change: other bytes in place of a range, or in place of all.
+pub fn edited(
+    alloc: Global,
+    encoding: Encoding,
+    text: &[u8],
+    range: Option<Range>,
+    bytes: &[u8],
+) -> Result<Vec<u8>, AllocError>
+    ensures { IfOk result (λ after. after.items ≡ edited_by encoding range bytes.now text.now) }
+{
+    match range {
+        Some(range) => replaced(alloc, encoding, text, range, bytes),
+        None => Vec::from_slice(alloc, bytes),
+    }
 }
 
 /// The text of a member.
-pub fn text_in<'a>(value: &'a Value, key: &str) -> Option<&'a str>
+fn text_in<'a>(value: &'a Value, key: &str) -> Option<&'a str>
     ensures { option_map (λ text. text.now) result ≡ text_by key.now (view value.entry.now) }
 {
     value.get(key).and_then(Value::as_str)
-}
-
-/// A position.
-pub fn place_in(value: &Value) -> Option<Place>
-    ensures { result ≡ place_by (view value.now) }
-{
-    let line = number_in(value, "line")?;
-    let column = number_in(value, "character")?;
-    Some(Place { line, column })
-}
-
-/// The position that a member is.
-fn place_at(value: &Value, key: &str) -> Option<Place>
-    ensures { result ≡ place_at_by key.now (view value.now) }
-{
-    place_in(value.get(key)?)
-}
-
-/// From one position to another.
-pub fn range_in(value: &Value) -> Option<Range>
-    ensures { result ≡ range_by (view value.now) }
-{
-    let start = place_at(value, "start")?;
-    let end = place_at(value, "end")?;
-    Some(Range { start, end })
 }
 
 /// The range of a change. A change of all has none.

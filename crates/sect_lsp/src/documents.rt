@@ -3,7 +3,7 @@
 ghost use Rattle.std.specs.Prelude.{◌≡◌, ◌≤◌, OnOk, IfSome, [], filter, not, option_map};
 ghost use Rattle.std.specs.String.{string_bytes};
 ghost use Rattle.std.specs.Str.{bytes_eq};
-ghost use Rattle.sect_lsp.specs.Accepted.{IsCompiledIf};
+ghost use Rattle.sect_editor.specs.Accepted.{IsCompiledIf};
 ghost use Rattle.sect_lsp.specs.Documents.{text_of, closed, opened};
 ghost use Rattle.sect_lsp.specs.steps.Keeping.{OpenView, IsKept, kept_of};
 

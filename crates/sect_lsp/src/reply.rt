@@ -1,8 +1,8 @@
 //! What a request is answered.
 
-ghost use Rattle.std.specs.Prelude.{◌≡◌, IfOk};
+ghost use Rattle.std.specs.Prelude.{◌≡◌, IfOk, option_map};
 ghost use Rattle.serde_json.specs.View.{view};
-ghost use Rattle.sect_lsp.specs.Protocol.{response_json};
+ghost use Rattle.sect_lsp.specs.Protocol.{reply_with as reply_with_by, response_json};
 ghost use Rattle.sect_lsp.specs.steps.Replying.{reply_view};
 
 use crate::protocol::{RequestError, error_message, result_message};
@@ -14,6 +14,16 @@ use std::alloc::{AllocError, Global};
 pub enum Reply {
     Result(Value),
     Error(RequestError),
+}
+
+/// What is answered with this value. Without one the parameters aren't those of the method.
+pub fn reply_with(value: Option<Value>) -> Reply
+    ensures { reply_view result ≡ reply_with_by (option_map view value) }
+{
+    match value {
+        Some(value) => Reply::Result(value),
+        None => Reply::Error(RequestError::InvalidParams),
+    }
 }
 
 /// The answer to what was asked under this number or name.

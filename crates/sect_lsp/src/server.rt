@@ -14,14 +14,10 @@ ghost use Rattle.sect_lsp.specs.Server.{Keeps, Begins, Forgets, reading_of, IsTe
 ghost use Rattle.sect_lsp.specs.steps.Replying.{reply_view};
 
 use crate::change::after_changes;
-use crate::diagnosing::{Judged, judge};
 use crate::documents::{Documents, MOST_K};
-use crate::position::Encoding;
 use crate::protocol::{RequestError, is_id, notification_message, read, refusal_message};
-use crate::query::{Query, text_at};
-use crate::question::{Question, answer};
-use crate::reply::{Reply, response};
-use crate::text::{Reading, Text};
+use crate::reply::{Reply, reply_with, response};
+use sect_editor::{Encoding, Judged, Query, Question, Reading, Text, answer, judge, text_at};
 use serde_json::{Value, json};
 use std::alloc::{AllocError, Global};
 use std::marker::Model;
@@ -316,7 +312,7 @@ impl Server {
             reading: self.reading(),
             compiled: document.compiled(),
         };
-        answer(alloc, question, text, message)
+        Ok(reply_with(answer(alloc, question, text, message)?))
     }
 
     /// Answers what is asked of a document.

@@ -4,7 +4,7 @@ use Rattle.std.specs.Str.{bytes_eq}
 use Rattle.sect_emit.specs.Compiled.{CompiledView}
 use Rattle.sect_lsp.specs.declared.server.Phase.{Phase}
 use Rattle.sect_lsp.specs.declared.server.Phase.TheVariants as phase
-use Rattle.sect_lsp.specs.Accepted.{IsCompiledIf}
+use Rattle.sect_editor.specs.Accepted.{IsCompiledIf}
 use Rattle.sect_lsp.specs.Documents.{DocumentView}
 
 -- a document with the compiled program of its text, unless that is refused

@@ -1,13 +1,12 @@
 use Rattle.std.proofs.Common.{◌≡◌, ℕ, List, Option, Some, sym, subst, ap, ◌∙◌}
 use Rattle.std.specs.Prelude.{option_map}
-use Rattle.std.proofs.lemmas.Result.{IfOk-weaker}
 use Rattle.serde_json.specs.View.{view}
 use Rattle.sect_emit.specs.Compiled.{CompiledView}
-use Rattle.sect_lsp.specs.declared.text.Reading.{Reading}
-use Rattle.sect_lsp.specs.Accepted.{IsCompiledIf}
+use Rattle.sect_editor.specs.declared.text.Reading.{Reading}
+use Rattle.sect_editor.specs.Accepted.{IsCompiledIf}
 use Rattle.sect_lsp.specs.Documents.{text_of}
-use Rattle.sect_lsp.specs.Asking.{IsReplyTo}
-use Rattle.sect_lsp.specs.Server.{ServerView, IsTextReply}
+use Rattle.sect_editor.specs.Asking.{IsAnswerTo}
+use Rattle.sect_lsp.specs.Server.{ServerView, IsTextReply, reading_of}
 use Rattle.sect_lsp.specs.steps.Replying.{reply_view}
 use Rattle.sect_lsp.proofs.server.Server.answer_text.Goals as goal
 
@@ -31,8 +30,9 @@ returns c =
     let source : List ℕ = c.in-Some.document.now.text in
     let text : Some source ≡ text_of uri s.documents =
     c.in-Some.ensures.text ∙ ap (λ (v : ServerView). text_of uri v.documents) c.self.view_is in
-    IfOk-weaker c.answer.result _ _
-    (λ reply h. subst (λ (o : Option (List ℕ)). IsTextReply s q d uri o (reply_view reply)) text
-    (subst (λ (r : Reading). IsReplyTo q r d uri source (reply_view reply)) c.reading.ensures.reading
-    (subst (λ (t : List ℕ). IsReplyTo q c.reading.result d uri t (reply_view reply)) c.text.ensures h)))
-    c.answer.ensures
+    let value = option_map view c.in_ok-answer.field-0 in
+    let is : IsAnswerTo q (reading_of s) d uri source value =
+    subst (λ (r : Reading). IsAnswerTo q r d uri source value) c.reading.ensures.reading
+    (subst (λ (t : List ℕ). IsAnswerTo q c.reading.result d uri t value) c.text.ensures c.in_ok-answer.ensures) in
+    subst (λ (o : Option (List ℕ)). IsTextReply s q d uri o (reply_view c.reply_with.result)) text
+    (value, is, c.reply_with.ensures)

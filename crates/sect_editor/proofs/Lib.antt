@@ -1,0 +1,4 @@
+mod Choosing
+mod Listing
+mod Within
+mod Wording

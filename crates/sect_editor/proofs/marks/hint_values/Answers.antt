@@ -1,0 +1,24 @@
+use Rattle.std.proofs.Common.{◌≡◌, length, ap, ◌∙◌, arith}
+use Rattle.sect_types.specs.Programs.{ProgramView}
+use Rattle.sect_types.specs.Sections.{sections_of}
+use Rattle.sect_names.specs.Schemes.{SchemeView}
+use Rattle.sect_editor.specs.Marks.{hints_at}
+use Rattle.sect_editor.proofs.Listing.{numbers_more, numbers_all}
+use Rattle.sect_editor.proofs.marks.hint_values.Goals as goal
+
+pub loop-section-preserved : goal.loop-section-preserved
+loop-section-preserved c =
+    let m = c.args.marked.now in
+    numbers_more (hints_at m.compiled.now m.source.now m.spans.now c.args.range) c.loop-section.section
+    c.loop-section.values.items c.put_hint.new.values.items c.loop-section.invariant c.in_ok-put_hint.ensures
+
+pub returns : goal.returns
+returns c =
+    let m = c.args.marked.now in
+    let program = c.program.ensures ∙ ap (λ (s : SchemeView). s.program) c.scheme.ensures in
+    let count = c.section_count-section-end.ensures.count
+    ∙ ap (λ (p : ProgramView). length (sections_of p.texts)) program in
+    let all : c.loop-section.section ≡ length (sections_of m.compiled.now.scheme.program.texts) =
+    omega (arith, c.loop-section-test.false, c.loop-section.auto.section-end, count) in
+    numbers_all (hints_at m.compiled.now m.source.now m.spans.now c.args.range) c.loop-section.section
+    (length (sections_of m.compiled.now.scheme.program.texts)) c.loop-section.values all c.loop-section.invariant

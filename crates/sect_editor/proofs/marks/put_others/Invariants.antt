@@ -1,0 +1,12 @@
+use Rattle.std.proofs.Common.{◌≡◌, ◌++◌, take}
+use Rattle.std.specs.Prelude.{codes}
+use Rattle.std.specs.Fmt.{decimal}
+use Rattle.std.specs.List.{flat_map}
+use Rattle.std.specs.String.{string_bytes}
+use Rattle.sect_editor.proofs.marks.put_others.Given as goal
+
+-- the numbers so far
+abbrev pub invariant-loop-other : goal.invariant-loop-other
+invariant-loop-other l =
+    string_bytes l.text ≡ string_bytes l.fn.text
+    ++ flat_map (λ n. codes ", " ++ decimal n) (take l.other-index l.others)

@@ -1,0 +1,15 @@
+pub mod Positions
+pub mod Ranges
+pub mod Accepted
+pub mod Mistaken
+pub mod Warned
+pub mod Diagnosing
+pub mod Referring
+pub mod Queries
+pub mod Marks
+pub mod Symbols
+pub mod Hovering
+pub mod Words
+pub mod Completing
+pub mod Asking
+pub mod steps

@@ -1,9 +1,0 @@
-use Rattle.std.proofs.Common.{length, sym, subst}
-use Rattle.sect_lsp.specs.steps.Naming.{AreSpansWithin}
-use Rattle.sect_lsp.proofs.Within.{uses_within}
-use Rattle.sect_lsp.proofs.query.uses.Goals as goal
-
-pub returns-clause-within : goal.returns-clause-within
-returns-clause-within c =
-    subst (AreSpansWithin (length c.args.source.now)) (sym c.in_ok-spans.ensures)
-    (uses_within (length c.args.source.now) c.args.names.now c.requires c.args.declared)

@@ -1,9 +1,0 @@
--- A place of a compiled program's text.
-use Rattle.std.specs.Prelude.{◌≡◌, length}
-use Rattle.sect_lsp.specs.Hovering.{section_count}
-use Rattle.sect_lsp.specs.declared.hover.Pointed.{Pointed}
-
--- there are places of each section and of its nodes
-pub record IsPointed (p : Pointed) : Type 0 where
-  pub heads : length p.spans.now.heads ≡ section_count p.compiled.now
-  pub sections : length p.spans.now.sections ≡ section_count p.compiled.now

@@ -7,7 +7,7 @@ use Rattle.sect_emit.specs.Compiled.{CompiledView}
 use Rattle.sect_emit.specs.State.{ThreadState, State, IsThread}
 use Rattle.sect_world.specs.declared.event.Event.{Event}
 use Rattle.sect_world.specs.Runs.{IsRun}
-use Rattle.sect_warnings.specs.Warnings.{IsNeverFilled}
+use Rattle.sect_points.specs.NeverFilled.{IsNeverFilled}
 
 -- in no state of a run does a local that is never filled refer to an object
 abbrev pub NeverFilledLocalsReferToNothing : CompiledView → Type 0

@@ -13,8 +13,7 @@ use Rattle.sect_types.specs.declared.expansion.action.Label.{Label}
 use Rattle.sect_types.specs.declared.expansion.action.Label.TheVariants as label
 use Rattle.sect_graph.specs.declared.flow.Node.{Node}
 use Rattle.sect_graph.specs.Layout.{flow_nodes}
-use Rattle.sect_points.specs.declared.holders.Holder.TheVariants as holder
-use Rattle.sect_points.specs.Sets.{PointsToView, InSets}
+use Rattle.sect_points.specs.NeverFilled.{IsNeverFilled}
 use Rattle.sect_places.specs.declared.origin.Origin.{Origin}
 use Rattle.sect_places.specs.Origins.{section_origins_of}
 use Rattle.sect_places.specs.SectionItems.{section_items_of}
@@ -30,10 +29,6 @@ use Rattle.sect_conflicts.specs.Conflicts.{set_at, Selects}
 use Rattle.sect_warnings.specs.declared.warning.Finding.{Finding}
 use Rattle.sect_warnings.specs.declared.warning.Finding.TheVariants as finding
 use Rattle.sect_warnings.specs.declared.warning.Warning.{Warning}
-
--- no reference to an object comes to local x of thread t: its points-to set is empty
-abbrev pub IsNeverFilled : PointsToView → ℕ → ℕ → Type 0
-IsNeverFilled sets t x = (site : ℕ) → InSets sets (holder.Local t x) site → ⊥
 
 -- section i is marked `all`, and if it weren't, its lock set would be this lock alone
 abbrev pub WouldDo : CompiledView → ℕ → Lock → Type 0

@@ -5,7 +5,7 @@ ghost use Rattle.sect_types.specs.Sections.{sections_of};
 ghost use Rattle.sect_graph.specs.Layout.{flow_nodes};
 ghost use Rattle.sect_emit.specs.Explaining.{section_at};
 ghost use Rattle.sect_warnings.specs.Warnings.{warning, through as through_by, unfilled_at, to_node, at_section};
-ghost use Rattle.sect_warnings.specs.Warnings.{class_at, IsNeverFilled, IsDue, AreWarnings, AreAtItems};
+ghost use Rattle.sect_warnings.specs.Warnings.{class_at, IsDue, AreWarnings, AreAtItems};
 ghost use Rattle.sect_conflicts.specs.Conflicts.{set_at};
 ghost use Rattle.std.specs.List.{flat_map};
 ghost use Rattle.sect_conflicts.specs.Selecting.{Adds};
@@ -15,7 +15,6 @@ use crate::warning::{Finding, Warning};
 use sect_emit::{Compiled, section_thread};
 use sect_names::{Effect, Lock, Right};
 use sect_places::{Origin, node_origins, section_items};
-use sect_points::PointsTo;
 use sect_types::{Action, Base, Label};
 use std::alloc::{AllocError, Global};
 
@@ -45,13 +44,6 @@ fn through(label: Label) -> Option<u16>
     }
 }
 
-/// Whether no reference to an object ever comes to a local.
-fn is_never_filled(points: &PointsTo, thread: u16, local: u16) -> bool
-    ensures { IsTrue result ↔ IsNeverFilled points.now thread local }
-{
-    points.local_or_none(thread, local).first().is_none()
-}
-
 /// Adds what is told of a node.
 fn add_node(
     found: &mut Vec<Warning>,
@@ -67,7 +59,7 @@ fn add_node(
         return Ok(());
     };
     let thread = section_thread(compiled, place.section);
-    if is_never_filled(compiled.scheme().classes().points(), thread, local) {
+    if compiled.scheme().classes().points().is_never_filled(thread, local) {
         let finding = Finding::NeverFilled {
             node: place.node,
             local,

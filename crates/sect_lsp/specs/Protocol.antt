@@ -55,7 +55,7 @@ pub data ReplyView : Type 0 where
   Result : (value : Data) → ReplyView
   Error : (why : RequestError) → ReplyView
 
--- what can't be done isn't asked by the parameters of a method
+-- the answer is the value; where there is none, the parameters aren't those of the method
 abbrev pub reply_with : Option Data → ReplyView
 reply_with (Some value) = Result value
 reply_with None = Error fault.InvalidParams

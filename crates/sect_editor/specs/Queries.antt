@@ -1,7 +1,7 @@
 -- What is asked of an open document, and what is answered.
-use Rattle.std.specs.Prelude.{◌≡◌, ◌≢◌, ◌⊎◌, ℕ, Bool, false, not, ◌&&◌, ◌||◌, if◌then◌else◌, List, [], ◌∷◌, map}
+use Rattle.std.specs.Prelude.{◌≡◌, ◌≢◌, ◌⊎◌, ℕ, Bool, false, not, ◌&&◌, ◌||◌, if◌then◌else◌, List, [], map}
 use Rattle.std.specs.Prelude.{Option, Some, None, option_and_then, nat_eq, codes}
-use Rattle.std.specs.List.{flat_map, list_any}
+use Rattle.std.specs.List.{list_any}
 use Rattle.std.specs.Cmp.Lexicographic.{pointwise}
 use Rattle.serde_json.specs.Data.{Data, null, string, object, no_members, member}
 use Rattle.serde_json.specs.Find.{pointer, as_str}
@@ -21,7 +21,7 @@ use Rattle.sect_editor.specs.declared.position.Place.{Place}
 use Rattle.sect_editor.specs.declared.query.Query.{Query}
 use Rattle.sect_editor.specs.declared.query.Query.TheVariants as query
 use Rattle.sect_editor.specs.Positions.{offset, place_in}
-use Rattle.sect_editor.specs.Ranges.{count, list, range_json, location_json}
+use Rattle.sect_editor.specs.Ranges.{list, range_json, location_json}
 use Rattle.sect_editor.specs.Referring.{declared_under, uses_of}
 
 -- the names of a text. One that spells no tree has none

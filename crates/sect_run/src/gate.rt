@@ -9,8 +9,8 @@ pub trait Gate: Sync {
     /// where the system can't start one.
     fn starts(&self, thread: u16) -> bool;
 
-    /// Whether threads needn't pass here: then nobody tells the gate of an event, and a worker may make several turns of
-    /// its thread in a row.
+    /// Whether threads needn't pass here: then nobody tells the gate of an event, and a worker may make several turns
+    /// of its thread in a row.
     fn is_open(&self) -> bool;
 
     /// This thread has made an event of this kind.

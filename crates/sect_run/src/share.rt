@@ -67,8 +67,8 @@ impl<J: Naming> SharedRun<J> {
         }
     }
 
-    /// Turns of a thread, one at least and at most so many: until it can't move, or lets others in. The numbers of those
-    /// take the place of those that stood in `woken`.
+    /// Turns of a thread, one at least and at most so many: until it can't move, or lets others in. The numbers of
+    /// those take the place of those that stood in `woken`.
     pub fn turns(
         &mut self,
         compiled: &Compiled,

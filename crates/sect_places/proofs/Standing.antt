@@ -129,15 +129,17 @@ module _ (bytes : List ℕ) (tree : TreeView) (number : ℕ) (here : List ℕ) (
   one_passed =
       let first : first_of bytes tree number here h =
       first_here bytes tree number here h (omega (arith, lt, places_count bytes tree h.spelled)) in
-      let same : count ≡ length (spelling_of first.p.token) = each first.p.token _ first.first in
-      (first.p.token, record {
-        first = first;
-        token = refl;
-        count = same;
-        within = omega (arith, same, first.first.within);
-        some = omega (arith, same, first.first.some);
-        more = stands_more bytes tree number here h first count same;
-      })
+      let same : count ≡ length (spelling_of first.p.token) = each first.p.token _ first.first in (
+        first.p.token,
+        record {
+          first = first;
+          token = refl;
+          count = same;
+          within = omega (arith, same, first.first.within);
+          some = omega (arith, same, first.first.some);
+          more = stands_more bytes tree number here h first count same;
+        },
+      )
 
 -- these bytes spell it
 pub read_spelling : (bytes : List ℕ) (tree : TreeView) (number : ℕ) (here : List ℕ)

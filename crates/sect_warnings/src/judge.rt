@@ -59,7 +59,12 @@ fn add_node(
         return Ok(());
     };
     let thread = section_thread(compiled, place.section);
-    if compiled.scheme().classes().points().is_never_filled(thread, local) {
+    if compiled
+        .scheme()
+        .classes()
+        .points()
+        .is_never_filled(thread, local)
+    {
         let finding = Finding::NeverFilled {
             node: place.node,
             local,

@@ -48,6 +48,10 @@ impl<'a> Gate for KeepsTheFirst<'a> {
         true
     }
 
+    fn is_open(&self) -> bool {
+        false
+    }
+
     fn at(&self, thread: u16, kind: EventKind) {
         if thread == 1 && kind == EventKind::Leave {
             self.left.store(true, Ordering::SeqCst);
@@ -76,6 +80,10 @@ fn have_met(rt: &HostRuntime, own: &AtomicBool, other: &AtomicBool) -> bool {
 impl<'a> Gate for KeepsBoth<'a> {
     fn starts(&self, _thread: u16) -> bool {
         true
+    }
+
+    fn is_open(&self) -> bool {
+        false
     }
 
     fn at(&self, thread: u16, kind: EventKind) {

@@ -32,7 +32,7 @@ use Rattle.sect_cert.proofs.PartsLaws.{lacks_append, bytes_lack, parts_front}
 use Rattle.sect_cert.proofs.NumberLaws.{digits_of_decimal}
 use Rattle.sect_cert.proofs.WriteLaws.{line_joined}
 use Rattle.sect_cert.proofs.LineLaws.{IsTaken, line_takes, only_take}
-use Rattle.sect_cert.proofs.PartsLemmas.{some_parts, same_bytes}
+use Rattle.sect_cert.proofs.CutTexts.{some_parts, same_bytes}
 use Rattle.sect_cert.proofs.Readings.{taken_line}
 
 -- a stage where no node's list was taken last

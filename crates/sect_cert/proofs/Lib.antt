@@ -2,7 +2,7 @@ mod RunsLemmas
 mod SteppingLemmas
 mod KnownLemmas
 mod Counts
-mod PartsLemmas
+mod CutTexts
 mod ZerosLemmas
 mod WriteLaws
 mod NumberLaws

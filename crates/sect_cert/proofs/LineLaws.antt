@@ -23,7 +23,7 @@ use Rattle.sect_cert.specs.declared.list.ListWord.TheVariants as due
 use Rattle.sect_cert.specs.declared.line.CertLine.{CertLine}
 use Rattle.sect_cert.specs.declared.line.CertLine.TheVariants as line
 use Rattle.sect_cert.specs.Verdicts.{IsOfForm}
-use Rattle.sect_cert.proofs.PartsLemmas.{same_bytes}
+use Rattle.sect_cert.proofs.CutTexts.{same_bytes}
 use Rattle.sect_cert.proofs.PartsLaws.{ends_end, take_end}
 use Rattle.sect_cert.proofs.NumberLaws.{number_decimal, decimal_number}
 use Rattle.sect_cert.proofs.ListLaws.{list_again}

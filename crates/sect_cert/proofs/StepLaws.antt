@@ -19,7 +19,7 @@ use Rattle.sect_cert.specs.declared.chain.ChainWord.TheVariants as due
 use Rattle.sect_cert.specs.declared.lock.CertLock.{CertLock}
 use Rattle.sect_cert.specs.declared.lock.CertLock.TheVariants as lock
 use Rattle.sect_cert.specs.declared.certificate.CertStep.{CertStep}
-use Rattle.sect_cert.proofs.PartsLemmas.{same_bytes}
+use Rattle.sect_cert.proofs.CutTexts.{same_bytes}
 use Rattle.sect_cert.proofs.SubjectLaws.{mode_word, mode_law, mapped, number_law, class_lock_law, no_class}
 use Rattle.sect_cert.proofs.SubjectLaws.{subject_again, IsSpelledBy, subject_law}
 use Rattle.sect_cert.specs.steps.Subjects.{subject_of}

@@ -13,7 +13,7 @@ use Rattle.sect_cert.specs.declared.lock.CertPath.{CertPath}
 use Rattle.sect_cert.specs.declared.lock.CertLock.{CertLock}
 use Rattle.sect_cert.specs.declared.subject.CertMode.{CertMode}
 use Rattle.sect_cert.specs.declared.subject.CertMode.TheVariants as mode
-use Rattle.sect_cert.proofs.PartsLemmas.{same_bytes}
+use Rattle.sect_cert.proofs.CutTexts.{same_bytes}
 use Rattle.sect_cert.proofs.PathLaws.{path_again, path_takes}
 use Rattle.sect_cert.proofs.NumberLaws.{decimal_number}
 

@@ -16,7 +16,7 @@ use Rattle.sect_cert.specs.declared.subject.CertMode.{CertMode}
 use Rattle.sect_cert.specs.declared.list.ListWord.{ListWord}
 use Rattle.sect_cert.specs.declared.list.ListWord.TheVariants as due
 use Rattle.sect_cert.specs.declared.lock.CertLock.{CertLock}
-use Rattle.sect_cert.proofs.PartsLemmas.{same_bytes}
+use Rattle.sect_cert.proofs.CutTexts.{same_bytes}
 use Rattle.sect_cert.proofs.SubjectLaws.{mode_word, mode_law, mapped, class_lock_law, IsSpelledBy, subject_law}
 use Rattle.sect_cert.specs.steps.Subjects.{subject_of}
 use Rattle.sect_cert.proofs.NumberLaws.{decimal_number}

@@ -23,7 +23,7 @@ use Rattle.sect_cert.specs.declared.fault.LineFault.TheVariants as lines
 use Rattle.sect_cert.specs.declared.line.CertLine.{CertLine}
 use Rattle.sect_cert.specs.declared.stage.CertStage.{CertStage}
 use Rattle.sect_cert.specs.declared.stage.CertStage.TheVariants as stage
-use Rattle.sect_cert.proofs.PartsLemmas.{same_bytes}
+use Rattle.sect_cert.proofs.CutTexts.{same_bytes}
 use Rattle.sect_cert.proofs.PartsLaws.{fed_join}
 use Rattle.sect_cert.proofs.Passes.{goes}
 use Rattle.sect_cert.proofs.LineLaws.{form_again, form_takes}

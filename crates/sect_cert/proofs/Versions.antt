@@ -13,7 +13,7 @@ use Rattle.sect_cert.specs.steps.Closing.{JudgesLines}
 use Rattle.sect_cert.specs.declared.certificate.Cert.{Cert}
 use Rattle.sect_cert.specs.declared.fault.CertFault.{CertFault}
 use Rattle.sect_cert.specs.declared.fault.CertFault.TheVariants as fault
-use Rattle.sect_cert.proofs.PartsLemmas.{some_parts}
+use Rattle.sect_cert.proofs.CutTexts.{some_parts}
 use Rattle.sect_cert.proofs.PartsLaws.{parts_front}
 use Rattle.sect_cert.proofs.Allowed.{not_first}
 use Rattle.sect_cert.proofs.Verdict.{nothing_viable}

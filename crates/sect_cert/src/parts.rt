@@ -62,7 +62,7 @@ impl<'a> Parts<'a> {
     }
 
     /// Whether no part is left.
-    #[tactic(auto, using(crate::proofs::PartsLemmas::some_parts))]
+    #[tactic(auto, using(crate::proofs::CutTexts::some_parts))]
     pub fn is_empty(&self) -> bool
         ensures { IsTrue result ↔ (self.now ≡ []) }
     {

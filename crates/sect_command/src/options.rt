@@ -17,8 +17,8 @@ use sect_lint::Format as LintFormat;
 use std::alloc::{AllocError, AllocFailed, Global};
 use thiserror::Error;
 
-/// The version of the program, and the kit that it is proved by.
-const VERSION: &str = "1.0.0 (rattle-kit-13f)";
+/// The version of the program, and the series of kits by which it is proved.
+const VERSION: &str = "1.0.0 (rattle-kit-13)";
 
 /// The greatest number that the command line takes.
 pub const MOST: u32 = 65535;

@@ -1,6 +1,6 @@
-mod TextLemmas
+mod PushedSteps
 mod Heads
-mod Standings
+mod PlaceCounts
 mod Passing
 mod FirstLemmas
 mod Known
@@ -8,10 +8,10 @@ mod LocalRows
 mod ThreadLemmas
 mod Records
 mod Listed
-mod Passed
+mod PassedElements
 mod SoundLemmas
 mod FindLemmas
-mod SectionLemmas
+mod NumberedSections
 mod SectionSound
 mod ProgramTexts
 mod WholeRows
@@ -28,11 +28,11 @@ mod Summing
 mod MovedLaws
 mod TextLaws
 mod Walked
-mod Making
+mod StatementSites
 mod Resolved
 mod SiteLaws
 mod SectionLaws
-mod Standing
+mod StandingTypes
 mod TypeLaws
 mod CycleLaws
 mod FreshLaws
@@ -43,7 +43,7 @@ mod Threading
 mod Writing
 mod FreshKnown
 mod Fronts
-mod Writings
+mod WrittenThreads
 pub mod shared
 mod Ways
 mod Unfolding

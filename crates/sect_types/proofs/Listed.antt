@@ -2,7 +2,7 @@
 use Rattle.std.proofs.Common.{◌≡◌, ℕ, ◌+◌, ◌<◌, List, [], ◌∷◌, ◌++◌, drop, get_or, length, refl, ◌∙◌, true, arith}
 use Rattle.std.proofs.Common.{length-append, ap}
 use Rattle.sect_lemmas.proofs.Elements.{drop_next}
-use Rattle.sect_types.proofs.Passed.{judged_on, joined_on, tested_on}
+use Rattle.sect_types.proofs.PassedElements.{judged_on, joined_on, tested_on}
 use Rattle.sect_front.specs.declared.tree.Declaration.{Declaration}
 use Rattle.sect_front.specs.declared.tree.GlobalObject.{GlobalObject}
 use Rattle.sect_types.specs.Limits.{most_fields, most_globals, most_locals}

@@ -44,7 +44,7 @@ use Rattle.sect_types.proofs.SoundLemmas.{place_within}
 use Rattle.sect_types.proofs.Optional.{the}
 use Rattle.sect_types.proofs.ByNumbers.{texts_written}
 use Rattle.sect_types.proofs.Readable.{texts_there}
-use Rattle.sect_types.proofs.Standing.{fresh_types, call_types}
+use Rattle.sect_types.proofs.StandingTypes.{fresh_types, call_types}
 use Rattle.sect_types.proofs.Walked.{text_clean}
 use Rattle.sect_types.proofs.SiteLaws.{typed_sites}
 use Rattle.sect_types.proofs.SectionLaws.{block_flat, inside_section, sections_in, typed_sections, typed_section_count}

@@ -4,7 +4,7 @@ use Rattle.std.proofs.Common.{length-append, arith, true, ◌&&◌, nat_le, subs
 use Rattle.std.proofs.lemmas.List.{drop_all}
 use Rattle.std.proofs.lemmas.Bool.Decides.{nat_tests}
 use Rattle.sect_lemmas.proofs.Elements.{drop_next}
-use Rattle.sect_types.proofs.Passed.{judged_on, joined_on, tested_on}
+use Rattle.sect_types.proofs.PassedElements.{judged_on, joined_on, tested_on}
 use Rattle.sect_front.specs.declared.tree.Record.{Record}
 use Rattle.sect_types.specs.declared.rules.rule.WalkFault.{WalkFault}
 use Rattle.sect_types.specs.declared.rules.rule.WalkFault.TheVariants as fault

@@ -19,7 +19,7 @@ use Rattle.sect_types.specs.Sections.{IsSite}
 use Rattle.sect_types.specs.steps.Walks.{rule_in, of_types}
 use Rattle.sect_types.proofs.Heads.{primitive_law, test_law}
 use Rattle.sect_types.proofs.SoundLemmas.{primitive_sound, test_sound}
-use Rattle.sect_types.proofs.Making.{Makes, primitive_makes}
+use Rattle.sect_types.proofs.StatementSites.{Makes, primitive_makes}
 use Rattle.sect_types.proofs.Agreeing.{linked, test_linked}
 use Rattle.sect_types.specs.Numbered.{action_of, condition_of}
 use Rattle.sect_types.specs.Items.{PrimitiveHead, TestHead, AStatement}

@@ -43,9 +43,9 @@ use Rattle.sect_types.proofs.MovedLaws.{StandFrom, moved_type, moved_sound, move
 use Rattle.sect_types.proofs.Walked.{text_clean}
 use Rattle.sect_types.proofs.Resolved.{not_false, and_not, resolved, resolved_test, moved_shared}
 use Rattle.sect_types.proofs.SiteLaws.{AreClean, called_clean, typed_clean, view}
-use Rattle.sect_types.proofs.Standing.{stand_first, stand_next, stand_left, stand_right, stand_whole, stand_behind}
-use Rattle.sect_types.proofs.Standing.{types_in, fresh_types, fresh_left, fresh_right, call_types, types_both}
-use Rattle.sect_types.proofs.Standing.{types_long}
+use Rattle.sect_types.proofs.StandingTypes.{stand_first, stand_next, stand_left, stand_right, stand_whole, stand_behind}
+use Rattle.sect_types.proofs.StandingTypes.{types_in, fresh_types, fresh_left, fresh_right, call_types, types_both}
+use Rattle.sect_types.proofs.StandingTypes.{types_long}
 
 -- what statements see where these are the types of all locals
 abbrev pub whole : Declared → List ValueType → Environment

@@ -33,7 +33,7 @@ use Rattle.sect_world.specs.Accesses.{change_in, Asks}
 use Rattle.sect_world.proofs.StepChanges.{touches, object_at-after, count-after_other, rows-after, untouched}
 use Rattle.sect_world.proofs.StepChanges.{change_is_asked}
 use Rattle.sect_world.proofs.AllowedChanges.{IsAllowed, asked_is_allowed}
-use Rattle.sect_world.proofs.Rights.{own_grows, other_grows, writers_read, touched_is_written}
+use Rattle.sect_world.proofs.AccessRights.{own_grows, other_grows, writers_read, touched_is_written}
 use Rattle.sect_lemmas.proofs.Replaced.{put_same, put_other, each_put, each_before, length-put_at}
 use Rattle.sect_lemmas.proofs.Options.{some_injective}
 use Rattle.sect_world.proofs.Replaying.{still_left, left_at, replay_keeps, not_before, agrees_before, own_step}

@@ -69,7 +69,7 @@ use Rattle.sect_world.proofs.MetPlans.{beginnings_are_held}
 use Rattle.sect_world.proofs.Planning.{plan_at_ascends}
 use Rattle.sect_world.proofs.References.{HasReference, FieldRefers, Writes, work_after, frame_work}
 use Rattle.sect_world.proofs.References.{next_refers, next_writes, field_after}
-use Rattle.sect_world.proofs.Rights.{at_locked, own_grows, other_grows, touched_is_written}
+use Rattle.sect_world.proofs.AccessRights.{at_locked, own_grows, other_grows, touched_is_written}
 use Rattle.sect_world.proofs.SecuredSteps.{next_not_held}
 use Rattle.sect_world.proofs.StepChanges.{count_after, count-after_own, count-after_other, change_is_asked}
 use Rattle.sect_world.proofs.Together.{state_with, taken_next, each_taken, starts_outside, IsAsked, AllFollow}

@@ -24,7 +24,7 @@ use Rattle.sect_world.proofs.StepChanges.{is_new, touches, object_after, count_a
 use Rattle.sect_world.proofs.StepChanges.{count-after_other, rows-after, untouched, new_whatever, untouched_is_old}
 use Rattle.sect_world.proofs.StepChanges.{change_is_asked, same_step}
 use Rattle.sect_world.proofs.AllowedChanges.{IsAllowed, asked_is_allowed}
-use Rattle.sect_world.proofs.Rights.{own_test, own_grows, other_test, other_grows, touched_is_written}
+use Rattle.sect_world.proofs.AccessRights.{own_test, own_grows, other_test, other_grows, touched_is_written}
 
 -- what a section leaves once what is still to run of it has run
 abbrev pub still_left : ProgramView → ℕ → Position → WorkView → StoreView → Left

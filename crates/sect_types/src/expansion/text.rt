@@ -67,7 +67,7 @@ impl Text {
     }
 
     /// Adds a statement at the end.
-    #[tactic(auto, using(crate::proofs::TextLemmas::statements_of_push))]
+    #[tactic(auto, using(crate::proofs::PushedSteps::statements_of_push))]
     pub(crate) fn push(&mut self, step: Step) -> Result<(), AllocError>
         ensures ok { OnOk result (self.new ≡ joined self.old (step_then step Stop)) }
         ensures err { OnErr result (self.new ≡ self.old) }

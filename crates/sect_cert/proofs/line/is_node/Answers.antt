@@ -1,7 +1,7 @@
 use Rattle.std.proofs.Common.{◌≡◌, ◌∙◌, ℕ, Bool, true, false, not, List, refl, sym}
 use Rattle.std.specs.Str.{bytes_eq}
 use Rattle.std.proofs.lemmas.Bool.{eqb-true}
-use Rattle.sect_cert.proofs.PartsLemmas.{same_bytes}
+use Rattle.sect_cert.proofs.CutTexts.{same_bytes}
 use Rattle.sect_cert.proofs.AgainLaws.{node_head}
 use Rattle.sect_cert.proofs.line.is_node.Goals as goal
 

@@ -1,4 +1,4 @@
-use Rattle.sect_cert.proofs.PartsLemmas.{cut_then, cut_else}
+use Rattle.sect_cert.proofs.CutTexts.{cut_then, cut_else}
 use Rattle.sect_cert.proofs.parts.cut.Goals as goal
 
 pub returns-then-len-bytes : goal.returns-then-len-bytes

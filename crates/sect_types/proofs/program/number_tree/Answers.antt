@@ -7,7 +7,7 @@ use Rattle.sect_types.specs.steps.Threads.{variables_fine}
 use Rattle.sect_types.specs.steps.FreshTypes.{local_types, all_fresh_known}
 use Rattle.sect_types.specs.steps.Expanding.{SettingView, AllFit, tree_of}
 use Rattle.sect_types.proofs.EndCounts.{fine_typed}
-use Rattle.sect_types.proofs.Writings.{typed_fits, typed_flat}
+use Rattle.sect_types.proofs.WrittenThreads.{typed_fits, typed_flat}
 use Rattle.sect_types.proofs.ByNumbers.{texts_written}
 use Rattle.sect_types.proofs.Readable.{texts_there}
 use Rattle.sect_types.proofs.FreshKnown.{all_fresh, types_are}

@@ -1,4 +1,4 @@
-use Rattle.sect_types.proofs.SectionLemmas.{IsSoughtIn}
+use Rattle.sect_types.proofs.NumberedSections.{IsSoughtIn}
 use Rattle.sect_types.proofs.counting.section.find.Given as goal
 
 abbrev pub invariant-loop-text : goal.invariant-loop-text

@@ -6,7 +6,7 @@ use Rattle.sect_types.specs.steps.Listing.{IsListed}
 use Rattle.sect_lemmas.proofs.Elements.{drop_next}
 use Rattle.sect_types.proofs.Records.{fault_after}
 use Rattle.sect_types.proofs.Listed.{field_more}
-use Rattle.sect_types.proofs.Passed.{none_left}
+use Rattle.sect_types.proofs.PassedElements.{none_left}
 use Rattle.sect_types.proofs.ThreadLemmas.{handed_on}
 use Rattle.sect_types.proofs.declarations.declare.fields.Goals as goal
 

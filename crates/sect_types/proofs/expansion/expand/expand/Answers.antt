@@ -1,6 +1,6 @@
 use Rattle.std.proofs.Common.{◌∙◌, arith, subst, sym, ap, length, [], drop, ◌+◌, ◌++◌, ◌∷◌}
 use Rattle.sect_types.specs.steps.Expanding.{SettingView, AreWritten}
-use Rattle.sect_types.proofs.Writings.{starts, thread_few, thread_fits, thread_known, one_thread, all_written}
+use Rattle.sect_types.proofs.WrittenThreads.{starts, thread_few, thread_fits, thread_known, one_thread, all_written}
 use Rattle.sect_types.proofs.expansion.expand.expand.Goals as goal
 
 pub expand_thread-requires-clause-few : goal.expand_thread-requires-clause-few

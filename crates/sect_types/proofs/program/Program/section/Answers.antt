@@ -5,7 +5,7 @@ use Rattle.sect_types.specs.Sections.{section_shown}
 use Rattle.sect_types.specs.Sections.{AllNumbered, section_from, sections_of}
 use Rattle.sect_types.specs.Sound.{AreSound}
 use Rattle.sect_types.specs.Programs.{ProgramView}
-use Rattle.sect_types.proofs.SectionLemmas.{found}
+use Rattle.sect_types.proofs.NumberedSections.{found}
 use Rattle.sect_types.proofs.shared.SectionSound.{section_sound}
 use Rattle.sect_types.proofs.program.Program.section.Goals as goal
 

@@ -1,6 +1,6 @@
 use Rattle.std.proofs.Common.{sym, subst}
 use Rattle.sect_types.specs.steps.Capped.{IsSmall}
-use Rattle.sect_types.proofs.Standings.{said, small}
+use Rattle.sect_types.proofs.PlaceCounts.{said, small}
 use Rattle.sect_types.proofs.rules.place.Standing.passes.Goals as goal
 
 pub passes-requires-clause-small : goal.passes-requires-clause-small

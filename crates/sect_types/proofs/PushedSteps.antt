@@ -1,10 +1,9 @@
+-- One step more behind the statements of a text.
 use Rattle.std.proofs.Common.{◌≡◌, List, [], ◌∷◌, ◌++◌, refl, ap}
 use Rattle.sect_types.specs.Statements.{Stop, Do, Choose, Loop, Section, joined}
 use Rattle.sect_types.specs.Texts.{step_then, statements_of}
 use Rattle.sect_types.specs.declared.expansion.text.Step.{Step}
 use Rattle.sect_types.specs.declared.expansion.text.Step.TheVariants as step
-
--- Lemmas on texts.
 
 pub statements_of_push : (ss : List Step) (s : Step)
     → statements_of (ss ++ s ∷ []) ≡ joined (statements_of ss) (step_then s Stop)

@@ -34,8 +34,8 @@ fn begins_with(bytes: &[u8], byte: u8) -> bool
     }
 }
 
-/// What follows a comment that has been opened, behind its line feed.
-fn after_comment(bytes: &[u8]) -> &[u8]
+/// What follows the line that these bytes begin, where that is the rest of a comment.
+fn after_line(bytes: &[u8]) -> &[u8]
     ensures same { skip false result.now ≡ skip true bytes.now }
     ensures less { length result.now ≤ length bytes.now }
 {
@@ -43,6 +43,27 @@ fn after_comment(bytes: &[u8]) -> &[u8]
         Some(at) => &bytes[at + 1..],
         None => &[],
     }
+}
+
+/// What follows a comment that has been opened, behind its line feed.
+// most gaps have no comment, and are passed by fewer instructions so
+#[inline(never)]
+fn after_comment(bytes: &[u8]) -> &[u8]
+    ensures same { skip false result.now ≡ skip true bytes.now }
+    ensures less { length result.now ≤ length bytes.now }
+{
+    let mut rest = bytes;
+    // a search for the end costs more than a look at so few bytes
+    for _near in 0..8 {
+        let Some((first, others)) = rest.split_first() else {
+            return rest;
+        };
+        if *first == b'\n' {
+            return others;
+        }
+        rest = others;
+    }
+    after_line(rest)
 }
 
 /// What follows the blanks and comments at the front.

@@ -7,13 +7,13 @@ ghost use Rattle.std.specs.Fmt.{decimal};
 ghost use Rattle.std.specs.String.{string_bytes};
 ghost use Rattle.sect_front.specs.Front.{line_of};
 ghost use Rattle.sect_front.specs.FaultPlaces.{IsWithin};
-ghost use Rattle.sect_places.specs.Positions.{column_of};
+ghost use Rattle.sect_places.specs.Positions.{column_of as column_by};
 ghost use Rattle.sect_lint.specs.Excerpts.{is_plain as plain_by, hexadecimal as hexadecimal_by, shown, under};
 ghost use Rattle.sect_lint.specs.Excerpts.{in_line, line_text, most_shown, left_out as left_out_by, shown_line, carets};
 ghost use Rattle.sect_lint.specs.Excerpts.{marked_line, margin, excerpt};
 
 use sect_front::Span;
-use sect_places::position_of;
+use sect_places::column_of;
 use std::alloc::AllocError;
 use std::fmt::Write;
 
@@ -118,7 +118,7 @@ fn line_length(bytes: &[u8]) -> usize
 /// The line in which a place stands that has this column, without its line feed.
 fn line_at(source: &[u8], at: usize, column: usize) -> &[u8]
     requires within { at ≤ length source.now }
-    requires column { column ≡ column_of source.now at }
+    requires column { column ≡ column_by source.now at }
     requires least { 1 ≤ column }
     requires most { column ≤ at + 1 }
     ensures { result.now ≡ line_text source.now at }
@@ -231,7 +231,7 @@ pub fn put_excerpt(
     requires number { number.now ≡ decimal (line_of source.now span.start) }
     ensures { OnOk result (string_bytes text.new ≡ string_bytes text.old ++ excerpt source.now span) }
 {
-    let column = position_of(source, span.start).column;
+    let column = column_of(source, span.start);
     let line = line_at(source, span.start, column);
     let from = left_out(line.len(), column - 1);
     write!(text, " --> {number}:{column}\n")?;

@@ -1,6 +1,6 @@
 //! Whether a source text is refused, for which mistake, and where that stands.
 
-ghost use Rattle.std.specs.Prelude.{◌≡◌, ◌≢◌, ◌≤◌, ◌<◌, ℕ, Err, Some, IfOk, IfErr, MatchOption, length};
+ghost use Rattle.std.specs.Prelude.{◌≡◌, ◌≢◌, ◌≤◌, ◌<◌, ℕ, true, Err, Some, IfOk, IfErr, MatchOption, length};
 ghost use Rattle.sect_front.specs.TreeView.{TreeView};
 ghost use Rattle.sect_front.specs.Front.{IsSpelled, IsFault};
 ghost use Rattle.sect_front.specs.FaultPlaces.{IsFaultSpan, IsWithin, AreKindsFor};
@@ -12,7 +12,7 @@ ghost use Rattle.sect_names.specs.declared.refusal.SourceRefusal.TheVariants as 
 ghost use Rattle.sect_types.specs.Items.{items};
 ghost use Rattle.sect_lint.specs.Places.{of_types, item_number, marked_name};
 ghost use Rattle.sect_lint.specs.Mistakes.{of_types as mistake_by};
-ghost use Rattle.sect_lint.specs.steps.Laid.{AreOwnWords};
+ghost use Rattle.sect_lint.specs.steps.Plain.{is_plain as is_plain_by};
 ghost use Rattle.sect_lint.specs.Details.{IsFrontDetail, IsDetailWithin, IsToldOf, item_detail as item_detail_by};
 ghost use Rattle.sect_lint.specs.Reports.{IsDiagnosisOf, IsJudged, IsNotJudged};
 
@@ -21,15 +21,15 @@ use crate::call_counts::counts_detail;
 use crate::circle::circle_detail;
 use crate::culprit::Culprit;
 use crate::diagnostic::{Detail, Diagnostic};
-use crate::layout::{Words, item_span, words_of};
+use crate::layout::{Words, item_span, told_by, words_of};
 use crate::limit::Limit;
 use crate::mistake::Mistake;
 use crate::naming::{declared_at, earlier_detail, found, unknown_name};
-use crate::plain::plain_detail;
+use crate::plain::{is_plain, plain_detail};
 use sect_front::{FrontFault, PlacedFault, Span, Token, Tree, innermost_brace, parse_placed};
 use sect_hints::guards;
 use sect_names::{Scheme, SchemeFault, SourceRefusal, check_k, scheme_of};
-use sect_places::{NameSpan, item_names};
+use sect_places::NameSpan;
 use sect_types::{Mistyped, Program, TypeFault, check_tree};
 use std::alloc::{AllocError, Global};
 
@@ -158,27 +158,51 @@ fn told_item(
 }
 
 /// What is told of a text whose tree breaks a rule on types, by the names of the text that matter to the item at fault.
-/// `words` are those of the item.
 fn named_diagnostic(
     alloc: Global,
     source: &[u8],
     mistyped: &Mistyped,
-    words: &Words,
     mistake: Mistake,
 ) -> Result<Diagnostic, AllocError>
+    requires spelled { IsSpelled source.now mistyped.now.tree }
     requires mistake { mistake_by mistyped.now.fault ≡ Some mistake }
     requires there { item_number mistyped.now.tree (of_types mistyped.now.fault) < length (items mistyped.now.tree) }
-    requires words { AreOwnWords source.now mistyped.now.tree
-        (item_number mistyped.now.tree (of_types mistyped.now.fault)) words.now }
     ensures { IfOk result (IsDiagnosisOf source.now (refusal.Types mistyped.now.fault)) }
 {
     let Mistyped { fault, tree } = mistyped;
     let culprit = Culprit::of_types(fault);
     let item = culprit.item(tree)?;
-    let names = item_names(alloc, source, tree, item)?;
-    let whole = item_span(words, mistake);
-    let span = marked_span(names.as_slice(), fault, whole);
-    let detail = told_item(alloc, tree, names.as_slice(), words, fault)?;
+    let told = told_by(alloc, source, tree, item)?;
+    let whole = item_span(&told.words, mistake);
+    let names = told.names.as_slice();
+    let span = marked_span(names, fault, whole);
+    let detail = told_item(alloc, tree, names, &told.words, fault)?;
+    Ok(Diagnostic {
+        mistake,
+        span,
+        detail,
+    })
+}
+
+/// What is told of a text whose tree breaks a rule on types, where that takes the place of no name.
+fn plain_diagnostic(
+    alloc: Global,
+    source: &[u8],
+    mistyped: &Mistyped,
+    mistake: Mistake,
+) -> Result<Diagnostic, AllocError>
+    requires spelled { IsSpelled source.now mistyped.now.tree }
+    requires mistake { mistake_by mistyped.now.fault ≡ Some mistake }
+    requires there { item_number mistyped.now.tree (of_types mistyped.now.fault) < length (items mistyped.now.tree) }
+    requires plain { is_plain_by mistyped.now.fault ≡ true }
+    ensures { IfOk result (IsDiagnosisOf source.now (refusal.Types mistyped.now.fault)) }
+{
+    let Mistyped { fault, tree } = mistyped;
+    let culprit = Culprit::of_types(fault);
+    let item = culprit.item(tree)?;
+    let words = words_of(alloc, source, tree, item)?;
+    let detail = plain_detail(alloc, tree, &words, fault)?;
+    let span = item_span(&words, mistake);
     Ok(Diagnostic {
         mistake,
         span,
@@ -198,27 +222,15 @@ fn types_diagnostic(
     ensures known { IfOk result (λ _. mistyped.now.fault ≢ TypeFault.Memory) }
     ensures fails { IfErr result (λ why. why ≡ refusal.Memory) }
 {
-    let Mistyped { fault, tree } = mistyped;
-    let Some(mistake) = Mistake::of_types(fault) else {
+    let Some(mistake) = Mistake::of_types(&mistyped.fault) else {
         return Err(SourceRefusal::Memory);
     };
-    let culprit = Culprit::of_types(fault);
-    let item = culprit.item(tree)?;
-    let words = words_of(alloc, source, tree, item)?;
-    let plain = plain_detail(alloc, tree, &words, fault)?;
-    match plain {
-        Some(detail) => {
-            let span = item_span(&words, mistake);
-            Ok(Diagnostic {
-                mistake,
-                span,
-                detail,
-            })
-        }
-        None => {
-            let diagnostic = named_diagnostic(alloc, source, mistyped, &words, mistake)?;
-            Ok(diagnostic)
-        }
+    if is_plain(&mistyped.fault) {
+        let diagnostic = plain_diagnostic(alloc, source, mistyped, mistake)?;
+        Ok(diagnostic)
+    } else {
+        let diagnostic = named_diagnostic(alloc, source, mistyped, mistake)?;
+        Ok(diagnostic)
     }
 }
 

@@ -1,18 +1,23 @@
 //! The tokens of the item at fault, read off the text.
 
-ghost use Rattle.std.specs.Prelude.{◌≡◌, ◌<◌, ℕ, IfOk, length};
+ghost use Rattle.std.specs.Prelude.{◌≡◌, ◌<◌, ℕ, IfOk, List, length};
 ghost use Rattle.sect_front.specs.Front.{IsSpelled};
 ghost use Rattle.sect_front.specs.FaultPlaces.{IsWithin};
 ghost use Rattle.sect_types.specs.Items.{items};
+ghost use Rattle.sect_places.specs.Mattering.{mattering};
+ghost use Rattle.sect_places.specs.NameSpans.{AreNameSpans};
 ghost use Rattle.sect_places.specs.Ranges.{range};
 ghost use Rattle.sect_places.specs.Spans.{AreInOrder, span_in};
+ghost use Rattle.sect_places.specs.declared.name_use.NameSpan.{NameSpan};
 ghost use Rattle.sect_lint.specs.Places.{marked};
 ghost use Rattle.sect_lint.specs.steps.Laid.{AreOwnWords};
 
 use crate::culprit::marked_range;
 use crate::mistake::Mistake;
 use sect_front::{Span, Token, Tree};
-use sect_places::{TokenRange, item_range, range_span, range_words};
+use sect_places::{
+    ItemWords, NameSpan, TokenRange, item_range, item_words, range_span, range_words,
+};
 use std::alloc::{AllocError, Global};
 
 /// The tokens of an item, and the bytes of each.
@@ -31,6 +36,35 @@ pub fn words_of(alloc: Global, source: &[u8], tree: &Tree, item: usize) -> Resul
     let range = item_range(tree, item);
     let (tokens, spans) = range_words(alloc, source, tree, range)?;
     Ok(Words { tokens, spans })
+}
+
+/// What a text tells of an item of its tree.
+#[derive(Drop)]
+pub struct Told {
+    /// The names that matter to it.
+    pub names: Vec<NameSpan>,
+    pub words: Words,
+}
+
+/// The names of a tree that the text spells which matter to an item, and the tokens of the item.
+pub fn told_by(alloc: Global, source: &[u8], tree: &Tree, item: usize) -> Result<Told, AllocError>
+    requires spelled { IsSpelled source.now tree.now }
+    requires there { item < length (items tree.now) }
+    ensures names { IfOk result (λ told. (names : List NameSpan) × AreNameSpans source.now tree.now names
+        × (told.names.items ≡ mattering item names)) }
+    ensures words { IfOk result (λ told. AreOwnWords source.now tree.now item told.words) }
+{
+    let range = item_range(tree, item);
+    let read = item_words(alloc, source, tree, item, range)?;
+    let ItemWords {
+        names,
+        tokens,
+        spans,
+    } = read;
+    Ok(Told {
+        names,
+        words: Words { tokens, spans },
+    })
 }
 
 /// The bytes of an item of these tokens, as far as they are marked for this mistake.

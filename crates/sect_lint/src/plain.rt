@@ -1,8 +1,8 @@
 //! What is said beside the carets of a mistake, where that takes the place of no name but of those in the item.
 
-ghost use Rattle.std.specs.Prelude.{◌≡◌, ◌<◌, ◌&&◌, IfOk, IfSome, length, position, nat_eq};
+ghost use Rattle.std.specs.Prelude.{◌≡◌, ◌<◌, ◌&&◌, IfOk, IfSome, length, position, nat_eq, true};
 ghost use Rattle.sect_lint.specs.Naming.{is_declaration};
-ghost use Rattle.sect_lint.specs.steps.Plain.{IsPlain, is_declared_there, use_limit};
+ghost use Rattle.sect_lint.specs.steps.Plain.{IsPlain, is_plain as is_plain_by, is_declared_there, use_limit};
 
 use crate::call_counts::counts_detail;
 use crate::diagnostic::Detail;
@@ -41,28 +41,40 @@ fn limit_in(uses: &[NameUse], item: usize, tokens: &[Token]) -> Limit
     }
 }
 
-/// What is said of an item of these tokens that breaks this rule, unless it takes the place of another name.
+/// Whether what is said of an item that breaks this rule takes the place of no name but of those in the item.
+pub fn is_plain(fault: &TypeFault) -> bool
+    ensures { result ≡ is_plain_by fault.now }
+{
+    matches!(
+        fault,
+        TypeFault::TooMany { .. }
+            | TypeFault::Arguments { .. }
+            | TypeFault::SharedOutside { .. }
+            | TypeFault::Nested { .. }
+    )
+}
+
+/// What is said of an item of these tokens that breaks this rule, if that takes the place of no other name.
 pub fn plain_detail(
     alloc: Global,
     tree: &Tree,
     words: &Words,
     fault: &TypeFault,
-) -> Result<Option<Detail>, AllocError>
-    ensures { IfOk result (λ told. IfSome told
-        (IsPlain tree.now words.now.tokens.items words.now.spans.items fault.now)) }
+) -> Result<Detail, AllocError>
+    ensures { IfOk result (λ told. is_plain_by fault.now ≡ true
+        → IsPlain tree.now words.now.tokens.items words.now.spans.items fault.now told) }
 {
     let tokens = words.tokens.as_slice();
     match fault {
         TypeFault::TooMany { item } => {
             let uses = name_uses(alloc, tree)?;
             let limit = limit_in(uses.as_slice(), *item as usize, tokens);
-            Ok(Some(Detail::Limit(limit)))
+            Ok(Detail::Limit(limit))
         }
         TypeFault::Arguments { .. } => {
             let spans = words.spans.as_slice();
-            Ok(Some(counts_detail(tree.procedures(), tokens, spans)))
+            Ok(counts_detail(tree.procedures(), tokens, spans))
         }
-        TypeFault::SharedOutside { .. } | TypeFault::Nested { .. } => Ok(Some(Detail::Nothing)),
-        _ => Ok(None),
+        _ => Ok(Detail::Nothing),
     }
 }

@@ -16,7 +16,7 @@ use Rattle.sect_front.specs.declared.span.Span.{Span}
 use Rattle.sect_front.specs.declared.token.Token.{Token}
 use Rattle.sect_front.proofs.shared.Lexings.{gap_fits, one_lexing}
 use Rattle.sect_places.specs.Spans.{AreInOrder}
-use Rattle.sect_places.specs.steps.Standing.{StandsFrom}
+use Rattle.sect_places.specs.steps.Standing.{StandsFrom, IsSought}
 use Rattle.sect_places.proofs.Placing.{first_length, span_from}
 use Rattle.sect_places.proofs.Whole.{tokens_length, spans_order}
 use Rattle.sect_places.proofs.shared.Ordered.{order_within}
@@ -140,6 +140,44 @@ module _ (bytes : List ℕ) (tree : TreeView) (number : ℕ) (here : List ℕ) (
           more = stands_more bytes tree number here h first count same;
         },
       )
+
+-- where the token of a number is sought while others pass: it is reached, or so many behind the one that stands here
+pub record SoughtHere (bytes : List ℕ) (tree : TreeView) (number : ℕ) (mark : List ℕ) (left : ℕ) (here : List ℕ)
+    : Type 0
+  where
+    pub is : IsSought bytes tree number mark left
+    pub ahead : 0 < left → mark ≡ here
+
+pub sought_none : (bytes : List ℕ) (tree : TreeView) (number : ℕ) → IsSpelled bytes tree
+    → IsSought bytes tree number (after_gap bytes) number
+sought_none bytes tree number s = (0, omega arith, stands_none bytes tree s)
+
+-- one more token has passed
+pub sought_more : (bytes : List ℕ) (tree : TreeView) (number : ℕ) (mark : List ℕ) (left : ℕ) (here : List ℕ)
+    → SoughtHere bytes tree number mark left here → number ≤ length (tokens_of tree) → (count : ℕ)
+    → ((t : Token) (n : ℕ) → IsFirst t n here → count ≡ n) → (next : List ℕ) (fewer : ℕ)
+    → (left ≡ 0 → (next ≡ mark) × (fewer ≡ 0))
+    → (0 < left → (next ≡ after_gap (drop count here)) × (fewer + 1 ≡ left))
+    → SoughtHere bytes tree number next fewer (after_gap (drop count here))
+sought_more bytes tree number mark zero here h within count each next fewer reached nearer =
+    let none = reached refl in
+    record {
+      is = (h.is.0, omega (arith, h.is.1, none.1), subst (StandsFrom bytes tree h.is.0) (sym none.0) h.is.2);
+      ahead = λ lt. absurd (omega (arith, lt, none.1));
+    }
+sought_more bytes tree number mark (suc left) here h within count each next fewer reached nearer =
+    let one = nearer (omega arith) in
+    let stands : StandsFrom bytes tree h.is.0 here =
+    subst (StandsFrom bytes tree h.is.0) (h.ahead (omega arith)) h.is.2 in
+    let read = one_passed bytes tree h.is.0 here stands (omega (arith, h.is.1, within)) count each in
+    record {
+      is = (
+        h.is.0 + 1,
+        omega (arith, h.is.1, one.1),
+        subst (StandsFrom bytes tree (h.is.0 + 1)) (sym one.0) read.1.more,
+      );
+      ahead = λ lt. one.0;
+    }
 
 -- these bytes spell it
 pub read_spelling : (bytes : List ℕ) (tree : TreeView) (number : ℕ) (here : List ℕ)

@@ -9,3 +9,4 @@ pub mod Seeking
 pub mod Standing
 pub mod Wanting
 pub mod Wanted
+pub mod Feeding

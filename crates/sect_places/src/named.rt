@@ -1,8 +1,12 @@
 //! Where the names of a text stand.
 
-ghost use Rattle.std.specs.Prelude.{◌≡◌, ◌++◌, ◌∷◌, [], Some, IfOk, OnOk, MatchResult};
-ghost use Rattle.std.specs.Prelude.{List, length, slice_get};
+ghost use Rattle.std.specs.Prelude.{◌≡◌, ◌≤◌, ◌+◌, ◌++◌, ◌∷◌, [], Some, IfOk, OnOk, MatchResult};
+ghost use Rattle.std.specs.Prelude.{List, length, map, take, drop, slice_get};
 ghost use Rattle.sect_front.specs.Front.{IsSpelled, IsFault};
+ghost use Rattle.sect_front.specs.FaultPlaces.{token_span};
+ghost use Rattle.sect_front.specs.Grammar.{tokens_of};
+ghost use Rattle.sect_places.specs.Spans.{AreInOrder};
+ghost use Rattle.sect_places.specs.steps.Standing.{IsSought};
 ghost use Rattle.sect_places.specs.NameSpans.{AreNameSpans, HasNameSpans};
 ghost use Rattle.sect_places.specs.Mattering.{mattering};
 ghost use Rattle.sect_places.specs.steps.Wanted.{AreWanted};
@@ -10,8 +14,10 @@ ghost use Rattle.sect_places.specs.declared.name_use.NameUse.{NameUse as AUse};
 ghost use Rattle.sect_places.specs.declared.name_use.NameSpan.{NameSpan};
 
 use crate::name_use::NameSpan;
+use crate::range::TokenRange;
 use crate::uses::{Kept, kept_uses};
-use sect_front::{FrontFault, Span, Tree, after_gap, first_length, parse, spells_name};
+use crate::words::{Sought, sought_words};
+use sect_front::{FrontFault, Span, Token, Tree, after_gap, first_length, parse, spells_name};
 use std::alloc::{AllocError, Global};
 
 /// Adds the name of this number among all, which stands at these bytes, if it is kept.
@@ -36,20 +42,25 @@ fn put_kept(
     Ok(())
 }
 
-/// The names of a tree that the text spells in text order, all or those that matter to an item.
-fn wanted_names(
+/// The names of a tree that the text spells in text order, all or those that matter to an item. With them the token of
+/// this number, sought from where a token stands that has passed with the names.
+fn wanted_names<'a>(
     alloc: Global,
-    source: &[u8],
+    source: &'a [u8],
     tree: &Tree,
     item: Option<usize>,
-) -> Result<Vec<NameSpan>, AllocError>
-    requires { IsSpelled source.now tree.now }
-    ensures { IfOk result (λ some. AreWanted source.now tree.now item some.items) }
+    token: usize,
+) -> Result<(Vec<NameSpan>, Sought<'a>), AllocError>
+    requires spelled { IsSpelled source.now tree.now }
+    requires within { token ≤ length (tokens_of tree.now) }
+    ensures wanted { IfOk result (λ r. AreWanted source.now tree.now item r.0.items) }
+    ensures sought { IfOk result (λ r. IsSought source.now tree.now token r.1.here.now r.1.left) }
 {
     let kept = kept_uses(alloc, tree, item)?;
     let mut names = Vec::with_capacity(alloc, kept.uses.len())?;
     let mut number = 0;
-    let mut here = after_gap(source);
+    let mut sought = Sought::new(source, token);
+    let mut here = sought.here;
     while number < kept.passed {
         let start = source.len() - here.len();
         let count = first_length(here);
@@ -60,8 +71,9 @@ fn wanted_names(
             number += 1;
         }
         here = after_gap(after);
+        sought = sought.past(here);
     }
-    Ok(names)
+    Ok((names, sought))
 }
 
 /// All names of a tree that the text spells, in text order.
@@ -69,24 +81,44 @@ pub fn tree_names(alloc: Global, source: &[u8], tree: &Tree) -> Result<Vec<NameS
     requires { IsSpelled source.now tree.now }
     ensures { IfOk result (λ names. AreNameSpans source.now tree.now names.items) }
 {
-    let names = wanted_names(alloc, source, tree, None)?;
+    let (names, _) = wanted_names(alloc, source, tree, None, 0)?;
     Ok(names)
 }
 
+/// What is read off a text for an item: names, and tokens with the bytes of each.
+#[derive(Drop)]
+pub struct ItemWords {
+    pub names: Vec<NameSpan>,
+    pub tokens: Vec<Token>,
+    pub spans: Vec<Span>,
+}
+
 /// The names of a tree that the text spells which matter to what is told of an item, in text order: its own, and of all
-/// others those that are declared, types, guards or called.
-pub fn item_names(
+/// others those that are declared, types, guards or called. With them the tokens of a range, and the bytes of each.
+pub fn item_words(
     alloc: Global,
     source: &[u8],
     tree: &Tree,
     item: usize,
-) -> Result<Vec<NameSpan>, AllocError>
-    requires { IsSpelled source.now tree.now }
-    ensures { IfOk result (λ some. (names : List NameSpan) × AreNameSpans source.now tree.now names
-        × (some.items ≡ mattering item names)) }
+    range: TokenRange,
+) -> Result<ItemWords, AllocError>
+    requires spelled { IsSpelled source.now tree.now }
+    requires within { range.first + range.count ≤ length (tokens_of tree.now) }
+    ensures names { IfOk result (λ r. (names : List NameSpan) × AreNameSpans source.now tree.now names
+        × (r.names.items ≡ mattering item names)) }
+    ensures tokens { IfOk result (λ r. r.tokens.items ≡ take range.count (drop range.first (tokens_of tree.now))) }
+    ensures spans { IfOk result (λ r. (spelled : IsSpelled source.now tree.now)
+        → r.spans.items ≡ take range.count (drop range.first (map token_span spelled.places))) }
+    // Each token has some bytes, which lie in the text behind those of the one before it.
+    ensures order { IfOk result (λ r. AreInOrder 0 (length source.now) r.spans.items) }
 {
-    let some = wanted_names(alloc, source, tree, Some(item))?;
-    Ok(some)
+    let (names, sought) = wanted_names(alloc, source, tree, Some(item), range.first)?;
+    let (tokens, spans) = sought_words(alloc, source, tree, range, sought)?;
+    Ok(ItemWords {
+        names,
+        tokens,
+        spans,
+    })
 }
 
 /// All names of a text, in text order, or the text's first fault. `Memory` is answered only where a growth was refused.

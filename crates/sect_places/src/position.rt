@@ -1,8 +1,9 @@
 //! Lines and columns.
 
-ghost use Rattle.std.specs.Prelude.{◌≡◌, ◌≤◌, ◌+◌, length};
+ghost use Rattle.std.specs.Prelude.{◌≡◌, ◌≤◌, ◌<◌, ◌+◌, length};
 ghost use Rattle.sect_front.specs.Front.{line_of as line};
 ghost use Rattle.sect_places.specs.Positions.{position, column_of as column};
+ghost use Rattle.sect_places.specs.steps.Feeding.{feeds_in};
 
 use memchr::memrchr;
 
@@ -13,22 +14,45 @@ pub struct Position {
     pub column: usize,
 }
 
+/// How many line feeds a few bytes have: so few bytes that a byte has room for the number, and many can be looked at
+/// side by side.
+fn few_feeds(bytes: &[u8]) -> u8
+    requires { length bytes.now < 256 }
+    ensures { result ≡ feeds_in bytes.now }
+{
+    let mut feeds = 0u8;
+    for byte in bytes {
+        if *byte == b'\n' {
+            feeds += 1;
+        }
+    }
+    feeds
+}
+
+/// How many line feeds these bytes have.
+fn feeds_of(bytes: &[u8]) -> usize
+    ensures { result ≡ feeds_in bytes.now }
+{
+    let mut feeds = 0;
+    let mut rest = bytes;
+    while !rest.is_empty() {
+        let (part, others) = rest.split_at(rest.len().min(192));
+        feeds += usize::from(few_feeds(part));
+        rest = others;
+    }
+    feeds
+}
+
 /// The line of a place.
 fn line_of(source: &[u8], at: usize) -> usize
     requires { at ≤ length source.now }
     ensures { result ≡ line source.now at }
 {
-    let mut line = 1;
-    for byte in &source[..at] {
-        if *byte == b'\n' {
-            line += 1;
-        }
-    }
-    line
+    feeds_of(&source[..at]) + 1
 }
 
 /// The column of a place.
-fn column_of(source: &[u8], at: usize) -> usize
+pub fn column_of(source: &[u8], at: usize) -> usize
     requires { at ≤ length source.now }
     ensures column { result ≡ column source.now at }
     ensures least { 1 ≤ result }

@@ -1,28 +1,99 @@
 //! The tokens of a part of a text, read off the text itself.
 
-ghost use Rattle.std.specs.Prelude.{◌≡◌, ◌+◌, ◌≤◌, IfOk, length, map, take, drop};
+ghost use Rattle.std.specs.Prelude.{◌≡◌, ◌+◌, ◌≤◌, ◌<◌, IfOk, length, map, take, drop};
 ghost use Rattle.sect_front.specs.Front.{IsSpelled};
 ghost use Rattle.sect_front.specs.FaultPlaces.{token_span};
+ghost use Rattle.sect_front.specs.Gaps.{after_gap as gap_of};
 ghost use Rattle.sect_front.specs.Grammar.{tokens_of as tokens_by};
 ghost use Rattle.sect_places.specs.Spans.{AreInOrder};
-ghost use Rattle.sect_places.specs.steps.Standing.{StandsFrom};
+ghost use Rattle.sect_places.specs.steps.Standing.{StandsFrom, IsSought};
 
 use crate::range::TokenRange;
 use sect_front::{Span, Token, Tree, after_gap, first_length, first_token};
 use std::alloc::{AllocError, Global};
 
-/// What stands from the token of this number on.
-fn from_token<'a>(source: &'a [u8], tree: &Tree, number: usize) -> &'a [u8]
-    requires spelled { IsSpelled source.now tree.now }
+/// A token that is sought in a text: it stands behind so many others, of which the first stands here.
+#[derive(Clone, Copy)]
+pub struct Sought<'a> {
+    pub here: &'a [u8],
+    pub left: usize,
+}
+
+impl<'a> Sought<'a> {
+    /// The token of this number, from the start of the text on.
+    pub fn new(source: &'a [u8], number: usize) -> Sought<'a>
+        ensures here { result.here.now ≡ gap_of source.now }
+        ensures left { result.left ≡ number }
+    {
+        Sought {
+            here: after_gap(source),
+            left: number,
+        }
+    }
+
+    /// The same token, once one more has passed and this stands behind it, unless it is reached.
+    pub fn past(self, after: &'a [u8]) -> Sought<'a>
+        ensures reached { self.entry.left ≡ 0 → (result.here.now ≡ self.entry.here.now) × (result.left ≡ 0) }
+        ensures nearer { 0 < self.entry.left → (result.here.now ≡ after.now) × (result.left + 1 ≡ self.entry.left) }
+    {
+        if self.left == 0 {
+            self
+        } else {
+            Sought {
+                here: after,
+                left: self.left - 1,
+            }
+        }
+    }
+}
+
+/// What stands from the token on that is sought.
+fn from_token<'a>(source: &[u8], tree: &Tree, number: usize, sought: Sought<'a>) -> &'a [u8]
+    requires sought { IsSought source.now tree.now number sought.here.now sought.left }
     requires within { number ≤ length (tokens_by tree.now) }
     ensures { StandsFrom source.now tree.now number result.now }
 {
-    let mut here = after_gap(source);
-    for _passed in 0..number {
+    let mut here = sought.here;
+    for _passed in 0..sought.left {
         let (_, after) = here.split_at(first_length(here));
         here = after_gap(after);
     }
     here
+}
+
+/// The tokens of a range, and the bytes of each, in a text that spells the tree. The first of them is sought.
+pub fn sought_words(
+    alloc: Global,
+    source: &[u8],
+    tree: &Tree,
+    range: TokenRange,
+    sought: Sought,
+) -> Result<(Vec<Token>, Vec<Span>), AllocError>
+    requires sought { IsSought source.now tree.now range.first sought.here.now sought.left }
+    requires within { range.first + range.count ≤ length (tokens_by tree.now) }
+    ensures tokens { IfOk result (λ r. r.0.items ≡ take range.count (drop range.first (tokens_by tree.now))) }
+    ensures spans { IfOk result (λ r. (spelled : IsSpelled source.now tree.now)
+        → r.1.items ≡ take range.count (drop range.first (map token_span spelled.places))) }
+    // Each token has some bytes, which lie in the text behind those of the one before it.
+    ensures order { IfOk result (λ r. AreInOrder 0 (length source.now) r.1.items) }
+{
+    let mut tokens = Vec::with_capacity(alloc, range.count)?;
+    let mut spans = Vec::with_capacity(alloc, range.count)?;
+    let mut here = from_token(source, tree, range.first, sought);
+    for _passed in 0..range.count {
+        let start = source.len() - here.len();
+        let Some((token, count)) = first_token(here) else {
+            unreachable!();
+        };
+        tokens.push(token)?;
+        spans.push(Span {
+            start,
+            end: start + count,
+        })?;
+        let (_, after) = here.split_at(count);
+        here = after_gap(after);
+    }
+    Ok((tokens, spans))
 }
 
 /// The tokens of a range, and the bytes of each, in a text that spells the tree.
@@ -40,21 +111,6 @@ pub fn range_words(
     // Each token has some bytes, which lie in the text behind those of the one before it.
     ensures order { IfOk result (λ r. AreInOrder 0 (length source.now) r.1.items) }
 {
-    let mut tokens = Vec::with_capacity(alloc, range.count)?;
-    let mut spans = Vec::with_capacity(alloc, range.count)?;
-    let mut here = from_token(source, tree, range.first);
-    for _passed in 0..range.count {
-        let start = source.len() - here.len();
-        let Some((token, count)) = first_token(here) else {
-            unreachable!();
-        };
-        tokens.push(token)?;
-        spans.push(Span {
-            start,
-            end: start + count,
-        })?;
-        let (_, after) = here.split_at(count);
-        here = after_gap(after);
-    }
-    Ok((tokens, spans))
+    let sought = Sought::new(source, range.first);
+    sought_words(alloc, source, tree, range, sought)
 }

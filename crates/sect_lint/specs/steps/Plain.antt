@@ -1,9 +1,10 @@
 -- What is said beside the carets, whatever the places of names are.
-use Rattle.std.specs.Prelude.{◌≡◌, ◌&&◌, ℕ, Bool, List, Option, Some, None, map, nat_eq, slice_get}
+use Rattle.std.specs.Prelude.{◌≡◌, ◌&&◌, ℕ, Bool, true, false, List, Option, Some, None, map, nat_eq, slice_get}
 use Rattle.sect_front.specs.TreeView.{TreeView}
 use Rattle.sect_front.specs.declared.span.Span.{Span}
 use Rattle.sect_front.specs.declared.token.Token.{Token}
 use Rattle.sect_types.specs.declared.rules.rule.TypeFault.{TypeFault}
+use Rattle.sect_types.specs.declared.rules.rule.TypeFault.TheVariants as types
 use Rattle.sect_places.specs.declared.name_use.NameUse.{NameUse}
 use Rattle.sect_places.specs.declared.name_use.NameSpan.{NameSpan}
 use Rattle.sect_places.specs.NameUses.{name_uses}
@@ -26,6 +27,14 @@ by_use (Some u) tokens = limit_by u.role tokens
 abbrev pub use_limit : List NameUse → Option ℕ → List Token → Limit
 use_limit uses None tokens = statement_limit tokens
 use_limit uses (Some k) tokens = by_use (slice_get uses k) tokens
+
+-- what is said of an item that breaks this rule takes the place of no name but of those in the item
+abbrev pub is_plain : TypeFault → Bool
+is_plain (types.TooMany item) = true
+is_plain (types.Arguments item) = true
+is_plain (types.SharedOutside item) = true
+is_plain (types.Nested item) = true
+is_plain _ = false
 
 -- it is said of the tree, and its item at fault is marked whole, wherever its names stand
 abbrev pub IsPlain : TreeView → List Token → List Span → TypeFault → Detail → Type 0

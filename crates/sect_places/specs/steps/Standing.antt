@@ -1,5 +1,5 @@
 -- Where a token of a text stands.
-use Rattle.std.specs.Prelude.{◌≡◌, ◌≤◌, ℕ, List, length, drop}
+use Rattle.std.specs.Prelude.{◌≡◌, ◌≤◌, ℕ, ◌+◌, List, length, drop}
 use Rattle.sect_front.specs.TreeView.{TreeView}
 use Rattle.sect_front.specs.Front.{IsSpelled}
 use Rattle.sect_front.specs.Gaps.{after_gap}
@@ -13,3 +13,7 @@ pub record StandsFrom (bytes : List ℕ) (tree : TreeView) (number : ℕ) (here 
   pub reaches : Reaches (length bytes) before (drop number spelled.places) last
   pub gap : after_gap before ≡ here
   pub fits : length here ≤ length bytes
+
+-- so many tokens before the one of this number a token stands here, or where there is none all have passed
+abbrev pub IsSought : List ℕ → TreeView → ℕ → List ℕ → ℕ → Type 0
+IsSought bytes tree number here left = (n : ℕ) × (n + left ≡ number) × StandsFrom bytes tree n here

@@ -5,32 +5,36 @@ use Rattle.sect_places.specs.Mattering.{mattering}
 use Rattle.sect_lint.specs.Places.{of_types, item_number, marked_name}
 use Rattle.sect_lint.specs.Details.{IsToldOf, own_tokens, own_spans, item_detail}
 use Rattle.sect_lint.specs.declared.diagnostic.Detail.{Detail}
+use Rattle.sect_lint.specs.steps.Laid.{AreOwnWords}
 use Rattle.sect_lint.proofs.KeepingTold.{marked_same, detail_same, told_more}
 use Rattle.sect_lint.proofs.Marked.{is_marked, marked_within, detail_within, told_within}
 use Rattle.sect_lint.proofs.Worded.{item_span_is}
 use Rattle.sect_lint.proofs.judge.named_diagnostic.Goals as goal
+
+pub told_by-requires-clause-there : goal.told_by-requires-clause-there
+told_by-requires-clause-there c = rw (c.in_ok-item.ensures, c.of_types-culprit.ensures) c.requires.there
 
 pub returns : goal.returns
 returns c =
     let source = c.args.source.now in
     let fault = c.args.mistyped.now.fault in
     let tree = c.args.mistyped.now.tree in
-    let some = c.in_ok-names.names.items in
-    let names = c.in_ok-names.ensures.0 in
-    let are = c.in_ok-names.ensures.1 in
-    let words = c.args.words.now in
+    let some = c.in_ok-told.told.names.items in
+    let names = c.in_ok-told.ensures.names.0 in
+    let are = c.in_ok-told.ensures.names.1 in
+    let words = c.in_ok-told.told.words in
     let item = item_number tree (of_types fault) in
-    let mattered : some ≡ mattering item names =
-    c.in_ok-names.ensures.2
-    ∙ ap (λ i. mattering i names) (c.in_ok-item.ensures ∙ ap (item_number tree) c.of_types-culprit.ensures) in
-    let laid = c.requires.words in
+    let at : c.in_ok-item.item ≡ item = c.in_ok-item.ensures ∙ ap (item_number tree) c.of_types-culprit.ensures in
+    let mattered : some ≡ mattering item names = c.in_ok-told.ensures.names.2 ∙ ap (λ i. mattering i names) at in
+    let laid : AreOwnWords source tree item words =
+    subst (λ n. AreOwnWords source tree n words) at c.in_ok-told.ensures.words in
     let whole = c.item_span-whole.result in
     let span = c.marked_span-span.result in
     let marked : MatchOption (marked_name names fault) (span ≡ whole) (λ n. span ≡ n.span) =
     subst (λ o. MatchOption o (span ≡ whole) (λ n. span ≡ n.span)) (marked_same tree fault names some mattered)
-    (rw c.as_slice.ensures.value at c.marked_span-span.ensures) in
+    (rw c.as_slice-names.ensures.value at c.marked_span-span.ensures) in
     let said : IsToldOf some fault (item_detail tree some words.tokens.items words.spans.items fault)
-    c.in_ok-detail.detail = rw c.as_slice-2.ensures.value at c.in_ok-detail.ensures in
+    c.in_ok-detail.detail = rw c.as_slice-names.ensures.value at c.in_ok-detail.ensures in
     let told : IsToldOf names fault (item_detail tree names words.tokens.items words.spans.items fault)
     c.in_ok-detail.detail =
     told_more tree fault names some mattered (item_detail tree names words.tokens.items words.spans.items fault)

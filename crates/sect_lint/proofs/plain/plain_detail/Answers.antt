@@ -6,7 +6,7 @@ use Rattle.sect_lint.proofs.Plainly.{same_limit}
 use Rattle.sect_lint.proofs.plain.plain_detail.Goals as goal
 
 pub returns-in_ok-uses-in-TooMany : goal.returns-in_ok-uses-in-TooMany
-returns-in_ok-uses-in-TooMany c = λ names e. rw c.in-TooMany.is (
+returns-in_ok-uses-in-TooMany c = λ _ names e. rw c.in-TooMany.is (
   ap detail.Limit (c.limit_in-limit.ensures
       ∙ same_limit names c.as_slice.result.now c.in-TooMany.item c.as_slice-tokens.result.now
       (e ∙ sym (c.as_slice.ensures.value ∙ c.in_ok-uses-in-TooMany.ensures))

@@ -1,5 +1,6 @@
-use Rattle.sect_places.specs.steps.Standing.{StandsFrom}
+use Rattle.std.proofs.Common.{◌-◌}
+use Rattle.sect_places.specs.steps.Standing.{IsSought}
 use Rattle.sect_places.proofs.words.from_token.Given as goal
 
 abbrev pub invariant-loop-passed : goal.invariant-loop-passed
-invariant-loop-passed l = StandsFrom l.source l.tree l._passed l.here
+invariant-loop-passed l = IsSought l.source l.tree l.fn.number l.here (l.fn.sought.left - l._passed)

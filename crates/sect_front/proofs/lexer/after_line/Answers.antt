@@ -2,7 +2,7 @@ use Rattle.std.proofs.Common.{◌≡◌, suc, ◌+◌, ◌-◌, false, true, dro
 use Rattle.std.proofs.lemmas.List.{length-drop, take_all}
 use Rattle.sect_front.specs.Gaps.{skip}
 use Rattle.sect_front.proofs.Comments.{feed_found, feed_missing}
-use Rattle.sect_front.proofs.lexer.after_comment.Goals as goal
+use Rattle.sect_front.proofs.lexer.after_line.Goals as goal
 
 pub returns-in-Some-clause-same : goal.returns-in-Some-clause-same
 returns-in-Some-clause-same c =

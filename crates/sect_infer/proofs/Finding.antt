@@ -46,7 +46,7 @@ end_is_all locking.All x is = cc
 module _ (s : SchemeView) (t : ℕ) (g : List Node) where
   -- where the work has settled, each node's list has the maximal locks of those that are derived there
   pub are_found : (a : NumberingView) (lists : List (List ℕ)) (order : List ℕ) → IsSettled s t g a lists
-      → IsOrder a.keys order → AreFound s t g (map (listed a order) lists)
+      → IsOrder a.keys lists order → AreFound s t g (map (listed a order) lists)
   are_found a lists order settled o = record {
     count = length-map lists (listed a order) ∙ settled.numbered.count;
     each = λ j locks at.
@@ -58,7 +58,8 @@ module _ (s : SchemeView) (t : ℕ) (g : List Node) where
         (λ l h. settled.derived j l (subst (λ ms. HasLock a.keys ms l) (sym here) h))
         (λ l d. let over = settled.covered j l d in
         (over.0, subst (λ ms. HasLock a.keys ms over.0) here over.1, over.2))
-        (listed_maximal s a settled.numbered.numbering order o ns.0 there));
+        (listed_maximal s a settled.numbered.numbering lists order o ns.0 there
+        (λ n h. (j, subst (λ ms. Has ms n) (sym here) h))));
   }
 
   -- the locks at each node are the program's
@@ -155,7 +156,7 @@ all_lawful s t n lists all j locks at l h = subst (IsLockOf s t) (sym (((all.eac
 -- lists that each have the number of the lock on all
 pub are_on_all : (s : SchemeView) (a : NumberingView) (lists : List (List ℕ)) (order : List ℕ) (count n : ℕ)
     → IsNumbering s a
-    → slice_get a.keys n ≡ Some lock.All → IsOrder a.keys order → length lists ≡ count
+    → slice_get a.keys n ≡ Some lock.All → IsOrder a.keys lists order → length lists ≡ count
     → ((j : ℕ) → j < count → slice_index_or lists j [] ≡ n ∷ []) → AreAllOnAll s count (map (listed a order) lists)
 are_on_all s a lists order count n is at o long each = record {
   counted = length-map lists (listed a order) ∙ long;
@@ -177,5 +178,6 @@ are_on_all s a lists order count n is at o long each = record {
         ],
         λ e. (n, subst (λ ms. Has ms n) (sym here) (inl refl), at ∙ ap (λ x. Some x) (sym e)),
       ))
-      (listed_maximal s a is order o ns.0 there));
+      (listed_maximal s a is lists order o ns.0 there
+      (λ m h. (j, subst (λ ms. Has ms m) (sym (get_or_from_slice_get lists j ns.0 [] ns.1)) h))));
 }

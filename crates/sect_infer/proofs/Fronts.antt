@@ -187,3 +187,22 @@ module _ (old rows : List (List ℕ)) (fs : List Front) (j : ℕ) (f to : Front)
         ∙ ap (λ l. set (fronts_of grown fs) j l) put_is
         ∙ ap (λ ls. set ls j (front_of old f ++ more))
         (fronts_stay rows grown put_longer fs (are_fronts old rows longer fs are) ∙ fronts_stay old rows longer fs are)
+
+-- a list that has a number is there
+pub has_within : (rows : List (List ℕ)) (i n : ℕ) → Has (slice_index_or rows i []) n → i < length rows
+has_within [] i n h = absurd h
+has_within (r ∷ rows) zero n h = omega arith
+has_within (r ∷ rows) (suc i) n h = let k = has_within rows i n h in omega (arith, k)
+
+-- what the first elements of a list have
+has_first : (k : ℕ) (ns : List ℕ) (n : ℕ) → Has (take k ns) n → Has ns n
+has_first zero ns n h = absurd h
+has_first (suc k) [] n h = absurd h
+has_first (suc k) (m ∷ ns) n h = elim h [ inl e ↦ inl e | inr later ↦ inr (has_first k ns n later) ]
+
+-- each number of a front stands in a row
+pub front_in_row : (rows : List (List ℕ)) (fs : List Front) (j n : ℕ) → Has (slice_index_or (fronts_of rows fs) j []) n
+    → (r : ℕ) × Has (slice_index_or rows r []) n
+front_in_row rows [] j n h = absurd h
+front_in_row rows (f ∷ fs) zero n h = (f.row, has_first f.count (slice_index_or rows f.row []) n h)
+front_in_row rows (f ∷ fs) (suc j) n h = front_in_row rows fs j n h

@@ -1,7 +1,7 @@
 -- The maximal locks among those with some numbers, in canonical order.
 use Rattle.std.proofs.Common.{◌≡◌, ◌↔◌, ◌⊎◌, inl, inr, ℕ, ◌+◌, ◌<◌, List, [], ◌∷◌, ◌++◌, Some, Bool, true, false, not}
 use Rattle.std.proofs.Common.{map, take, length, get_or, sym, ap, ◌∙◌, subst, true≢false}
-use Rattle.std.specs.Prelude.{slice_get, cond}
+use Rattle.std.specs.Prelude.{slice_get, slice_index_or, cond}
 use Rattle.std.specs.List.{filter}
 use Rattle.std.proofs.lemmas.List.{append-nil, map-append}
 use Rattle.std.proofs.lemmas.List.Elements.{filter_more}
@@ -74,9 +74,9 @@ negated : (b : Bool) → not b ≡ true → b ≡ true → ⊥
 negated true e f = true≢false (sym e)
 negated false e f = true≢false (sym f)
 
-module _ (s : SchemeView) (t : NumberingView) (is : IsNumbering s t) (order : List ℕ) (o : IsOrder t.keys order)
-    (ns : List ℕ)
-    (there : AreNumbers t.keys ns) where
+module _ (s : SchemeView) (t : NumberingView) (is : IsNumbering s t) (lists : List (List ℕ)) (order : List ℕ)
+    (o : IsOrder t.keys lists order) (ns : List ℕ) (there : AreNumbers t.keys ns)
+    (from : (n : ℕ) → Has ns n → (j : ℕ) × Has (slice_index_or lists j []) n) where
   -- the numbers, once each
   abbrev once : List ℕ
   once = with_numbers [] ns
@@ -103,11 +103,12 @@ module _ (s : SchemeView) (t : NumberingView) (is : IsNumbering s t) (order : Li
         ((n.0, has, at), λ out. negated (is_under t.above once n.0) tests.1 (is_under_is s t is once n.0 l at out))),
     λ h. (let n = h.0 in
         let within = slice_get_within t.keys n.0 l n.2 in
+        let list = from n.0 ((same_has n.0).0 n.1) in
         let free : not (is_under t.above once n.0) ≡ true =
         elim (told_by (is_under t.above once n.0))
         [ inl under ↦ absurd (h.1 (under_is s t is once n.0 l n.2 under)) | inr f ↦ f ] in
         let kept = (Has-filter (is_kept t.above once) order n.0).1 (
-          o.all n.0 within,
+          o.all list.0 n.0 list.1 within,
           and_from (has_number once n.0) (not (is_under t.above once n.0))
               ((number_tells once n.0).1 n.1) free,
         ) in
@@ -158,11 +159,13 @@ module _ (keys : List Lock) (p : ℕ → Bool) (order : List ℕ) (i n : ℕ) (w
       ∙ ap (map (lock_at keys)) (sym
       (picked ∙ ap (λ b. filter p (take i order) ++ cond b (n ∷ []) []) off ∙ append-nil (filter p (take i order))))
 
--- all numbers, in the order of their locks
-pub order_of_all : (keys : List Lock) (numbers order : List ℕ) → ((n : ℕ) → Has numbers n ↔ (n < length keys))
-    → IsOrderOf keys numbers order → IsOrder keys order
-order_of_all keys numbers order all of = record {
+-- the numbers of lists, in the order of their locks
+pub order_of_all : (keys : List Lock) (lists : List (List ℕ)) (given numbers order : List ℕ)
+    → ((j n : ℕ) → Has (slice_index_or lists j []) n → Has given n)
+    → ((n : ℕ) → Has numbers n ↔ ((n < length keys) × Has given n))
+    → IsOrderOf keys numbers order → IsOrder keys lists order
+order_of_all keys lists given numbers order each below of = record {
   sorted = of.sorted;
-  numbers = λ n h. (all n).0 (of.same n h);
-  all = λ n within. of.all n ((all n).1 within);
+  numbers = λ n h. ((below n).0 (of.same n h)).0;
+  all = λ j n h within. of.all n ((below n).1 (within, each j n h));
 }

@@ -1,8 +1,10 @@
 //! The numbers of the locks at each node.
 
-ghost use Rattle.std.specs.Prelude.{◌≡◌, ◌<◌, ◌++◌, ◌∷◌, [], ℕ, length, slice_index_or, slice_set, IfOk, OnOk};
+ghost use Rattle.std.specs.Prelude.{◌≡◌, ◌<◌, ◌++◌, ◌∷◌, [], ℕ, length, map, slice_index_or, slice_set, IfOk, OnOk};
+ghost use Rattle.sect_lemmas.specs.Lists.{Has};
 ghost use Rattle.sect_infer.specs.steps.Fronts.{rows_of, front_of, AreEmpty, IsFront, HasOneMore};
 
+use crate::numbers::Numbers;
 use std::alloc::{AllocError, Global};
 use std::marker::Model;
 
@@ -87,6 +89,18 @@ fn begin_row(alloc: Global, rows: &mut Vec<Vec<usize>>, front: Front) -> Result<
     Ok(last)
 }
 
+/// The numbers of these rows, each once.
+fn numbers_of(alloc: Global, rows: &[Vec<usize>]) -> Result<Numbers, AllocError>
+    ensures { IfOk result (λ all. (row n : ℕ)
+        → Has (slice_index_or (map (λ v. v.items) rows.now) row []) n → Has all n) }
+{
+    let mut all = Numbers::new(alloc);
+    for row in rows {
+        all.insert_all(row.as_slice())?;
+    }
+    Ok(all)
+}
+
 impl Lists {
     /// None, for so many nodes.
     pub fn new(alloc: Global, count: usize) -> Result<Lists, AllocError>
@@ -113,6 +127,13 @@ impl Lists {
             Some(front) => &self.rows[front.row][..front.count],
             None => &[],
         }
+    }
+
+    /// The numbers at all nodes, and maybe others, each once.
+    pub fn numbers(&self, alloc: Global) -> Result<Numbers, AllocError>
+        ensures { IfOk result (λ all. (node n : ℕ) → Has (slice_index_or self.now node []) n → Has all n) }
+    {
+        numbers_of(alloc, self.rows.as_slice())
     }
 
     /// Gives a node the numbers of another.

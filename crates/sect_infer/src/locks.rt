@@ -54,24 +54,27 @@ impl Model for Locks {
     ghost invariant = { λ l. IsListable l.numbering l.order.items };
 }
 
-/// All numbers below this one, each once.
-fn all_below(alloc: Global, count: usize) -> Result<Vec<usize>, AllocError>
-    ensures once { IfOk result (λ numbers. AreApart numbers.items) }
-    ensures all { IfOk result (λ numbers. (n : ℕ) → Has numbers.items n ↔ (n < count)) }
+/// Those of these numbers that are below another one, each once.
+fn all_below(alloc: Global, numbers: &Numbers, count: usize) -> Result<Vec<usize>, AllocError>
+    ensures once { IfOk result (λ below. AreApart below.items) }
+    ensures all { IfOk result (λ below. (n : ℕ) → Has below.items n ↔ ((n < count) × Has numbers.now n)) }
 {
-    let mut numbers = Vec::with_capacity(alloc, count)?;
+    let mut below = Vec::with_capacity(alloc, numbers.members().len())?;
     for number in 0..count {
-        numbers.push(number)?;
+        if numbers.has(number) {
+            below.push(number)?;
+        }
     }
-    Ok(numbers)
+    Ok(below)
 }
 
-/// The numbers of the locks of a numbering, in the canonical order of these.
-fn order_of(alloc: Global, numbering: &Numbering) -> Result<Vec<usize>, AllocError>
+/// The numbers of the locks that these lists have, and maybe of others, in the canonical order of the locks.
+fn order_of(alloc: Global, numbering: &Numbering, lists: &Lists) -> Result<Vec<usize>, AllocError>
     requires { AreApart numbering.now.keys }
-    ensures { IfOk result (λ order. IsOrder numbering.now.keys order.items) }
+    ensures { IfOk result (λ order. IsOrder numbering.now.keys lists.now order.items) }
 {
-    let numbers = all_below(alloc, numbering.len())?;
+    let listed = lists.numbers(alloc)?;
+    let numbers = all_below(alloc, &listed, numbering.len())?;
     in_order(alloc, numbering, numbers.as_slice())
 }
 
@@ -135,10 +138,10 @@ impl Locks {
         requires some { 0 < length lists }
         requires apart { AreApart numbering.keys }
         requires count { length numbering.above ≡ length numbering.keys }
-        ensures { IfOk result (λ locks. (order : List ℕ) × IsOrder numbering.keys order
+        ensures { IfOk result (λ locks. (order : List ℕ) × IsOrder numbering.keys lists order
             × (locks.at ≡ map (listed numbering order) lists) × (slice_get locks.at 0 ≡ Some locks.entry)) }
     {
-        let order = order_of(alloc, &numbering)?;
+        let order = order_of(alloc, &numbering, &lists)?;
         let entry = list(alloc, &numbering, order.as_slice(), lists.of(0))?;
         Ok(Locks {
             numbering,

@@ -14,7 +14,7 @@ use crate::numbering::Numbering;
 use crate::numbers::Numbers;
 use crate::waiting::Waiting;
 use sect_graph::{Flow, Successors, predecessors_of};
-use sect_names::{Lock, Scheme, stays};
+use sect_names::{Change, Lock, Scheme};
 use sect_types::Label;
 use std::alloc::{AllocError, Global};
 
@@ -143,8 +143,9 @@ fn all_stay(thread: u16, label: &Label, numbering: &Numbering, numbers: &[usize]
     requires { AreNumbers numbering.now.keys numbers.now }
     ensures { IsTrue result → AllStay thread label.now (HasLock numbering.now.keys numbers.now) }
 {
+    let change = Change::of(thread, label);
     for number in numbers {
-        if !stays(thread, label, numbering.lock(*number)) {
+        if !change.leaves(numbering.lock(*number)) {
             return false;
         }
     }

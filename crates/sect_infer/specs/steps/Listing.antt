@@ -1,16 +1,16 @@
 -- Locks in canonical order by their numbers.
-use Rattle.std.specs.Prelude.{◌≡◌, ◌<◌, ◌&&◌, ℕ, Bool, not, List, [], map, filter, length}
+use Rattle.std.specs.Prelude.{◌≡◌, ◌<◌, ◌&&◌, ℕ, Bool, not, List, [], map, filter, length, slice_index_or}
 use Rattle.sect_lemmas.specs.Lists.{Has}
 use Rattle.sect_names.specs.declared.lock.Lock.{Lock}
 use Rattle.sect_names.specs.Order.{AreInOrder}
 use Rattle.sect_infer.specs.Numbers.{has_number, with_numbers}
 use Rattle.sect_infer.specs.Numberings.{NumberingView, is_under, lock_at}
 
--- these are the numbers of all locks, in the canonical order of these
-pub record IsOrder (keys : List Lock) (order : List ℕ) : Type 0 where
+-- these are numbers of locks, in the canonical order of these, and each that one of the lists has is one of them
+pub record IsOrder (keys : List Lock) (lists : List (List ℕ)) (order : List ℕ) : Type 0 where
   pub sorted : AreInOrder (map (lock_at keys) order)
   pub numbers : (n : ℕ) → Has order n → n < length keys
-  pub all : (n : ℕ) → n < length keys → Has order n
+  pub all : (j n : ℕ) → Has (slice_index_or lists j []) n → n < length keys → Has order n
 
 -- whether the number is among these, and none of them is above it
 abbrev pub is_kept : List (List ℕ) → List ℕ → ℕ → Bool

@@ -5,6 +5,6 @@ use Rattle.sect_infer.proofs.locks.all_below.Given as goal
 
 abbrev pub invariant-loop-number : goal.invariant-loop-number
 invariant-loop-number l = record {
-  once : AreApart l.numbers.items;
-  all : (n : ℕ) → Has l.numbers.items n ↔ (n < l.number);
+  once : AreApart l.below.items;
+  all : (n : ℕ) → Has l.below.items n ↔ ((n < l.number) × Has l.numbers n);
 }

@@ -14,7 +14,7 @@ returns c =
     let g = c.args.flow.now in
     let a = c.settle.new.numbering in
     let lists = c.settle.new.lists in
-    IfOk-weaker c.of.result (λ (locks : LocksView). (order : List ℕ) × IsOrder a.keys order
+    IfOk-weaker c.of.result (λ (locks : LocksView). (order : List ℕ) × IsOrder a.keys lists order
     × (locks.at ≡ map (listed a order) lists) × (slice_get locks.at 0 ≡ Some locks.entry)) (IsFound s t g)
     (λ locks o. record {
       found = subst (AreFound s t g) (sym o.2)

@@ -13,7 +13,7 @@ returns c =
     let a = c.number.new.self in
     let lists = c.loop-node.lists in
     let count = length c.args.flow.now + 1 in
-    IfOk-weaker c.of.result (λ (locks : LocksView). (order : List ℕ) × IsOrder a.keys order
+    IfOk-weaker c.of.result (λ (locks : LocksView). (order : List ℕ) × IsOrder a.keys lists order
     × (locks.at ≡ map (listed a order) lists) × (slice_get locks.at 0 ≡ Some locks.entry)) (IsOnAll s count)
     (λ locks o. record {
       all = subst (AreAllOnAll s count) (sym o.2)

@@ -26,5 +26,5 @@ loop-number-preserved c = λ l h s of r.
           (ap (slice_get c.args.numbering.now.keys) (sym e) ∙ h.2) in
           subst (λ (x : Lock). IsLockOf s c.args.thread x
           → CarriedBack s c.args.thread c.args.label.now x r ↔ (r ≡ x)) same
-          (λ o. c.stays.ensures c.if-not-stays.false s o r) of
+          (λ o. c.leaves.ensures c.if-not-leaves.false s c.args.thread c.args.label.now c.of-change.ensures o r) of
     ]

@@ -24,6 +24,7 @@ returns-clause-gaps c =
     elim c.if-end-start-ge-LONG_GAP.branch [
       | then-end-start-ge-LONG_GAP+in_ok-push w ↦ rw (w.gaps-is, w.in_ok-push.ensures.items)
           (All-push (IsGap bytes) c.args.gaps.now.items _ c.requires.gaps
-          (gap_here bytes here c.requires.rest _ refl (ap (λ n. length bytes - n) (ap length c.after_gap-after.ensures))))
+          (gap_here bytes here c.requires.rest _ refl
+          (ap (λ n. length bytes - n) (ap length c.after_gap-after.ensures))))
       | else-end-start-ge-LONG_GAP w ↦ rw w.gaps-is c.requires.gaps
     ]

@@ -47,14 +47,14 @@ loop-here-preserved c =
     rw (c.after_gap-here-in-loop-here.ensures, c.split_at.ensures.back)
     (open_next c.args.text.bytes.now c.loop-here.here.now c.loop-here.braces.items _ c.in-Some.token c.in-Some.length
     c.loop-here.invariant (sym c.lexeme.ensures ∙ c.in-Some.is) c.in_ok-pass_token.ensures.open
-    (c.in_ok-pass_token.ensures.below (length c.args.text.bytes.now) (omega (arith, some, c.loop-here.invariant.reached.fits))
-    c.loop-here.invariant.below))
+    (c.in_ok-pass_token.ensures.below (length c.args.text.bytes.now)
+    (omega (arith, some, c.loop-here.invariant.reached.fits)) c.loop-here.invariant.below))
 
 pub returns-clause-brace : goal.returns-clause-brace
 returns-clause-brace c = λ places spells.
     let left : length c.loop-here.here.now ≡ 0 = grind (arith, nat_tests) in
-    let are = open_last c.args.text.bytes.now c.loop-here.here.now c.loop-here.braces.items c.loop-here.invariant left places
-    spells in
+    let are = open_last c.args.text.bytes.now c.loop-here.here.now c.loop-here.braces.items c.loop-here.invariant left
+    places spells in
     c.copied.ensures ∙ (c.last.ensures.value
     ∙ ap (λ braces. slice_get braces (length braces - 1)) (c.deref.ensures.value ∙ are))
 

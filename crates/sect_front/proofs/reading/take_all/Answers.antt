@@ -73,8 +73,8 @@ returns-in-Err-Unexpected-clause-fault c =
     let taken : kinds ≡ filter (is_kind_taken r) all_kinds =
     c.in_ok-kinds-in-Err-Unexpected.ensures ∙ ap (λ x. filter (is_kind_taken x) all_kinds) stuck.kept in
     c.unless_bad.ensures (read.places ++ token_here bytes here token ∷ [])
-    (rw (c.in_ok-here-2.ensures.after, c.split_at.ensures.back) (passed bytes here r c.loop-here.level token c.in-Some.length read
-    (sym c.lexeme.ensures ∙ c.in-Some.is)))
+    (rw (c.in_ok-here-2.ensures.after, c.split_at.ensures.back)
+    (passed bytes here r c.loop-here.level token c.in-Some.length read (sym c.lexeme.ensures ∙ c.in-Some.is)))
     (λ behind spells. (
       subst (λ span. SpellingAt bytes span IsUnexpectedAt) (sym span.0)
           (unexpected_at bytes here r c.loop-here.level (token_here bytes here token) read stuck.reads span.1 behind spells),
@@ -106,7 +106,8 @@ returns-then-level-gt-MOST_DEPTH-clause-fault c =
       c.braces-level.ensures,
     ) in
     c.unless_bad-then-level-gt-MOST_DEPTH.ensures (read.places ++ token_here bytes here token ∷ [])
-    (rw (c.in_ok-here-2.ensures.after, c.split_at.ensures.back) (passed bytes here c.loop-here.reader c.loop-here.level token c.in-Some.length read
+    (rw (c.in_ok-here-2.ensures.after, c.split_at.ensures.back)
+    (passed bytes here c.loop-here.reader c.loop-here.level token c.in-Some.length read
     (sym c.lexeme.ensures ∙ c.in-Some.is)))
     (λ behind spells. subst (λ span. SpellingAt bytes span IsTooDeepAt) (sym span.0)
     (too_deep_at bytes here c.loop-here.reader c.step.new.self c.loop-here.level (token_here bytes here token) read

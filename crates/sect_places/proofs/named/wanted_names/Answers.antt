@@ -24,8 +24,8 @@ split_at-requires c =
     let h = c.loop-number.invariant.wanted in
     let here = c.loop-number.here.now in
     let passed = ap (λ (k : KeptView). k.passed) c.kept.view_is in
-    let left = left_to_read c.args.text.bytes.now c.args.tree.now c.args.item c.loop-number.names.items c.loop-number.number
-    here h c.in_ok-kept.kept c.in_ok-kept.ensures (omega (arith, c.loop-number-test.true, passed)) in
+    let left = left_to_read c.args.text.bytes.now c.args.tree.now c.args.item c.loop-number.names.items
+    c.loop-number.number here h c.in_ok-kept.kept c.in_ok-kept.ensures (omega (arith, c.loop-number-test.true, passed)) in
     let read = one_passed c.args.text.bytes.now c.args.tree.now h.named.number here h.named.stands left
     c.first_length-count.result c.first_length-count.ensures in
     read.1.within
@@ -40,8 +40,8 @@ loop-number-smaller c =
     let h = c.loop-number.invariant.wanted in
     let here = c.loop-number.here.now in
     let passed = ap (λ (k : KeptView). k.passed) c.kept.view_is in
-    let left = left_to_read c.args.text.bytes.now c.args.tree.now c.args.item c.loop-number.names.items c.loop-number.number
-    here h c.in_ok-kept.kept c.in_ok-kept.ensures (omega (arith, c.loop-number-test.true, passed)) in
+    let left = left_to_read c.args.text.bytes.now c.args.tree.now c.args.item c.loop-number.names.items
+    c.loop-number.number here h c.in_ok-kept.kept c.in_ok-kept.ensures (omega (arith, c.loop-number-test.true, passed)) in
     let read = one_passed c.args.text.bytes.now c.args.tree.now h.named.number here h.named.stands left
     c.first_length-count.result c.first_length-count.ensures in
     omega (

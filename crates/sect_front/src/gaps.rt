@@ -9,7 +9,7 @@ use crate::span::Span;
 use std::alloc::AllocError;
 
 /// A gap of so many bytes is long.
-const LONG_GAP: usize = 32;
+const LONG_GAP: usize = 12;
 
 /// A text, and gaps of it, that is blanks and comments between its tokens, in the order of the text. Any may be left
 /// out, and is then passed byte by byte.

@@ -60,7 +60,7 @@ fn spans_of_every_form(rt: HostRuntime) -> Result<(), Fail> {
 
 /// A text with long gaps: before its first token, two between tokens, and behind its last.
 const GAPPED: &[u8] = b"  // blanks and a comment before the first token\nrecord R {\n\
-    int a; // a comment behind a declaration, and blanks\n    \n    int b; }\nglobal R g; // a short one\n\
+    int a; // a comment behind a declaration, and blanks\n    \n    int b; }\nglobal R g; // short\n\
     thread t {                                        atomic { g.a = 1; } } // a comment that the end closes";
 
 /// Its long gaps.

@@ -8,6 +8,8 @@ use Rattle.sect_front.specs.steps.Verdicts.{Reached}
 use Rattle.sect_front.specs.TokenAt.{TokenAt}
 use Rattle.sect_front.proofs.Lexemes.{lexeme_first, lexeme_bad}
 use Rattle.sect_front.proofs.shared.Lexings.{gap_fits}
+use Rattle.sect_front.proofs.shared.Rests.{rest_all, rest_more, rest_gap}
+use Rattle.sect_front.specs.LongGaps.{IsRestOf}
 
 pub reached_none : (bytes : List ℕ) → Reached bytes [] (after_gap bytes)
 reached_none bytes = record { rest = bytes; reaches = refl; gap = refl; fits = gap_fits bytes }
@@ -46,3 +48,16 @@ bad_at bytes ps here at r some none place = record {
   bad = subst IsBad (sym r.gap) (lexeme_bad here none);
   place = ap (λ x. at + length x) r.gap ∙ place;
 }
+
+reaches_rest : (total : ℕ) (bytes here : List ℕ) (ps : List TokenAt) (rest : List ℕ) → IsRestOf bytes here
+    → Reaches total here ps rest → IsRestOf bytes rest
+reaches_rest total bytes here [] rest h r = subst (IsRestOf bytes) r h
+reaches_rest total bytes here (p ∷ ps) rest h r =
+    reaches_rest total bytes (drop r.0 (after_gap here)) ps rest
+    (rest_more bytes (after_gap here) r.0 (rest_gap bytes here h)) r.3
+
+-- what has not been read are the text's last bytes
+pub reached_rest : (bytes : List ℕ) (ps : List TokenAt) (here : List ℕ) → Reached bytes ps here → IsRestOf bytes here
+reached_rest bytes ps here r =
+    subst (IsRestOf bytes) r.gap
+    (rest_gap bytes r.rest (reaches_rest (length bytes) bytes bytes ps r.rest (rest_all bytes) r.reaches))

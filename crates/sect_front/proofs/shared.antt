@@ -6,3 +6,4 @@ pub mod Lexings
 pub mod Listed
 pub mod Numerals
 pub mod Only
+pub mod Rests

@@ -20,5 +20,6 @@ pub mod Faults
 pub mod Samples
 pub mod Expected
 pub mod Front
+pub mod LongGaps
 pub mod FaultPlaces
 pub mod steps

@@ -4,9 +4,11 @@ ghost use Rattle.std.specs.Prelude.{◌≡◌, ◌<◌, ◌-◌, ℕ, List, IfOk
 ghost use Rattle.sect_front.specs.Lexing.{Spells};
 ghost use Rattle.sect_front.specs.TokenAt.{TokenAt};
 ghost use Rattle.sect_front.specs.FaultPlaces.{open_behind, open_braces};
+ghost use Rattle.sect_front.specs.LongGaps.{AreGaps};
 ghost use Rattle.sect_front.specs.steps.Below.{AreBelow};
 
-use crate::lexer::{after_gap, behind, lexeme};
+use crate::gaps::GappedText;
+use crate::lexer::lexeme;
 use crate::token::Token;
 use std::alloc::{AllocError, Global};
 
@@ -27,19 +29,22 @@ fn pass_token(braces: &mut Vec<usize>, at: usize, token: &Token) -> Result<(), A
 }
 
 /// The place of the innermost brace that is open at the end of a text, if all that stands in the text is tokens.
-pub fn innermost_brace(alloc: Global, bytes: &[u8]) -> Result<Option<usize>, AllocError>
-    ensures brace { IfOk result (λ brace. (places : List TokenAt) → Spells bytes.now places
+pub fn innermost_brace(alloc: Global, text: GappedText) -> Result<Option<usize>, AllocError>
+    requires { AreGaps text.bytes.now text.gaps.now }
+    ensures brace { IfOk result (λ brace. (places : List TokenAt) → Spells text.entry.bytes.now places
         → brace ≡ slice_get (open_braces places) (length (open_braces places) - 1)) }
-    ensures within { IfOk result (λ brace. IfSome brace (λ at. at < length bytes.now)) }
+    ensures within { IfOk result (λ brace. IfSome brace (λ at. at < length text.entry.bytes.now)) }
 {
     let mut braces = Vec::new(alloc);
-    let mut here = after_gap(bytes);
+    let mut next = 0;
+    let mut here = text.after_gap(text.bytes, &mut next);
     while !here.is_empty() {
-        let at = bytes.len() - here.len();
+        let at = text.bytes.len() - here.len();
         let Some((token, length)) = lexeme(here) else {
             return Ok(None);
         };
-        here = behind(here, length);
+        let (_, after) = here.split_at(length);
+        here = text.after_gap(after, &mut next);
         pass_token(&mut braces, at, &token)?;
     }
     Ok(braces.last().copied())

@@ -2,6 +2,7 @@
 #![tactic(auto)]
 
 mod expecting;
+mod gaps;
 mod innermost;
 mod items;
 mod lexer;
@@ -22,6 +23,7 @@ mod tree;
 mod within;
 mod words;
 
+pub use gaps::GappedText;
 pub use innermost::innermost_brace;
 pub use items::Items;
 pub use lexer::{after_gap, first_length, first_token};
@@ -29,7 +31,7 @@ pub use limits::{MOST_BYTES, MOST_DEPTH, MOST_NAME_BYTES, limits_of_texts};
 pub use listing::tokens_of;
 pub use literal::Literal;
 pub use name::Name;
-pub use parsing::{FrontFault, PlacedFault, parse, parse_placed};
+pub use parsing::{FrontFault, PlacedFault, parse, parse_gapped, parse_placed};
 pub use printing::print;
 pub use same::is_same;
 pub use span::Span;

@@ -10,6 +10,7 @@ ghost use Rattle.sect_front.specs.FaultPlaces.{IsFaultSpan, IsWithin, AreKindsFo
 ghost use Rattle.sect_front.specs.Lexing.{IsBadAt};
 ghost use Rattle.sect_front.specs.TreeView.{TreeView};
 ghost use Rattle.sect_front.specs.Limits.{most_bytes};
+ghost use Rattle.sect_front.specs.LongGaps.{AreGaps};
 
 use crate::limits::MOST_BYTES;
 use crate::reading::{ReadFault, read};
@@ -151,11 +152,32 @@ pub fn parse_placed(alloc: Global, bytes: &[u8]) -> Result<Tree, PlacedFault>
     // In place of a token that can't stand where it does, one of these kinds may.
     ensures expected { IfErr result (λ placed. AreKindsFor bytes.now placed.fault placed.span placed.expected.items) }
 {
+    let mut gaps = Vec::new(alloc);
+    parse_gapped(alloc, bytes, &mut gaps)
+}
+
+/// What `parse_placed` gives. With it long gaps that the reading passes are added to these, in the order of the text:
+/// what reads the text again passes each at once.
+pub fn parse_gapped(alloc: Global, bytes: &[u8], gaps: &mut Vec<Span>) -> Result<Tree, PlacedFault>
+    requires { AreGaps bytes.now gaps.old.items }
+    // A tree that is given is spelled so.
+    ensures tree { IfOk result (λ tree. IsSpelled bytes.now tree) }
+    // A fault is the first one, on its line.
+    ensures fault { IfErr result (λ placed. IsFault bytes.now placed.fault) }
+    // It stands at these bytes, which are the text's.
+    ensures span { IfErr result (λ placed. IsFaultSpan bytes.now placed.fault placed.span) }
+    ensures within { IfErr result (λ placed. (placed.fault ≢ FrontFault.Memory)
+        → IsWithin (length bytes.now) placed.span) }
+    // In place of a token that can't stand where it does, one of these kinds may.
+    ensures expected { IfErr result (λ placed. AreKindsFor bytes.now placed.fault placed.span placed.expected.items) }
+    // What is added are gaps of the text.
+    ensures gaps { AreGaps bytes.now gaps.new.items }
+{
     if bytes.len() > MOST_BYTES {
         let span = Span { start: 0, end: 1 };
         return Err(placed(alloc, FrontFault::TooLarge, span));
     }
-    match read(alloc, bytes) {
+    match read(alloc, bytes, gaps) {
         Ok(tree) => Ok(tree),
         Err(ReadFault::Memory) => {
             let span = Span { start: 0, end: 0 };

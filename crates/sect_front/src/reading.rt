@@ -13,9 +13,11 @@ ghost use Rattle.sect_front.specs.declared.reading.ReadFault.TheVariants.{Unfini
 ghost use Rattle.sect_front.specs.Depth.{depth};
 ghost use Rattle.std.specs.Option.{ForSome, ok_or};
 ghost use Rattle.sect_front.specs.Limits.{most_depth};
+ghost use Rattle.sect_front.specs.LongGaps.{AreGaps};
 
 use crate::expecting::kinds_taken;
-use crate::lexer::{after_gap, behind, lexeme};
+use crate::gaps::pass_gap;
+use crate::lexer::{behind, lexeme};
 use crate::limits::MOST_DEPTH;
 use crate::reader::Reader;
 use crate::span::Span;
@@ -91,15 +93,22 @@ fn unless_bad(bytes: &[u8], here: &[u8], fault: ReadFault) -> ReadFault
     }
 }
 
-/// Has a new reader take all tokens of a text, unless there is a fault.
-fn take_all(alloc: Global, bytes: &[u8], reader: &mut Reader) -> Result<(), ReadFault>
-    requires { reader.old ≡ reading empty (Outside.Between Part.Records) }
+/// Has a new reader take all tokens of a text, unless there is a fault. Long gaps that are passed are kept.
+fn take_all(
+    alloc: Global,
+    bytes: &[u8],
+    reader: &mut Reader,
+    gaps: &mut Vec<Span>,
+) -> Result<(), ReadFault>
+    requires reader { reader.old ≡ reading empty (Outside.Between Part.Records) }
+    requires gaps { AreGaps bytes.now gaps.old.items }
     ensures ends { OnOk result (JudgesText bytes.now (ok_or (finish_of reader.new) Unfinished)) }
     ensures shallow { OnOk result (ForSome (finish_of reader.new) (λ tree. depth tree ≤ most_depth)) }
     ensures fault { IfErr result (IsReadFault bytes.now) }
+    ensures gaps { AreGaps bytes.now gaps.new.items }
 {
     let mut level = 0;
-    let mut here = after_gap(bytes);
+    let mut here = pass_gap(bytes, bytes, gaps)?;
     while !here.is_empty() {
         let at = bytes.len() - here.len();
         let Some((token, length)) = lexeme(here) else {
@@ -109,7 +118,8 @@ fn take_all(alloc: Global, bytes: &[u8], reader: &mut Reader) -> Result<(), Read
             start: at,
             end: at + length,
         };
-        here = behind(here, length);
+        let (_, after) = here.split_at(length);
+        here = pass_gap(bytes, after, gaps)?;
         match reader.step(alloc, &token) {
             Ok(()) => {}
             Err(StepError::Memory) => return Err(ReadFault::Memory),
@@ -126,11 +136,14 @@ fn take_all(alloc: Global, bytes: &[u8], reader: &mut Reader) -> Result<(), Read
     Ok(())
 }
 
-/// The tree of a text, or the first place at which there is none: a bad lexeme comes before all other faults.
-pub fn read(alloc: Global, bytes: &[u8]) -> Result<Tree, ReadFault>
-    ensures { JudgesText bytes.now result }
+/// The tree of a text, or the first place at which there is none: a bad lexeme comes before all other faults. Long gaps
+/// that are passed are kept.
+pub fn read(alloc: Global, bytes: &[u8], gaps: &mut Vec<Span>) -> Result<Tree, ReadFault>
+    requires { AreGaps bytes.now gaps.old.items }
+    ensures judges { JudgesText bytes.now result }
+    ensures gaps { AreGaps bytes.now gaps.new.items }
 {
     let mut reader = Reader::new(alloc);
-    take_all(alloc, bytes, &mut reader)?;
+    take_all(alloc, bytes, &mut reader, gaps)?;
     reader.finish().ok_or(ReadFault::Unfinished)
 }

@@ -4,6 +4,7 @@ ghost use Rattle.std.specs.Prelude.{◌≡◌, ◌≢◌, ◌≤◌, ◌<◌, �
 ghost use Rattle.sect_front.specs.TreeView.{TreeView};
 ghost use Rattle.sect_front.specs.Front.{IsSpelled, IsFault};
 ghost use Rattle.sect_front.specs.FaultPlaces.{IsFaultSpan, IsWithin, AreKindsFor};
+ghost use Rattle.sect_front.specs.LongGaps.{AreGaps};
 ghost use Rattle.sect_types.specs.First as types;
 ghost use Rattle.sect_types.specs.Programs.{ProgramView};
 ghost use Rattle.sect_names.specs.Sources.{IsTypedText};
@@ -26,7 +27,9 @@ use crate::limit::Limit;
 use crate::mistake::Mistake;
 use crate::naming::{declared_at, earlier_detail, found, unknown_name};
 use crate::plain::{is_plain, plain_detail};
-use sect_front::{FrontFault, PlacedFault, Span, Token, Tree, innermost_brace, parse_placed};
+use sect_front::{
+    FrontFault, GappedText, PlacedFault, Span, Token, Tree, innermost_brace, parse_gapped,
+};
 use sect_hints::guards;
 use sect_names::{Scheme, SchemeFault, SourceRefusal, check_k, scheme_of};
 use sect_places::NameSpan;
@@ -43,16 +46,17 @@ pub enum Judgment {
 }
 
 /// What is said beside the carets of a text that spells no tree.
-fn front_detail(alloc: Global, source: &[u8], placed: PlacedFault) -> Result<Detail, AllocError>
+fn front_detail(alloc: Global, text: GappedText, placed: PlacedFault) -> Result<Detail, AllocError>
+    requires gaps { AreGaps text.bytes.now text.gaps.now }
     requires span { placed.span.start ≤ placed.span.end }
-    requires expected { AreKindsFor source.now placed.fault placed.span placed.expected.items }
-    ensures detail { IfOk result (IsFrontDetail source.now placed.fault placed.span) }
-    ensures within { IfOk result (IsDetailWithin (length source.now)) }
+    requires expected { AreKindsFor text.bytes.now placed.fault placed.span placed.expected.items }
+    ensures detail { IfOk result (IsFrontDetail text.entry.bytes.now placed.fault placed.span) }
+    ensures within { IfOk result (IsDetailWithin (length text.entry.bytes.now)) }
 {
     let detail = match placed.fault {
         FrontFault::LongName { .. } => Detail::Bytes(placed.span.end - placed.span.start),
-        FrontFault::TooLarge => Detail::Bytes(source.len()),
-        FrontFault::UnexpectedEnd { .. } => match innermost_brace(alloc, source)? {
+        FrontFault::TooLarge => Detail::Bytes(text.bytes.len()),
+        FrontFault::UnexpectedEnd { .. } => match innermost_brace(alloc, text)? {
             Some(at) => Detail::OpenBrace(at),
             None => Detail::Nothing,
         },
@@ -65,13 +69,14 @@ fn front_detail(alloc: Global, source: &[u8], placed: PlacedFault) -> Result<Det
 /// What is told of a text that spells no tree.
 fn front_diagnostic(
     alloc: Global,
-    source: &[u8],
+    text: GappedText,
     placed: PlacedFault,
 ) -> Result<Diagnostic, SourceRefusal>
-    requires span { IsFaultSpan source.now placed.fault placed.span }
-    requires within { placed.fault ≢ FrontFault.Memory → IsWithin (length source.now) placed.span }
-    requires expected { AreKindsFor source.now placed.fault placed.span placed.expected.items }
-    ensures told { IfOk result (IsDiagnosisOf source.now (refusal.Front placed.fault)) }
+    requires gaps { AreGaps text.bytes.now text.gaps.now }
+    requires span { IsFaultSpan text.bytes.now placed.fault placed.span }
+    requires within { placed.fault ≢ FrontFault.Memory → IsWithin (length text.bytes.now) placed.span }
+    requires expected { AreKindsFor text.bytes.now placed.fault placed.span placed.expected.items }
+    ensures told { IfOk result (IsDiagnosisOf text.entry.bytes.now (refusal.Front placed.fault)) }
     ensures known { IfOk result (λ _. placed.fault ≢ FrontFault.Memory) }
     ensures fails { IfErr result (λ why. why ≡ refusal.Memory) }
 {
@@ -79,7 +84,7 @@ fn front_diagnostic(
         return Err(SourceRefusal::Memory);
     };
     let span = placed.span;
-    let detail = front_detail(alloc, source, placed)?;
+    let detail = front_detail(alloc, text, placed)?;
     Ok(Diagnostic {
         mistake,
         span,
@@ -160,19 +165,20 @@ fn told_item(
 /// What is told of a text whose tree breaks a rule on types, by the names of the text that matter to the item at fault.
 fn named_diagnostic(
     alloc: Global,
-    source: &[u8],
+    text: GappedText,
     mistyped: &Mistyped,
     mistake: Mistake,
 ) -> Result<Diagnostic, AllocError>
-    requires spelled { IsSpelled source.now mistyped.now.tree }
+    requires gaps { AreGaps text.bytes.now text.gaps.now }
+    requires spelled { IsSpelled text.bytes.now mistyped.now.tree }
     requires mistake { mistake_by mistyped.now.fault ≡ Some mistake }
     requires there { item_number mistyped.now.tree (of_types mistyped.now.fault) < length (items mistyped.now.tree) }
-    ensures { IfOk result (IsDiagnosisOf source.now (refusal.Types mistyped.now.fault)) }
+    ensures { IfOk result (IsDiagnosisOf text.entry.bytes.now (refusal.Types mistyped.now.fault)) }
 {
     let Mistyped { fault, tree } = mistyped;
     let culprit = Culprit::of_types(fault);
     let item = culprit.item(tree)?;
-    let told = told_by(alloc, source, tree, item)?;
+    let told = told_by(alloc, text, tree, item)?;
     let whole = item_span(&told.words, mistake);
     let names = told.names.as_slice();
     let span = marked_span(names, fault, whole);
@@ -187,20 +193,21 @@ fn named_diagnostic(
 /// What is told of a text whose tree breaks a rule on types, where that takes the place of no name.
 fn plain_diagnostic(
     alloc: Global,
-    source: &[u8],
+    text: GappedText,
     mistyped: &Mistyped,
     mistake: Mistake,
 ) -> Result<Diagnostic, AllocError>
-    requires spelled { IsSpelled source.now mistyped.now.tree }
+    requires gaps { AreGaps text.bytes.now text.gaps.now }
+    requires spelled { IsSpelled text.bytes.now mistyped.now.tree }
     requires mistake { mistake_by mistyped.now.fault ≡ Some mistake }
     requires there { item_number mistyped.now.tree (of_types mistyped.now.fault) < length (items mistyped.now.tree) }
     requires plain { is_plain_by mistyped.now.fault ≡ true }
-    ensures { IfOk result (IsDiagnosisOf source.now (refusal.Types mistyped.now.fault)) }
+    ensures { IfOk result (IsDiagnosisOf text.entry.bytes.now (refusal.Types mistyped.now.fault)) }
 {
     let Mistyped { fault, tree } = mistyped;
     let culprit = Culprit::of_types(fault);
     let item = culprit.item(tree)?;
-    let words = words_of(alloc, source, tree, item)?;
+    let words = words_of(alloc, text, tree, item)?;
     let detail = plain_detail(alloc, tree, &words, fault)?;
     let span = item_span(&words, mistake);
     Ok(Diagnostic {
@@ -213,12 +220,13 @@ fn plain_diagnostic(
 /// What is told of a text whose tree breaks a rule on types.
 fn types_diagnostic(
     alloc: Global,
-    source: &[u8],
+    text: GappedText,
     mistyped: &Mistyped,
 ) -> Result<Diagnostic, SourceRefusal>
-    requires spelled { IsSpelled source.now mistyped.now.tree }
+    requires gaps { AreGaps text.bytes.now text.gaps.now }
+    requires spelled { IsSpelled text.bytes.now mistyped.now.tree }
     requires judged { types.Judges {A = ℕ} mistyped.now.tree (Err mistyped.now.fault) }
-    ensures told { IfOk result (IsDiagnosisOf source.now (refusal.Types mistyped.now.fault)) }
+    ensures told { IfOk result (IsDiagnosisOf text.entry.bytes.now (refusal.Types mistyped.now.fault)) }
     ensures known { IfOk result (λ _. mistyped.now.fault ≢ TypeFault.Memory) }
     ensures fails { IfErr result (λ why. why ≡ refusal.Memory) }
 {
@@ -226,10 +234,10 @@ fn types_diagnostic(
         return Err(SourceRefusal::Memory);
     };
     if is_plain(&mistyped.fault) {
-        let diagnostic = plain_diagnostic(alloc, source, mistyped, mistake)?;
+        let diagnostic = plain_diagnostic(alloc, text, mistyped, mistake)?;
         Ok(diagnostic)
     } else {
-        let diagnostic = named_diagnostic(alloc, source, mistyped, mistake)?;
+        let diagnostic = named_diagnostic(alloc, text, mistyped, mistake)?;
         Ok(diagnostic)
     }
 }
@@ -237,14 +245,15 @@ fn types_diagnostic(
 /// What is told of a text whose program breaks a rule on hints.
 fn hints_diagnostic(
     alloc: Global,
-    source: &[u8],
+    text: GappedText,
     program: &Program,
     fault: &SchemeFault,
 ) -> Result<Diagnostic, SourceRefusal>
-    requires text { IsTypedText source.now program.now }
+    requires gaps { AreGaps text.bytes.now text.gaps.now }
+    requires text { IsTypedText text.bytes.now program.now }
     requires known { fault.now ≢ SchemeFault.BadK }
     requires refused { (k : ℕ) × schemes.Judges program.now k (Err fault.now) }
-    ensures told { IfOk result (IsDiagnosisOf source.now (refusal.Scheme fault.now)) }
+    ensures told { IfOk result (IsDiagnosisOf text.entry.bytes.now (refusal.Scheme fault.now)) }
     ensures known { IfOk result (λ _. fault.now ≢ SchemeFault.Memory) }
     ensures fails { IfErr result (λ why. why ≡ refusal.Memory) }
 {
@@ -254,7 +263,7 @@ fn hints_diagnostic(
     let tree = program.tree();
     let culprit = Culprit::of_scheme(fault);
     let item = culprit.item(tree)?;
-    let words = words_of(alloc, source, tree, item)?;
+    let words = words_of(alloc, text, tree, item)?;
     let span = item_span(&words, mistake);
     Ok(Diagnostic {
         mistake,
@@ -266,13 +275,14 @@ fn hints_diagnostic(
 /// Judges a program of a source text.
 fn lint_program(
     alloc: Global,
-    source: &[u8],
+    text: GappedText,
     program: Program,
     k: u16,
 ) -> Result<Judgment, SourceRefusal>
-    requires text { IsTypedText source.now program }
+    requires gaps { AreGaps text.bytes.now text.gaps.now }
+    requires text { IsTypedText text.bytes.now program }
     requires offered { k ≤ 3 }
-    ensures judged { IfOk result (IsJudged source.now k) }
+    ensures judged { IfOk result (IsJudged text.entry.bytes.now k) }
     ensures fails { IfErr result (λ why. why ≡ refusal.Memory) }
 {
     // the program is still there for what is told of a hint
@@ -284,26 +294,27 @@ fn lint_program(
         }
         Err(fault) => {
             let fault = SchemeFault::from(fault);
-            let diagnostic = hints_diagnostic(alloc, source, &program, &fault)?;
+            let diagnostic = hints_diagnostic(alloc, text, &program, &fault)?;
             Ok(Judgment::Refused(diagnostic))
         }
     }
 }
 
 /// Judges a tree that a source text spells.
-fn lint_tree(alloc: Global, source: &[u8], tree: Tree, k: u16) -> Result<Judgment, SourceRefusal>
-    requires text { IsSpelled source.now tree }
+fn lint_tree(alloc: Global, text: GappedText, tree: Tree, k: u16) -> Result<Judgment, SourceRefusal>
+    requires gaps { AreGaps text.bytes.now text.gaps.now }
+    requires text { IsSpelled text.bytes.now tree }
     requires offered { k ≤ 3 }
-    ensures judged { IfOk result (IsJudged source.now k) }
+    ensures judged { IfOk result (IsJudged text.entry.bytes.now k) }
     ensures fails { IfErr result (λ why. why ≡ refusal.Memory) }
 {
     match check_tree(alloc, tree) {
         Ok(program) => {
             let _facts = program.tree();
-            lint_program(alloc, source, program, k)
+            lint_program(alloc, text, program, k)
         }
         Err(mistyped) => {
-            let diagnostic = types_diagnostic(alloc, source, &mistyped)?;
+            let diagnostic = types_diagnostic(alloc, text, &mistyped)?;
             Ok(Judgment::Refused(diagnostic))
         }
     }
@@ -318,10 +329,16 @@ pub fn lint(alloc: Global, source: &[u8], k: u16) -> Result<Judgment, SourceRefu
     ensures fails { IfErr result (IsNotJudged k) }
 {
     check_k(k)?;
-    match parse_placed(alloc, source) {
-        Ok(tree) => lint_tree(alloc, source, tree, k),
+    let mut gaps = Vec::new(alloc);
+    let parsed = parse_gapped(alloc, source, &mut gaps);
+    let text = GappedText {
+        bytes: source,
+        gaps: gaps.as_slice(),
+    };
+    match parsed {
+        Ok(tree) => lint_tree(alloc, text, tree, k),
         Err(placed) => {
-            let diagnostic = front_diagnostic(alloc, source, placed)?;
+            let diagnostic = front_diagnostic(alloc, text, placed)?;
             Ok(Judgment::Refused(diagnostic))
         }
     }

@@ -3,6 +3,7 @@
 ghost use Rattle.std.specs.Prelude.{◌≡◌, ◌<◌, ℕ, IfOk, List, length};
 ghost use Rattle.sect_front.specs.Front.{IsSpelled};
 ghost use Rattle.sect_front.specs.FaultPlaces.{IsWithin};
+ghost use Rattle.sect_front.specs.LongGaps.{AreGaps};
 ghost use Rattle.sect_types.specs.Items.{items};
 ghost use Rattle.sect_places.specs.Mattering.{mattering};
 ghost use Rattle.sect_places.specs.NameSpans.{AreNameSpans};
@@ -14,7 +15,7 @@ ghost use Rattle.sect_lint.specs.steps.Laid.{AreOwnWords};
 
 use crate::culprit::marked_range;
 use crate::mistake::Mistake;
-use sect_front::{Span, Token, Tree};
+use sect_front::{GappedText, Span, Token, Tree};
 use sect_places::{
     ItemWords, NameSpan, TokenRange, item_range, item_words, range_span, range_words,
 };
@@ -28,13 +29,19 @@ pub struct Words {
 }
 
 /// The tokens of an item of a tree that the text spells.
-pub fn words_of(alloc: Global, source: &[u8], tree: &Tree, item: usize) -> Result<Words, AllocError>
-    requires spelled { IsSpelled source.now tree.now }
+pub fn words_of(
+    alloc: Global,
+    text: GappedText,
+    tree: &Tree,
+    item: usize,
+) -> Result<Words, AllocError>
+    requires gaps { AreGaps text.bytes.now text.gaps.now }
+    requires spelled { IsSpelled text.bytes.now tree.now }
     requires there { item < length (items tree.now) }
-    ensures { IfOk result (AreOwnWords source.now tree.now item) }
+    ensures { IfOk result (AreOwnWords text.entry.bytes.now tree.now item) }
 {
     let range = item_range(tree, item);
-    let (tokens, spans) = range_words(alloc, source, tree, range)?;
+    let (tokens, spans) = range_words(alloc, text, tree, range)?;
     Ok(Words { tokens, spans })
 }
 
@@ -47,15 +54,21 @@ pub struct Told {
 }
 
 /// The names of a tree that the text spells which matter to an item, and the tokens of the item.
-pub fn told_by(alloc: Global, source: &[u8], tree: &Tree, item: usize) -> Result<Told, AllocError>
-    requires spelled { IsSpelled source.now tree.now }
+pub fn told_by(
+    alloc: Global,
+    text: GappedText,
+    tree: &Tree,
+    item: usize,
+) -> Result<Told, AllocError>
+    requires gaps { AreGaps text.bytes.now text.gaps.now }
+    requires spelled { IsSpelled text.bytes.now tree.now }
     requires there { item < length (items tree.now) }
-    ensures names { IfOk result (λ told. (names : List NameSpan) × AreNameSpans source.now tree.now names
+    ensures names { IfOk result (λ told. (names : List NameSpan) × AreNameSpans text.entry.bytes.now tree.now names
         × (told.names.items ≡ mattering item names)) }
-    ensures words { IfOk result (λ told. AreOwnWords source.now tree.now item told.words) }
+    ensures words { IfOk result (λ told. AreOwnWords text.entry.bytes.now tree.now item told.words) }
 {
     let range = item_range(tree, item);
-    let read = item_words(alloc, source, tree, item, range)?;
+    let read = item_words(alloc, text, tree, item, range)?;
     let ItemWords {
         names,
         tokens,

@@ -1,6 +1,6 @@
 -- How a text is read token by token, where it spells a tree.
 use Rattle.std.proofs.Common.{◌≡◌, ℕ, zero, suc, ◌+◌, ◌-◌, ◌<◌, ◌≤◌, List, [], ◌∷◌, ◌++◌, length}
-use Rattle.std.proofs.Common.{take, drop, map, get_or, Option, Some, None, refl, sym, ◌∙◌, ap, subst, arith, length-drop}
+use Rattle.std.proofs.Common.{take, drop, map, get_or, Option, Some, None, refl, sym, ◌∙◌, ap, subst, arith}
 use Rattle.std.proofs.lemmas.List.{drop_more, drop-drop, take-map, drop-map}
 use Rattle.sect_lemmas.proofs.Options.{none_or_some, some_injective}
 use Rattle.sect_lemmas.proofs.Places.{at_of}
@@ -14,7 +14,8 @@ use Rattle.sect_front.specs.Lexing.{IsFirst, Reaches}
 use Rattle.sect_front.specs.Spelling.{spelling_of, IsSpelling}
 use Rattle.sect_front.specs.declared.span.Span.{Span}
 use Rattle.sect_front.specs.declared.token.Token.{Token}
-use Rattle.sect_front.proofs.shared.Lexings.{gap_fits, one_lexing}
+use Rattle.sect_front.proofs.shared.Lexings.{one_lexing}
+use Rattle.sect_front.proofs.shared.Rests.{rest_all, rest_more, rest_gap}
 use Rattle.sect_places.specs.Spans.{AreInOrder}
 use Rattle.sect_places.specs.steps.Standing.{StandsFrom, IsSought}
 use Rattle.sect_places.proofs.Placing.{first_length, span_from}
@@ -34,7 +35,7 @@ stands_none bytes tree s = record {
   last = s.spells.0;
   reaches = s.spells.1;
   gap = refl;
-  fits = gap_fits bytes;
+  rest = rest_gap bytes bytes (rest_all bytes);
 }
 
 -- a token that stands here, with its place
@@ -83,7 +84,7 @@ stands_more bytes tree number here h f count e =
       reaches = subst (λ k. Reaches (length bytes) (drop k here) (drop (number + 1) places) h.last) n
           (subst (λ x. Reaches (length bytes) (drop reach.0 x) (drop (number + 1) places) h.last) h.gap reach.3);
       gap = refl;
-      fits = omega (arith, gap_fits (drop count here), length-drop count here, h.fits);
+      rest = rest_gap bytes (drop count here) (rest_more bytes here count h.rest);
     }
 
 -- a token is read where it stands

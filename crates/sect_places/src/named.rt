@@ -4,6 +4,7 @@ ghost use Rattle.std.specs.Prelude.{◌≡◌, ◌≤◌, ◌+◌, ◌++◌, ◌
 ghost use Rattle.std.specs.Prelude.{List, length, map, take, drop, slice_get};
 ghost use Rattle.sect_front.specs.Front.{IsSpelled, IsFault};
 ghost use Rattle.sect_front.specs.FaultPlaces.{token_span};
+ghost use Rattle.sect_front.specs.LongGaps.{AreGaps};
 ghost use Rattle.sect_front.specs.Grammar.{tokens_of};
 ghost use Rattle.sect_places.specs.Spans.{AreInOrder};
 ghost use Rattle.sect_places.specs.steps.Standing.{IsSought};
@@ -17,7 +18,7 @@ use crate::name_use::NameSpan;
 use crate::range::TokenRange;
 use crate::uses::{Kept, kept_uses};
 use crate::words::{Sought, sought_words};
-use sect_front::{FrontFault, Span, Token, Tree, after_gap, first_length, parse, spells_name};
+use sect_front::{FrontFault, GappedText, Span, Token, Tree, first_length, parse, spells_name};
 use std::alloc::{AllocError, Global};
 
 /// Adds the name of this number among all, which stands at these bytes, if it is kept.
@@ -46,23 +47,24 @@ fn put_kept(
 /// this number, sought from where a token stands that has passed with the names.
 fn wanted_names<'a>(
     alloc: Global,
-    source: &'a [u8],
+    text: GappedText<'a>,
     tree: &Tree,
     item: Option<usize>,
     token: usize,
 ) -> Result<(Vec<NameSpan>, Sought<'a>), AllocError>
-    requires spelled { IsSpelled source.now tree.now }
+    requires gaps { AreGaps text.bytes.now text.gaps.now }
+    requires spelled { IsSpelled text.bytes.now tree.now }
     requires within { token ≤ length (tokens_of tree.now) }
-    ensures wanted { IfOk result (λ r. AreWanted source.now tree.now item r.0.items) }
-    ensures sought { IfOk result (λ r. IsSought source.now tree.now token r.1.here.now r.1.left) }
+    ensures wanted { IfOk result (λ r. AreWanted text.entry.bytes.now tree.now item r.0.items) }
+    ensures sought { IfOk result (λ r. IsSought text.entry.bytes.now tree.now token r.1.here.now r.1.left) }
 {
     let kept = kept_uses(alloc, tree, item)?;
     let mut names = Vec::with_capacity(alloc, kept.uses.len())?;
     let mut number = 0;
-    let mut sought = Sought::new(source, token);
-    let mut here = sought.here;
+    let mut sought = Sought::new(text, token);
+    let (mut here, mut gap) = (sought.here, sought.gap);
     while number < kept.passed {
-        let start = source.len() - here.len();
+        let start = text.bytes.len() - here.len();
         let count = first_length(here);
         let (word, after) = here.split_at(count);
         if spells_name(word) {
@@ -70,8 +72,8 @@ fn wanted_names<'a>(
             put_kept(&mut names, &kept, number, Span { start, end })?;
             number += 1;
         }
-        here = after_gap(after);
-        sought = sought.past(here);
+        here = text.after_gap(after, &mut gap);
+        sought = sought.past(here, gap);
     }
     Ok((names, sought))
 }
@@ -81,7 +83,7 @@ pub fn tree_names(alloc: Global, source: &[u8], tree: &Tree) -> Result<Vec<NameS
     requires { IsSpelled source.now tree.now }
     ensures { IfOk result (λ names. AreNameSpans source.now tree.now names.items) }
 {
-    let (names, _) = wanted_names(alloc, source, tree, None, 0)?;
+    let (names, _) = wanted_names(alloc, GappedText::new(source), tree, None, 0)?;
     Ok(names)
 }
 
@@ -97,23 +99,24 @@ pub struct ItemWords {
 /// others those that are declared, types, guards or called. With them the tokens of a range, and the bytes of each.
 pub fn item_words(
     alloc: Global,
-    source: &[u8],
+    text: GappedText,
     tree: &Tree,
     item: usize,
     range: TokenRange,
 ) -> Result<ItemWords, AllocError>
-    requires spelled { IsSpelled source.now tree.now }
+    requires gaps { AreGaps text.bytes.now text.gaps.now }
+    requires spelled { IsSpelled text.bytes.now tree.now }
     requires within { range.first + range.count ≤ length (tokens_of tree.now) }
-    ensures names { IfOk result (λ r. (names : List NameSpan) × AreNameSpans source.now tree.now names
+    ensures names { IfOk result (λ r. (names : List NameSpan) × AreNameSpans text.entry.bytes.now tree.now names
         × (r.names.items ≡ mattering item names)) }
     ensures tokens { IfOk result (λ r. r.tokens.items ≡ take range.count (drop range.first (tokens_of tree.now))) }
-    ensures spans { IfOk result (λ r. (spelled : IsSpelled source.now tree.now)
+    ensures spans { IfOk result (λ r. (spelled : IsSpelled text.entry.bytes.now tree.now)
         → r.spans.items ≡ take range.count (drop range.first (map token_span spelled.places))) }
     // Each token has some bytes, which lie in the text behind those of the one before it.
-    ensures order { IfOk result (λ r. AreInOrder 0 (length source.now) r.spans.items) }
+    ensures order { IfOk result (λ r. AreInOrder 0 (length text.entry.bytes.now) r.spans.items) }
 {
-    let (names, sought) = wanted_names(alloc, source, tree, Some(item), range.first)?;
-    let (tokens, spans) = sought_words(alloc, source, tree, range, sought)?;
+    let (names, sought) = wanted_names(alloc, text, tree, Some(item), range.first)?;
+    let (tokens, spans) = sought_words(alloc, text, tree, range, sought)?;
     Ok(ItemWords {
         names,
         tokens,

@@ -4,35 +4,41 @@ ghost use Rattle.std.specs.Prelude.{◌≡◌, ◌+◌, ◌≤◌, ◌<◌, IfOk
 ghost use Rattle.sect_front.specs.Front.{IsSpelled};
 ghost use Rattle.sect_front.specs.FaultPlaces.{token_span};
 ghost use Rattle.sect_front.specs.Gaps.{after_gap as gap_of};
+ghost use Rattle.sect_front.specs.LongGaps.{AreGaps};
 ghost use Rattle.sect_front.specs.Grammar.{tokens_of as tokens_by};
 ghost use Rattle.sect_places.specs.Spans.{AreInOrder};
 ghost use Rattle.sect_places.specs.steps.Standing.{StandsFrom, IsSought};
 
 use crate::range::TokenRange;
-use sect_front::{Span, Token, Tree, after_gap, first_length, first_token};
+use sect_front::{GappedText, Span, Token, Tree, first_length, first_token};
 use std::alloc::{AllocError, Global};
 
-/// A token that is sought in a text: it stands behind so many others, of which the first stands here.
+/// A token that is sought in a text: it stands behind so many others, of which the first stands here. The next long gap
+/// has this number.
 #[derive(Clone, Copy)]
 pub struct Sought<'a> {
     pub here: &'a [u8],
     pub left: usize,
+    pub gap: usize,
 }
 
 impl<'a> Sought<'a> {
     /// The token of this number, from the start of the text on.
-    pub fn new(source: &'a [u8], number: usize) -> Sought<'a>
-        ensures here { result.here.now ≡ gap_of source.now }
+    pub fn new(text: GappedText<'a>, number: usize) -> Sought<'a>
+        requires { AreGaps text.bytes.now text.gaps.now }
+        ensures here { result.here.now ≡ gap_of text.entry.bytes.now }
         ensures left { result.left ≡ number }
     {
+        let mut gap = 0;
         Sought {
-            here: after_gap(source),
+            here: text.after_gap(text.bytes, &mut gap),
             left: number,
+            gap,
         }
     }
 
-    /// The same token, once one more has passed and this stands behind it, unless it is reached.
-    pub fn past(self, after: &'a [u8]) -> Sought<'a>
+    /// The same token, once one more has passed and this stands behind it and its gap, unless it is reached.
+    pub fn past(self, after: &'a [u8], gap: usize) -> Sought<'a>
         ensures reached { self.entry.left ≡ 0 → (result.here.now ≡ self.entry.here.now) × (result.left ≡ 0) }
         ensures nearer { 0 < self.entry.left → (result.here.now ≡ after.now) × (result.left + 1 ≡ self.entry.left) }
     {
@@ -42,46 +48,56 @@ impl<'a> Sought<'a> {
             Sought {
                 here: after,
                 left: self.left - 1,
+                gap,
             }
         }
     }
 }
 
-/// What stands from the token on that is sought.
-fn from_token<'a>(source: &[u8], tree: &Tree, number: usize, sought: Sought<'a>) -> &'a [u8]
-    requires sought { IsSought source.now tree.now number sought.here.now sought.left }
+/// The token that is sought, once it is reached.
+fn from_token<'a>(
+    text: GappedText<'a>,
+    tree: &Tree,
+    number: usize,
+    sought: Sought<'a>,
+) -> Sought<'a>
+    requires gaps { AreGaps text.bytes.now text.gaps.now }
+    requires sought { IsSought text.bytes.now tree.now number sought.here.now sought.left }
     requires within { number ≤ length (tokens_by tree.now) }
-    ensures { StandsFrom source.now tree.now number result.now }
+    ensures { StandsFrom text.entry.bytes.now tree.now number result.here.now }
 {
     let mut here = sought.here;
+    let mut gap = sought.gap;
     for _passed in 0..sought.left {
         let (_, after) = here.split_at(first_length(here));
-        here = after_gap(after);
+        here = text.after_gap(after, &mut gap);
     }
-    here
+    Sought { here, left: 0, gap }
 }
 
 /// The tokens of a range, and the bytes of each, in a text that spells the tree. The first of them is sought.
 pub fn sought_words(
     alloc: Global,
-    source: &[u8],
+    text: GappedText,
     tree: &Tree,
     range: TokenRange,
     sought: Sought,
 ) -> Result<(Vec<Token>, Vec<Span>), AllocError>
-    requires sought { IsSought source.now tree.now range.first sought.here.now sought.left }
+    requires gaps { AreGaps text.bytes.now text.gaps.now }
+    requires sought { IsSought text.bytes.now tree.now range.first sought.here.now sought.left }
     requires within { range.first + range.count ≤ length (tokens_by tree.now) }
     ensures tokens { IfOk result (λ r. r.0.items ≡ take range.count (drop range.first (tokens_by tree.now))) }
-    ensures spans { IfOk result (λ r. (spelled : IsSpelled source.now tree.now)
+    ensures spans { IfOk result (λ r. (spelled : IsSpelled text.entry.bytes.now tree.now)
         → r.1.items ≡ take range.count (drop range.first (map token_span spelled.places))) }
     // Each token has some bytes, which lie in the text behind those of the one before it.
-    ensures order { IfOk result (λ r. AreInOrder 0 (length source.now) r.1.items) }
+    ensures order { IfOk result (λ r. AreInOrder 0 (length text.entry.bytes.now) r.1.items) }
 {
     let mut tokens = Vec::with_capacity(alloc, range.count)?;
     let mut spans = Vec::with_capacity(alloc, range.count)?;
-    let mut here = from_token(source, tree, range.first, sought);
+    let first = from_token(text, tree, range.first, sought);
+    let (mut here, mut gap) = (first.here, first.gap);
     for _passed in 0..range.count {
-        let start = source.len() - here.len();
+        let start = text.bytes.len() - here.len();
         let Some((token, count)) = first_token(here) else {
             unreachable!();
         };
@@ -91,7 +107,7 @@ pub fn sought_words(
             end: start + count,
         })?;
         let (_, after) = here.split_at(count);
-        here = after_gap(after);
+        here = text.after_gap(after, &mut gap);
     }
     Ok((tokens, spans))
 }
@@ -99,18 +115,19 @@ pub fn sought_words(
 /// The tokens of a range, and the bytes of each, in a text that spells the tree.
 pub fn range_words(
     alloc: Global,
-    source: &[u8],
+    text: GappedText,
     tree: &Tree,
     range: TokenRange,
 ) -> Result<(Vec<Token>, Vec<Span>), AllocError>
-    requires spelled { IsSpelled source.now tree.now }
+    requires gaps { AreGaps text.bytes.now text.gaps.now }
+    requires spelled { IsSpelled text.bytes.now tree.now }
     requires within { range.first + range.count ≤ length (tokens_by tree.now) }
     ensures tokens { IfOk result (λ r. r.0.items ≡ take range.count (drop range.first (tokens_by tree.now))) }
-    ensures spans { IfOk result (λ r. (spelled : IsSpelled source.now tree.now)
+    ensures spans { IfOk result (λ r. (spelled : IsSpelled text.entry.bytes.now tree.now)
         → r.1.items ≡ take range.count (drop range.first (map token_span spelled.places))) }
     // Each token has some bytes, which lie in the text behind those of the one before it.
-    ensures order { IfOk result (λ r. AreInOrder 0 (length source.now) r.1.items) }
+    ensures order { IfOk result (λ r. AreInOrder 0 (length text.entry.bytes.now) r.1.items) }
 {
-    let sought = Sought::new(source, range.first);
-    sought_words(alloc, source, tree, range, sought)
+    let sought = Sought::new(text, range.first);
+    sought_words(alloc, text, tree, range, sought)
 }

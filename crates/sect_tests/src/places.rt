@@ -1,6 +1,8 @@
 //! Places of the items of a text that has each form, found by hand.
 
-use sect_places::{Position, item_spans, position_of};
+use sect_front::{GappedText, innermost_brace, parse, parse_gapped, tokens_of};
+use sect_places::{ItemWords, Position, TokenRange, item_spans, item_words, position_of};
+use std::alloc::Global;
 use std::test::Fail;
 
 /// A text that has each form of an item.
@@ -53,5 +55,85 @@ fn spans_of_every_form(rt: HostRuntime) -> Result<(), Fail> {
             );
         }
     }
+    Ok(())
+}
+
+/// A text with long gaps: before its first token, two between tokens, and behind its last.
+const GAPPED: &[u8] = b"  // blanks and a comment before the first token\nrecord R {\n\
+    int a; // a comment behind a declaration, and blanks\n    \n    int b; }\nglobal R g; // short\n\
+    thread t {                                        atomic { g.a = 1; } } // a comment that the end closes";
+
+/// Its long gaps.
+const GAPS: &[&[u8]] = &[
+    b"  // blanks and a comment before the first token\n",
+    b" // a comment behind a declaration, and blanks\n    \n    ",
+    b"                                        ",
+    b" // a comment that the end closes",
+];
+
+#[test]
+fn long_gaps_are_kept(rt: HostRuntime) -> Result<(), Fail> {
+    let mut gaps = Vec::new(rt.alloc());
+    assert!(rt; parse_gapped(rt.alloc(), GAPPED, &mut gaps).is_ok());
+    assert_eq!(rt; gaps.len(), GAPS.len());
+    for (gap, wanted) in gaps.iter().zip(GAPS) {
+        assert!(rt; GAPPED.get(gap.start..gap.end) == Some(*wanted));
+    }
+    Ok(())
+}
+
+/// Whether the same words were read.
+fn are_same(some: &ItemWords, others: &ItemWords) -> bool {
+    some.tokens.len() == others.tokens.len()
+        && some.names.len() == others.names.len()
+        && (some.spans.iter().zip(others.spans.iter())).all(|(one, other)| one.start == other.start
+            && one.end == other.end)
+        && (some.names.iter().zip(others.names.iter())).all(|(one, other)| one.span.start
+            == other.span.start
+            && one.used.name == other.used.name)
+}
+
+/// How many tokens and names of a text are read by the help of its long gaps, if as many and the same ones are read
+/// without.
+fn read_both_ways(alloc: Global, source: &[u8]) -> Result<Option<(usize, usize)>, Fail> {
+    let tree = parse(alloc, source)?;
+    let mut gaps = Vec::new(alloc);
+    let gapped = parse_gapped(alloc, source, &mut gaps).is_ok();
+    let text = GappedText {
+        bytes: source,
+        gaps: gaps.as_slice(),
+    };
+    let count = tokens_of(alloc, &tree)?.len();
+    let all = TokenRange { first: 0, count };
+    let with = item_words(alloc, text, &tree, 0, all)?;
+    let without = item_words(alloc, GappedText::new(source), &tree, 0, all)?;
+    if gapped && are_same(&with, &without) {
+        Ok(Some((with.tokens.len(), with.names.len())))
+    } else {
+        Ok(None)
+    }
+}
+
+#[test]
+fn words_are_the_same_behind_long_gaps(rt: HostRuntime) -> Result<(), Fail> {
+    assert!(rt; read_both_ways(rt.alloc(), GAPPED)? == Some((27, 6)));
+    let none = b"thread t{int x;x=1;}";
+    assert!(rt; read_both_ways(rt.alloc(), none)? == Some((11, 2)));
+    Ok(())
+}
+
+#[test]
+fn the_open_brace_is_found_behind_long_gaps(rt: HostRuntime) -> Result<(), Fail> {
+    let source = b"// a comment that is long enough to be kept\nthread t { atomic { } atomic {\n\
+        // another one, which is as long as the first\n";
+    let mut gaps = Vec::new(rt.alloc());
+    assert!(rt; parse_gapped(rt.alloc(), source, &mut gaps).is_err());
+    assert_eq!(rt; gaps.len(), 2);
+    let text = GappedText {
+        bytes: source,
+        gaps: gaps.as_slice(),
+    };
+    assert!(rt; innermost_brace(rt.alloc(), text)? == Some(73));
+    assert!(rt; innermost_brace(rt.alloc(), GappedText::new(source))? == Some(73));
     Ok(())
 }

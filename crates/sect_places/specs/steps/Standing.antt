@@ -1,8 +1,9 @@
 -- Where a token of a text stands.
-use Rattle.std.specs.Prelude.{◌≡◌, ◌≤◌, ℕ, ◌+◌, List, length, drop}
+use Rattle.std.specs.Prelude.{◌≡◌, ℕ, ◌+◌, List, length, drop}
 use Rattle.sect_front.specs.TreeView.{TreeView}
 use Rattle.sect_front.specs.Front.{IsSpelled}
 use Rattle.sect_front.specs.Gaps.{after_gap}
+use Rattle.sect_front.specs.LongGaps.{IsRestOf}
 use Rattle.sect_front.specs.Lexing.{Reaches}
 
 -- the text spells the tree, and the token of this number stands here, or where there is none so many have passed
@@ -12,7 +13,7 @@ pub record StandsFrom (bytes : List ℕ) (tree : TreeView) (number : ℕ) (here 
   pub last : List ℕ
   pub reaches : Reaches (length bytes) before (drop number spelled.places) last
   pub gap : after_gap before ≡ here
-  pub fits : length here ≤ length bytes
+  pub rest : IsRestOf bytes here
 
 -- so many tokens before the one of this number a token stands here, or where there is none all have passed
 abbrev pub IsSought : List ℕ → TreeView → ℕ → List ℕ → ℕ → Type 0

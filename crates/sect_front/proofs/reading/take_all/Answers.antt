@@ -7,7 +7,9 @@ use Rattle.sect_front.specs.Faults.{tokens_in, IsUnexpectedAt, IsTooDeepAt}
 use Rattle.sect_front.specs.steps.Verdicts.{SpellingAt}
 use Rattle.sect_front.specs.steps.Read.{finish_of}
 use Rattle.sect_front.proofs.Lexemes.{lexeme_first}
-use Rattle.sect_front.proofs.Reach.{reached_none, bad_at, lexed}
+use Rattle.sect_front.proofs.shared.Rests.{rest_more}
+use Rattle.sect_front.proofs.Reach.{reached_none, reached_rest, bad_at, lexed}
+use Rattle.sect_front.specs.Gaps.{after_gap}
 use Rattle.sect_front.proofs.Verdict.{reads_nothing, finished, is_low, brace_most}
 use Rattle.sect_front.proofs.Texts.{token_here, span_here, passed, reads_on, shorter, unexpected_at, too_deep_at}
 use Rattle.sect_front.proofs.Texts.{text_ends, nothing_left}
@@ -15,16 +17,19 @@ use Rattle.sect_front.proofs.Following.{kinds_expected}
 use Rattle.sect_front.proofs.reading.take_all.Goals as goal
 
 pub loop-here-init : goal.loop-here-init
-loop-here-init c = rw (c.requires, c.after_gap-here.ensures)
-    record { places = []; reached = reached_none c.args.bytes.now; reads = reads_nothing }
+loop-here-init c = record {
+  read = rw (c.requires.reader, c.in_ok-here.ensures.after)
+      record { places = []; reached = reached_none c.args.bytes.now; reads = reads_nothing };
+  gaps = c.pass_gap.ensures.gaps;
+}
 
 pub overflow_sub-at : goal.overflow_sub-at
-overflow_sub-at c = c.loop-here.invariant.reached.fits
+overflow_sub-at c = c.loop-here.invariant.read.reached.fits
 
 pub returns-in_default-clause-fault : goal.returns-in_default-clause-fault
 returns-in_default-clause-fault c =
     let some : 0 < length c.loop-here.here.now = grind (arith, nat_tests) in
-    let read = c.loop-here.invariant in
+    let read = c.loop-here.invariant.read in
     bad_at c.args.bytes.now read.places c.loop-here.here.now
     (length c.args.bytes.now - length c.loop-here.here.now) read.reached
     (λ e. absurd (omega (arith, ap length e, some))) (sym c.lexeme.ensures ∙ c.in_default.is)
@@ -32,20 +37,27 @@ returns-in_default-clause-fault c =
 
 pub overflow_add-span : goal.overflow_add-span
 overflow_add-span c =
-    let fits = c.loop-here.invariant.reached.fits in
+    let fits = c.loop-here.invariant.read.reached.fits in
     let within = (lexeme_first c.loop-here.here.now _ c.in-Some.length (sym c.lexeme.ensures ∙ c.in-Some.is)).within in
     grind arith
 
-pub behind-here-requires : goal.behind-here-requires
-behind-here-requires c =
+pub split_at-requires : goal.split_at-requires
+split_at-requires c =
     (lexeme_first c.loop-here.here.now _ c.in-Some.length (sym c.lexeme.ensures ∙ c.in-Some.is)).within
+
+pub pass_gap-requires-in-loop-here-clause-rest : goal.pass_gap-requires-in-loop-here-clause-rest
+pass_gap-requires-in-loop-here-clause-rest c =
+    let read = c.loop-here.invariant.read in
+    rw c.split_at.ensures.back
+    (rest_more c.args.bytes.now c.loop-here.here.now c.in-Some.length (reached_rest c.args.bytes.now read.places
+    c.loop-here.here.now read.reached))
 
 pub unless_bad-requires : goal.unless_bad-requires
 unless_bad-requires c = omega (
   arith,
-  c.loop-here.invariant.reached.fits,
+  c.loop-here.invariant.read.reached.fits,
   shorter c.loop-here.here.now c.in-Some.token c.in-Some.length (sym c.lexeme.ensures ∙ c.in-Some.is),
-  ap length c.behind-here.ensures,
+  ap length (c.in_ok-here-2.ensures.after ∙ ap after_gap c.split_at.ensures.back),
 )
 
 pub returns-in-Err-Unexpected-clause-fault : goal.returns-in-Err-Unexpected-clause-fault
@@ -53,7 +65,7 @@ returns-in-Err-Unexpected-clause-fault c =
     let bytes = c.args.bytes.now in
     let here = c.loop-here.here.now in
     let r = c.loop-here.reader in
-    let read = c.loop-here.invariant in
+    let read = c.loop-here.invariant.read in
     let token = c.in-Some.token in
     let kinds = c.in_ok-kinds-in-Err-Unexpected.kinds.items in
     let span = span_here bytes here token c.in-Some.length (sym c.lexeme.ensures ∙ c.in-Some.is) read.reached.fits in
@@ -61,8 +73,8 @@ returns-in-Err-Unexpected-clause-fault c =
     let taken : kinds ≡ filter (is_kind_taken r) all_kinds =
     c.in_ok-kinds-in-Err-Unexpected.ensures ∙ ap (λ x. filter (is_kind_taken x) all_kinds) stuck.kept in
     c.unless_bad.ensures (read.places ++ token_here bytes here token ∷ [])
-    (rw c.behind-here.ensures (passed bytes here r c.loop-here.level token c.in-Some.length read
-    (sym c.lexeme.ensures ∙ c.in-Some.is)))
+    (rw (c.in_ok-here-2.ensures.after, c.split_at.ensures.back)
+    (passed bytes here r c.loop-here.level token c.in-Some.length read (sym c.lexeme.ensures ∙ c.in-Some.is)))
     (λ behind spells. (
       subst (λ span. SpellingAt bytes span IsUnexpectedAt) (sym span.0)
           (unexpected_at bytes here r c.loop-here.level (token_here bytes here token) read stuck.reads span.1 behind spells),
@@ -70,21 +82,21 @@ returns-in-Err-Unexpected-clause-fault c =
     ))
 
 pub braces-level-requires : goal.braces-level-requires
-braces-level-requires c = omega (arith, is_low _ _ _ c.loop-here.invariant.reads)
+braces-level-requires c = omega (arith, is_low _ _ _ c.loop-here.invariant.read.reads)
 
 pub unless_bad-requires-then-level-gt-MOST_DEPTH : goal.unless_bad-requires-then-level-gt-MOST_DEPTH
 unless_bad-requires-then-level-gt-MOST_DEPTH c = omega (
   arith,
-  c.loop-here.invariant.reached.fits,
+  c.loop-here.invariant.read.reached.fits,
   shorter c.loop-here.here.now c.in-Some.token c.in-Some.length (sym c.lexeme.ensures ∙ c.in-Some.is),
-  ap length c.behind-here.ensures,
+  ap length (c.in_ok-here-2.ensures.after ∙ ap after_gap c.split_at.ensures.back),
 )
 
 pub returns-then-level-gt-MOST_DEPTH-clause-fault : goal.returns-then-level-gt-MOST_DEPTH-clause-fault
 returns-then-level-gt-MOST_DEPTH-clause-fault c =
     let bytes = c.args.bytes.now in
     let here = c.loop-here.here.now in
-    let read = c.loop-here.invariant in
+    let read = c.loop-here.invariant.read in
     let token = c.in-Some.token in
     let span = span_here bytes here token c.in-Some.length (sym c.lexeme.ensures ∙ c.in-Some.is) read.reached.fits in
     let deep : c.braces-level.result ≡ 33 = omega (
@@ -94,29 +106,33 @@ returns-then-level-gt-MOST_DEPTH-clause-fault c =
       c.braces-level.ensures,
     ) in
     c.unless_bad-then-level-gt-MOST_DEPTH.ensures (read.places ++ token_here bytes here token ∷ [])
-    (rw c.behind-here.ensures (passed bytes here c.loop-here.reader c.loop-here.level token c.in-Some.length read
+    (rw (c.in_ok-here-2.ensures.after, c.split_at.ensures.back)
+    (passed bytes here c.loop-here.reader c.loop-here.level token c.in-Some.length read
     (sym c.lexeme.ensures ∙ c.in-Some.is)))
     (λ behind spells. subst (λ span. SpellingAt bytes span IsTooDeepAt) (sym span.0)
     (too_deep_at bytes here c.loop-here.reader c.step.new.self c.loop-here.level (token_here bytes here token) read
     c.in-Ok.ensures.reads (sym c.braces-level.ensures ∙ deep) span.1 behind spells))
 
 pub loop-here-smaller : goal.loop-here-smaller
-loop-here-smaller c = rw c.behind-here.ensures
+loop-here-smaller c = rw (c.in_ok-here-2.ensures.after, c.split_at.ensures.back)
     (shorter c.loop-here.here.now c.in-Some.token c.in-Some.length (sym c.lexeme.ensures ∙ c.in-Some.is))
 
 pub loop-here-preserved : goal.loop-here-preserved
-loop-here-preserved c = rw (c.behind-here.ensures, c.braces-level.ensures)
-    (reads_on c.args.bytes.now c.loop-here.here.now c.loop-here.reader c.step.new.self c.loop-here.level c.in-Some.token
-    c.in-Some.length c.loop-here.invariant (sym c.lexeme.ensures ∙ c.in-Some.is) c.in-Ok.ensures.reads
-    (omega (arith, c.braces-level.ensures)))
+loop-here-preserved c = record {
+  read = rw (c.in_ok-here-2.ensures.after, c.split_at.ensures.back, c.braces-level.ensures)
+      (reads_on c.args.bytes.now c.loop-here.here.now c.loop-here.reader c.step.new.self c.loop-here.level
+      c.in-Some.token c.in-Some.length c.loop-here.invariant.read (sym c.lexeme.ensures ∙ c.in-Some.is)
+      c.in-Ok.ensures.reads (omega (arith, c.braces-level.ensures)));
+  gaps = c.pass_gap-in-loop-here.ensures.gaps;
+}
 
 pub returns-clause-shallow : goal.returns-clause-shallow
-returns-clause-shallow c = λ tree e. let read = c.loop-here.invariant in
+returns-clause-shallow c = λ tree e. let read = c.loop-here.invariant.read in
     (finished (tokens_in read.places) c.loop-here.reader c.loop-here.level tree read.reads e).shallow
 
 pub returns-clause-ends : goal.returns-clause-ends
 returns-clause-ends c =
-    let read = c.loop-here.invariant in
+    let read = c.loop-here.invariant.read in
     let left : length c.loop-here.here.now ≡ 0 = grind (arith, nat_tests) in
     let spells = lexed c.args.bytes.now read.places c.loop-here.here.now read.reached (nothing_left _ left) in
     text_ends c.args.bytes.now read.places c.loop-here.reader c.loop-here.level spells read.reads

@@ -18,7 +18,7 @@ words_of-requires-clause-there c =
 
 pub returns-clause-told : goal.returns-clause-told
 returns-clause-told c =
-    let source = c.args.source.now in
+    let source = c.args.text.bytes.now in
     let fault = c.args.fault.now in
     let program = c.args.program.now in
     let tree = c.tree-tree.result.now in

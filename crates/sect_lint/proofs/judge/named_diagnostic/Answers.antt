@@ -16,7 +16,7 @@ told_by-requires-clause-there c = rw (c.in_ok-item.ensures, c.of_types-culprit.e
 
 pub returns : goal.returns
 returns c =
-    let source = c.args.source.now in
+    let source = c.args.text.bytes.now in
     let fault = c.args.mistyped.now.fault in
     let tree = c.args.mistyped.now.tree in
     let some = c.in_ok-told.told.names.items in

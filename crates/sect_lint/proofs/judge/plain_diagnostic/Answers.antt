@@ -15,7 +15,7 @@ words_of-requires-clause-there c = rw (c.in_ok-item.ensures, c.of_types-culprit.
 
 pub returns : goal.returns
 returns c =
-    let source = c.args.source.now in
+    let source = c.args.text.bytes.now in
     let fault = c.args.mistyped.now.fault in
     let tree = c.args.mistyped.now.tree in
     let all = all_names source tree c.requires.spelled in

@@ -5,10 +5,10 @@ use Rattle.sect_lint.proofs.layout.words_of.Goals as goal
 
 pub item_range-range-requires-clause-fits : goal.item_range-range-requires-clause-fits
 item_range-range-requires-clause-fits c =
-    omega (arith, tokens_fit c.args.source.now c.args.tree.now c.requires.spelled)
+    omega (arith, tokens_fit c.args.text.bytes.now c.args.tree.now c.requires.spelled)
 
 pub returns : goal.returns
 returns c =
-    own_words c.args.source.now c.args.tree.now c.args.item c.item_range-range.result _ c.requires.spelled
+    own_words c.args.text.bytes.now c.args.tree.now c.args.item c.item_range-range.result _ c.requires.spelled
     c.item_range-range.ensures.is c.item_range-range.ensures.some c.item_range-range.ensures.within
     c.in_ok-tokens.ensures.tokens c.in_ok-tokens.ensures.spans c.in_ok-tokens.ensures.order

@@ -11,7 +11,7 @@ use Rattle.sect_places.proofs.named.wanted_names.Goals as goal
 
 pub loop-number-init : goal.loop-number-init
 loop-number-init c =
-    let source = c.args.source.now in
+    let source = c.args.text.bytes.now in
     let tree = c.args.tree.now in
     let start = c.new-sought.ensures in
     rw (start.here, start.left, c.in_ok-names.ensures.items) (record {
@@ -24,15 +24,15 @@ split_at-requires c =
     let h = c.loop-number.invariant.wanted in
     let here = c.loop-number.here.now in
     let passed = ap (λ (k : KeptView). k.passed) c.kept.view_is in
-    let left = left_to_read c.args.source.now c.args.tree.now c.args.item c.loop-number.names.items c.loop-number.number
-    here h c.in_ok-kept.kept c.in_ok-kept.ensures (omega (arith, c.loop-number-test.true, passed)) in
-    let read = one_passed c.args.source.now c.args.tree.now h.named.number here h.named.stands left
+    let left = left_to_read c.args.text.bytes.now c.args.tree.now c.args.item c.loop-number.names.items
+    c.loop-number.number here h c.in_ok-kept.kept c.in_ok-kept.ensures (omega (arith, c.loop-number-test.true, passed)) in
+    let read = one_passed c.args.text.bytes.now c.args.tree.now h.named.number here h.named.stands left
     c.first_length-count.result c.first_length-count.ensures in
     read.1.within
 
 pub put_kept-requires : goal.put_kept-requires
 put_kept-requires c =
-    numbered c.args.source.now c.args.tree.now c.args.item c.loop-number.names.items c.loop-number.number
+    numbered c.args.text.bytes.now c.args.tree.now c.args.item c.loop-number.names.items c.loop-number.number
     c.loop-number.here.now c.loop-number.invariant.wanted c.in_ok-kept.kept c.in_ok-kept.ensures
 
 pub loop-number-smaller : goal.loop-number-smaller
@@ -40,9 +40,9 @@ loop-number-smaller c =
     let h = c.loop-number.invariant.wanted in
     let here = c.loop-number.here.now in
     let passed = ap (λ (k : KeptView). k.passed) c.kept.view_is in
-    let left = left_to_read c.args.source.now c.args.tree.now c.args.item c.loop-number.names.items c.loop-number.number
-    here h c.in_ok-kept.kept c.in_ok-kept.ensures (omega (arith, c.loop-number-test.true, passed)) in
-    let read = one_passed c.args.source.now c.args.tree.now h.named.number here h.named.stands left
+    let left = left_to_read c.args.text.bytes.now c.args.tree.now c.args.item c.loop-number.names.items
+    c.loop-number.number here h c.in_ok-kept.kept c.in_ok-kept.ensures (omega (arith, c.loop-number-test.true, passed)) in
+    let read = one_passed c.args.text.bytes.now c.args.tree.now h.named.number here h.named.stands left
     c.first_length-count.result c.first_length-count.ensures in
     omega (
       arith,
@@ -55,7 +55,7 @@ loop-number-smaller c =
 
 pub loop-number-preserved : goal.loop-number-preserved
 loop-number-preserved c =
-    let source = c.args.source.now in
+    let source = c.args.text.bytes.now in
     let tree = c.args.tree.now in
     let some = c.loop-number.names.items in
     let number = c.loop-number.number in
@@ -101,6 +101,6 @@ loop-number-preserved c =
 pub returns-clause-wanted : goal.returns-clause-wanted
 returns-clause-wanted c =
     let passed = ap (λ (k : KeptView). k.passed) c.kept.view_is in
-    wanted_all c.args.source.now c.args.tree.now c.args.item c.loop-number.names.items c.loop-number.number
+    wanted_all c.args.text.bytes.now c.args.tree.now c.args.item c.loop-number.names.items c.loop-number.number
     c.loop-number.here.now c.loop-number.invariant.wanted c.in_ok-kept.kept c.in_ok-kept.ensures
     (omega (arith, c.loop-number-test.false, passed))

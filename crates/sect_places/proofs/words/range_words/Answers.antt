@@ -4,4 +4,4 @@ use Rattle.sect_places.proofs.words.range_words.Goals as goal
 pub sought_words-requires-clause-sought : goal.sought_words-requires-clause-sought
 sought_words-requires-clause-sought c =
     rw (c.new-sought.ensures.here, c.new-sought.ensures.left)
-    (sought_none c.args.source.now c.args.tree.now c.args.range.first c.requires.spelled)
+    (sought_none c.args.text.bytes.now c.args.tree.now c.args.range.first c.requires.spelled)

@@ -1,6 +1,7 @@
 //! What the words of a command line ask for.
 
-ghost use Rattle.std.specs.Prelude.{◌≡◌, ◌≤◌, true, false, IfOk, IfSome};
+ghost use Rattle.std.specs.Prelude.{◌≡◌, ◌≤◌, true, false, IfOk, SomeIff};
+ghost use Rattle.std.specs.Str.Parse.{IsNumeral, digits_value};
 ghost use Rattle.clap.specs.declared.builder.command.Command.TheViews.{out-Command as fields_of};
 
 use crate::drawing::{graph_command, section_of};
@@ -312,9 +313,9 @@ fn with<'a>(
 
 /// The number that a text spells, where it is decimal digits alone and at most `most`.
 pub fn number(text: &str, most: u32) -> Option<u32>
-    ensures { IfSome result (λ n. n ≤ most) }
+    ensures { SomeIff result (IsNumeral 10 text.now × (digits_value 10 text.now ≤ most)) (digits_value 10 text.now) }
 {
-    if !text.bytes().all(|byte| byte.is_ascii_digit()) {
+    if let Some(b'+') = text.as_bytes().first() {
         return None;
     }
     let n = text.parse::<u32>().ok()?;

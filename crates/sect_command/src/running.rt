@@ -1,7 +1,9 @@
 //! What the words of a command line say of a run: the fuel of its threads, and threads by number.
 
 ghost use Rattle.std.specs.Prelude.{◌≡◌, ◌≤◌, false, IfOk};
+ghost use Rattle.clap.specs.Matches.{first_value, found_of};
 ghost use Rattle.clap.specs.declared.builder.command.Command.TheViews.{out-Command as fields_of};
+ghost use Rattle.sect_command.specs.Saying.{SaysNumber};
 
 use crate::formats::format_option;
 use crate::options::{MOST, UsageFault, formatted_command, number, numeral};
@@ -32,7 +34,10 @@ pub const STATES: Bounded = Bounded {
 
 impl Bounded {
     /// The number that the option gives, or the default.
-    pub fn of(&self, alloc: Global, matches: &ArgMatches<'_>) -> Result<u32, UsageFault> {
+    pub fn of(&self, alloc: Global, matches: &ArgMatches<'_>) -> Result<u32, UsageFault>
+        ensures { IfOk result (SaysNumber 1 self.now.most self.now.default
+            (first_value (found_of matches.now) self.now.name.now)) }
+    {
         let Some(text) = matches.get_str(self.name) else {
             return Ok(self.default);
         };

@@ -1,2 +1,3 @@
 mod Completing
 mod Threads
+mod Turning

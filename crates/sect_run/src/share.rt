@@ -1,7 +1,8 @@
 //! What the workers share, and what is each worker's own.
 
-ghost use Rattle.std.specs.Prelude.{◌≡◌, ◌<◌, Some, OnOk, IfOk};
+ghost use Rattle.std.specs.Prelude.{◌≡◌, ◌<◌, ◌≤◌, Some, OnOk, IfOk, OnErr, vec_capacity};
 ghost use Rattle.sect_run.specs.steps.Shares.{AreBelow, threads_in};
+ghost use Rattle.sect_run.specs.steps.Turns.{AreTurnsAside, AreBrokenOffAside, HasLetIn, IsAsideOf};
 
 use crate::fault::RunFault;
 use crate::turn::waking_turns_of;
@@ -47,11 +48,20 @@ impl<J: Naming> Drop for SharedRun<J> {
 }
 
 impl<J: Naming> Model for SharedRun<J> {
+    ghost use Rattle.std.specs.Prelude.{Option};
+    ghost use Rattle.std.specs.Coded.{codes};
+    ghost use Rattle.sect_front.specs.Coding.{block_code};
+    ghost use Rattle.sect_types.specs.Coding.{statements_code};
+    ghost use Rattle.sect_points.specs.Paths.{path_code};
+    ghost use Rattle.sect_world.specs.Worlds.{WorldView};
     ghost use Rattle.sect_run.specs.steps.Shares.{IsKept};
+    ghost use Rattle.sect_run.specs.steps.Turns.{world_aside};
 
-    ghost Value = { Unit {0} };
+    ghost Value = { Option WorldView };
 
-    ghost view = { λ run. tt };
+    ghost coded = { Prim.hlevel (codes, block_code, statements_code, path_code) };
+
+    ghost view = { λ run. world_aside run.moment J.compiled };
 
     ghost invariant = { λ run. IsKept run.moment J.compiled J.fuel };
 }
@@ -60,6 +70,7 @@ impl<J: Naming> SharedRun<J> {
     /// The run of a world.
     pub fn new(world: World<'_>) -> SharedRun<J>
         requires { (J.compiled ≡ Some world.compiled) × (J.fuel ≡ world.fuel) }
+        ensures { result ≡ Some world.entry }
     {
         SharedRun {
             moment: Some(world.suspend()),
@@ -78,7 +89,11 @@ impl<J: Naming> SharedRun<J> {
     ) -> Result<Turned, RunFault>
         requires compiled { J.compiled ≡ Some compiled.now }
         requires thread { thread < threads_in compiled.now }
-        ensures { OnOk result (AreBelow (threads_in compiled.now) woken.new.items) }
+        ensures turned { IfOk result (λ turned. AreTurnsAside thread most turned self.old self.new) }
+        ensures err { OnErr result (AreBrokenOffAside thread most self.old self.new) }
+        ensures same { IsAsideOf compiled.now J.fuel self.new }
+        ensures woken { OnOk result (HasLetIn self.new woken.new.items) }
+        ensures below { OnOk result (AreBelow (threads_in compiled.now) woken.new.items) }
     {
         let mut world = match self.moment.take() {
             Some(moment) => moment.resume(compiled),
@@ -92,7 +107,8 @@ impl<J: Naming> SharedRun<J> {
     /// The world of the run.
     pub fn into_world(self, compiled: &Compiled) -> World<'_>
         requires { J.compiled ≡ Some compiled.now }
-        ensures { (result.compiled ≡ compiled.now) × (result.fuel ≡ J.fuel) }
+        ensures of { (result.compiled ≡ compiled.now) × (result.fuel ≡ J.fuel) }
+        ensures world { self ≡ Some result }
     {
         let SharedRun { moment, name: _ } = self;
         match moment {
@@ -117,7 +133,8 @@ impl<J: Naming> Post<J> {
     /// The post of a thread, where there are so many threads.
     pub fn new(alloc: Global, thread: u16, threads: u16) -> Result<Post<J>, AllocError>
         requires { thread < J.threads }
-        ensures { IfOk result (λ post. post.thread ≡ thread) }
+        ensures thread { IfOk result (λ post. post.thread ≡ thread) }
+        ensures room { IfOk result (λ post. threads ≤ vec_capacity post.woken) }
     {
         Ok(Post {
             thread,

@@ -1,8 +1,9 @@
 //! Turns of threads that are there.
 
-ghost use Rattle.std.specs.Prelude.{◌≡◌, ◌<◌, IfOk, OnOk, OnErr};
+ghost use Rattle.std.specs.Prelude.{◌≡◌, ◌<◌, ◌↔◌, IsTrue, IfOk, OnOk, OnErr};
 ghost use Rattle.sect_world.specs.Worlds.{IsTurned};
 ghost use Rattle.sect_run.specs.steps.Shares.{AreBelow, IsSameRun, threads_in};
+ghost use Rattle.sect_run.specs.steps.Turns.{AreBrokenOff, AreTurns, IsBrokenOff, MayGoOn};
 
 use crate::fault::RunFault;
 use sect_world::{Turned, World, WorldFault, states_are_well_kept};
@@ -32,6 +33,7 @@ pub fn waking_turn_of(
 ) -> Result<Turned, RunFault>
     requires { thread < threads_in world.old.compiled }
     ensures turned { IfOk result (λ turned. IsTurned thread turned world.old world.new) }
+    ensures err { OnErr result (IsBrokenOff thread world.old world.new) }
     ensures same { IsSameRun world.old world.new }
     ensures woken { OnOk result (woken.new.items ≡ world.new.granted) }
     ensures below { OnOk result (AreBelow (threads_in world.old.compiled) woken.new.items) }
@@ -43,7 +45,9 @@ pub fn waking_turn_of(
 }
 
 /// Whether a thread whose turn came to this may make another at once: it has moved, and lets nobody in.
-fn may_go_on(turned: &Turned, woken: &[u16]) -> bool {
+fn may_go_on(turned: &Turned, woken: &[u16]) -> bool
+    ensures { IsTrue result ↔ MayGoOn turned.now woken.now }
+{
     matches!(turned, Turned::Moved(_)) && woken.is_empty()
 }
 
@@ -56,7 +60,10 @@ pub fn waking_turns_of(
     woken: &mut Vec<u16>,
 ) -> Result<Turned, RunFault>
     requires { thread < threads_in world.old.compiled }
+    ensures turned { IfOk result (λ turned. AreTurns thread most turned world.old world.new) }
+    ensures err { OnErr result (AreBrokenOff thread most world.old world.new) }
     ensures same { IsSameRun world.old world.new }
+    ensures woken { OnOk result (woken.new.items ≡ world.new.granted) }
     ensures below { OnOk result (AreBelow (threads_in world.old.compiled) woken.new.items) }
 {
     let mut turned = waking_turn_of(world, thread, woken)?;

@@ -1,7 +1,8 @@
 //! The workers.
 
-ghost use Rattle.std.specs.Prelude.{◌≡◌, ◌<◌, Some, OnOk, length};
+ghost use Rattle.std.specs.Prelude.{◌≡◌, ◌<◌, Some, IfOk, OnOk, length};
 ghost use Rattle.sect_run.specs.steps.Shares.{AreBelow, threads_in};
+ghost use Rattle.sect_run.specs.steps.Turns.{WereTurns};
 
 use crate::fault::RunFault;
 use crate::gate::{Gate, tell};
@@ -41,6 +42,8 @@ fn turns_under<J: Naming, R: Wait>(
     requires compiled { J.compiled ≡ Some compiled.now }
     requires thread { post.old.thread < threads_in compiled.now }
     ensures same { post.new.thread ≡ post.old.thread }
+    ensures turned { IfOk result (λ turned.
+        WereTurns compiled.now J.fuel post.old.thread most turned post.new.woken.items) }
     ensures woken { OnOk result (AreBelow (threads_in compiled.now) post.new.woken.items) }
 {
     run.lock(rt)

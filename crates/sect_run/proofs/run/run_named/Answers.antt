@@ -6,7 +6,7 @@ use Rattle.sect_run.proofs.run.run_named.Goals as goal
 pub returns : goal.returns
 returns g c =
     let same = c.in_ok-run_rest.ensures.same in
-    let world = c.into_world-world.ensures in
+    let world = c.into_world-world.ensures.of in
     let rules = c.facts.ensures in
     let finish = c.finish.ensures in
     completed c.args.compiled.now c.args.fuel c.run_rest.new.world c.finish.result (same.0 ∙ world.0)

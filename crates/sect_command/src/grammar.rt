@@ -144,7 +144,8 @@ const COMMANDS: &[Row] = &[
     },
     Row {
         name: "schedule",
-        about: "runs the compiled program of the source text turn by turn, and prints the events and the outcome so far",
+        about: "runs the compiled program of the source text turn by turn, and prints the events and the outcome so \
+            far",
         takes: &[K, FORMAT, FUEL, CHART, TURNS],
     },
     Row {

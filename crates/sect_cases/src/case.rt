@@ -5,7 +5,7 @@ use crate::form::{Form, Piece, Print, form_of};
 use std::alloc::Global;
 
 /// A command line, its input, and what is expected of it.
-#[derive(Debug, Drop)]
+#[derive(Drop)]
 pub struct Case<'a> {
     /// The number of the line on which the command stands.
     pub line: usize,

@@ -1,7 +1,7 @@
 //! The forms of the lines in a file of cases.
 
 /// What a line of a file of cases is.
-#[derive(Clone, Copy, Debug)]
+#[derive(Clone, Copy)]
 pub enum Form<'a> {
     /// A comment or an empty line.
     Remark,
@@ -18,7 +18,7 @@ pub enum Form<'a> {
 }
 
 /// A piece of an input.
-#[derive(Clone, Copy, Debug)]
+#[derive(Clone, Copy)]
 pub enum Piece<'a> {
     /// `< TEXT`: a line, with its line feed.
     Line(&'a str),
@@ -31,7 +31,7 @@ pub enum Piece<'a> {
 }
 
 /// What is printed.
-#[derive(Clone, Copy, Debug)]
+#[derive(Clone, Copy)]
 pub enum Print<'a> {
     /// `> TEXT`: the next line is this one.
     Line(&'a str),

@@ -39,7 +39,7 @@ pub const FAILED: u8 = 3;
 pub const OUT_OF_MEMORY: &[u8] = b"out of memory\n";
 
 /// What a run writes, and its exit status.
-#[derive(Debug, Drop)]
+#[derive(Drop)]
 struct Answer {
     status: u8,
     text: Vec<u8>,

@@ -2,9 +2,8 @@
 #![tactic(auto)]
 
 mod dispatch;
-mod drawing;
 mod formats;
-mod linting;
+mod grammar;
 mod options;
 mod running;
 mod serving;

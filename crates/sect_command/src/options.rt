@@ -1,25 +1,17 @@
 //! What the words of a command line ask for.
 
-ghost use Rattle.std.specs.Prelude.{◌≡◌, ◌≤◌, true, false, IfOk, SomeIff};
+ghost use Rattle.std.specs.Prelude.{◌≤◌, SomeIff};
 ghost use Rattle.std.specs.Str.Parse.{IsNumeral, digits_value};
-ghost use Rattle.clap.specs.declared.builder.command.Command.TheViews.{out-Command as fields_of};
 
-use crate::drawing::{graph_command, section_of};
-use crate::formats::{format_of, format_option};
-use crate::linting::{lint_command, lint_format_of};
-use crate::running::{
-    FUEL, STATES, outcomes_command, run_command, schedule_command, serial_command, threads_of,
-};
-use crate::serving::lsp_command;
+use crate::formats::{format_of, lint_format_of};
+use crate::grammar::grammar;
+use crate::running::{FUEL, STATES, threads_of};
+use clap::ArgMatches;
 use clap::error::ErrorKind;
-use clap::{Arg, ArgAction, ArgMatches, Command};
 use sect_answers::Format;
 use sect_lint::Format as LintFormat;
 use std::alloc::{AllocError, AllocFailed, Global};
 use thiserror::Error;
-
-/// The version of the program, and the series of kits by which it is proved.
-const VERSION: &str = "1.0.0 (rattle-kit-13)";
 
 /// The greatest number that the command line takes.
 pub const MOST: u32 = 65535;
@@ -179,138 +171,6 @@ impl From<clap::Error> for UsageFault {
     }
 }
 
-/// The option `--name N`.
-pub fn numeral<'a>(alloc: Global, name: &'a str, help: &'a str) -> Arg<'a>
-    ensures { result.global ≡ false }
-{
-    Arg::new(alloc, name)
-        .long(name)
-        .value_name("N")
-        .help(help)
-        .action(ArgAction::Set)
-}
-
-/// The option `--k N`.
-fn k_option<'a>(alloc: Global) -> Arg<'a>
-    ensures { result.global ≡ false }
-{
-    numeral(
-        alloc,
-        "k",
-        "the most fields of a path in a lock, 0 to 3 (default 2)",
-    )
-}
-
-/// The option `--workers N`.
-fn workers_option<'a>(alloc: Global) -> Arg<'a>
-    ensures { result.global ≡ false }
-{
-    numeral(
-        alloc,
-        "workers",
-        "the workers that infer locks side by side, 1 to 16 (default 1)",
-    )
-}
-
-/// The option `--cert`.
-fn cert_option<'a>(alloc: Global) -> Arg<'a>
-    ensures { result.global ≡ false }
-{
-    Arg::new(alloc, "cert")
-        .long("cert")
-        .help("prints the certificate of the program in place of its listing")
-        .action(ArgAction::SetTrue)
-}
-
-/// The command `compile` and what it takes.
-fn compile_command<'a>(alloc: Global) -> Result<Command<'a>, AllocError>
-    ensures { IfOk result (λ c. (fields_of c).has_globals ≡ false) }
-{
-    let about = "prints the compiled program of the source text";
-    let command = formatted_command(alloc, "compile", about)?.arg(workers_option(alloc))?;
-    command.arg(cert_option(alloc))
-}
-
-/// A command that takes `--k N` and `--format FORMAT`.
-pub fn formatted_command<'a>(
-    alloc: Global,
-    name: &'a str,
-    about: &'a str,
-) -> Result<Command<'a>, AllocError>
-    ensures { IfOk result (λ c. (fields_of c).has_globals ≡ false) }
-{
-    k_command(alloc, name, about)?.arg(format_option(alloc))
-}
-
-/// A command that takes `--k N`.
-pub fn k_command<'a>(
-    alloc: Global,
-    name: &'a str,
-    about: &'a str,
-) -> Result<Command<'a>, AllocError>
-    ensures { IfOk result (λ c. (fields_of c).has_globals ≡ false) }
-{
-    Command::new(alloc, name).about(about).arg(k_option(alloc))
-}
-
-/// The commands and what each takes.
-fn grammar<'a>(alloc: Global) -> Result<Command<'a>, AllocError>
-    ensures required { IfOk result (λ c. (fields_of c).subcommand_required ≡ true) }
-    ensures local { IfOk result (λ c. (fields_of c).has_globals ≡ false) }
-{
-    let sectc = Command::new(alloc, "sectc").about(
-        "infers the locks of atomic sections; reads a source text on standard input",
-    );
-    let sectc = sectc.version(VERSION);
-    let sectc = with_running(alloc, with_inference(alloc, sectc)?)?;
-    let sectc = with(sectc, lint_command(alloc))?;
-    let sectc = with(sectc, lsp_command(alloc))?;
-    let check =
-        "tests a certificate: the input is the certificate, and the source text behind its line `end`";
-    let sectc = with(sectc, k_command(alloc, "check", check))?;
-    Ok(sectc.subcommand_required(true))
-}
-
-/// A grammar with the commands that tell what was inferred.
-fn with_inference<'a>(alloc: Global, grammar: Command<'a>) -> Result<Command<'a>, AllocError>
-    requires { (fields_of grammar).has_globals ≡ false }
-    ensures { IfOk result (λ c. (fields_of c).has_globals ≡ false) }
-{
-    let locks = "prints the lock set of each section of the source text";
-    let grammar = with(grammar, formatted_command(alloc, "locks", locks))?;
-    let grammar = with(grammar, compile_command(alloc))?;
-    let explain = "prints why each section of the source text takes each of its locks";
-    let grammar = with(grammar, formatted_command(alloc, "explain", explain))?;
-    let conflicts = "prints which sections of the source text exclude each other, and where";
-    let grammar = with(grammar, formatted_command(alloc, "conflicts", conflicts))?;
-    let inspect = "prints all that is known of the source text, as one JSON document";
-    let grammar = with(grammar, k_command(alloc, "inspect", inspect))?;
-    with(grammar, graph_command(alloc))
-}
-
-/// A grammar with the commands that run a program.
-fn with_running<'a>(alloc: Global, grammar: Command<'a>) -> Result<Command<'a>, AllocError>
-    requires { (fields_of grammar).has_globals ≡ false }
-    ensures { IfOk result (λ c. (fields_of c).has_globals ≡ false) }
-{
-    let grammar = with(grammar, serial_command(alloc))?;
-    let grammar = with(grammar, outcomes_command(alloc))?;
-    let grammar = with(grammar, schedule_command(alloc))?;
-    with(grammar, run_command(alloc))
-}
-
-/// A grammar with one command more, if that could be made.
-fn with<'a>(
-    grammar: Command<'a>,
-    command: Result<Command<'a>, AllocError>,
-) -> Result<Command<'a>, AllocError>
-    requires grammar { (fields_of grammar).has_globals ≡ false }
-    requires command { IfOk command (λ c. (fields_of c).has_globals ≡ false) }
-    ensures { IfOk result (λ c. (fields_of c).has_globals ≡ false) }
-{
-    grammar.subcommand(command?)
-}
-
 /// The number that a text spells, where it is decimal digits alone and at most `most`.
 pub fn number(text: &str, most: u32) -> Option<u32>
     ensures { SomeIff result (IsNumeral 10 text.now × (digits_value 10 text.now ≤ most)) (digits_value 10 text.now) }
@@ -322,18 +182,17 @@ pub fn number(text: &str, most: u32) -> Option<u32>
     if n <= most { Some(n) } else { None }
 }
 
-/// The number that an option gives, or the default.
+/// The number that an option gives, if it gives one.
 fn number_of(
     alloc: Global,
-    matches: &ArgMatches<'_>,
+    options: &ArgMatches<'_>,
     name: &'static str,
-    default: u16,
-) -> Result<u16, UsageFault> {
-    let Some(text) = matches.get_str(name) else {
-        return Ok(default);
+) -> Result<Option<u16>, UsageFault> {
+    let Some(text) = options.get_str(name) else {
+        return Ok(None);
     };
     match number(text, MOST) {
-        Some(n) => Ok(n as u16),
+        Some(n) => Ok(Some(n as u16)),
         None => Err(UsageFault::Number {
             value: String::from_str(alloc, text)?,
             option: name,
@@ -386,7 +245,7 @@ fn inferred_request(
         "inspect" => Ok(Request::Inspect { k }),
         "check" => Ok(Request::Check { k }),
         "graph" => {
-            let section = section_of(alloc, options)?;
+            let section = number_of(alloc, options, "section")?;
             Ok(Request::Graph { k, section })
         }
         "lint" => {
@@ -411,7 +270,7 @@ fn told_request(name: &str, k: u16, format: Format) -> Request {
 
 /// The most fields of a path.
 fn k_of(alloc: Global, options: &ArgMatches<'_>) -> Result<u16, UsageFault> {
-    number_of(alloc, options, "k", DEFAULT_K)
+    Ok(number_of(alloc, options, "k")?.unwrap_or(DEFAULT_K))
 }
 
 /// What `serial` asks for by its options.
@@ -462,7 +321,7 @@ fn run_request(alloc: Global, options: &ArgMatches<'_>) -> Result<Request, Usage
 /// What `compile` asks for by its options.
 fn compile_request(alloc: Global, options: &ArgMatches<'_>) -> Result<Request, UsageFault> {
     let k = k_of(alloc, options)?;
-    let workers = number_of(alloc, options, "workers", DEFAULT_WORKERS)?;
+    let workers = number_of(alloc, options, "workers")?.unwrap_or(DEFAULT_WORKERS);
     let form = form_of(alloc, options)?;
     Ok(Request::Compile { k, workers, form })
 }

@@ -23,8 +23,9 @@ use sect_conflicts::{Conflict, SectionPair, conflicts};
 use sect_emit::Compiled;
 use sect_front::Span;
 use sect_names::put_locks;
+use sect_object::Members;
 use sect_places::{NodeSpans, node_spans, position_of};
-use serde_json::{Value, json};
+use serde_json::Value;
 use std::alloc::{AllocError, Global};
 use std::fmt::Write;
 
@@ -60,7 +61,11 @@ fn hint_value(alloc: Global, source: &[u8], head: Span, text: String) -> Result<
     requires { IsWithin (length source.now) head }
     ensures { IfOk result (λ v. view v ≡ hint_json source.now head (string_bytes text)) }
 {
-    json!(in alloc; {"label": text, "paddingLeft": true, "position": place_value(alloc, source, head.end)?})
+    let members = Members::new(alloc)
+        .with("label", text)?
+        .with("paddingLeft", true)?
+        .with_made("position", place_value(alloc, source, head.end))?;
+    Ok(members.object())
 }
 
 /// Whether a line is one of a range.
@@ -253,7 +258,13 @@ fn lens_value(alloc: Global, source: &[u8], head: Span, title: String) -> Result
     requires { IsWithin (length source.now) head }
     ensures { IfOk result (λ v. view v ≡ lens_json source.now head (string_bytes title)) }
 {
-    json!(in alloc; {"command": {"command": "", "title": title}, "range": range_value(alloc, source, head)?})
+    let command = Members::new(alloc)
+        .with("command", "")?
+        .with("title", title)?;
+    let members = Members::new(alloc)
+        .with("command", command.object())?
+        .with_made("range", range_value(alloc, source, head))?;
+    Ok(members.object())
 }
 
 /// The lens of a section.

@@ -10,6 +10,7 @@ ghost use Rattle.sect_editor.specs.Ranges.{list};
 use crate::ranges::{location_value, range_value};
 use sect_front::Span;
 use sect_lint::{Detail, Diagnostic};
+use sect_object::Members;
 use serde_json::{Value, json};
 use std::alloc::{AllocError, Global};
 
@@ -24,7 +25,10 @@ fn related_value(
     requires { IsWithin (length source.now) span }
     ensures { IfOk result (λ v. view v ≡ related_json uri.now source.now message.now span) }
 {
-    json!(in alloc; {"location": location_value(alloc, uri, source, span)?, "message": message})
+    let members = Members::new(alloc)
+        .with_made("location", location_value(alloc, uri, source, span))?
+        .with("message", message)?;
+    Ok(members.object())
 }
 
 /// The places beside that of a mistake.

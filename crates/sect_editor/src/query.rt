@@ -19,6 +19,7 @@ use crate::ranges::{location_value, range_value};
 use crate::referring::{declared_under, uses_of};
 use crate::text::Text;
 use sect_front::{FrontFault, Span, is_name};
+use sect_object::Members;
 use sect_places::{NameSpan, Role, Thing, name_spans};
 use serde_json::{Value, json};
 use std::alloc::{AllocError, Global};
@@ -211,7 +212,10 @@ fn edit_value(alloc: Global, source: &[u8], name: &str, span: Span) -> Result<Va
     requires { IsWithin (length source.now) span }
     ensures { IfOk result (λ v. view v ≡ edit_json source.now name.now span) }
 {
-    json!(in alloc; {"newText": name, "range": range_value(alloc, source, span)?})
+    let members = Members::new(alloc)
+        .with("newText", name)?
+        .with_made("range", range_value(alloc, source, span))?;
+    Ok(members.object())
 }
 
 /// Changes of some places to a name.

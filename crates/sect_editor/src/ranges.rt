@@ -6,8 +6,9 @@ ghost use Rattle.sect_front.specs.FaultPlaces.{IsWithin};
 ghost use Rattle.sect_editor.specs.Ranges.{place_json, range_json, location_json};
 
 use sect_front::Span;
+use sect_object::Members;
 use sect_places::position_of;
-use serde_json::{Value, json};
+use serde_json::Value;
 use std::alloc::{AllocError, Global};
 
 /// A place.
@@ -17,7 +18,10 @@ pub fn place_value(alloc: Global, source: &[u8], at: usize) -> Result<Value, All
 {
     let position = position_of(source, at);
     let (line, character) = (position.line - 1, position.column - 1);
-    json!(in alloc; {"character": character, "line": line})
+    let members = Members::new(alloc)
+        .with("character", character)?
+        .with("line", line)?;
+    Ok(members.object())
 }
 
 /// The places at which some bytes begin and end.
@@ -25,7 +29,10 @@ pub fn range_value(alloc: Global, source: &[u8], span: Span) -> Result<Value, Al
     requires { IsWithin (length source.now) span }
     ensures { IfOk result (λ v. view v ≡ range_json source.now span) }
 {
-    json!(in alloc; {"end": place_value(alloc, source, span.end)?, "start": place_value(alloc, source, span.start)?})
+    let members = Members::new(alloc)
+        .with_made("end", place_value(alloc, source, span.end))?
+        .with_made("start", place_value(alloc, source, span.start))?;
+    Ok(members.object())
 }
 
 /// Some bytes of a document.
@@ -38,5 +45,8 @@ pub fn location_value(
     requires { IsWithin (length source.now) span }
     ensures { IfOk result (λ v. view v ≡ location_json uri.now source.now span) }
 {
-    json!(in alloc; {"range": range_value(alloc, source, span)?, "uri": uri})
+    let members = Members::new(alloc)
+        .with_made("range", range_value(alloc, source, span))?
+        .with("uri", uri)?;
+    Ok(members.object())
 }

@@ -24,8 +24,9 @@ use crate::ranges::range_value;
 use crate::text::Text;
 use sect_emit::{Compiled, put_thread_name};
 use sect_front::Span;
+use sect_object::Members;
 use sect_places::{NameSpan, Role, Thing, node_spans};
-use serde_json::{Value, json};
+use serde_json::Value;
 use std::alloc::{AllocError, Global};
 
 /// How the protocol calls what is listed.
@@ -51,12 +52,13 @@ fn symbol_value(
     requires { IsWithin (length source.now) named.now.span }
     ensures { IfOk result (λ v. view v ≡ symbol_json source.now named.now kind) }
 {
-    json!(in alloc; {
-        "kind": kind,
-        "name": format!(in alloc; "{}", named.used.name)?,
-        "range": range_value(alloc, source, named.span)?,
-        "selectionRange": range_value(alloc, source, named.span)?
-    })
+    let name = format!(in alloc; "{}", named.used.name)?;
+    let members = Members::new(alloc)
+        .with("kind", kind)?
+        .with("name", name)?
+        .with_made("range", range_value(alloc, source, named.span))?
+        .with_made("selectionRange", range_value(alloc, source, named.span))?;
+    Ok(members.object())
 }
 
 /// Adds a name to what is listed, if it is.
@@ -109,13 +111,13 @@ fn section_value(
     ensures { IfOk result (λ v. view v
         ≡ section_with source.now head (string_bytes thread) (string_bytes name)) }
 {
-    json!(in alloc; {
-        "detail": thread,
-        "kind": 24,
-        "name": name,
-        "range": range_value(alloc, source, head)?,
-        "selectionRange": range_value(alloc, source, head)?
-    })
+    let members = Members::new(alloc)
+        .with("detail", thread)?
+        .with("kind", 24)?
+        .with("name", name)?
+        .with_made("range", range_value(alloc, source, head))?
+        .with_made("selectionRange", range_value(alloc, source, head))?;
+    Ok(members.object())
 }
 
 /// The name of the thread of a section.

@@ -12,6 +12,7 @@ ghost use Rattle.sect_warnings.specs.Reports.{AreWithin};
 
 use crate::ranges::range_value;
 use sect_emit::Compiled;
+use sect_object::Members;
 use sect_warnings::{Placed, Spare, Told, placed_warnings, put_behind};
 use serde_json::{Value, json};
 use std::alloc::{AllocError, Global};
@@ -42,14 +43,15 @@ fn warning_value(alloc: Global, source: &[u8], placed: &Placed) -> Result<Value,
     ensures { IfOk result (λ v. view v ≡ warning_json source.now placed.now) }
 {
     let told = placed.told();
-    json!(in alloc; {
-        "code": told.name(),
-        "message": message_of(alloc, placed)?,
-        "range": range_value(alloc, source, placed.span())?,
-        "severity": 2,
-        "source": "sectc",
-        "tags": tags(alloc, told)?
-    })
+    let message = message_of(alloc, placed)?;
+    let members = Members::new(alloc)
+        .with("code", told.name())?
+        .with("message", message)?
+        .with_made("range", range_value(alloc, source, placed.span()))?
+        .with("severity", 2)?
+        .with("source", "sectc")?
+        .with_made("tags", tags(alloc, told))?;
+    Ok(members.object())
 }
 
 /// Some warnings.

@@ -16,8 +16,9 @@ use crate::placed_text::{PlacedText, span_value};
 use crate::sites::{bytes_value, found_bytes};
 use sect_front::{Name, Procedure};
 use sect_lint::{is_call_in, procedure_item};
+use sect_object::Members;
 use sect_places::{NameSpan, Role, Thing, procedure_of};
-use serde_json::{Value, json};
+use serde_json::Value;
 use std::alloc::{AllocError, Global};
 use std::fmt::Write;
 
@@ -33,7 +34,10 @@ fn procedure_value(
     let name = format!(in alloc; "{}", procedure.name)?;
     let declared = found_bytes(of.names, procedure_of(of.names, &procedure.name));
     let place = bytes_value(alloc, of.source, declared)?;
-    json!(in alloc; {"name": name, "place": place})
+    let members = Members::new(alloc)
+        .with("name", name)?
+        .with("place", place)?;
+    Ok(members.object())
 }
 
 /// Procedures, in their order.
@@ -87,11 +91,12 @@ fn call_value(
     requires { IsWithin (length source.now) named.now.span }
     ensures { IfOk result (λ v. view v ≡ call_json source.now number named.now) }
 {
-    json!(in alloc; {
-        "call": number,
-        "place": span_value(alloc, source, named.span)?,
-        "procedure": format!(in alloc; "{}", named.used.name)?
-    })
+    let procedure = format!(in alloc; "{}", named.used.name)?;
+    let members = Members::new(alloc)
+        .with("call", number)?
+        .with_made("place", span_value(alloc, source, named.span))?
+        .with("procedure", procedure)?;
+    Ok(members.object())
 }
 
 /// Adds a call, and then those of the procedure that it calls, where these stand in one another at most so deep.

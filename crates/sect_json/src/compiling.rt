@@ -15,8 +15,9 @@ use crate::locks::locks_value;
 use crate::nodes::nodes_value;
 use crate::writing::document;
 use sect_emit::{Compiled, GraphOf, Grip, put_thread_name, section_thread};
+use sect_object::Members;
 use sect_types::Program;
-use serde_json::{Value, json};
+use serde_json::Value;
 use std::alloc::{AllocError, Global};
 
 /// A compiled program: its threads and its sections, each with its graph.
@@ -37,7 +38,10 @@ fn compiled_value(
 ) -> Result<Value, AllocError>
     ensures { IfOk result (λ v. view v ≡ compiled_with (map view sections.items) (map view threads.items)) }
 {
-    json!(in alloc; {"sections": sections, "threads": threads})
+    let members = Members::new(alloc)
+        .with("sections", sections)?
+        .with("threads", threads)?;
+    Ok(members.object())
 }
 
 /// All sections, by number.
@@ -79,7 +83,13 @@ fn told_section(alloc: Global, told: Told, section: u16, thread: u16) -> Result<
         ≡ section_with (view told.locks) (view told.nodes) (view told.plan) section thread) }
 {
     let Told { locks, nodes, plan } = told;
-    json!(in alloc; {"locks": locks, "nodes": nodes, "plan": plan, "section": section, "thread": thread})
+    let members = Members::new(alloc)
+        .with("locks", locks)?
+        .with("nodes", nodes)?
+        .with("plan", plan)?
+        .with("section", section)?
+        .with("thread", thread)?;
+    Ok(members.object())
 }
 
 /// The locks that a section takes.
@@ -115,7 +125,10 @@ fn grips_value(alloc: Global, program: &Program, grips: &[Grip]) -> Result<Value
 fn grip_value(alloc: Global, program: &Program, grip: Grip) -> Result<Value, AllocError>
     ensures { IfOk result (λ v. view v ≡ grip_json program.now grip) }
 {
-    json!(in alloc; {"key": key_value(alloc, program, grip.key)?, "mode": mode_value(alloc, grip.mode)?})
+    let members = Members::new(alloc)
+        .with_made("key", key_value(alloc, program, grip.key))?
+        .with_made("mode", mode_value(alloc, grip.mode))?;
+    Ok(members.object())
 }
 
 /// All threads, by number.
@@ -145,5 +158,9 @@ fn thread_value(alloc: Global, compiled: &Compiled, thread: u16) -> Result<Value
 fn told_thread(alloc: Global, name: String, nodes: Value, thread: u16) -> Result<Value, AllocError>
     ensures { IfOk result (λ v. view v ≡ thread_with (string_bytes name) (view nodes) thread) }
 {
-    json!(in alloc; {"name": name, "nodes": nodes, "thread": thread})
+    let members = Members::new(alloc)
+        .with("name", name)?
+        .with("nodes", nodes)?
+        .with("thread", thread)?;
+    Ok(members.object())
 }

@@ -13,6 +13,7 @@ use crate::locks::path_value;
 use crate::writing::document;
 use sect_conflicts::{Conflict, KeyClash, PathPair, SectionPair, conflicts};
 use sect_emit::Compiled;
+use sect_object::Members;
 use sect_types::Program;
 use serde_json::{Value, json};
 use std::alloc::{AllocError, Global};
@@ -68,23 +69,29 @@ fn section_pair_value(
     let (first, second) = (pair.first, pair.second);
     match &pair.conflict {
         Conflict::Always(clash) => {
-            json!(in alloc; {
-                "first": first,
-                "key": key_value(alloc, program, clash.key)?,
-                "meet": "exclude",
-                "modes": modes_value(alloc, clash)?,
-                "second": second
-            })
+            let members = Members::new(alloc)
+                .with("first", first)?
+                .with_made("key", key_value(alloc, program, clash.key))?
+                .with("meet", "exclude")?
+                .with_made("modes", modes_value(alloc, clash))?
+                .with("second", second)?;
+            Ok(members.object())
         }
         Conflict::Sometimes(pairs) => {
-            json!(in alloc; {
-                "first": first,
-                "meet": "where",
-                "paths": path_pairs_value(alloc, program, pairs.as_slice())?,
-                "second": second
-            })
+            let members = Members::new(alloc)
+                .with("first", first)?
+                .with("meet", "where")?
+                .with_made("paths", path_pairs_value(alloc, program, pairs.as_slice()))?
+                .with("second", second)?;
+            Ok(members.object())
         }
-        Conflict::Never => json!(in alloc; {"first": first, "meet": "together", "second": second}),
+        Conflict::Never => {
+            let members = Members::new(alloc)
+                .with("first", first)?
+                .with("meet", "together")?
+                .with("second", second)?;
+            Ok(members.object())
+        }
     }
 }
 
@@ -116,8 +123,8 @@ fn path_pair_value(alloc: Global, program: &Program, pair: &PathPair) -> Result<
     requires { IsPairNamed program.now pair.now }
     ensures { IfOk result (λ v. view v ≡ path_pair_json program.now.source pair.now) }
 {
-    json!(in alloc; {
-        "first": path_value(alloc, program, &pair.first)?,
-        "second": path_value(alloc, program, &pair.second)?
-    })
+    let members = Members::new(alloc)
+        .with_made("first", path_value(alloc, program, &pair.first))?
+        .with_made("second", path_value(alloc, program, &pair.second))?;
+    Ok(members.object())
 }

@@ -18,6 +18,7 @@ use crate::writing::document;
 use sect_chains::Chain;
 use sect_emit::{Compiled, put_section_node, section_chains, section_thread};
 use sect_names::Link;
+use sect_object::Members;
 use serde_json::{Value, json};
 use std::alloc::{AllocError, Global};
 
@@ -62,7 +63,11 @@ fn told_section(
 ) -> Result<Value, AllocError>
     ensures { IfOk result (λ v. view v ≡ section_with (view chains) section thread) }
 {
-    json!(in alloc; {"chains": chains, "section": section, "thread": thread})
+    let members = Members::new(alloc)
+        .with("chains", chains)?
+        .with("section", section)?
+        .with("thread", thread)?;
+    Ok(members.object())
 }
 
 /// The chains of a section.
@@ -137,5 +142,9 @@ fn step_value(
 fn told_step(alloc: Global, lock: Value, node: u32, text: String) -> Result<Value, AllocError>
     ensures { IfOk result (λ v. view v ≡ step_with (view lock) node (string_bytes text)) }
 {
-    json!(in alloc; {"lock": lock, "node": node, "text": text})
+    let members = Members::new(alloc)
+        .with("lock", lock)?
+        .with("node", node)?
+        .with("text", text)?;
+    Ok(members.object())
 }

@@ -29,8 +29,9 @@ use crate::writing::{put_comma, put_member, put_name, put_tail};
 use sect_emit::{Compiled, GraphOf, graphed_flow, section_chains, section_locks, section_thread};
 use sect_front::Locking;
 use sect_names::Lock;
+use sect_object::Members;
 use sect_types::Program;
-use serde_json::{Value, json};
+use serde_json::Value;
 use std::alloc::{AllocError, Global};
 
 /// Whether a section is marked.
@@ -139,7 +140,12 @@ fn end_value(
 ) -> Result<Value, AllocError>
     ensures { IfOk result (λ v. view v ≡ end_with (view place) (view plan) section thread) }
 {
-    json!(in alloc; {"place": place, "plan": plan, "section": section, "thread": thread})
+    let members = Members::new(alloc)
+        .with("place", place)?
+        .with("plan", plan)?
+        .with("section", section)?
+        .with("thread", thread)?;
+    Ok(members.object())
 }
 
 /// Adds what is told last of a section, and the brace behind it.

@@ -22,8 +22,9 @@ use crate::placed_text::PlacedText;
 use crate::sites::{class_values, locals_value, site_values};
 use crate::writing::{put_member, put_name, put_tail};
 use sect_emit::{Compiled, GraphOf, graphed_flow, put_thread_name};
+use sect_object::Members;
 use sect_places::{node_spans, tree_names};
-use serde_json::{Value, json};
+use serde_json::Value;
 use std::alloc::{AllocError, Global};
 
 /// What is known of a compiled program, whose text this is: its sections and its threads with their nodes, where they
@@ -84,7 +85,10 @@ fn put_head(alloc: Global, out: &mut Vec<u8>, of: &Inspected<'_>) -> Result<(), 
 fn rest_value(alloc: Global, sites: Vec<Value>, threads: Vec<Value>) -> Result<Value, AllocError>
     ensures { IfOk result (λ v. view v ≡ rest_with (map view sites.items) (map view threads.items)) }
 {
-    json!(in alloc; {"sites": sites, "threads": threads})
+    let members = Members::new(alloc)
+        .with("sites", sites)?
+        .with("threads", threads)?;
+    Ok(members.object())
 }
 
 /// All threads, by number.
@@ -139,7 +143,13 @@ fn told_thread(alloc: Global, told: Threaded, thread: u16) -> Result<Value, Allo
         name,
         nodes,
     } = told;
-    json!(in alloc; {"calls": calls, "locals": locals, "name": name, "nodes": nodes, "thread": thread})
+    let members = Members::new(alloc)
+        .with("calls", calls)?
+        .with("locals", locals)?
+        .with("name", name)?
+        .with("nodes", nodes)?
+        .with("thread", thread)?;
+    Ok(members.object())
 }
 
 /// The calls of a thread.

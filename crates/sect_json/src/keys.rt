@@ -5,6 +5,7 @@ ghost use Rattle.serde_json.specs.View.{view};
 ghost use Rattle.sect_json.specs.Keys.{key_json, mode_json, object_key_json};
 
 use sect_modes::{Key, Mode};
+use sect_object::Members;
 use sect_store::put_object_name;
 use sect_types::{ObjectName, Program};
 use serde_json::{Value, json};
@@ -16,7 +17,12 @@ pub fn key_value(alloc: Global, program: &Program, key: Key) -> Result<Value, Al
 {
     match key {
         Key::All => json!(in alloc; {"kind": "all"}),
-        Key::Class(class) => json!(in alloc; {"class": class, "kind": "class"}),
+        Key::Class(class) => {
+            let members = Members::new(alloc)
+                .with("class", class)?
+                .with("kind", "class")?;
+            Ok(members.object())
+        }
         Key::Global(number) => object_key_value(alloc, program, ObjectName::Global(number)),
         Key::Made { thread, number } => {
             object_key_value(alloc, program, ObjectName::Made { thread, number })
@@ -30,7 +36,10 @@ fn object_key_value(alloc: Global, program: &Program, name: ObjectName) -> Resul
 {
     let mut text = String::new(alloc);
     put_object_name(&mut text, program, name)?;
-    json!(in alloc; {"kind": "object", "name": text})
+    let members = Members::new(alloc)
+        .with("kind", "object")?
+        .with("name", text)?;
+    Ok(members.object())
 }
 
 /// A mode by its letters.

@@ -14,6 +14,7 @@ ghost use Rattle.sect_json.specs.Locks.{lock_json, section_json, sections_json, 
 use crate::writing::document;
 use sect_emit::Compiled;
 use sect_names::{Lock, Path, put_path};
+use sect_object::Members;
 use sect_types::Program;
 use serde_json::{Value, json};
 use std::alloc::{AllocError, Global};
@@ -56,7 +57,10 @@ fn section_value(alloc: Global, compiled: &Compiled, section: u16) -> Result<Val
 {
     compiled.facts();
     let locks = locks_value(alloc, compiled.scheme().program(), compiled.set(section))?;
-    json!(in alloc; {"locks": locks, "section": section})
+    let members = Members::new(alloc)
+        .with("locks", locks)?
+        .with("section", section)?;
+    Ok(members.object())
 }
 
 /// Locks, in their order.
@@ -77,16 +81,25 @@ pub fn lock_value(alloc: Global, program: &Program, lock: &Lock) -> Result<Value
     ensures { IfOk result (λ v. view v ≡ lock_json program.now.source lock.now) }
 {
     match lock {
-        Lock::All => json!(in alloc; {"kind": "all", "right": "W"}),
+        Lock::All => {
+            let members = Members::new(alloc).with("kind", "all")?.with("right", "W")?;
+            Ok(members.object())
+        }
         Lock::Class(class, right) => {
-            json!(in alloc; {"class": *class, "kind": "class", "right": format!(in alloc; "{right}")?})
+            let right = format!(in alloc; "{right}")?;
+            let members = Members::new(alloc)
+                .with("class", *class)?
+                .with("kind", "class")?
+                .with("right", right)?;
+            Ok(members.object())
         }
         Lock::Path(path, effect) => {
-            json!(in alloc; {
-                "kind": "path",
-                "path": path_value(alloc, program, path)?,
-                "right": format!(in alloc; "{effect}")?
-            })
+            let right = format!(in alloc; "{effect}")?;
+            let members = Members::new(alloc)
+                .with("kind", "path")?
+                .with_made("path", path_value(alloc, program, path))?
+                .with("right", right)?;
+            Ok(members.object())
         }
     }
 }

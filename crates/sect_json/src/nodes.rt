@@ -8,6 +8,7 @@ ghost use Rattle.sect_json.specs.Nodes.{next_json, next_at, node_with, node_json
 
 use sect_emit::{Compiled, GraphOf, graphed_flow, put_graphed_node};
 use sect_graph::Successors;
+use sect_object::Members;
 use serde_json::{Value, json};
 use std::alloc::{AllocError, Global};
 
@@ -69,7 +70,11 @@ fn successors(compiled: &Compiled, of: GraphOf, node: u16) -> Option<Successors>
 fn told_node(alloc: Global, next: Value, node: u16, text: String) -> Result<Value, AllocError>
     ensures { IfOk result (λ v. view v ≡ node_with (view next) node (string_bytes text)) }
 {
-    json!(in alloc; {"next": next, "node": node, "text": text})
+    let members = Members::new(alloc)
+        .with("next", next)?
+        .with("node", node)?
+        .with("text", text)?;
+    Ok(members.object())
 }
 
 /// Where control goes on.

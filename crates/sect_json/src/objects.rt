@@ -8,9 +8,10 @@ ghost use Rattle.sect_json.specs.Values.{list};
 ghost use Rattle.sect_json.specs.Objects.{datum_json, field_json, object_json, objects_json, row_json};
 
 use sect_front::Declaration;
+use sect_object::Members;
 use sect_store::{Object, Printer, Store, put_global_name, put_object_name};
 use sect_types::{Datum, Program};
-use serde_json::{Value, json};
+use serde_json::Value;
 use std::alloc::{AllocError, Global};
 use std::fmt::Write;
 
@@ -66,7 +67,10 @@ fn object_value(
     for (number, datum) in object.fields().iter().enumerate() {
         fields.push(field_value(alloc, printer.program(), declared, number, *datum)?)?;
     }
-    json!(in alloc; {"fields": fields, "name": name})
+    let members = Members::new(alloc)
+        .with("fields", fields)?
+        .with("name", name)?;
+    Ok(members.object())
 }
 
 /// A field of an object whose record declares these.
@@ -84,7 +88,10 @@ fn field_value(
     if let Some(field) = declared.get(number) {
         write!(name, "{}", field.name)?;
     }
-    json!(in alloc; {"name": name, "value": datum_value(alloc, program, datum)?})
+    let members = Members::new(alloc)
+        .with("name", name)?
+        .with_made("value", datum_value(alloc, program, datum))?;
+    Ok(members.object())
 }
 
 /// What a field holds.

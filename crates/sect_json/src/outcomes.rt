@@ -8,6 +8,7 @@ ghost use Rattle.sect_json.specs.Outcomes.{outcomes_json, found_json, outcome_js
 
 use crate::objects::objects_value;
 use crate::writing::document;
+use sect_object::Members;
 use sect_serial::Outcomes;
 use sect_store::{Outcome, Printer};
 use sect_types::{End, Program};
@@ -35,7 +36,11 @@ fn outcomes_value(
 ) -> Result<Value, AllocError>
     ensures { IfOk result (λ v. view v ≡ outcomes_json program.now outcomes.now) }
 {
-    json!(in alloc; {"outcomes": found_values(alloc, program, outcomes)?, "states": outcomes.states()})
+    let found = found_values(alloc, program, outcomes)?;
+    let members = Members::new(alloc)
+        .with("outcomes", found)?
+        .with("states", outcomes.states())?;
+    Ok(members.object())
 }
 
 /// Each outcome with an order that gives it.
@@ -79,12 +84,12 @@ pub fn outcome_value(
 ) -> Result<Value, AllocError>
     ensures { IfOk result (λ v. view v ≡ outcome_json printer.now outcome.now) }
 {
-    json!(in alloc; {
-        "objects": objects_value(alloc, printer, outcome.store())?,
-        "order": order_value(alloc, outcome.order())?,
-        "output": output_value(alloc, outcome.output())?,
-        "threads": threads_value(alloc, outcome.ends())?
-    })
+    let members = Members::new(alloc)
+        .with_made("objects", objects_value(alloc, printer, outcome.store()))?
+        .with_made("order", order_value(alloc, outcome.order()))?
+        .with_made("output", output_value(alloc, outcome.output()))?
+        .with_made("threads", threads_value(alloc, outcome.ends()))?;
+    Ok(members.object())
 }
 
 /// The threads whose sections ran, in their order.

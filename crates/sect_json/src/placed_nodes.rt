@@ -16,8 +16,9 @@ use crate::nodes::next_value;
 use crate::placed_text::{PlacedText, span_value};
 use crate::sites::bytes_value;
 use sect_emit::{GraphOf, put_graphed_node};
+use sect_object::Members;
 use sect_places::NodeSpan;
-use serde_json::{Value, json};
+use serde_json::Value;
 use std::alloc::{AllocError, Global};
 
 /// A node of a graph, with the place that it comes from.
@@ -87,7 +88,12 @@ fn told_node(alloc: Global, told: NodeTold, node: u16) -> Result<Value, AllocErr
         ≡ thread_node_with (view told.next) node (view told.place) (string_bytes told.text)) }
 {
     let NodeTold { next, place, text } = told;
-    json!(in alloc; {"next": next, "node": node, "place": place, "text": text})
+    let members = Members::new(alloc)
+        .with("next", next)?
+        .with("node", node)?
+        .with("place", place)?
+        .with("text", text)?;
+    Ok(members.object())
 }
 
 /// Where a node comes from: the statement, and the call that it is of.
@@ -121,5 +127,8 @@ fn span_origin(alloc: Global, source: &PlacedText<'_>, span: NodeSpan) -> Result
 fn told_origin(alloc: Global, call: Value, statement: Value) -> Result<Value, AllocError>
     ensures { IfOk result (λ v. view v ≡ origin_with (view call) (view statement)) }
 {
-    json!(in alloc; {"call": call, "statement": statement})
+    let members = Members::new(alloc)
+        .with("call", call)?
+        .with("statement", statement)?;
+    Ok(members.object())
 }

@@ -8,8 +8,9 @@ ghost use Rattle.sect_places.specs.Positions.{position as position_by};
 ghost use Rattle.sect_lint.specs.Json.{place_json, span_json};
 
 use sect_front::Span;
+use sect_object::Members;
 use sect_places::{Position, positions_of};
-use serde_json::{Value, json};
+use serde_json::Value;
 use std::alloc::{AllocError, Global};
 use std::marker::Model;
 
@@ -70,7 +71,11 @@ fn place_value(alloc: Global, source: &PlacedText<'_>, at: usize) -> Result<Valu
 {
     let position = source.position(at);
     let (line, column) = (position.line, position.column);
-    json!(in alloc; {"column": column, "line": line, "offset": at})
+    let members = Members::new(alloc)
+        .with("column", column)?
+        .with("line", line)?
+        .with("offset", at)?;
+    Ok(members.object())
 }
 
 /// The places at which a span begins and ends.
@@ -78,5 +83,8 @@ pub fn span_value(alloc: Global, source: &PlacedText<'_>, span: Span) -> Result<
     requires { IsWithin (length source.now) span }
     ensures { IfOk result (λ v. view v ≡ span_json source.now span) }
 {
-    json!(in alloc; {"end": place_value(alloc, source, span.end)?, "start": place_value(alloc, source, span.start)?})
+    let members = Members::new(alloc)
+        .with_made("end", place_value(alloc, source, span.end))?
+        .with_made("start", place_value(alloc, source, span.start))?;
+    Ok(members.object())
 }

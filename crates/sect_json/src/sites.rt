@@ -26,11 +26,12 @@ use crate::context::Inspected;
 use crate::placed_text::{PlacedText, span_value};
 use sect_emit::{GraphOf, graphed_flow};
 use sect_front::{Declaration, GlobalObject, Name, Span, Tree};
+use sect_object::Members;
 use sect_places::{NameSpan, NodeSpan, NodeSpans, global_of};
 use sect_points::{Classes, Holder, PointsTo};
 use sect_store::Printer;
 use sect_types::{Action, Label};
-use serde_json::{Value, json};
+use serde_json::Value;
 use std::alloc::{AllocError, Global};
 use std::fmt::Write;
 
@@ -66,7 +67,10 @@ fn held_value(alloc: Global, points: &PointsTo, holder: Holder) -> Result<Value,
 fn told_holder(alloc: Global, name: String, sites: Value) -> Result<Value, AllocError>
     ensures { IfOk result (λ v. view v ≡ holder_with (string_bytes name) (view sites)) }
 {
-    json!(in alloc; {"name": name, "sites": sites})
+    let members = Members::new(alloc)
+        .with("name", name)?
+        .with("sites", sites)?;
+    Ok(members.object())
 }
 
 /// A field of the objects of a site.
@@ -180,8 +184,14 @@ fn told_site(alloc: Global, told: Sited, site: u16) -> Result<Value, AllocError>
         place,
         shape,
     } = told;
-    json!(in alloc; {"call": call, "fields": fields, "global": global, "place": place, "record": shape,
-        "site": site})
+    let members = Members::new(alloc)
+        .with("call", call)?
+        .with("fields", fields)?
+        .with("global", global)?
+        .with("place", place)?
+        .with("record", shape)?
+        .with("site", site)?;
+    Ok(members.object())
 }
 
 /// The bytes of the name of that number, where one is given.
@@ -416,7 +426,10 @@ fn class_value(alloc: Global, numbers: &[u16], class: u16) -> Result<Value, Allo
             sites.push(Value::from(site))?;
         }
     }
-    json!(in alloc; {"class": class, "sites": sites})
+    let members = Members::new(alloc)
+        .with("class", class)?
+        .with("sites", sites)?;
+    Ok(members.object())
 }
 
 /// All classes, by number.

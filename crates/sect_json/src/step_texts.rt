@@ -22,7 +22,8 @@ use crate::writing::{put_comma, put_tail};
 use sect_chains::Chain;
 use sect_emit::{Compiled, GraphOf, graphed_flow, put_section_node};
 use sect_names::Link;
-use serde_json::{Value, json};
+use sect_object::Members;
+use serde_json::Value;
 use std::alloc::{AllocError, Global};
 
 /// A section whose chains are written, and for each node of it, the exit last, what stands behind the lock of a step.
@@ -37,7 +38,8 @@ pub struct Stepped<'a> {
 fn rest_value(alloc: Global, node: u16, text: String) -> Result<Value, AllocError>
     ensures { IfOk result (λ v. view v ≡ rest_with node (string_bytes text)) }
 {
-    json!(in alloc; {"node": node, "text": text})
+    let members = Members::new(alloc).with("node", node)?.with("text", text)?;
+    Ok(members.object())
 }
 
 /// What stands behind the lock of a step at a node.

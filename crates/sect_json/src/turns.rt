@@ -10,10 +10,11 @@ ghost use Rattle.sect_json.specs.Turns.{plain_event_json, event_json, turn_json,
 use crate::keys::{key_value, mode_value};
 use crate::outcomes::outcome_value;
 use crate::writing::document;
+use sect_object::Members;
 use sect_store::Printer;
 use sect_types::Program;
 use sect_world::{Deed, Event, Progress};
-use serde_json::{Value, json};
+use serde_json::Value;
 use std::alloc::{AllocError, Global};
 
 /// The turns of a run of a program, each with the events that it made, and what the run has come to.
@@ -42,10 +43,16 @@ fn progress_value(
 {
     let run = &progress.run;
     let printer = Printer::new(alloc, program)?;
-    json!(in alloc; {
-        "outcome": outcome_value(alloc, &printer, &run.outcome)?,
-        "turns": turn_values(alloc, program, progress.made.as_slice(), run.events.as_slice())?
-    })
+    let turns = turn_values(
+        alloc,
+        program,
+        progress.made.as_slice(),
+        run.events.as_slice(),
+    )?;
+    let members = Members::new(alloc)
+        .with_made("outcome", outcome_value(alloc, &printer, &run.outcome))?
+        .with("turns", turns)?;
+    Ok(members.object())
 }
 
 /// All turns. `made` says of each turn how many of the events are its own.
@@ -89,12 +96,12 @@ fn event_value(alloc: Global, program: &Program, event: Event) -> Result<Value, 
         Deed::Local => plain_event_value(alloc, "local", thread),
         Deed::Enter => plain_event_value(alloc, "enter", thread),
         Deed::Take { key, mode } => {
-            json!(in alloc; {
-                "deed": "take",
-                "key": key_value(alloc, program, key)?,
-                "mode": mode_value(alloc, mode)?,
-                "thread": thread
-            })
+            let members = Members::new(alloc)
+                .with("deed", "take")?
+                .with_made("key", key_value(alloc, program, key))?
+                .with_made("mode", mode_value(alloc, mode))?
+                .with("thread", thread)?;
+            Ok(members.object())
         }
         Deed::Begin => plain_event_value(alloc, "begin", thread),
         Deed::Again => plain_event_value(alloc, "again", thread),
@@ -107,5 +114,8 @@ fn event_value(alloc: Global, program: &Program, event: Event) -> Result<Value, 
 fn plain_event_value(alloc: Global, name: &str, thread: u16) -> Result<Value, AllocError>
     ensures { IfOk result (λ v. view v ≡ plain_event_json name.now thread) }
 {
-    json!(in alloc; {"deed": name, "thread": thread})
+    let members = Members::new(alloc)
+        .with("deed", name)?
+        .with("thread", thread)?;
+    Ok(members.object())
 }

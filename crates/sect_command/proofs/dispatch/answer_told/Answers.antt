@@ -1,5 +1,5 @@
 -- The writer has what the answer says.
-use Rattle.std.proofs.Common.{inl, inr, refl, sym, ◌∙◌, subst}
+use Rattle.std.proofs.Common.{inl, inr, sym, subst}
 use Rattle.std.specs.Io.KnownBytes.{Appends}
 use Rattle.sect_command.proofs.dispatch.answer_told.Goals as goal
 

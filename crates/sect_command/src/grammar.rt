@@ -1,0 +1,214 @@
+//! The commands of the command line, what each takes, and what the help says of them.
+
+ghost use Rattle.std.specs.Prelude.{◌≡◌, true, false, IfOk};
+ghost use Rattle.clap.specs.declared.builder.command.Command.TheViews.{out-Command as fields_of};
+
+use clap::{Arg, ArgAction, Command};
+use std::alloc::{AllocError, Global};
+
+/// The version of the program, and the series of kits by which it is proved.
+const VERSION: &str = "1.0.0 (rattle-kit-13)";
+
+/// How an argument is given. The help calls a word by the name that stands here.
+#[derive(Clone, Copy)]
+enum Given {
+    /// By `--name` alone.
+    Alone,
+    /// By `--name` and a word.
+    Before(&'static str),
+    /// By words without a name before them, as many as there are.
+    Unnamed(&'static str),
+}
+
+/// What a command takes.
+struct Argument {
+    name: &'static str,
+    given: Given,
+    help: &'static str,
+}
+
+/// A command and all that it takes.
+struct Row {
+    name: &'static str,
+    about: &'static str,
+    takes: &'static [Argument],
+}
+
+const K: Argument = Argument {
+    name: "k",
+    given: Given::Before("N"),
+    help: "the most fields of a path in a lock, 0 to 3 (default 2)",
+};
+
+const FORMAT: Argument = Argument {
+    name: "format",
+    given: Given::Before("FORMAT"),
+    help: "how the answer is printed, text or json (default text)",
+};
+
+const LINT_FORMAT: Argument = Argument {
+    name: "format",
+    given: Given::Before("FORM"),
+    help: "how a mistake is printed: text, json or sarif (default text)",
+};
+
+const WORKERS: Argument = Argument {
+    name: "workers",
+    given: Given::Before("N"),
+    help: "the workers that infer locks side by side, 1 to 16 (default 1)",
+};
+
+const CERT: Argument = Argument {
+    name: "cert",
+    given: Given::Alone,
+    help: "prints the certificate of the program in place of its listing",
+};
+
+const SECTION: Argument = Argument {
+    name: "section",
+    given: Given::Before("I"),
+    help: "the section that is drawn, by its number (default all)",
+};
+
+const FUEL: Argument = Argument {
+    name: "fuel",
+    given: Given::Before("N"),
+    help: "the units of fuel of each thread, 1 to 1000000 (default 10000)",
+};
+
+const MOST: Argument = Argument {
+    name: "most",
+    given: Given::Before("N"),
+    help: "the most states between sections that are looked at, 1 to 10000000 (default 100000)",
+};
+
+const CHART: Argument = Argument {
+    name: "chart",
+    given: Given::Alone,
+    help: "prints a column for each thread and a row for each turn, with what waits for what",
+};
+
+const ORDER: Argument = Argument {
+    name: "threads",
+    given: Given::Unnamed("T"),
+    help: "the threads of the sections, in their order",
+};
+
+const TURNS: Argument = Argument {
+    name: "threads",
+    given: Given::Unnamed("T"),
+    help: "the threads whose turn it is, one turn after another",
+};
+
+/// All commands, in the order of the help.
+const COMMANDS: &[Row] = &[
+    Row {
+        name: "locks",
+        about: "prints the lock set of each section of the source text",
+        takes: &[K, FORMAT],
+    },
+    Row {
+        name: "compile",
+        about: "prints the compiled program of the source text",
+        takes: &[K, FORMAT, WORKERS, CERT],
+    },
+    Row {
+        name: "explain",
+        about: "prints why each section of the source text takes each of its locks",
+        takes: &[K, FORMAT],
+    },
+    Row {
+        name: "conflicts",
+        about: "prints which sections of the source text exclude each other, and where",
+        takes: &[K, FORMAT],
+    },
+    Row {
+        name: "inspect",
+        about: "prints all that is known of the source text, as one JSON document",
+        takes: &[K],
+    },
+    Row {
+        name: "graph",
+        about: "prints the control-flow graph of each section of the source text, for Graphviz",
+        takes: &[K, SECTION],
+    },
+    Row {
+        name: "serial",
+        about: "runs the program of the source text by whole sections in an order, and prints the outcome",
+        takes: &[FUEL, FORMAT, ORDER],
+    },
+    Row {
+        name: "outcomes",
+        about: "prints every outcome that a run of the program of the source text can have",
+        takes: &[FUEL, MOST, FORMAT],
+    },
+    Row {
+        name: "schedule",
+        about: "runs the compiled program of the source text turn by turn, and prints the events and the outcome so \
+            far",
+        takes: &[K, FORMAT, FUEL, CHART, TURNS],
+    },
+    Row {
+        name: "run",
+        about: "runs the compiled program of the source text by threads, and prints the outcome",
+        takes: &[K, FORMAT, FUEL],
+    },
+    Row {
+        name: "lint",
+        about: "tells what is wrong with the source text, and where",
+        takes: &[K, LINT_FORMAT],
+    },
+    Row {
+        name: "lsp",
+        about: "serves an editor by the Language Server Protocol, on standard input and output",
+        takes: &[],
+    },
+    Row {
+        name: "check",
+        about: "tests a certificate: the input is the certificate, and the source text behind its line `end`",
+        takes: &[K],
+    },
+];
+
+/// What `clap` is told of an argument.
+fn told_argument<'a>(alloc: Global, argument: &Argument) -> Arg<'a>
+    ensures { result.global ≡ false }
+{
+    let told = Arg::new(alloc, argument.name).help(argument.help);
+    match argument.given {
+        Given::Alone => told.long(argument.name).action(ArgAction::SetTrue),
+        Given::Before(word) => told
+            .long(argument.name)
+            .value_name(word)
+            .action(ArgAction::Set),
+        Given::Unnamed(word) => told
+            .value_name(word)
+            .num_args(0..)
+            .action(ArgAction::Append),
+    }
+}
+
+/// What `clap` is told of a command.
+fn told_command<'a>(alloc: Global, row: &Row) -> Result<Command<'a>, AllocError>
+    ensures { IfOk result (λ c. (fields_of c).has_globals ≡ false) }
+{
+    let mut told = Command::new(alloc, row.name).about(row.about);
+    for argument in row.takes {
+        told = told.arg(told_argument(alloc, argument))?;
+    }
+    Ok(told)
+}
+
+/// The commands and what each takes.
+pub fn grammar<'a>(alloc: Global) -> Result<Command<'a>, AllocError>
+    ensures required { IfOk result (λ c. (fields_of c).subcommand_required ≡ true) }
+    ensures local { IfOk result (λ c. (fields_of c).has_globals ≡ false) }
+{
+    let mut sectc = Command::new(alloc, "sectc")
+        .about("infers the locks of atomic sections; reads a source text on standard input")
+        .version(VERSION);
+    for row in COMMANDS {
+        sectc = sectc.subcommand(told_command(alloc, row)?)?;
+    }
+    Ok(sectc.subcommand_required(true))
+}

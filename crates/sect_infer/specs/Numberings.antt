@@ -3,6 +3,8 @@ use Rattle.std.specs.Prelude.{◌≡◌, ◌<◌, ◌⊎◌, ℕ, Bool, not, Lis
 use Rattle.std.specs.Prelude.{slice_index_or}
 use Rattle.std.specs.List.{list_any}
 use Rattle.sect_lemmas.specs.Lists.{Has}
+use Rattle.sect_points.specs.Paths.{PathView}
+use Rattle.sect_names.specs.declared.lock.Effect.TheVariants as effect
 use Rattle.sect_names.specs.declared.lock.Lock.{Lock}
 use Rattle.sect_names.specs.Schemes.{SchemeView}
 use Rattle.sect_names.specs.Climbing.{IsAbove}
@@ -23,16 +25,34 @@ HasLock keys ns l = (n : ℕ) × Has ns n × (slice_get keys n ≡ Some l)
 abbrev pub AreNumbers : List Lock → List ℕ → Type 0
 AreNumbers keys ns = (n : ℕ) → Has ns n → n < length keys
 
--- these are the numbers of all locks above one
+-- the lock is one to write a path
+abbrev pub IsToWrite : Lock → Type 0
+IsToWrite l = (p : PathView) × (l ≡ lock.Path p effect.Write)
+
+-- the numbers are those of locks above one
+abbrev pub AreOver : SchemeView → List Lock → Lock → List ℕ → Type 0
+AreOver s keys l ns = (n : ℕ) → Has ns n → (big : Lock) × (slice_get keys n ≡ Some big) × IsAbove s big l
+
+-- these are the numbers of all locks above one, of which none may be missing but one to write a path
 pub record AreAbove (s : SchemeView) (keys : List Lock) (l : Lock) (ns : List ℕ) : Type 0 where
-  pub cover : (n : ℕ) → Has ns n → (big : Lock) × (slice_get keys n ≡ Some big) × IsAbove s big l
-  pub all : (big : Lock) → IsAbove s big l → HasLock keys ns big
+  pub cover : AreOver s keys l ns
+  pub all : (big : Lock) → IsAbove s big l → HasLock keys ns big ⊎ (IsToWrite big × (Has keys big → ⊥))
+
+-- these are the numbers of all locks above the one to read a path, but for the one to write it
+pub record AreAboveRead (s : SchemeView) (keys : List Lock) (p : PathView) (ns : List ℕ) : Type 0 where
+  pub cover : AreOver s keys (lock.Path p effect.Read) ns
+  pub all : (big : Lock) → IsAbove s big (lock.Path p effect.Read)
+      → HasLock keys ns big ⊎ (big ≡ lock.Path p effect.Write)
 
 -- each lock has one number, and those of the locks above it are told
 pub record IsNumbering (s : SchemeView) (t : NumberingView) : Type 0 where
   pub count : length t.above ≡ length t.keys
   pub apart : AreApart t.keys
   pub told : (n : ℕ) (l : Lock) → slice_get t.keys n ≡ Some l → AreAbove s t.keys l (slice_index_or t.above n [])
+
+-- they are numbered so for some scheme
+abbrev pub IsNumberingOfSome : NumberingView → Type 0
+IsNumberingOfSome t = (s : SchemeView) × IsNumbering s t
 
 -- whether one of the numbers is above this one
 abbrev pub is_under : List (List ℕ) → List ℕ → ℕ → Bool

@@ -1,6 +1,7 @@
 //! Locks by their numbers.
 
-ghost use Rattle.std.specs.Prelude.{◌≡◌, ◌↔◌, ◌<◌, ◌||◌, ℕ, length, slice_get, [], Some, IfOk, MatchOption};
+ghost use Rattle.std.specs.Prelude.{◌≡◌, ◌↔◌, ◌<◌, ◌||◌, ℕ, ◌++◌, ◌∷◌, length, slice_get, [], Some, IfOk, OnOk};
+ghost use Rattle.std.specs.Prelude.{IsTrue, IsFalse, MatchOption};
 ghost use Rattle.sect_lemmas.specs.Lists.{Has};
 ghost use Rattle.sect_points.specs.Partitions.{HasClass};
 ghost use Rattle.sect_names.specs.declared.lock.Effect.TheVariants as effect;
@@ -9,7 +10,9 @@ ghost use Rattle.sect_names.specs.declared.lock.Lock.{Lock};
 ghost use Rattle.sect_names.specs.declared.lock.Lock.TheVariants as lock;
 ghost use Rattle.sect_names.specs.Schemes.{SchemeView};
 ghost use Rattle.sect_infer.specs.Numbers.{has_number};
-ghost use Rattle.sect_infer.specs.Numberings.{AreAbove, IsNumbering, IsNumbered, is_under};
+ghost use Rattle.sect_infer.specs.Numberings.{AreAbove, AreAboveRead, IsToWrite, IsNumbering, IsNumberingOfSome, IsNumbered};
+ghost use Rattle.sect_infer.specs.Numberings.{is_under};
+ghost use Rattle.sect_infer.specs.steps.Putting.{IsPut, IsTold};
 
 use crate::numbers::{Numbers, has};
 use indexmap::IndexSet;
@@ -18,8 +21,9 @@ use smallvec::SmallVec;
 use std::alloc::{AllocError, Global};
 use std::marker::Model;
 
-/// Locks, numbered from 0 in the order in which they came, and for each the numbers of the other locks that cover it,
-/// which have come before it. These are at most four, so they are kept inline.
+/// Locks, numbered from 0 in the order in which they came, and for each the numbers of the other locks there that cover
+/// it. All that cover it have come before it, but for the lock to write its path, which comes when it is needed. These
+/// are at most four, so they are kept inline.
 pub struct Numbering {
     locks: IndexSet<Lock>,
     above: Vec<SmallVec<usize, 4>>,
@@ -52,6 +56,29 @@ impl Model for Numbering {
 struct OverClass {
     all: usize,
     write: usize,
+}
+
+/// What became of a lock that was to be put behind the others.
+#[derive(Clone, Copy)]
+struct Added {
+    /// The number that it has now.
+    number: usize,
+
+    /// Whether it wasn't there before.
+    is_new: bool,
+}
+
+/// Numbers, and one behind them.
+fn with_last(
+    alloc: Global,
+    numbers: &[usize],
+    last: usize,
+) -> Result<SmallVec<usize, 4>, AllocError>
+    ensures { IfOk result (λ all. all.items ≡ numbers.now ++ last ∷ []) }
+{
+    let mut all = SmallVec::from_slice(alloc, numbers)?;
+    all.push(last)?;
+    Ok(all)
 }
 
 impl Numbering {
@@ -163,18 +190,14 @@ impl Numbering {
 
     /// The number of a lock on a path that has no class, as `put_path` gives it.
     fn put_bare(&mut self, alloc: Global, path: &Path, effect: Effect) -> Result<usize, AllocError>
+        requires { IsNumberingOfSome self.old }
         ensures { (s : SchemeView) → IsNumbering s self.old → ((n : ℕ) → HasClass s.classes path.now n → ⊥)
             → IfOk result (IsNumbered s self.old self.new (lock.Path path.now effect)) }
     {
         let all = self.put(alloc, Lock::All, &[])?;
-        let write = self.put(alloc, Lock::Path(path.try_clone()?, Effect::Write), &[all])?;
         match effect {
-            Effect::Write => Ok(write),
-            Effect::Read => self.put(
-                alloc,
-                Lock::Path(path.try_clone()?, Effect::Read),
-                &[all, write],
-            ),
+            Effect::Write => self.put_write(alloc, path, &[all]),
+            Effect::Read => self.put_read(alloc, path, &[all]),
         }
     }
 
@@ -186,47 +209,66 @@ impl Numbering {
         path: &Path,
         effect: Effect,
     ) -> Result<usize, AllocError>
+        requires { IsNumberingOfSome self.old }
         ensures { (s : SchemeView) → IsNumbering s self.old
             → ((n : ℕ) → (Some class ≡ Some n) ↔ HasClass s.classes path.now n)
             → IfOk result (IsNumbered s self.old self.new (lock.Path path.now effect)) }
     {
-        let over = self.over_class(alloc, class)?;
+        let OverClass { all, write } = self.over_class(alloc, class)?;
         match effect {
-            Effect::Write => self.put(
-                alloc,
-                Lock::Path(path.try_clone()?, Effect::Write),
-                &[over.all, over.write],
-            ),
-            Effect::Read => self.put_read(alloc, class, path, over),
+            Effect::Write => self.put_write(alloc, path, &[all, write]),
+            Effect::Read => {
+                let read = self.put(alloc, Lock::Class(class, Right::Read), &[all, write])?;
+                self.put_read(alloc, path, &[all, write, read])
+            }
         }
     }
 
-    /// The number of the lock to read a path of a class, as `put_path` gives it.
-    fn put_read(
-        &mut self,
-        alloc: Global,
-        class: u16,
-        path: &Path,
-        over: OverClass,
-    ) -> Result<usize, AllocError>
+    /// The number of the lock to read a path, which comes now unless it is there. Those above it that don't depend on
+    /// the path have these numbers.
+    fn put_read(&mut self, alloc: Global, path: &Path, above: &[usize]) -> Result<usize, AllocError>
         ensures { (s : SchemeView) → IsNumbering s self.old
-            → ((n : ℕ) → (Some class ≡ Some n) ↔ HasClass s.classes path.now n)
-            → slice_get self.old.keys over.all ≡ Some lock.All
-            → slice_get self.old.keys over.write ≡ Some (lock.Class class right.Write)
+            → AreAboveRead s self.old.keys path.now above.now
             → IfOk result (IsNumbered s self.old self.new (lock.Path path.now effect.Read)) }
     {
-        let OverClass { all, write } = over;
-        let read = self.put(alloc, Lock::Class(class, Right::Read), &[all, write])?;
-        let path_write = self.put(
+        match self.find(&Lock::Path(path.try_clone()?, Effect::Write)) {
+            None => self.put(alloc, Lock::Path(path.try_clone()?, Effect::Read), above),
+            Some(write) => {
+                let over = with_last(alloc, above, write)?;
+                self.put(
+                    alloc,
+                    Lock::Path(path.try_clone()?, Effect::Read),
+                    over.as_slice(),
+                )
+            }
+        }
+    }
+
+    /// The number of the lock to write a path, which comes now unless it is there, and then stands above the lock to read
+    /// the path. The numbers of those above it are these.
+    fn put_write(
+        &mut self,
+        alloc: Global,
+        path: &Path,
+        above: &[usize],
+    ) -> Result<usize, AllocError>
+        requires { IsNumberingOfSome self.old }
+        ensures { (s : SchemeView) → IsNumbering s self.old
+            → AreAbove s self.old.keys (lock.Path path.now effect.Write) above.now
+            → IfOk result (IsNumbered s self.old self.new (lock.Path path.now effect.Write)) }
+    {
+        let read = self.find(&Lock::Path(path.try_clone()?, Effect::Read));
+        let Added { number, is_new } = self.add(
             alloc,
             Lock::Path(path.try_clone()?, Effect::Write),
-            &[all, write],
+            above,
         )?;
-        self.put(
-            alloc,
-            Lock::Path(path.try_clone()?, Effect::Read),
-            &[all, write, read, path_write],
-        )
+        if is_new {
+            if let Some(read) = read {
+                self.tell(read, number)?;
+            }
+        }
+        Ok(number)
     }
 
     /// The number of a lock on a class, which comes now unless it is there, and before it the locks above it.
@@ -255,15 +297,35 @@ impl Numbering {
         Ok(OverClass { all, write })
     }
 
-    /// The number of a lock, which comes now unless it is there. The numbers of those above it are these.
+    /// The number of a lock that isn't one to write a path, which comes now unless it is there. The numbers of those above
+    /// it are these.
     fn put(&mut self, alloc: Global, lock: Lock, above: &[usize]) -> Result<usize, AllocError>
-        ensures { (s : SchemeView) → IsNumbering s self.old → AreAbove s self.old.keys lock above.now
-            → IfOk result (IsNumbered s self.old self.new lock) }
+        ensures { (s : SchemeView) → IsNumbering s self.old → (IsToWrite lock → ⊥)
+            → AreAbove s self.old.keys lock above.now → IfOk result (IsNumbered s self.old self.new lock) }
+    {
+        Ok(self.add(alloc, lock, above)?.number)
+    }
+
+    /// Puts a lock behind the others unless it is there, with the numbers of those above it.
+    fn add(&mut self, alloc: Global, lock: Lock, above: &[usize]) -> Result<Added, AllocError>
+        ensures there { IfOk result (λ added. slice_get self.new.keys added.number ≡ Some lock) }
+        ensures new { IfOk result (λ added. IsTrue added.is_new → IsPut self.old self.new lock above.now) }
+        ensures old { IfOk result (λ added. IsFalse added.is_new
+            → (self.new.keys ≡ self.old.keys) × (self.new.above ≡ self.old.above)) }
     {
         let (number, is_new) = self.locks.insert_full(lock)?;
         if is_new {
             self.above.push(SmallVec::from_slice(alloc, above)?)?;
         }
-        Ok(number)
+        Ok(Added { number, is_new })
+    }
+
+    /// Puts the number of a lock behind those above another.
+    fn tell(&mut self, number: usize, above: usize) -> Result<(), AllocError>
+        requires { number < length self.old.above }
+        ensures { OnOk result (IsTold self.old self.new number above) }
+    {
+        self.above[number].push(above)?;
+        Ok(())
     }
 }

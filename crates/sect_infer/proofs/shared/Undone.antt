@@ -4,6 +4,7 @@ use Rattle.std.proofs.Common.{true≢false}
 use Rattle.std.specs.Prelude.{slice_get, slice_index_or, ◌||◌}
 use Rattle.std.specs.List.{list_any}
 use Rattle.sect_lemmas.specs.Lists.{Has}
+use Rattle.sect_lemmas.proofs.Membership.{Has-slice_get}
 use Rattle.sect_names.specs.declared.lock.Lock.{Lock}
 use Rattle.sect_names.specs.Schemes.{SchemeView}
 use Rattle.sect_names.specs.Locks.{IsOutdone}
@@ -45,7 +46,10 @@ module _ (s : SchemeView) (t : NumberingView) (is : IsNumbering s t) (ns : List 
   -- one that is outdone is under another
   pub is_under_is : IsOutdone s (HasLock t.keys ns) l → is_under t.above ns n ≡ true
   is_under_is out =
-      let m = (is.told n l at).all out.0 (out.2, out.3) in
+      let m : HasLock t.keys (slice_index_or t.above n []) out.0 = elim ((is.told n l at).all out.0 (out.2, out.3)) [
+        | inl one ↦ one
+        | inr w ↦ absurd (w.1 (Has-slice_get t.keys out.1.0 out.0 out.1.2))
+      ] in
       let same = apart_one t.keys m.0 out.1.0 out.0 is.apart m.2 out.1.2 in
       any_is (has_number ns) (slice_index_or t.above n []) m.0 m.1
       ((number_tells ns m.0).1 (subst (Has ns) (sym same) out.1.1))

@@ -59,6 +59,13 @@ module _ (s : SchemeView) where
   above_path p effect.Read (lock.Path q effect.Read) h = absurd (h.1 (ap (λ o. lock.Path o effect.Read) h.0.0))
   above_path p effect.Write (lock.Path q effect.Read) h = absurd h.0.1
 
+  -- one to write a path stands above that to read it alone
+  pub below_write : (p : PathView) (l : Lock) → IsAbove s (lock.Path p effect.Write) l → l ≡ lock.Path p effect.Read
+  below_write p lock.All h = absurd h.0
+  below_write p (lock.Class c r) h = absurd h.0
+  below_write p (lock.Path q effect.Write) h = absurd (h.1 (ap (λ o. lock.Path o effect.Write) h.0.0))
+  below_write p (lock.Path q effect.Read) h = ap (λ o. lock.Path o effect.Read) (sym h.0.0)
+
   none_behind : AreBehind s []
   none_behind i c at = absurd cc
 

@@ -4,7 +4,7 @@ ghost use Rattle.std.specs.Prelude.{◌≡◌, [], IfOk};
 ghost use Rattle.sect_front.specs.Gaps.{after_gap as gap_of};
 ghost use Rattle.sect_front.specs.LongGaps.{IsRestOf, AreGaps};
 
-use crate::lexer::after_gap;
+use crate::lexer::{after_gap, is_tight};
 use crate::span::Span;
 use std::alloc::AllocError;
 
@@ -49,7 +49,25 @@ impl<'a> GappedText<'a> {
 
 /// What follows the blanks and comments at the front of a rest of a text. If they are many bytes, they are added to the
 /// text's gaps.
+#[inline(always)]
 pub fn pass_gap<'a>(
+    bytes: &[u8],
+    here: &'a [u8],
+    gaps: &mut Vec<Span>,
+) -> Result<&'a [u8], AllocError>
+    requires gaps { AreGaps bytes.now gaps.old.items }
+    requires rest { IsRestOf bytes.now here.now }
+    ensures after { IfOk result (λ after. after.now ≡ gap_of here.now) }
+    ensures gaps { AreGaps bytes.now gaps.new.items }
+{
+    if is_tight(here) {
+        return Ok(here);
+    }
+    pass_bytes(bytes, here, gaps)
+}
+
+/// The same, where a blank or a `/` stands at the front.
+fn pass_bytes<'a>(
     bytes: &[u8],
     here: &'a [u8],
     gaps: &mut Vec<Span>,

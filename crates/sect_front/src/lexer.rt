@@ -83,6 +83,17 @@ pub fn after_gap(bytes: &[u8]) -> &[u8]
     rest
 }
 
+/// Whether no blank stands at the front and no `/`, with which a comment would begin.
+#[inline(always)]
+pub fn is_tight(bytes: &[u8]) -> bool
+    ensures { result ≡ true → gap_of bytes.now ≡ bytes.now }
+{
+    match bytes {
+        [] => true,
+        [first, ..] => !is_blank(*first) && *first != b'/',
+    }
+}
+
 /// The number that these digits are after `0`, or nothing where a byte is no digit or the value is too great.
 fn decimal(digits: &[u8]) -> Option<u64>
     ensures value { result ≡ decimal_from 0 digits.now }

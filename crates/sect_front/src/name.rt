@@ -71,8 +71,8 @@ impl Name {
     }
 }
 
-/// Whether two names have the same bytes. They are short, so this is quicker than a comparison of slices.
-fn are_same(one: &[u8], other: &[u8]) -> bool
+/// Whether two words have the same bytes. They are short, so this is quicker than a comparison of slices.
+pub(crate) fn are_same(one: &[u8], other: &[u8]) -> bool
     ensures { result ≡ pointwise nat_eq one.now other.now }
 {
     let mut left = one;

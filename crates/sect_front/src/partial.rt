@@ -1,6 +1,6 @@
 //! The part of a statement that has been read, up to its `;` or `{`.
 
-ghost use Rattle.std.specs.Prelude.{◌≡◌};
+ghost use Rattle.std.specs.Prelude.{◌≡◌, List, ℕ, Some, true, false};
 ghost use Rattle.sect_front.specs.steps.Advance.{advance_of, assign_step, store_step, branch_step, operand_of};
 ghost use Rattle.sect_front.specs.steps.Advance.{operator_of, comparison_of, first_step, ends_with};
 
@@ -119,6 +119,203 @@ fn comparison(token: &Token) -> Option<Comparison>
     match token {
         Token::Comparison(comparison) => Some(*comparison),
         _ => None,
+    }
+}
+
+/// Has a statement go on by a token in its place, unless it ends with it or doesn't go on: then nothing changes. What has
+/// been read of it is long, and isn't moved by this.
+pub fn goes_on(line: &mut PartialHead, token: &Token) -> bool
+    ensures goes { result ≡ true → advance_of line.old token.now ≡ Some (Move.To line.new) }
+    ensures stays { result ≡ false → line.new ≡ line.old }
+{
+    match line {
+        PartialHead::AfterName(x) => {
+            let x = *x;
+            name_goes_on(line, x, token)
+        }
+        PartialHead::Assign(_, assign) => assign_goes_on(assign, token),
+        PartialHead::Store(_, store) => store_goes_on(store, token),
+        PartialHead::Branch(_, head) => branch_goes_on(head, token),
+        _ => false,
+    }
+}
+
+/// Puts what a token after this name leads to in the place of a statement, if it leads to something.
+fn name_goes_on(line: &mut PartialHead, x: Name, token: &Token) -> bool
+    ensures goes { result ≡ true → advance_of (PartialHead.AfterName x) token.now ≡ Some (Move.To line.new) }
+    ensures stays { result ≡ false → line.new ≡ line.old }
+{
+    match token {
+        Token::Equal => {
+            *line = PartialHead::Assign(x, PartialAssign::AfterEqual);
+            true
+        }
+        Token::Dot => {
+            *line = PartialHead::Store(x, PartialStore::AfterDot);
+            true
+        }
+        _ => false,
+    }
+}
+
+/// Has what stands behind a name and `=` go on, as `goes_on` does.
+fn assign_goes_on(assign: &mut PartialAssign, token: &Token) -> bool
+    ensures goes { (x : List ℕ) → result ≡ true
+        → assign_step x assign.old token.now ≡ Some (Move.To (PartialHead.Assign x assign.new)) }
+    ensures stays { result ≡ false → assign.new ≡ assign.old }
+{
+    match assign {
+        PartialAssign::AfterEqual => equal_goes_on(assign, token),
+        PartialAssign::AfterFirstName(y) => {
+            let y = *y;
+            first_name_goes_on(assign, y, token)
+        }
+        PartialAssign::AfterFirst(v) => {
+            let v = *v;
+            first_goes_on(assign, v, token)
+        }
+        PartialAssign::AfterOperator(v, o) => {
+            let (v, o) = (*v, *o);
+            let Some(w) = operand(token) else {
+                return false;
+            };
+            *assign = PartialAssign::AfterSecond(v, o, w);
+            true
+        }
+        PartialAssign::AfterDot(y) => {
+            let y = *y;
+            let Token::Name(f) = token else {
+                return false;
+            };
+            *assign = PartialAssign::AfterField(y, *f);
+            true
+        }
+        _ => false,
+    }
+}
+
+/// Puts what a token after `=` leads to in the place of an assignment, if it leads to something.
+fn equal_goes_on(assign: &mut PartialAssign, token: &Token) -> bool
+    ensures goes { (x : List ℕ) → result ≡ true
+        → assign_step x PartialAssign.AfterEqual token.now ≡ Some (Move.To (PartialHead.Assign x assign.new)) }
+    ensures stays { result ≡ false → assign.new ≡ assign.old }
+{
+    match token {
+        Token::Name(y) => {
+            *assign = PartialAssign::AfterFirstName(*y);
+            true
+        }
+        Token::Number(value) => {
+            *assign = PartialAssign::AfterFirst(Operand::Number(*value));
+            true
+        }
+        Token::Null => {
+            *assign = PartialAssign::AfterFirst(Operand::Null);
+            true
+        }
+        Token::New => {
+            *assign = PartialAssign::AfterNew;
+            true
+        }
+        _ => false,
+    }
+}
+
+/// Puts what a token after this name behind `=` leads to in the place of an assignment, if it leads to something.
+fn first_name_goes_on(assign: &mut PartialAssign, y: Name, token: &Token) -> bool
+    ensures goes { (x : List ℕ) → result ≡ true → assign_step x (PartialAssign.AfterFirstName y) token.now
+        ≡ Some (Move.To (PartialHead.Assign x assign.new)) }
+    ensures stays { result ≡ false → assign.new ≡ assign.old }
+{
+    match token {
+        Token::Dot => {
+            *assign = PartialAssign::AfterDot(y);
+            true
+        }
+        _ => first_goes_on(assign, Operand::Name(y), token),
+    }
+}
+
+/// Puts an operator after this operand in the place of an assignment, if the token is one.
+fn first_goes_on(assign: &mut PartialAssign, v: Operand, token: &Token) -> bool
+    ensures goes { (x : List ℕ) → result ≡ true
+        → first_step x v token.now ≡ Some (Move.To (PartialHead.Assign x assign.new)) }
+    ensures stays { result ≡ false → assign.new ≡ assign.old }
+{
+    let o = match token {
+        Token::Plus => Operator::Add,
+        Token::Minus => Operator::Subtract,
+        Token::Star => Operator::Multiply,
+        _ => return false,
+    };
+    *assign = PartialAssign::AfterOperator(v, o);
+    true
+}
+
+/// Has what stands behind a name and `.` go on, as `goes_on` does.
+fn store_goes_on(store: &mut PartialStore, token: &Token) -> bool
+    ensures goes { (y : List ℕ) → result ≡ true
+        → store_step y store.old token.now ≡ Some (Move.To (PartialHead.Store y store.new)) }
+    ensures stays { result ≡ false → store.new ≡ store.old }
+{
+    match store {
+        PartialStore::AfterDot => match token {
+            Token::Name(f) => {
+                *store = PartialStore::AfterField(*f);
+                true
+            }
+            _ => false,
+        },
+        PartialStore::AfterField(f) => match token {
+            Token::Equal => {
+                let f = *f;
+                *store = PartialStore::AfterEqual(f);
+                true
+            }
+            _ => false,
+        },
+        PartialStore::AfterEqual(f) => {
+            let f = *f;
+            let Some(v) = operand(token) else {
+                return false;
+            };
+            *store = PartialStore::AfterValue(f, v);
+            true
+        }
+        PartialStore::AfterValue(_, _) => false,
+    }
+}
+
+/// Has an `if` or a `while` go on, as `goes_on` does.
+fn branch_goes_on(head: &mut PartialBranch, token: &Token) -> bool
+    ensures goes { (branch : Branch) → result ≡ true
+        → branch_step branch head.old token.now ≡ Some (Move.To (PartialHead.Branch branch head.new)) }
+    ensures stays { result ≡ false → head.new ≡ head.old }
+{
+    match head {
+        PartialBranch::AfterWord => {
+            let Token::OpenParen = token else {
+                return false;
+            };
+            *head = PartialBranch::AfterOpen;
+            true
+        }
+        PartialBranch::AfterOpen => {
+            let Some(left) = operand(token) else {
+                return false;
+            };
+            *head = PartialBranch::AfterLeft(left);
+            true
+        }
+        PartialBranch::AfterLeft(left) => {
+            let left = *left;
+            let Token::Comparison(comparison) = token else {
+                return false;
+            };
+            *head = PartialBranch::AfterComparison(left, *comparison);
+            true
+        }
+        _ => false,
     }
 }
 

@@ -151,6 +151,10 @@ impl Block {
         ensures ok { OnOk result (self.new ≡ append self.old (statement_of statement)) }
         ensures err { OnErr result (self.new ≡ self.old) }
     {
+        // most blocks that stand in others have one statement
+        if self.statements.is_empty() {
+            self.statements.reserve_exact(1)?;
+        }
         self.statements.push(statement)?;
         Ok(())
     }

@@ -6,7 +6,9 @@ ghost use Rattle.sect_front.specs.Syntax.{End, If};
 use crate::expecting::{call_takes, then_takes};
 use crate::items::Items;
 use crate::name::Name;
-use crate::partial::{Branch, Move, PartialBranch, PartialCall, PartialHead, advance, operand};
+use crate::partial::{
+    Branch, Move, PartialBranch, PartialCall, PartialHead, advance, goes_on, operand,
+};
 use crate::token::Token;
 use crate::tree::{Block, Locking, Operand, Statement, Test};
 use std::alloc::{AllocError, AllocFailed, Global};
@@ -141,16 +143,28 @@ impl Within {
         ensures kept { IsKept result self.old self.new }
     {
         match &mut self.place {
-            Partial::Start => self.start(alloc, token),
-            // What has been read stays where it is until a token is taken.
-            Partial::Inside(line) => match advance(line, token) {
-                None => Err(StepError::Unexpected),
-                Some(Move::To(next)) => {
-                    *line = next;
+            // Most statements begin with a name, which is put in its place: a `Partial` is long.
+            Partial::Start => match token {
+                Token::Name(x) => {
+                    self.place = Partial::Inside(PartialHead::AfterName(*x));
                     Ok(None)
                 }
-                Some(to) => Ok(self.go(alloc, to)?),
+                _ => self.start(alloc, token),
             },
+            // What has been read stays where it is until a token is taken.
+            Partial::Inside(line) => {
+                if goes_on(line, token) {
+                    return Ok(None);
+                }
+                match advance(line, token) {
+                    None => Err(StepError::Unexpected),
+                    Some(Move::To(next)) => {
+                        *line = next;
+                        Ok(None)
+                    }
+                    Some(to) => Ok(self.go(alloc, to)?),
+                }
+            }
             Partial::InCall(call) => {
                 if !call_takes(call, token) {
                     return Err(StepError::Unexpected);

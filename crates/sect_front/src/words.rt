@@ -11,6 +11,7 @@ ghost use Rattle.sect_front.specs.declared.token.Token.{Token as AToken};
 ghost use Rattle.sect_front.specs.steps.Recognition.{keyword_of, keywords_of, token_beside};
 
 use crate::limits::MOST_NAME_BYTES;
+use crate::name::are_same;
 use crate::token::Token;
 
 /// Whether a name may begin with this byte: a letter or `_`.
@@ -45,7 +46,7 @@ pub fn word_length(bytes: &[u8]) -> usize
 fn is_text(bytes: &[u8], text: &[u8]) -> bool
     ensures { result ≡ bytes_eq bytes.now text.now }
 {
-    bytes == text
+    are_same(bytes, text)
 }
 
 /// The keyword of two bytes that these are.

@@ -44,14 +44,18 @@ impl Row {
         Ok(())
     }
 
-    /// Whether a load or a store stands in the row. Of another statement, no.
+    /// Whether a statement stands in the row behind those of other threads.
     pub fn has(&self, placed: &ThreadAction) -> bool
         ensures { result ≡ true → Has self.now placed.now }
     {
         let count = self.statements.len();
         // One that is there was mostly put not long ago.
         for later in 0..count {
-            if is_same(&self.statements[count - 1 - later], placed) {
+            let put = &self.statements[count - 1 - later];
+            if put.thread != placed.thread {
+                return false;
+            }
+            if is_same(put, placed) {
                 return true;
             }
         }
@@ -66,18 +70,21 @@ impl Row {
     }
 }
 
-/// Whether two statements are one load or one store.
+/// Whether two statements are one assignment, one load or one store.
 fn is_same(left: &ThreadAction, right: &ThreadAction) -> bool
     ensures { result ≡ true → left.now ≡ right.now }
 {
     left.thread == right.thread && is_same_action(left.action, right.action)
 }
 
-/// Whether two actions are one load or one store.
+/// Whether two actions are one assignment, one load or one store.
 fn is_same_action(left: Action, right: Action) -> bool
     ensures { result ≡ true → left ≡ right }
 {
     match (left, right) {
+        (Action::Assign(to, value), Action::Assign(other, sum)) => {
+            to == other && is_same_value(value, sum)
+        }
         (Action::Load(to, base, field), Action::Load(other, origin, part)) => {
             to == other && is_same_base(base, origin) && is_same_field(field, part)
         }

@@ -1,8 +1,8 @@
 //! What the names of a statement denote.
 
-ghost use Rattle.std.specs.Prelude.{◌≡◌, ◌≤◌, ◌+◌, IsSome, length};
+ghost use Rattle.std.specs.Prelude.{◌≡◌, ◌≤◌, ◌+◌, IsSome, length, option_map};
 ghost use Rattle.sect_types.specs.Sight.{base_of, operand_of, field_of, looked_of, names_of_declared};
-ghost use Rattle.sect_types.specs.Numbered.{target_of, source_of, field_behind as field_behind_by, value_of, action_of};
+ghost use Rattle.sect_types.specs.Numbered.{target_of, base_by, field_by, value_of, action_of};
 ghost use Rattle.sect_types.specs.Numbered.{condition_of};
 ghost use Rattle.sect_types.specs.Expanded.{moved_action as moved_action_by, moved_condition as moved_condition_by};
 ghost use Rattle.sect_types.specs.Limits.{most_all_locals};
@@ -45,6 +45,16 @@ impl<'a> Model for Scope<'a> {
 
     ghost invariant = { λ s. IsNamed s.records.now s.record_names.now s.field_names.now s.globals.now
         s.global_names.now s.locals.now s.local_names.now };
+}
+
+/// The local or global that is denoted, if one is.
+fn source(denoted: &Option<Denoted>) -> Option<Base>
+    ensures { result ≡ option_map base_by denoted.now }
+{
+    match denoted {
+        Some(denoted) => Some(base(*denoted)),
+        None => None,
+    }
 }
 
 impl<'a> Scope<'a> {
@@ -209,21 +219,11 @@ impl<'a> Scope<'a> {
         }
     }
 
-    /// The local or global of this name.
-    fn source(&self, name: &Name) -> Option<Base>
-        ensures { result ≡ source_of self.now name.now }
-    {
-        match self.base(name) {
-            Some(denoted) => Some(base(denoted)),
-            None => None,
-        }
-    }
-
     /// The field behind the dot of a base.
-    fn field_behind(&self, base: &Name, field: &Name) -> Option<Field>
-        ensures { result ≡ field_behind_by self.now base.now field.now }
+    fn field_behind(&self, base: &Option<Denoted>, field: &Name) -> Option<Field>
+        ensures { result ≡ field_by (looked_of self.now base.now field.now) }
     {
-        match self.looked(&self.base(base), field) {
+        match self.looked(base, field) {
             Looked::At(at) => Some(at.field),
             Looked::Missing | Looked::OfInt => None,
         }
@@ -256,16 +256,15 @@ impl<'a> Scope<'a> {
                 self.record_names.number_of(of)?,
                 site,
             )),
-            Primitive::Load(x, y, f) => Some(Action::Load(
-                self.target(x)?,
-                self.source(y)?,
-                self.field_behind(y, f)?,
-            )),
-            Primitive::Store(y, f, v) => Some(Action::Store(
-                self.source(y)?,
-                self.field_behind(y, f)?,
-                self.value(v)?,
-            )),
+            Primitive::Load(x, y, f) => {
+                let to = self.target(x)?;
+                let from = self.base(y);
+                Some(Action::Load(to, source(&from)?, self.field_behind(&from, f)?))
+            }
+            Primitive::Store(y, f, v) => {
+                let to = self.base(y);
+                Some(Action::Store(source(&to)?, self.field_behind(&to, f)?, self.value(v)?))
+            }
             Primitive::Print(v) => Some(Action::Print(self.value(v)?)),
         }
     }

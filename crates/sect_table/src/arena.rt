@@ -7,6 +7,7 @@ ghost use Rattle.sect_table.specs.Contents.{number_of, entry_of, no_entry, put, 
 ghost use Rattle.sect_table.specs.Contents.{held_by, first_of, first_hold, claim_of, give, with_holder, with_waiter};
 ghost use Rattle.sect_table.specs.Contents.{with_grant, without_holder, AreApart, IsEmptyFor, mode_in};
 ghost use Rattle.sect_table.specs.Sound.{AreTogether};
+ghost use Rattle.sect_table.specs.declared.claims.Hold.{Hold as AHold};
 ghost use Rattle.std.specs.Option.{option_map};
 ghost use Rattle.sect_table.specs.steps.Arena.{queue_at, chain_at, no_node, SameLists, NumberAdded};
 ghost use Rattle.sect_table.specs.steps.Keys.{place_in};
@@ -210,6 +211,18 @@ impl Arena {
             key: request.key,
             mode: request.mode,
         })
+    }
+
+    /// The number of the key that a thread has held for the longest time.
+    pub fn first_number(&self, thread: u16) -> usize
+        requires thread { thread < length self.now.held }
+        requires some { 0 < length (held_by self.now thread) }
+        ensures { (h : AHold) → first_hold (held_by self.now thread) ≡ Some h
+            → result ≡ number_of h.key self.now.entries }
+    {
+        let list = thread as usize + thread as usize + 1;
+        let node = self.chains.first(list).unwrap();
+        (self.queues.list_of(node) - 1) / 2
     }
 
     /// Whether each other holder of a key lets a thread join in a mode.

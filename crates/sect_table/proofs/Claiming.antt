@@ -1,15 +1,15 @@
 -- Lists of claims and of holds.
 use Rattle.std.proofs.Common.{◌≡◌, inl, inr, ℕ, ◌+◌, ◌<◌, ◌≤◌, List, [], ◌∷◌, ◌++◌, Bool, true, false, not, Some, None}
-use Rattle.std.proofs.Common.{refl, sym, ◌∙◌, ap, arith}
-use Rattle.std.specs.Prelude.{◌==◌, ◌||◌, if◌then◌else◌}
-use Rattle.std.proofs.lemmas.Bool.{and_parts, cases_Bool}
+use Rattle.std.proofs.Common.{refl, sym, ◌∙◌, ap, subst, arith}
+use Rattle.std.specs.Prelude.{◌==◌, ◌||◌, ◌&&◌, if◌then◌else◌}
+use Rattle.std.proofs.lemmas.Bool.{and_parts, cases_Bool, or_right}
 use Rattle.sect_modes.specs.declared.mode.Mode.{Mode}
 use Rattle.sect_modes.specs.declared.key.Key.{Key}
-use Rattle.sect_modes.specs.Mode.{are_compatible}
+use Rattle.sect_modes.specs.Mode.{are_compatible, is_at_least}
 use Rattle.sect_modes.specs.Key.{is_same_key}
 use Rattle.sect_table.specs.declared.claims.Claim.{Claim}
 use Rattle.sect_table.specs.declared.claims.Hold.{Hold}
-use Rattle.sect_table.specs.Contents.{is_among, mode_in, mode_for, may_join, stay, AreApart}
+use Rattle.sect_table.specs.Contents.{is_among, mode_in, mode_for, may_join, first_of, stay, AreApart}
 use Rattle.sect_table.specs.Sound.{SharesWith, AreTogether, AreKeysApart, claims_by, one_if, AreThreadsBelow}
 use Rattle.sect_table.proofs.shared.Shown.{same_key, key_itself}
 use Rattle.sect_lemmas.proofs.Booleans.{neither}
@@ -45,6 +45,27 @@ together_push (h ∷ hs) w t e j =
       shares_push h.mode w hs t.0 (compatible_other h.thread w.thread (are_compatible h.mode w.mode) both.0 off.0),
       together_push hs w t.1 off.1 both.1,
     )
+
+-- what shares with a mode shares with each weaker one
+weaker_shares : (a b c : Mode) → is_at_least a b ≡ true → are_compatible a c ≡ true → are_compatible c b ≡ true
+weaker_shares a b c least shares = grind (arith, least, shares)
+
+and_true : (b : Bool) → (b && true) ≡ b
+and_true true = refl
+and_true false = refl
+
+weaker_join : (a b : Mode) (t : ℕ) (cs : List Claim) → is_at_least a b ≡ true → SharesWith a cs → may_join cs t b ≡ true
+weaker_join a b t [] least s = refl
+weaker_join a b t (c ∷ cs) least s = rw (weaker_shares a b c.mode least s.0, weaker_join a b t cs least s.1)
+    (and_true ((c.thread == t) || true) ∙ or_right (c.thread == t) true refl)
+
+-- a first claim that is at least as strong decides for all
+pub first_decides : (hs : List Claim) (c : Claim) (t : ℕ) (m : Mode) → AreTogether hs → Some c ≡ first_of hs
+    → is_at_least c.mode m ≡ true → ((c.thread == t) || are_compatible c.mode m) ≡ may_join hs t m
+first_decides [] c t m together is least = absurd (let none : Some c ≡ None = is in cc)
+first_decides (h ∷ hs) c t m together is least = let same : c ≡ h = cc in
+    rw (same, weaker_join h.mode m t hs (subst (λ (z : Claim). is_at_least z.mode m ≡ true) same least) together.0)
+    (sym (and_true ((h.thread == t) || are_compatible h.mode m)))
 
 shares_stay : (m : Mode) (t : ℕ) (xs : List Claim) → SharesWith m xs → SharesWith m (stay t xs)
 shares_stay m t [] s = tt

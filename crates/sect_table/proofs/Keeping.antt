@@ -10,7 +10,8 @@ use Rattle.sect_table.specs.declared.claims.Hold.{Hold}
 use Rattle.sect_table.specs.Contents.{Entry, Contents, number_of, entry_of, no_entry, put, held_by, is_among}
 use Rattle.sect_table.specs.Contents.{is_waiting, is_free, holds, mode_in, mode_for, may_join, first_of, give}
 use Rattle.sect_table.specs.Contents.{claim_of, with_holder, with_waiter, IsEmptyFor}
-use Rattle.sect_table.specs.Sound.{IsFirstBlocked, AreKeysApart, AreEntriesApart, waits_of, IsSound, IsKept}
+use Rattle.sect_table.specs.Sound.{AreTogether, IsFirstBlocked, AreKeysApart, AreEntriesApart, waits_of, IsSound}
+use Rattle.sect_table.specs.Sound.{IsKept}
 use Rattle.sect_table.specs.declared.claims.Answer.{Answer}
 use Rattle.sect_table.specs.declared.claims.Answer.TheVariants.{Granted, Queued}
 use Rattle.sect_table.specs.Answers.{IsAnswered}
@@ -151,6 +152,11 @@ prepared_put f k es es1 keyed is =
     ap (λ z. put (f (entry_of k z)) z) is
     ∙ (ap (λ z. put (f z) (put (entry_of k es) es)) (prepared k es)
     ∙ put-put (f (entry_of k es)) (entry_of k es) es (keyed (entry_of k es)))
+
+pub prepared_together : (k : Key) (es es1 : List Entry) → es1 ≡ put (entry_of k es) es
+    → AreTogether (entry_of k es).holders → AreTogether (entry_of k es1).holders
+prepared_together k es es1 is = subst (λ (z : Entry). AreTogether z.holders)
+    (sym (ap (entry_of k) is ∙ prepared k es))
 
 pub prepared_answer : (a : Answer) (t : ℕ) (k : Key) (m : Mode) (c c1 c2 : Contents) → c1.held ≡ c.held
     → c1.entries ≡ put (entry_of k c.entries) c.entries → IsAnswered a t k m c1 c2 → IsAnswered a t k m c c2

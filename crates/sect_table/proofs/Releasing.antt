@@ -121,6 +121,12 @@ next_hold : (hs : List Hold) (h : Hold) → first_hold hs ≡ Some h → (rest :
 next_hold [] h is = absurd (let none : None ≡ Some h = is in cc)
 next_hold (g ∷ gs) h is = (gs, let same : g ≡ h = (cc) in ap (λ z. z ∷ gs) same)
 
+pub first_some : (hs : List Hold) (h : Hold) → first_hold hs ≡ Some h → 0 < length hs
+first_some hs h is =
+    let found = next_hold hs h is in
+    let n : length hs ≡ suc (length found.0) = ap length found.1 in
+    omega arith
+
 pub first_known : (c : Contents) (t : ℕ) (h : Hold) → IsSound c → first_hold (held_by c t) ≡ Some h
     → number_of h.key c.entries < length c.entries
 first_known c t h s first =

@@ -1,18 +1,19 @@
 -- Where the nodes of an arena stand.
 use Rattle.std.proofs.Common.{◌≡◌, ◌≢◌, inl, inr, ℕ, zero, suc, ◌+◌, ◌<◌, List, [], ◌∷◌, length, get_or, set, Bool}
-use Rattle.std.proofs.Common.{true, false, None, refl, sym, ◌∙◌, ap, subst, arith, get_or-set_same, get_or-set_other}
+use Rattle.std.proofs.Common.{true, false, None, Some, refl, sym, ◌∙◌, ap, subst, arith, get_or-set_same, get_or-set_other}
 use Rattle.std.specs.Prelude.{◌==◌, ◌||◌, is_some}
 use Rattle.std.specs.List.{list_any}
 use Rattle.std.proofs.lemmas.Bool.{cases_eq, eq-eqb}
 use Rattle.sect_modes.specs.declared.key.Key.{Key}
 use Rattle.sect_table.specs.declared.claims.Claim.{Claim}
 use Rattle.sect_table.specs.declared.claims.Grant.{Grant}
-use Rattle.sect_table.specs.Contents.{Contents, is_among, is_waiting}
+use Rattle.sect_table.specs.declared.claims.Hold.{Hold}
+use Rattle.sect_table.specs.Contents.{Contents, is_among, is_waiting, number_of, held_by, first_hold, hold_of}
 use Rattle.sect_table.specs.steps.Keys.{place_in}
 use Rattle.sect_table.specs.steps.Links.{Shape, head_or, list_at, label_at, Each, Among, ArePlaced}
-use Rattle.sect_table.specs.steps.Arena.{node_at, claims, queue_at, entries_from, shown, HasRole, IsArena}
+use Rattle.sect_table.specs.steps.Arena.{node_at, claims, holds_at, queue_at, entries_from, shown, HasRole, IsArena}
 use Rattle.sect_table.proofs.Runs.{each_map}
-use Rattle.sect_table.proofs.Shown.{seen}
+use Rattle.sect_table.proofs.Shown.{seen, chain-seen, uncons}
 
 -- a move of one node to lists that fit its request
 pub arena_moved : (nodes : List Grant) (keys : List Key) (threads : ℕ) (q c q' c' : Shape) (x l m : ℕ)
@@ -114,6 +115,36 @@ holding_role nodes keys threads q c t x a lt label = elim (a.roles x lt) [
         absurd (omega arith)
   ]
 ]
+
+-- the first node of a thread's list has the label of its key's holders
+pub record FirstHeld (nodes : List Grant) (q : Shape) (now : Contents) (t x : ℕ) : Type 0 where
+  pub within : x < q.size
+  pub label : label_at q x ≡ number_of (node_at nodes x).key now.entries
+      + number_of (node_at nodes x).key now.entries + 1
+  pub number : (h : Hold) → first_hold (held_by now t) ≡ Some h
+      → number_of (node_at nodes x).key now.entries ≡ number_of h.key now.entries
+
+pub first_of_thread : (nodes : List Grant) (keys : List Key) (threads : ℕ) (q c : Shape) (now : Contents) (t x : ℕ)
+    → IsArena nodes keys threads q c → shown nodes keys threads q c ≡ now → t < length now.held
+    → head_or (list_at c.lists (t + t + 1)) None ≡ Some x → FirstHeld nodes q now t x
+first_of_thread nodes keys threads q c now t x a is lt first =
+    let s = seen nodes keys threads q c now a is in
+    let n = s.chains in
+    let found = uncons (list_at c.lists (t + t + 1)) x first in
+    let placed = labelled_first c (t + t + 1) x found.0 a.in_chains (omega arith) found.1 in
+    let below : x < q.size = (let same = a.chained in let less = placed.0 in omega arith) in
+    let role = holding_role nodes keys threads q c t x a below placed.1 in
+    let numbered : place_in (node_at nodes x).key keys ≡ number_of (node_at nodes x).key now.entries =
+    s.numbers (node_at nodes x).key in
+    record {
+      within = below;
+      label = rw (← numbered) role.label;
+      number = λ h held. (let first_here : Some (hold_of (node_at nodes x).key (node_at nodes x).mode) ≡ Some h =
+          sym (ap (λ z. first_hold (holds_at nodes z)) found.1)
+          ∙ (sym (ap first_hold (chain-seen nodes keys threads q c now t a is lt)) ∙ held) in
+          let same : hold_of (node_at nodes x).key (node_at nodes x).mode ≡ h = cc in
+          ap (λ (z : Hold). number_of z.key now.entries) same);
+    }
 
 -- a free node
 pub free_role : (nodes : List Grant) (keys : List Key) (threads : ℕ) (q c : Shape) (x : ℕ)

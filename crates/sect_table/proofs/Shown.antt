@@ -225,6 +225,10 @@ pub claimed_first : (nodes : List Grant) (xs : List ℕ) → 0 < length (claims 
 claimed_first nodes [] some = absurd (omega arith)
 claimed_first nodes (x ∷ xs) some = search rules
 
+pub held_first : (nodes : List Grant) (xs : List ℕ) → 0 < length (holds_at nodes xs) → IsSome (head_or xs None)
+held_first nodes [] some = absurd (omega arith)
+held_first nodes (x ∷ xs) some = search rules
+
 pub held_key : (nodes : List Grant) (xs : List ℕ) (key : Key)
     → option_map (λ (h : Hold). h.key) (first_hold (holds_at nodes xs)) ≡ Some key
     → (x : ℕ) × (rest : List ℕ) × (xs ≡ x ∷ rest) × ((node_at nodes x).key ≡ key)

@@ -5,16 +5,18 @@ ghost use Rattle.std.specs.Prelude.{OnOk, OnErr, IfOk, IsOk, Some, vec_len, vec_
 ghost use Rattle.sect_modes.specs.Mode.{are_compatible};
 ghost use Rattle.sect_table.specs.Contents.{number_of, entry_of, no_entry, put, is_waiting, may_join, mode_for};
 ghost use Rattle.sect_table.specs.Contents.{held_by, first_of, first_hold, claim_of, give, with_holder, with_waiter};
-ghost use Rattle.sect_table.specs.Contents.{with_grant, without_holder, AreApart, IsEmptyFor};
+ghost use Rattle.sect_table.specs.Contents.{with_grant, without_holder, AreApart, IsEmptyFor, mode_in};
+ghost use Rattle.sect_table.specs.Sound.{AreTogether};
+ghost use Rattle.sect_table.specs.declared.claims.Hold.{Hold as AHold};
 ghost use Rattle.std.specs.Option.{option_map};
-ghost use Rattle.sect_table.specs.steps.Arena.{queue_at, no_node, SameLists, NumberAdded};
+ghost use Rattle.sect_table.specs.steps.Arena.{queue_at, chain_at, no_node, SameLists, NumberAdded};
 ghost use Rattle.sect_table.specs.steps.Keys.{place_in};
 ghost use Rattle.sect_table.specs.steps.Links.{ArePlaced};
 
 use crate::claims::{Claim, Grant, Hold};
 use crate::keys::Keys;
 use crate::lists::Lists;
-use sect_modes::{Key, Mode, compatible};
+use sect_modes::{Key, Mode, at_least, compatible, is_same};
 use std::alloc::{AllocError, Global};
 use std::marker::Model;
 
@@ -211,6 +213,18 @@ impl Arena {
         })
     }
 
+    /// The number of the key that a thread has held for the longest time.
+    pub fn first_number(&self, thread: u16) -> usize
+        requires thread { thread < length self.now.held }
+        requires some { 0 < length (held_by self.now thread) }
+        ensures { (h : AHold) → first_hold (held_by self.now thread) ≡ Some h
+            → result ≡ number_of h.key self.now.entries }
+    {
+        let list = thread as usize + thread as usize + 1;
+        let node = self.chains.first(list).unwrap();
+        (self.queues.list_of(node) - 1) / 2
+    }
+
     /// Whether each other holder of a key lets a thread join in a mode.
     #[tactic(auto, using(crate::proofs::Shown::key_lists))]
     pub fn lets_in(&self, thread: u16, mode: Mode, key: Key, at: usize) -> bool
@@ -219,6 +233,52 @@ impl Arena {
         ensures { result ≡ may_join (entry_of key self.now.entries).holders thread mode }
     {
         all_let_in(&self.nodes, &self.queues, at + at + 1, thread, mode)
+    }
+
+    /// Who has held a key for the longest time.
+    #[tactic(auto, using(crate::proofs::Shown::key_lists))]
+    fn first_holder(&self, key: Key, at: usize) -> Option<Grant>
+        requires number { at ≡ number_of key self.now.entries }
+        requires known { at < length self.now.entries }
+        ensures { option_map (λ g. claim_of g.thread g.mode) result
+            ≡ first_of (entry_of key self.now.entries).holders }
+    {
+        let node = self.queues.first(at + at + 1)?;
+        Some(self.nodes[node])
+    }
+
+    /// Whether each other holder of a key lets a thread join in a mode, where the holders share it pairwise. A first
+    /// holder whose mode is at least that one decides for all: with a weaker mode the others share too.
+    pub fn admits(&self, thread: u16, mode: Mode, key: Key, at: usize) -> bool
+        requires number { at ≡ number_of key self.now.entries }
+        requires known { at < length self.now.entries }
+        requires together { AreTogether (entry_of key self.now.entries).holders }
+        ensures { result ≡ may_join (entry_of key self.now.entries).holders thread mode }
+    {
+        let Some(first) = self.first_holder(key, at) else {
+            return true;
+        };
+        if at_least(first.mode, mode) {
+            return lets(first, thread, mode);
+        }
+        self.lets_in(thread, mode, key, at)
+    }
+
+    /// How many keys a thread holds.
+    pub fn held_count(&self, thread: u16) -> usize
+        requires { thread < length self.now.held }
+        ensures { result ≡ length (held_by self.now thread) }
+    {
+        self.chains.len(thread as usize + thread as usize + 1)
+    }
+
+    /// The mode in which a key is among those that a thread holds.
+    pub fn held_mode(&self, thread: u16, key: Key) -> Option<Mode>
+        requires { thread < length self.now.held }
+        ensures { result ≡ mode_in key (held_by self.now thread) }
+    {
+        let list = thread as usize + thread as usize + 1;
+        mode_along(&self.nodes, &self.chains, list, key)
     }
 
     /// The mode in which a thread is among the holders of a key.
@@ -412,6 +472,23 @@ fn mode_among(nodes: &[Grant], queues: &Lists, list: usize, thread: u16) -> Opti
             return Some(nodes[node].mode);
         }
         at = queues.after(node);
+    }
+    None
+}
+
+/// The mode in which a list has a key.
+fn mode_along(nodes: &[Grant], chains: &Lists, list: usize, key: Key) -> Option<Mode>
+    requires list { list < length chains.now.lists }
+    requires nodes { length nodes.now ≡ chains.now.size }
+    ensures { result ≡ mode_in key (chain_at nodes.now chains.now.lists list) }
+{
+    let mut at = chains.first(list);
+    for step in 0..chains.len(list) {
+        let node = at?;
+        if is_same(nodes[node].key, key) {
+            return Some(nodes[node].mode);
+        }
+        at = chains.after(node);
     }
     None
 }

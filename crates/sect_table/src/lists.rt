@@ -2,7 +2,7 @@
 
 ghost use Rattle.std.specs.Prelude.{◌≡◌, ◌<◌, ◌+◌, ◌++◌, ◌∷◌, [], ◌^◌, length, slice_set, OnOk, OnErr, IfSome, ℕ, List};
 ghost use Rattle.std.specs.Prelude.{None};
-ghost use Rattle.sect_table.specs.steps.Links.{list_at, head_or, ArePlaced, Goes};
+ghost use Rattle.sect_table.specs.steps.Links.{list_at, label_at, head_or, ArePlaced, Goes};
 
 use crate::links::{Ends, Link, append, detach};
 use std::alloc::{AllocError, Global};
@@ -63,6 +63,14 @@ impl Lists {
             list_at self.now.lists l ≡ before ++ node ∷ later → result ≡ head_or later None }
     {
         self.links[node].next
+    }
+
+    /// The list in which a number stands.
+    pub fn list_of(&self, node: usize) -> usize
+        requires { node < self.now.size }
+        ensures { result ≡ label_at self.now node }
+    {
+        self.links[node].list
     }
 
     /// How many numbers stand in a list.

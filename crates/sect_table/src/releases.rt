@@ -54,7 +54,7 @@ pub(crate) fn release_all(arena: &mut Arena, grants: &mut Vec<Grant>, thread: u1
 {
     grants.clear();
     while let Some(hold) = arena.first_held(thread) {
-        let at = arena.number_of(hold.key);
+        let at = arena.first_number(thread);
         arena.release_first(thread, hold.key, at);
         let_in(arena, grants, hold.key, at);
     }

@@ -6,19 +6,27 @@ ghost use Rattle.sect_table.specs.declared.claims.Answer.TheVariants.{Granted};
 ghost use Rattle.sect_table.specs.declared.claims.TableFault.TheVariants.{Memory};
 ghost use Rattle.sect_table.specs.Contents.{number_of, entry_of, mode_in, held_by, holds, is_free, first_of};
 ghost use Rattle.sect_table.specs.Answers.{IsAnswered, IsAdmitted, IsRefused};
-ghost use Rattle.sect_table.specs.Sound.{IsKept};
+ghost use Rattle.sect_table.specs.Sound.{AreTogether, IsKept};
 
 use crate::arena::Arena;
 use crate::claims::{Answer, Claim, TableFault};
 use sect_modes::{Key, Mode};
 use std::alloc::AllocError;
 
+/// The most keys of a thread among which one is sought. Where it holds more, its mode is sought among those of the key.
+const FEW: usize = 16;
+
 /// The mode in which a thread holds a key.
 pub(crate) fn held(arena: &Arena, thread: u16, key: Key) -> Option<Mode>
-    requires { IsKept arena.now }
+    requires thread { thread < length arena.now.held }
+    requires kept { IsKept arena.now }
     ensures { result ≡ mode_in key (held_by arena.now thread) }
 {
-    held_at(arena, thread, key, arena.number_of(key))
+    if arena.held_count(thread) <= FEW {
+        arena.held_mode(thread, key)
+    } else {
+        held_at(arena, thread, key, arena.number_of(key))
+    }
 }
 
 /// The mode in which a thread holds the key of this number.
@@ -48,9 +56,10 @@ pub(crate) fn first_waiter(arena: &Arena, key: Key) -> Option<Claim>
 fn is_free_for(arena: &Arena, thread: u16, mode: Mode, key: Key, at: usize) -> bool
     requires number { at ≡ number_of key arena.now.entries }
     requires known { at < length arena.now.entries }
+    requires together { AreTogether (entry_of key arena.now.entries).holders }
     ensures { result ≡ is_free thread key mode arena.now }
 {
-    arena.first_waiter(key, at).is_none() && arena.lets_in(thread, mode, key, at)
+    arena.first_waiter(key, at).is_none() && arena.admits(thread, mode, key, at)
 }
 
 /// Grants the key or queues for it.
@@ -58,6 +67,7 @@ fn enter(arena: &mut Arena, thread: u16, mode: Mode, key: Key, at: usize) -> Ans
     requires thread { thread < length arena.old.held }
     requires number { at ≡ number_of key arena.old.entries }
     requires known { at < length arena.old.entries }
+    requires together { AreTogether (entry_of key arena.old.entries).holders }
     requires spare { 0 < arena.old.spare }
     ensures answer { IsAnswered result thread key mode arena.old arena.new }
     ensures spare { arena.new.spare + 1 ≡ arena.old.spare }
@@ -92,7 +102,7 @@ pub(crate) fn request(
         return Err(TableFault::AlreadyWaiting);
     }
     let at = arena.number_of(key);
-    if held_at(arena, thread, key, at).is_some() {
+    if held(arena, thread, key).is_some() {
         return Err(TableFault::AlreadyHeld);
     }
     arena.prepare(key, at)?;

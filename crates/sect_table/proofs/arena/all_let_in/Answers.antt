@@ -10,7 +10,7 @@ loop-step-preserved c =
       c.after-at.ensures.next c.args.list _ _ c.requires.list
           (split_here xs c.loop-step.step _ _ inv.0 c.in-Some.is),
       c.after-at.ensures.within,
-      join_step xs c.loop-step.step _ _ inv.0 c.in-Some.is c.args.nodes.now _ c.args.thread _ inv.1 c.requires.nodes
-          c.args.mode (sym c.lets.ensures ∙ c.if-not-lets.false)
+      join_step xs c.loop-step.step _ _ inv.0 c.in-Some.is c.args.nodes.now _ _ inv.1 c.requires.nodes
+          c.args.thread c.args.mode (sym c.lets.ensures ∙ c.if-not-lets.false)
           ∙ inv.2,
     )

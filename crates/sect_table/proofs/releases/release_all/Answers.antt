@@ -1,7 +1,8 @@
 use Rattle.std.proofs.Common.{rules, arith, ◌≡◌, ◌<◌, length, vec_len, sym, ◌∙◌, refl}
 use Rattle.sect_table.specs.Contents.{held_by}
 use Rattle.sect_table.specs.steps.Letting.{Releasing}
-use Rattle.sect_table.proofs.Releasing.{releasing_first, first_known, first_apart, FirstOut, first_out, releasing_on}
+use Rattle.sect_table.proofs.Releasing.{releasing_first, first_some, first_known, first_apart, FirstOut, first_out}
+use Rattle.sect_table.proofs.Releasing.{releasing_on}
 use Rattle.sect_table.proofs.releases.release_all.Goals as goal
 
 pub loop-hold-init : goal.loop-hold-init
@@ -12,11 +13,15 @@ loop-hold-init c =
       capacity = refl;
     }
 
+pub first_number-at-requires-clause-some : goal.first_number-at-requires-clause-some
+first_number-at-requires-clause-some c =
+    first_some (held_by c.loop-hold.arena c.args.thread) c.in-Some.hold (sym c.in-Some.ensures)
+
 pub release_first-requires-clause-known : goal.release_first-requires-clause-known
 release_first-requires-clause-known c =
     let lt = first_known c.loop-hold.arena c.args.thread c.in-Some.hold c.loop-hold.invariant.releasing.sound
     (sym c.in-Some.ensures) in
-    let number = c.number_of-at.ensures.number in
+    let number = c.first_number-at.ensures c.in-Some.hold (sym c.in-Some.ensures) in
     omega arith
 
 pub release_first-requires-clause-apart : goal.release_first-requires-clause-apart
@@ -36,13 +41,13 @@ pub let_in-requires-clause-sound : goal.let_in-requires-clause-sound
 let_in-requires-clause-sound c = (out c).sound
 
 pub let_in-requires-clause-number : goal.let_in-requires-clause-number
-let_in-requires-clause-number c = c.number_of-at.ensures.number ∙ sym (out c).number
+let_in-requires-clause-number c = c.first_number-at.ensures c.in-Some.hold (sym c.in-Some.ensures) ∙ sym (out c).number
 
 pub let_in-requires-clause-known : goal.let_in-requires-clause-known
 let_in-requires-clause-known c =
     let lt = first_known c.loop-hold.arena c.args.thread c.in-Some.hold c.loop-hold.invariant.releasing.sound
     (sym c.in-Some.ensures) in
-    let number = c.number_of-at.ensures.number in
+    let number = c.first_number-at.ensures c.in-Some.hold (sym c.in-Some.ensures) in
     let count = (out c).count in
     omega arith
 

@@ -1,7 +1,12 @@
 use Rattle.std.proofs.Common.{ap, sym, ◌∙◌}
 use Rattle.std.specs.Prelude.{is_some}
-use Rattle.sect_table.proofs.Keeping.{prepared_answer, answer_kept}
+use Rattle.sect_table.proofs.Keeping.{prepared_answer, prepared_together, answer_kept}
 use Rattle.sect_table.proofs.requests.request.Goals as goal
+
+pub enter-requires-clause-together : goal.enter-requires-clause-together
+enter-requires-clause-together c =
+    prepared_together c.args.key c.args.arena.now.entries c.prepare.new.self.entries c.in_ok-prepare.ensures.entries
+    (c.requires.kept.sound.together c.args.key)
 
 pub returns-clause-ok : goal.returns-clause-ok
 returns-clause-ok c = prepared_answer c.enter.result c.args.thread c.args.key c.args.mode c.args.arena.now
@@ -12,4 +17,4 @@ returns-clause-kept c =
     answer_kept c.enter.result c.args.thread c.args.key c.args.mode c.args.arena.now c.enter.new.arena c.requires.kept
     c.requires.thread
     (sym c.waits.ensures ∙ c.if-waits.false)
-    (ap is_some (sym c.held_at.ensures) ∙ (sym c.is_some.ensures ∙ c.if-is_some.false)) (returns-clause-ok c)
+    (ap is_some (sym c.held.ensures) ∙ (sym c.is_some.ensures ∙ c.if-is_some.false)) (returns-clause-ok c)

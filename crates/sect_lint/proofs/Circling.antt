@@ -10,9 +10,9 @@ use Rattle.std.proofs.lemmas.Option.{get_or_from_slice_get, slice_get_within}
 use Rattle.sect_lemmas.specs.Lists.{Has}
 use Rattle.sect_lemmas.proofs.Options.{none_or_some, some_injective}
 use Rattle.sect_lemmas.proofs.Places.{at_of}
-use Rattle.sect_places.specs.Declarations.{is_called, is_procedure}
+use Rattle.sect_places.specs.Declarations.{is_call, is_called, is_procedure}
 use Rattle.sect_places.specs.declared.name_use.NameSpan.{NameSpan}
-use Rattle.sect_lint.specs.Calls.{is_call, is_call_in, Leads}
+use Rattle.sect_lint.specs.Calls.{is_call_in, Leads}
 use Rattle.sect_lint.specs.declared.circle.Link.{Link}
 use Rattle.sect_lint.specs.steps.Linked.{AreLinks, AreBelow}
 

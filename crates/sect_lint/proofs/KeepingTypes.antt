@@ -9,7 +9,8 @@ use Rattle.sect_front.specs.declared.tree.Declaration.{Declaration}
 use Rattle.sect_front.specs.declared.tree.Procedure.{Procedure}
 use Rattle.sect_places.specs.declared.name_use.NameSpan.{NameSpan}
 use Rattle.sect_places.specs.Declarations.{is_global, procedure_of}
-use Rattle.sect_places.specs.Mattering.{mattering}
+use Rattle.sect_places.specs.Mattering.{wanted}
+use Rattle.sect_places.specs.declared.wish.Wish.TheVariants as wish
 use Rattle.sect_lint.specs.declared.diagnostic.Shape.{Shape}
 use Rattle.sect_lint.specs.declared.diagnostic.Shape.TheVariants as shape
 use Rattle.sect_lint.specs.declared.diagnostic.Detail.{Detail}
@@ -34,7 +35,7 @@ shape_in_same : (f g : Token → Option Shape) → ((t : Token) → f t ≡ g t)
 shape_in_same f g each None = refl
 shape_in_same f g each (Some t) = each t
 
-module _ (item : ℕ) (names some : List NameSpan) (are : some ≡ mattering item names) where
+module _ (item : ℕ) (names some : List NameSpan) (are : some ≡ wanted (wish.Mattering item) names) where
   shape_same : (d : NameSpan) → shape_of some d ≡ shape_of names d
   shape_same d = ap named_shape (type_named_same item names some are d.used.item)
 
@@ -44,7 +45,8 @@ module _ (item : ℕ) (names some : List NameSpan) (are : some ≡ mattering ite
 
   variable_in_same : (x : List ℕ) → variable_in some item x ≡ variable_in names item x
   variable_in_same x =
-      ap (variable_beside some x) (found_same item names some are (is_in item) (own_matter item names some are))
+      ap (variable_beside some x)
+      (found_same (wish.Mattering item) names some are (is_in item) (own_matter item names some are))
       ∙ beside_same x (found names (position (is_in item) names))
 
   declared_shape_same : (d : Option NameSpan) → declared_shape some d ≡ declared_shape names d

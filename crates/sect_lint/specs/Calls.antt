@@ -1,20 +1,13 @@
 -- The calls of a text, and those that lead back.
-use Rattle.std.specs.Prelude.{◌≡◌, ◌&&◌, ℕ, Bool, true, false, List, [], ◌∷◌, Option, map, nat_eq, option_map}
+use Rattle.std.specs.Prelude.{◌≡◌, ◌&&◌, ℕ, Bool, true, List, [], ◌∷◌, Option, map, nat_eq, option_map}
 use Rattle.sect_lemmas.specs.Lists.{Has}
-use Rattle.sect_places.specs.Declarations.{is_called, is_procedure, procedure_of}
+use Rattle.sect_places.specs.Declarations.{is_call, is_called, is_procedure, procedure_of}
 use Rattle.sect_places.specs.declared.name_use.NameSpan.{NameSpan}
-use Rattle.sect_places.specs.declared.name_use.Role.{Role}
-use Rattle.sect_places.specs.declared.name_use.Role.TheVariants as role
 use Rattle.sect_lint.specs.Naming.{found}
 use Rattle.sect_lint.specs.declared.diagnostic.Detail.{Detail}
 use Rattle.sect_lint.specs.declared.diagnostic.Detail.TheVariants as detail
 
--- the name is that of a procedure which is called there
-abbrev pub is_call : Role → Bool
-is_call role.Procedure = true
-is_call _ = false
-
--- and stands in the thread or procedure that is this item
+-- the name is that of a procedure which is called in the thread or procedure that is this item
 abbrev pub is_call_in : ℕ → NameSpan → Bool
 is_call_in scope n = nat_eq n.used.scope scope && is_call n.used.role
 

@@ -7,7 +7,8 @@ use Rattle.sect_places.specs.declared.name_use.Thing.{Thing}
 use Rattle.sect_places.specs.declared.name_use.Thing.TheVariants as thing
 use Rattle.sect_places.specs.declared.name_use.Role.{Role}
 use Rattle.sect_places.specs.declared.name_use.Role.TheVariants as role
-use Rattle.sect_places.specs.Declarations.{is_record, is_field, is_global, is_procedure, is_thread, is_local}
+use Rattle.sect_places.specs.Declarations.{is_declaration, is_record, is_field, is_global, is_procedure, is_thread}
+use Rattle.sect_places.specs.Declarations.{is_local}
 use Rattle.sect_places.specs.Declarations.{record_of, global_of, procedure_of, field_of, variable_of, type_in, base_in}
 use Rattle.sect_lint.specs.declared.diagnostic.Detail.{Detail}
 use Rattle.sect_lint.specs.declared.diagnostic.Detail.TheVariants as detail
@@ -106,10 +107,6 @@ abbrev pub is_earlier : NameSpan → NameSpan → Bool
 is_earlier d n =
     nat_lt n.used.item d.used.item && (pointwise nat_eq n.used.name d.used.name
     && clashes_by d.used.role n.used.role (nat_eq n.used.scope d.used.scope))
-
-abbrev pub is_declaration : Role → Bool
-is_declaration (role.Declared what) = true
-is_declaration _ = false
 
 abbrev pub is_declared_in : ℕ → NameSpan → Bool
 is_declared_in item n = nat_eq n.used.item item && is_declaration n.used.role

@@ -3,3 +3,4 @@ pub mod Laid
 pub mod Linked
 pub mod Spare
 pub mod Plain
+pub mod Wishes

@@ -1,11 +1,11 @@
 //! Calls that lead back.
 
-ghost use Rattle.std.specs.Prelude.{◌≡◌, ◌<◌, ◌&&◌, ◌⊎◌, ℕ, IfOk, IfSome, Some, length, filter, map, position};
-ghost use Rattle.std.specs.Prelude.{nat_eq, slice_get};
+ghost use Rattle.std.specs.Prelude.{◌≡◌, ◌<◌, ◌&&◌, ◌⊎◌, ◌++◌, ◌∷◌, [], ℕ, IfOk, OnOk, IfSome, Some, length, filter};
+ghost use Rattle.std.specs.Prelude.{map, position, nat_eq, slice_get};
 ghost use Rattle.sect_lemmas.specs.Lists.{Has};
-ghost use Rattle.sect_places.specs.Declarations.{is_procedure, is_called};
+ghost use Rattle.sect_places.specs.Declarations.{is_procedure, is_call, is_called};
 ghost use Rattle.sect_places.specs.declared.name_use.NameSpan.{NameSpan as ANameSpan};
-ghost use Rattle.sect_lint.specs.Calls.{is_call, is_call_in as call_in, procedure_item as procedure_by, IsCircle};
+ghost use Rattle.sect_lint.specs.Calls.{is_call_in as call_in, procedure_item as procedure_by, IsCircle};
 ghost use Rattle.sect_lint.specs.Calls.{IsCircleTold};
 ghost use Rattle.sect_lint.specs.declared.circle.Link.{Link as ALink};
 ghost use Rattle.sect_lint.specs.steps.Linked.{IsLink, AreLinks, AreBelow, AreNext};
@@ -103,7 +103,61 @@ fn link_of(declared: &[NameSpan], call: &NameSpan) -> Option<Link>
     })
 }
 
-/// All calls of procedures in procedures.
+/// Calls of procedures in procedures: of those that follow in one and call the same procedure, the first alone, as the
+/// others lead on from it no sooner.
+#[derive(Drop)]
+struct Links {
+    all: Vec<Link>,
+    /// The procedure in which the last one stands.
+    caller: usize,
+    /// Which procedures are called in it.
+    called: Vec<bool>,
+}
+
+impl Links {
+    /// None, between so many procedures.
+    fn new(alloc: Global, count: usize) -> Result<Links, AllocError>
+        ensures { IfOk result (λ links. (links.all.items ≡ []) × (length links.called.items ≡ count)) }
+    {
+        Ok(Links {
+            all: Vec::new(alloc),
+            caller: 0,
+            called: vec![in alloc; false; count]?,
+        })
+    }
+
+    /// Notes the procedure in which a call stands.
+    fn enter(&mut self, alloc: Global, caller: usize) -> Result<(), AllocError>
+        ensures many { length self.new.called.items ≡ length self.old.called.items }
+        ensures all { self.new.all.items ≡ self.old.all.items }
+    {
+        if caller != self.caller {
+            let count = self.called.len();
+            self.called = vec![in alloc; false; count]?;
+            self.caller = caller;
+        }
+        Ok(())
+    }
+
+    /// Adds a call.
+    fn add(&mut self, alloc: Global, link: Link) -> Result<(), AllocError>
+        requires { link.to < length self.old.called.items }
+        ensures many { length self.new.called.items ≡ length self.old.called.items }
+        ensures all { OnOk result ((self.new.all.items ≡ self.old.all.items)
+            ⊎ (self.new.all.items ≡ self.old.all.items ++ link ∷ [])) }
+    {
+        self.enter(alloc, link.from)?;
+        let to = link.to;
+        let known = self.called[to];
+        if !known {
+            self.all.push(link)?;
+            self.called[to] = true;
+        }
+        Ok(())
+    }
+}
+
+/// Calls of procedures in procedures: by all that there are they lead from one to another.
 fn links_of(
     alloc: Global,
     names: &[NameSpan],
@@ -111,13 +165,13 @@ fn links_of(
 ) -> Result<Vec<Link>, AllocError>
     ensures { IfOk result (λ links. AreLinks names.now declared.now links.items) }
 {
-    let mut links = Vec::new(alloc);
+    let mut links = Links::new(alloc, declared.len())?;
     for named in names {
         if let Some(link) = link_of(declared, named) {
-            links.push(link)?;
+            links.add(alloc, link)?;
         }
     }
-    Ok(links)
+    Ok(links.all)
 }
 
 /// Notes that a procedure goes on by a call, where the last one can be reached so and no other call is noted; and tells

@@ -27,6 +27,7 @@ use crate::limit::Limit;
 use crate::mistake::Mistake;
 use crate::naming::{declared_at, earlier_detail, found, unknown_name};
 use crate::plain::{is_plain, plain_detail};
+use crate::wishes::wish_of;
 use sect_front::{
     FrontFault, GappedText, PlacedFault, Span, Token, Tree, innermost_brace, parse_gapped,
 };
@@ -178,7 +179,8 @@ fn named_diagnostic(
     let Mistyped { fault, tree } = mistyped;
     let culprit = Culprit::of_types(fault);
     let item = culprit.item(tree)?;
-    let told = told_by(alloc, text, tree, item)?;
+    let wish = wish_of(alloc, tree, item, fault)?;
+    let told = told_by(alloc, text, tree, item, wish)?;
     let whole = item_span(&told.words, mistake);
     let names = told.names.as_slice();
     let span = marked_span(names, fault, whole);

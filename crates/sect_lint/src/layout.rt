@@ -5,7 +5,7 @@ ghost use Rattle.sect_front.specs.Front.{IsSpelled};
 ghost use Rattle.sect_front.specs.FaultPlaces.{IsWithin};
 ghost use Rattle.sect_front.specs.LongGaps.{AreGaps};
 ghost use Rattle.sect_types.specs.Items.{items};
-ghost use Rattle.sect_places.specs.Mattering.{mattering};
+ghost use Rattle.sect_places.specs.Mattering.{wanted};
 ghost use Rattle.sect_places.specs.NameSpans.{AreNameSpans};
 ghost use Rattle.sect_places.specs.Ranges.{range};
 ghost use Rattle.sect_places.specs.Spans.{AreInOrder, span_in};
@@ -17,7 +17,7 @@ use crate::culprit::marked_range;
 use crate::mistake::Mistake;
 use sect_front::{GappedText, Span, Token, Tree};
 use sect_places::{
-    ItemWords, NameSpan, TokenRange, item_range, item_words, range_span, range_words,
+    ItemWords, NameSpan, TokenRange, Wish, item_range, item_words, range_span, range_words,
 };
 use std::alloc::{AllocError, Global};
 
@@ -48,27 +48,28 @@ pub fn words_of(
 /// What a text tells of an item of its tree.
 #[derive(Drop)]
 pub struct Told {
-    /// The names that matter to it.
+    /// Those of its names that are wanted.
     pub names: Vec<NameSpan>,
     pub words: Words,
 }
 
-/// The names of a tree that the text spells which matter to an item, and the tokens of the item.
+/// The names that are wanted of a tree that the text spells, and the tokens of an item.
 pub fn told_by(
     alloc: Global,
     text: GappedText,
     tree: &Tree,
     item: usize,
+    wish: Wish,
 ) -> Result<Told, AllocError>
     requires gaps { AreGaps text.bytes.now text.gaps.now }
     requires spelled { IsSpelled text.bytes.now tree.now }
     requires there { item < length (items tree.now) }
     ensures names { IfOk result (λ told. (names : List NameSpan) × AreNameSpans text.entry.bytes.now tree.now names
-        × (told.names.items ≡ mattering item names)) }
+        × (told.names.items ≡ wanted wish names)) }
     ensures words { IfOk result (λ told. AreOwnWords text.entry.bytes.now tree.now item told.words) }
 {
     let range = item_range(tree, item);
-    let read = item_words(alloc, text, tree, item, range)?;
+    let read = item_words(alloc, text, tree, wish, range)?;
     let ItemWords {
         names,
         tokens,

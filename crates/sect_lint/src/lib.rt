@@ -23,6 +23,7 @@ mod report;
 mod sarif;
 mod typing;
 mod unused;
+mod wishes;
 
 pub use circle::{is_call_in, procedure_item};
 pub use diagnostic::{Counts, Detail, Diagnostic, Shape, Typed};

@@ -1,5 +1,5 @@
 -- Names that are kept as they go by.
-use Rattle.std.proofs.Common.{◌≡◌, ℕ, suc, ◌+◌, ◌≤◌, Bool, true, false, List, [], ◌∷◌, ◌++◌, Option, Some, None, length}
+use Rattle.std.proofs.Common.{◌≡◌, ℕ, suc, ◌+◌, ◌≤◌, Bool, true, false, List, [], ◌∷◌, ◌++◌, Some, length}
 use Rattle.std.proofs.Common.{refl, sym, ◌∙◌, ap, arith, append-nil, if◌then◌else◌}
 use Rattle.std.specs.Prelude.{filter, slice_get}
 use Rattle.sect_front.specs.TreeView.{TreeView}
@@ -11,7 +11,9 @@ use Rattle.sect_places.specs.ItemCounts.{items_in_records, items_in_procedures}
 use Rattle.sect_places.specs.Origins.{first_procedure, first_thread}
 use Rattle.sect_places.specs.NameUses.{records_uses, globals_uses, procedures_uses, threads_uses, name_uses}
 use Rattle.sect_places.specs.declared.name_use.NameUse.{NameUse}
-use Rattle.sect_places.specs.steps.Wanting.{KeptView, Passes, behind, nothing_kept, is_wanted, numbers_from}
+use Rattle.sect_places.specs.steps.Wanting.{KeptView, Passes, behind, nothing_kept, is_taken, numbers_from}
+use Rattle.sect_places.specs.declared.wish.Wish.{Wish}
+use Rattle.sect_places.specs.declared.wish.Wish.TheVariants as wish
 
 -- nothing more goes by
 pub behind_none : (k : KeptView) → behind k [] ≡ k
@@ -19,7 +21,7 @@ unfolding behind
 behind_none k =
     let more : k.passed + 0 ≡ k.passed = omega arith in
     λ i. record {
-      item = k.item;
+      wish = k.wish;
       passed = more i;
       numbers = append-nil k.numbers i;
       uses = append-nil k.uses i;
@@ -47,24 +49,24 @@ module _ (t : TreeView) (rs : List Record) (gs : List GlobalObject) (ps : List P
         (procedures_uses (procedures_from i) (of_procedures i) (threads_uses (threads_from i) (of_threads i) [])))))))))
 
 -- where any is wanted all are kept
-pub all_wanted : (us : List NameUse) → filter (is_wanted None) us ≡ us
+pub all_wanted : (us : List NameUse) → filter (is_taken wish.All) us ≡ us
 all_wanted [] = refl
 all_wanted (u ∷ us) = ap (λ vs. u ∷ vs) (all_wanted us)
 
 -- how many are kept of those that have gone by
-abbrev pub kept_of : Option ℕ → List NameUse → List NameUse
-kept_of item us = filter (is_wanted item) us
+abbrev pub kept_of : Wish → List NameUse → List NameUse
+kept_of which us = filter (is_taken which) us
 
 -- the number behind those that are kept of the first is that of the first that is kept of the others
-pub numbers_behind : (item : Option ℕ) (n : ℕ) (front us : List NameUse)
-    → slice_get (numbers_from item n (front ++ us)) (length (kept_of item front))
-    ≡ slice_get (numbers_from item (n + length front) us) 0
-numbers_behind item n [] us =
-    let same : n ≡ n + 0 = omega arith in ap (λ m. slice_get (numbers_from item m us) 0) same
-numbers_behind item n (u ∷ front) us =
+pub numbers_behind : (which : Wish) (n : ℕ) (front us : List NameUse)
+    → slice_get (numbers_from which n (front ++ us)) (length (kept_of which front))
+    ≡ slice_get (numbers_from which (n + length front) us) 0
+numbers_behind which n [] us =
+    let same : n ≡ n + 0 = omega arith in ap (λ m. slice_get (numbers_from which m us) 0) same
+numbers_behind which n (u ∷ front) us =
     let same : (n + 1) + length front ≡ n + suc (length front) = omega arith in
-    step (is_wanted item u) (numbers_from item (n + 1) (front ++ us)) (kept_of item front)
-    ∙ (numbers_behind item (n + 1) front us ∙ ap (λ m. slice_get (numbers_from item m us) 0) same)
+    step (is_taken which u) (numbers_from which (n + 1) (front ++ us)) (kept_of which front)
+    ∙ (numbers_behind which (n + 1) front us ∙ ap (λ m. slice_get (numbers_from which m us) 0) same)
   where
     step : (b : Bool) (ns : List ℕ) (ks : List NameUse)
         → slice_get (if b then n ∷ ns else ns) (length (if b then u ∷ ks else ks)) ≡ slice_get ns (length ks)
@@ -72,29 +74,29 @@ numbers_behind item n (u ∷ front) us =
     step false ns ks = refl
 
 -- the first number is no smaller than that with which they begin
-pub no_earlier : (item : Option ℕ) (n m : ℕ) (us : List NameUse) → slice_get (numbers_from item n us) 0 ≡ Some m → n ≤ m
-no_earlier item n m [] e = absurd cc
-no_earlier item n m (u ∷ us) e = by (is_wanted item u) (no_earlier item (n + 1) m us) e
+pub no_earlier : (which : Wish) (n m : ℕ) (us : List NameUse) → slice_get (numbers_from which n us) 0 ≡ Some m → n ≤ m
+no_earlier which n m [] e = absurd cc
+no_earlier which n m (u ∷ us) e = by (is_taken which u) (no_earlier which (n + 1) m us) e
   where
-    by : (b : Bool) → (slice_get (numbers_from item (n + 1) us) 0 ≡ Some m → n + 1 ≤ m)
-        → slice_get (if b then n ∷ numbers_from item (n + 1) us else numbers_from item (n + 1) us) 0 ≡ Some m → n ≤ m
+    by : (b : Bool) → (slice_get (numbers_from which (n + 1) us) 0 ≡ Some m → n + 1 ≤ m)
+        → slice_get (if b then n ∷ numbers_from which (n + 1) us else numbers_from which (n + 1) us) 0 ≡ Some m → n ≤ m
     by true later at = let same : n ≡ m = cc in omega (arith, same)
     by false later at = let more = later at in omega (arith, more)
 
 -- of all names of a tree that have gone by
-pub kept_all : (item : Option ℕ) (us : List NameUse) (k : KeptView) → k ≡ behind (nothing_kept item) us
-    → (k.passed ≡ length us) × (k.numbers ≡ numbers_from item 0 us) × (k.uses ≡ kept_of item us)
+pub kept_all : (which : Wish) (us : List NameUse) (k : KeptView) → k ≡ behind (nothing_kept which) us
+    → (k.passed ≡ length us) × (k.numbers ≡ numbers_from which 0 us) × (k.uses ≡ kept_of which us)
 unfolding behind
-kept_all item us k e =
+kept_all which us k e =
     let passed : k.passed ≡ 0 + length us = ap (λ (x : KeptView). x.passed) e in
     (omega (arith, passed), ap (λ (x : KeptView). x.numbers) e, ap (λ (x : KeptView). x.uses) e)
 
 -- each that is kept has a number
-pub as_many_numbers : (item : Option ℕ) (n : ℕ) (us : List NameUse)
-    → length (numbers_from item n us) ≡ length (kept_of item us)
-as_many_numbers item n [] = refl
-as_many_numbers item n (u ∷ us) =
-    step (is_wanted item u) (numbers_from item (n + 1) us) (kept_of item us) (as_many_numbers item (n + 1) us)
+pub as_many_numbers : (which : Wish) (n : ℕ) (us : List NameUse)
+    → length (numbers_from which n us) ≡ length (kept_of which us)
+as_many_numbers which n [] = refl
+as_many_numbers which n (u ∷ us) =
+    step (is_taken which u) (numbers_from which (n + 1) us) (kept_of which us) (as_many_numbers which (n + 1) us)
   where
     step : (b : Bool) (ns : List ℕ) (ks : List NameUse) → length ns ≡ length ks
         → length (if b then n ∷ ns else ns) ≡ length (if b then u ∷ ks else ks)

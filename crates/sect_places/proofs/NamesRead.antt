@@ -1,8 +1,8 @@
 -- How the names of a tree are read off a text.
-use Rattle.std.proofs.Common.{◌≡◌, ℕ, zero, suc, ◌+◌, ◌<◌, ◌≤◌, Bool, true, false, List, [], ◌∷◌, ◌++◌, length, take, drop}
-use Rattle.std.proofs.Common.{map, Some, slice_get, refl, sym, ◌∙◌, ap, subst, arith, append-nil, append_assoc}
-use Rattle.std.proofs.Common.{length-append, if◌then◌else◌}
-use Rattle.std.proofs.lemmas.List.{length-map}
+use Rattle.std.proofs.Common.{◌≡◌, ℕ, zero, suc, ◌+◌, ◌<◌, Bool, true, false, List, [], ◌∷◌, ◌++◌, length, take}
+use Rattle.std.proofs.Common.{drop, map, Some, slice_get, refl, sym, ◌∙◌, ap, subst, arith, append_assoc}
+use Rattle.std.proofs.Common.{length-append, length-drop, if◌then◌else◌}
+use Rattle.std.proofs.lemmas.List.{length-map, map-append, take-append-drop}
 use Rattle.sect_front.specs.TreeView.{TreeView}
 use Rattle.sect_front.specs.TokenAt.{TokenAt}
 use Rattle.sect_front.specs.Front.{IsSpelled}
@@ -19,6 +19,7 @@ use Rattle.sect_places.specs.NameUses.{name_uses}
 use Rattle.sect_places.specs.NameSpans.{names_among, AreNameSpans}
 use Rattle.sect_places.specs.steps.Standing.{StandsFrom}
 use Rattle.sect_places.proofs.NameTokens.{as_many_names, are_name_spans}
+use Rattle.sect_places.proofs.shared.Naming.{joined, joined_used, joined_spans}
 use Rattle.sect_places.proofs.Standing.{OneRead, stands_none, map_push, places_count, same_places}
 
 -- these names have been read, and here the next token stands
@@ -62,25 +63,27 @@ module _ (bytes : List ℕ) (tree : TreeView) (names : List NameSpan) (here : Li
   token_left lt =
       omega (arith, places_count bytes tree h.stands.spelled, more_left places h.number (omega (arith, counted, lt)))
 
-  -- with none to come these are all
-  pub named_all : length (name_uses tree) ≤ length names → AreNameSpans bytes tree names
-  named_all end =
-      are_name_spans bytes tree h.stands.spelled names
-      (h.used ∙ take_past (name_uses tree) (length names) end)
-      (sym (append-nil (map (λ (n : NameSpan). n.span) names))
-      ∙ ap (λ ps. map (λ (n : NameSpan). n.span) names ++ map token_span ps)
-      (sym (none_left (names_among (drop h.number places)) (omega (arith, counted, end))))
-      ∙ h.spans)
-    where
-      take_past : {A : Type 0} (xs : List A) (n : ℕ) → length xs ≤ n → take n xs ≡ xs
-      take_past [] zero h = refl
-      take_past [] (suc n) h = refl
-      take_past (x ∷ xs) zero h = absurd (omega (arith, h))
-      take_past (x ∷ xs) (suc n) h = ap (λ ys. x ∷ ys) (take_past xs n (omega (arith, h)))
-
-      none_left : {A : Type 0} (xs : List A) → length xs ≡ 0 → xs ≡ []
-      none_left [] e = refl
-      none_left (x ∷ xs) e = absurd (omega (arith, e))
+  -- with those that are to come these are all
+  pub names_left : (more : List NameSpan) × AreNameSpans bytes tree (names ++ more)
+      × (map (λ (n : NameSpan). n.used) more ≡ drop (length names) (name_uses tree))
+  names_left =
+      let us : List NameUse = drop (length names) (name_uses tree) in
+      let ss : List Span = map token_span (names_among (drop h.number places)) in
+      let count : length us ≡ length ss = omega (
+        arith,
+        counted,
+        length-drop (length names) (name_uses tree),
+        length-map (names_among (drop h.number places)) token_span,
+      ) in
+      let more : List NameSpan = joined us ss in (
+        more,
+        are_name_spans bytes tree h.stands.spelled (names ++ more)
+            (map-append (λ (n : NameSpan). n.used) names more ∙ (λ j. h.used j ++ joined_used us ss count j)
+            ∙ take-append-drop (length names) (name_uses tree))
+            (map-append (λ (n : NameSpan). n.span) names more
+            ∙ ap (λ zs. map (λ (n : NameSpan). n.span) names ++ zs) (joined_spans us ss count) ∙ h.spans),
+        joined_used us ss count,
+      )
 
 next_used : (us : List NameUse) (n : ℕ) (u : NameUse) → slice_get us n ≡ Some u
     → take (suc n) us ≡ take n us ++ u ∷ []

@@ -7,6 +7,10 @@ use Rattle.sect_places.specs.declared.name_use.Thing.TheVariants as thing
 use Rattle.sect_places.specs.declared.name_use.Role.{Role}
 use Rattle.sect_places.specs.declared.name_use.Role.TheVariants as role
 
+abbrev pub is_declaration : Role → Bool
+is_declaration (role.Declared what) = true
+is_declaration _ = false
+
 abbrev pub is_record : Role → Bool
 is_record (role.Declared thing.Record) = true
 is_record _ = false
@@ -38,6 +42,11 @@ is_type _ = false
 abbrev pub is_base : Role → Bool
 is_base role.Base = true
 is_base _ = false
+
+-- it is that of a procedure which is called
+abbrev pub is_call : Role → Bool
+is_call role.Procedure = true
+is_call _ = false
 
 -- it does that, and is called so
 abbrev pub is_called : (Role → Bool) → List ℕ → NameSpan → Bool

@@ -21,6 +21,7 @@ mod seek;
 mod spans;
 mod uses;
 mod walk;
+mod wish;
 mod words;
 
 pub use declarations::{
@@ -40,5 +41,6 @@ pub use range::{TokenRange, range_span};
 pub use sections::section_items;
 pub use seek::item_range;
 pub use spans::token_spans;
-pub use uses::name_uses;
+pub use uses::{item_uses, name_uses};
+pub use wish::Wish;
 pub use words::range_words;

@@ -1,6 +1,7 @@
 //! The names of a tree, in text order.
 
-ghost use Rattle.std.specs.Prelude.{◌≡◌, ◌+◌, ◌∷◌, IfOk, OnOk, List, length};
+ghost use Rattle.std.specs.Prelude.{◌≡◌, ◌+◌, ◌∷◌, IfOk, OnOk, List, length, filter};
+ghost use Rattle.std.specs.Prelude.{nat_eq};
 ghost use Rattle.sect_front.specs.Trees.{statement_of};
 ghost use Rattle.sect_places.specs.ItemCounts.{items_in_statement, items_in_block, items_in_records};
 ghost use Rattle.sect_places.specs.ItemCounts.{items_in_procedure, items_in_procedures, items_in_thread};
@@ -9,11 +10,11 @@ ghost use Rattle.sect_places.specs.NameUses.{argument_uses, statement_uses, bloc
 ghost use Rattle.sect_places.specs.NameUses.{hints_uses, records_uses, globals_uses, procedure_uses};
 ghost use Rattle.sect_places.specs.NameUses.{procedures_uses, thread_uses, threads_uses};
 ghost use Rattle.sect_places.specs.NameUses.{name_uses as name_uses_by};
-ghost use Rattle.sect_places.specs.Mattering.{matters_to_all as matters_to_all_by};
-ghost use Rattle.sect_places.specs.steps.Wanting.{Passes, behind, nothing_kept, is_wanted as is_wanted_by};
+ghost use Rattle.sect_places.specs.steps.Wanting.{Passes, behind, nothing_kept};
 
 use crate::item_counts::past;
 use crate::name_use::{NameUse, Role, Thing};
+use crate::wish::Wish;
 use sect_front::{
     Block, Declaration, GlobalObject, Kind, Name, Operand, Primitive, Procedure, Record, Statement,
     Test, Thread, Tree,
@@ -21,10 +22,10 @@ use sect_front::{
 use std::alloc::{AllocError, Global};
 use std::marker::Model;
 
-/// Names of a tree in text order, all or those that matter to an item.
+/// The names of a tree that are wanted, in text order.
 #[derive(Drop)]
 pub struct Kept {
-    item: Option<usize>,
+    wish: Wish,
     /// How many names have gone by.
     pub passed: usize,
     /// The number of each name that is kept, among all names.
@@ -38,31 +39,11 @@ impl Model for Kept {
     ghost Value = { KeptView };
 
     ghost view = { λ k. record {
-      item = k.item;
+      wish = k.wish;
       passed = k.passed;
       numbers = k.numbers.items;
       uses = k.uses.items;
     } };
-}
-
-/// Whether a name may matter to an item in which it doesn't stand.
-fn matters_to_all(role: Role) -> bool
-    ensures { result ≡ matters_to_all_by role }
-{
-    matches!(
-        role,
-        Role::Declared(_) | Role::Type | Role::Guard | Role::Procedure
-    )
-}
-
-/// Whether a name is wanted: any is, unless an item is given to which it has to matter.
-fn is_wanted(item: Option<usize>, used: &NameUse) -> bool
-    ensures { result ≡ is_wanted_by item used.now }
-{
-    match item {
-        Some(item) => used.item == item || matters_to_all(used.role),
-        None => true,
-    }
 }
 
 /// Has a name go by.
@@ -70,15 +51,14 @@ fn is_wanted(item: Option<usize>, used: &NameUse) -> bool
 fn put(out: &mut Kept, scope: usize, item: usize, role: Role, name: Name) -> Result<(), AllocError>
     ensures { OnOk result (Passes out.old out.new (λ w. used scope item role name ∷ w)) }
 {
-    let used = NameUse {
-        scope,
-        item,
-        role,
-        name,
-    };
-    if is_wanted(out.item, &used) {
+    if out.wish.takes(item, role, &name) {
         out.numbers.push(out.passed)?;
-        out.uses.push(used)?;
+        out.uses.push(NameUse {
+            scope,
+            item,
+            role,
+            name,
+        })?;
     }
     out.passed = past(out.passed, 1)?;
     Ok(())
@@ -346,12 +326,12 @@ fn put_threads(out: &mut Kept, item: usize, threads: &[Thread]) -> Result<(), Al
     Ok(())
 }
 
-/// The names of a tree in text order, all or those that matter to an item.
-pub fn kept_uses(alloc: Global, tree: &Tree, item: Option<usize>) -> Result<Kept, AllocError>
-    ensures { IfOk result (λ kept. kept ≡ behind (nothing_kept item) (name_uses_by tree.now)) }
+/// The names of a tree that are wanted, in text order.
+pub fn kept_uses(alloc: Global, tree: &Tree, wish: Wish) -> Result<Kept, AllocError>
+    ensures { IfOk result (λ kept. kept ≡ behind (nothing_kept wish) (name_uses_by tree.now)) }
 {
     let mut kept = Kept {
-        item,
+        wish,
         passed: 0,
         numbers: Vec::new(alloc),
         uses: Vec::new(alloc),
@@ -363,9 +343,16 @@ pub fn kept_uses(alloc: Global, tree: &Tree, item: Option<usize>) -> Result<Kept
     Ok(kept)
 }
 
+/// The names of an item, in text order.
+pub fn item_uses(alloc: Global, tree: &Tree, item: usize) -> Result<Vec<NameUse>, AllocError>
+    ensures { IfOk result (λ uses. uses.items ≡ filter (λ u. nat_eq u.item item) (name_uses_by tree.now)) }
+{
+    Ok(kept_uses(alloc, tree, Wish::Own(item))?.uses)
+}
+
 /// The names of a tree, in text order.
 pub fn name_uses(alloc: Global, tree: &Tree) -> Result<Vec<NameUse>, AllocError>
     ensures { IfOk result (λ uses. uses.items ≡ name_uses_by tree.now) }
 {
-    Ok(kept_uses(alloc, tree, None)?.uses)
+    Ok(kept_uses(alloc, tree, Wish::All)?.uses)
 }

@@ -1,7 +1,7 @@
 //! Places of the items of a text that has each form, found by hand.
 
 use sect_front::{GappedText, innermost_brace, parse, parse_gapped, tokens_of};
-use sect_places::{ItemWords, Position, TokenRange, item_spans, item_words, position_of};
+use sect_places::{ItemWords, Position, TokenRange, Wish, item_spans, item_words, position_of};
 use std::alloc::Global;
 use std::test::Fail;
 
@@ -105,8 +105,9 @@ fn read_both_ways(alloc: Global, source: &[u8]) -> Result<Option<(usize, usize)>
     };
     let count = tokens_of(alloc, &tree)?.len();
     let all = TokenRange { first: 0, count };
-    let with = item_words(alloc, text, &tree, 0, all)?;
-    let without = item_words(alloc, GappedText::new(source), &tree, 0, all)?;
+    let wish = Wish::Mattering(0);
+    let with = item_words(alloc, text, &tree, wish, all)?;
+    let without = item_words(alloc, GappedText::new(source), &tree, wish, all)?;
     if gapped && are_same(&with, &without) {
         Ok(Some((with.tokens.len(), with.names.len())))
     } else {

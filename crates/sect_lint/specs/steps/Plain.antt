@@ -8,7 +8,7 @@ use Rattle.sect_types.specs.declared.rules.rule.TypeFault.TheVariants as types
 use Rattle.sect_places.specs.declared.name_use.NameUse.{NameUse}
 use Rattle.sect_places.specs.declared.name_use.NameSpan.{NameSpan}
 use Rattle.sect_places.specs.NameUses.{name_uses}
-use Rattle.sect_lint.specs.Naming.{is_declaration}
+use Rattle.sect_places.specs.Declarations.{is_declaration}
 use Rattle.sect_lint.specs.Places.{marked_name}
 use Rattle.sect_lint.specs.Limits.{limit_by, statement_limit}
 use Rattle.sect_lint.specs.Details.{IsToldOf, item_detail}

@@ -11,18 +11,19 @@ use Rattle.sect_places.specs.NameUses.{name_uses}
 use Rattle.sect_places.specs.NameSpans.{names_among, AreNameSpans}
 use Rattle.sect_places.proofs.NameTokens.{as_many_names, are_name_spans}
 
-abbrev joined : List NameUse → List Span → List NameSpan
+-- of each what it does and its bytes
+abbrev pub joined : List NameUse → List Span → List NameSpan
 joined [] ss = []
 joined (u ∷ us) [] = []
 joined (u ∷ us) (s ∷ ss) = record { used = u; span = s } ∷ joined us ss
 
-joined_used : (us : List NameUse) (ss : List Span) → length us ≡ length ss
+pub joined_used : (us : List NameUse) (ss : List Span) → length us ≡ length ss
     → map (λ (n : NameSpan). n.used) (joined us ss) ≡ us
 joined_used [] ss e = refl
 joined_used (u ∷ us) [] e = absurd (omega (arith, e))
 joined_used (u ∷ us) (s ∷ ss) e = ap (λ l. u ∷ l) (joined_used us ss (omega (arith, e)))
 
-joined_spans : (us : List NameUse) (ss : List Span) → length us ≡ length ss
+pub joined_spans : (us : List NameUse) (ss : List Span) → length us ≡ length ss
     → map (λ (n : NameSpan). n.span) (joined us ss) ≡ ss
 joined_spans [] [] e = refl
 joined_spans [] (s ∷ ss) e = absurd (omega (arith, e))

@@ -9,9 +9,10 @@ returns c =
     all_gone_by c.args.tree.now c.records.result.now c.globals.result.now c.procedures.result.now c.threads.result.now
     c.records.ensures c.globals.ensures c.procedures.ensures c.threads.ensures _ _ _ _ _ _ _ _
     c.in_ok-globals.ensures.next c.in_ok-procedures.ensures.next c.in_ok-threads.ensures.next
-    c.in_ok-globals.ensures.uses c.in_ok-procedures.ensures.uses c.in_ok-threads.ensures.uses c.in_ok-put_threads.ensures
+    c.in_ok-globals.ensures.uses c.in_ok-procedures.ensures.uses c.in_ok-threads.ensures.uses
+    c.in_ok-put_threads.ensures
     ∙ (λ i. behind (record {
-      item = c.args.item;
+      wish = c.args.wish;
       passed = 0;
       numbers = c.new.ensures.items i;
       uses = c.new-2.ensures.items i;

@@ -3,3 +3,4 @@ pub mod Counting
 pub mod Fits
 pub mod Moves
 pub mod Taking
+pub mod Wishing

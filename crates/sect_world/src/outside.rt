@@ -1,7 +1,7 @@
 //! Moves of a thread outside sections, into a section and to its beginning.
 
-ghost use Rattle.std.specs.Prelude.{◌≡◌, ◌<◌, ℕ, List, true, false, None, drop, length, slice_get, Some, IfOk, OnOk};
-ghost use Rattle.std.specs.Prelude.{OnErr};
+ghost use Rattle.std.specs.Prelude.{◌≡◌, ◌<◌, ℕ, List, [], ◌∷◌, true, false, None, drop, length, slice_get, Some, IfOk};
+ghost use Rattle.std.specs.Prelude.{OnOk, OnErr};
 ghost use Rattle.sect_types.specs.Statements.{TextView, Section};
 ghost use Rattle.sect_types.specs.Programs.{environment_at};
 ghost use Rattle.sect_types.specs.Sections.{sections_of};
@@ -11,7 +11,7 @@ ghost use Rattle.sect_types.specs.Whole.{local_step};
 ghost use Rattle.sect_graph.specs.declared.flow.Node.{Node};
 ghost use Rattle.sect_graph.specs.Rests.{rest_at};
 ghost use Rattle.sect_table.specs.Contents.{held_by};
-ghost use Rattle.sect_emit.specs.Plan.{meets as meets_by};
+ghost use Rattle.sect_emit.specs.Plan.{meets as meets_by, object_wishes};
 ghost use Rattle.sect_emit.specs.Compiled.{program_of};
 ghost use Rattle.sect_emit.specs.State.{plan_at};
 ghost use Rattle.sect_world.specs.declared.runner.Phase.TheVariants.{Entered, Running};
@@ -20,10 +20,11 @@ ghost use Rattle.sect_world.specs.Viewing.{text_at, frame_of};
 ghost use Rattle.sect_world.specs.steps.Moves.{StepsLocally};
 
 use crate::moving::{chosen, run_node};
-use crate::plans::plan_of;
+use crate::plans::{plan_of, wish_of};
 use crate::runner::{Phase, Runner};
 use sect_emit::{Compiled, Grip};
 use sect_modes::at_least;
+use sect_names::Lock;
 use sect_store::{Store, Work};
 use sect_table::Table;
 use sect_types::{End, Fault};
@@ -155,23 +156,60 @@ fn meets(table: &Table, thread: u16, plan: &[Grip]) -> bool
     true
 }
 
-/// Whether the plan of a section for a thread in this state is met by what it holds.
+/// Whether a thread holds a key at least as strongly as this.
+fn has(table: &Table, thread: u16, grip: Grip) -> bool
+    requires { thread < length table.now.held }
+    ensures { result ≡ meets_by (grips (held_by table.now thread)) (grip ∷ []) }
+{
+    match table.held(thread, grip.key) {
+        None => false,
+        Some(mode) => at_least(mode, grip.mode),
+    }
+}
+
+/// Whether a thread holds the object that a lock asks for in this state, if it asks for one.
+fn has_object(table: &Table, thread: u16, lock: &Lock, store: &Store, work: &Work) -> bool
+    requires { thread < length table.now.held }
+    ensures { result ≡ meets_by (grips (held_by table.now thread))
+        (object_wishes store.now work.now.locals (lock.now ∷ [])) }
+{
+    match wish_of(store, work, lock) {
+        None => true,
+        Some(grip) => has(table, thread, grip),
+    }
+}
+
+/// Whether a thread holds each object that a lock set asks for in this state.
+fn has_objects(table: &Table, thread: u16, locks: &[Lock], store: &Store, work: &Work) -> bool
+    requires { thread < length table.now.held }
+    ensures { result ≡ meets_by (grips (held_by table.now thread))
+        (object_wishes store.now work.now.locals locks.now) }
+{
+    for lock in locks {
+        if !has_object(table, thread, lock, store, work) {
+            return false;
+        }
+    }
+    true
+}
+
+/// Whether the plan of a section for a thread in this state is met by what it holds. The plan isn't made for that.
 pub fn is_met(
-    alloc: Global,
     compiled: &Compiled,
     thread: u16,
     section: u16,
     runner: &Runner,
     store: &Store,
     table: &Table,
-) -> Result<bool, AllocError>
+) -> bool
     requires section { section < length (sections_of (program_of compiled.now).texts) }
     requires thread { thread < length table.now.held }
-    ensures { IfOk result (λ met. met ≡ meets_by (grips (held_by table.now thread))
-        (plan_at compiled.now section store.now runner.now.work.locals)) }
+    ensures { result ≡ meets_by (grips (held_by table.now thread))
+        (plan_at compiled.now section store.now runner.now.work.locals) }
 {
-    let plan = plan_for(alloc, compiled, section, runner, store)?;
-    Ok(meets(table, thread, plan.as_slice()))
+    compiled.facts();
+    meets(table, thread, compiled.part(section))
+        && has_objects(table, thread, compiled.set(section), store, &runner.work)
 }
 
 /// A thread whose plan is met begins its section; after it the thread goes on where its own graph leads.

@@ -4,6 +4,7 @@ ghost use Rattle.std.specs.Prelude.{◌≡◌, ◌∷◌, [], ◌++◌, List, If
 ghost use Rattle.sect_emit.specs.declared.plan.Grip.{Grip};
 ghost use Rattle.sect_emit.specs.Plan.{key_of as key_by, gathered, object_wishes};
 ghost use Rattle.sect_emit.specs.Plan.{plan_of as plan_by};
+ghost use Rattle.sect_world.specs.steps.Wishing.{wishes_in};
 
 use crate::lookup::path_datum;
 use sect_emit::{Grip, add_grip, object_mode};
@@ -23,6 +24,22 @@ pub fn key_of(name: ObjectName) -> Key
     }
 }
 
+/// The object that a lock asks for in this state, and its mode, if it asks for one.
+pub fn wish_of(store: &Store, work: &Work, lock: &Lock) -> Option<Grip>
+    ensures { wishes_in result ≡ object_wishes store.now work.now.locals (lock.now ∷ []) }
+{
+    let Lock::Path(path, effect) = lock else {
+        return None;
+    };
+    match path_datum(store, work, path) {
+        Datum::Refers(name) => Some(Grip {
+            key: key_of(name),
+            mode: object_mode(*effect),
+        }),
+        Datum::Number(_) | Datum::Null => None,
+    }
+}
+
 /// Adds the object that a lock asks for in this state, if it asks for one.
 fn add_object(
     objects: &mut Vec<Grip>,
@@ -33,18 +50,9 @@ fn add_object(
     ensures { OnOk result ((wishes : List Grip) → objects.old.items ≡ gathered wishes
         → objects.new.items ≡ gathered (object_wishes store.now work.now.locals (lock.now ∷ []) ++ wishes)) }
 {
-    let Lock::Path(path, effect) = lock else {
-        return Ok(());
-    };
-    match path_datum(store, work, path) {
-        Datum::Refers(name) => add_grip(
-            objects,
-            Grip {
-                key: key_of(name),
-                mode: object_mode(*effect),
-            },
-        ),
-        Datum::Number(_) | Datum::Null => Ok(()),
+    match wish_of(store, work, lock) {
+        None => Ok(()),
+        Some(grip) => add_grip(objects, grip),
     }
 }
 

@@ -463,7 +463,7 @@ impl<'a> World<'a> {
             return self.ask(thread);
         }
         let section = self.section_of(thread);
-        if self.meets_plan(thread, section)? {
+        if self.meets_plan(thread, section) {
             self.begin(thread, section)
         } else {
             self.again(thread)
@@ -534,14 +534,13 @@ impl<'a> World<'a> {
     }
 
     /// Whether the plan of the section that a thread has entered is met by what the thread holds.
-    fn meets_plan(&self, thread: u16, section: u16) -> Result<bool, AllocError>
+    fn meets_plan(&self, thread: u16, section: u16) -> bool
         requires { (th : ThreadState) × IsThread self.now.state thread th
             × ((body : TextView) × (rest : TextView) × (th.frame.text ≡ Section section body rest)) }
-        ensures { IfOk result (λ met. (th : ThreadState) → IsThread self.now.state thread th
-            → met ≡ meets th.held (plan_at self.now.compiled section self.now.state.store th.frame.work.locals)) }
+        ensures { (th : ThreadState) → IsThread self.now.state thread th
+            → result ≡ meets th.held (plan_at self.now.compiled section self.now.state.store th.frame.work.locals) }
     {
         is_met(
-            *self.moment.trace.allocator(),
             self.compiled,
             thread,
             section,

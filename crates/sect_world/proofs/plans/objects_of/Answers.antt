@@ -1,20 +1,8 @@
-use Rattle.std.proofs.Common.{◌≡◌, ◌+◌, ◌-◌, ◌<◌, ◌++◌, ◌∷◌, [], List, length, drop, arith, refl, sym, ap, ◌∙◌, subst}
-use Rattle.std.proofs.lemmas.List.{append-nil}
+use Rattle.std.proofs.Common.{◌≡◌, ◌+◌, ◌-◌, ◌<◌, length, drop, arith, sym, ap, ◌∙◌, subst}
 use Rattle.sect_lemmas.proofs.Elements.{drop_next}
-use Rattle.sect_types.specs.declared.meaning.store.Datum.{Datum}
-use Rattle.sect_types.specs.Store.{StoreView}
-use Rattle.sect_names.specs.declared.lock.Lock.{Lock}
-use Rattle.sect_names.specs.declared.lock.Lock.TheVariants as lock
-use Rattle.sect_emit.specs.Plan.{gathered, object_wish, object_wishes, object_mode, path_datum}
+use Rattle.sect_emit.specs.Plan.{gathered, object_wishes}
+use Rattle.sect_world.proofs.Wishing.{wishes_of_first}
 use Rattle.sect_world.proofs.plans.objects_of.Goals as goal
-
--- the objects of a lock come before those of the others
-wishes_of_first : (s : StoreView) (locals : List Datum) (l : Lock) (ls : List Lock) → object_wishes s locals (l ∷ [])
-    ++ object_wishes s locals ls ≡ object_wishes s locals (l ∷ ls)
-wishes_of_first s locals lock.All ls = refl
-wishes_of_first s locals (lock.Class c r) ls = refl
-wishes_of_first s locals (lock.Path p e) ls =
-    ap (λ gs. gs ++ object_wishes s locals ls) (append-nil (object_wish (path_datum s locals p) (object_mode e)))
 
 pub loop-place-preserved : goal.loop-place-preserved
 loop-place-preserved c =

@@ -5,7 +5,6 @@ use Rattle.sect_world.specs.Worlds.{WorldView}
 use Rattle.sect_world.proofs.Viewing.{runs_here, read_here}
 use Rattle.sect_types.specs.Statements.{TextView, Section}
 use Rattle.sect_emit.specs.Plan.{meets}
-use Rattle.sect_lemmas.proofs.Results.{if_ok}
 use Rattle.sect_world.proofs.MoveTurns.{section_there}
 use Rattle.sect_world.proofs.Turning.{standing}
 use Rattle.sect_world.proofs.TurnPlaces.{meets_as}
@@ -39,10 +38,10 @@ is_met-requires-clause-thread c =
     (standing _ _ _ _ _ _ _ _ c.self.invariant.0 c.args.thread h.0 h.1).within_held
 
 pub returns : goal.returns
-returns c = if_ok c.is_met.result (λ met is th there.
+returns c th there =
     let here = subst (λ (z : WorldView). IsThread z.state c.args.thread th) (sym c.self.view_is) there in
     let at = read_here _ _ _ _ _ _ _ _ c.self.invariant.0 c.args.thread th here c.index.result.now c.index.ensures in
-    subst (λ (z : WorldView). met ≡ meets th.held
+    subst (λ (z : WorldView). c.is_met.result ≡ meets th.held
     (plan_at z.compiled c.args.section z.state.store th.frame.work.locals)) c.self.view_is
-    (is ∙ sym (meets_as _ _ _ _ _ _ _ _ c.self.invariant.0 c.args.thread th here c.index.result.now at c.args.section)))
-    c.is_met.ensures
+    (c.is_met.ensures
+    ∙ sym (meets_as _ _ _ _ _ _ _ _ c.self.invariant.0 c.args.thread th here c.index.result.now at c.args.section))

@@ -12,5 +12,5 @@ again-requires c =
       wanted = c.wants_more.ensures.none c.if-wants_more.false h.0 h.1;
       text = s.2;
     } in
-    let unmet = sym (c.in_ok-meets_plan.ensures h.0 h.1) ∙ c.if-branch.false in
+    let unmet = sym (c.meets_plan.ensures h.0 h.1) ∙ c.if-meets_plan.false in
     (_, (h.0, h.1, (c.section_of-section.result, s.0, s.1, ready, unmet, refl)))

@@ -1,6 +1,6 @@
 //! The declarations of a text, token by token.
 
-ghost use Rattle.std.specs.Prelude.{◌≡◌, ◌≤◌, [], Some, IfOk};
+ghost use Rattle.std.specs.Prelude.{◌≡◌, ◌≤◌, [], Some, IfOk, true, false};
 ghost use Rattle.std.specs.Option.{ForSome};
 ghost use Rattle.sect_front.specs.Limits.{most_depth};
 
@@ -205,6 +205,44 @@ impl Reader {
 
     /// Takes one more token, or changes nothing.
     pub fn step(&mut self, alloc: Global, token: &Token) -> Result<(), StepError>
+        ensures reads { Reads result self.new (read_one self.old token.now) }
+        ensures kept { IsKept result self.old self.new }
+    {
+        if self.takes_in_place(token) {
+            return Ok(());
+        }
+        if self.ends_statement(token)? {
+            return Ok(());
+        }
+        self.take(alloc, token)
+    }
+
+    /// Takes a token of a statement so that nothing is moved. Where the token leads to something else, nothing changes.
+    fn takes_in_place(&mut self, token: &Token) -> bool
+        ensures goes { result ≡ true → read_one self.old token.now ≡ Some self.new }
+        ensures stays { result ≡ false → self.new ≡ self.old }
+    {
+        match &mut self.stage {
+            Stage::Outside(_) => false,
+            Stage::Inside(_, _, within) => within.takes_in_place(token),
+        }
+    }
+
+    /// Takes a `;` that ends a statement without a block. Where it ends none, and where another token stands, nothing
+    /// changes.
+    fn ends_statement(&mut self, token: &Token) -> Result<bool, AllocError>
+        ensures ends { IfOk result (λ ends. ends ≡ true → read_one self.old token.now ≡ Some self.new) }
+        ensures stays { IfOk result (λ ends. ends ≡ false → self.new ≡ self.old) }
+    {
+        match &mut self.stage {
+            Stage::Outside(_) => Ok(false),
+            Stage::Inside(_, _, within) => within.ends_statement(token),
+        }
+    }
+
+    /// Takes one more token, or changes nothing. What is moved here is long, and room is made for it at each call.
+    #[inline(never)]
+    fn take(&mut self, alloc: Global, token: &Token) -> Result<(), StepError>
         ensures reads { Reads result self.new (read_one self.old token.now) }
         ensures kept { IsKept result self.old self.new }
     {

@@ -7,7 +7,7 @@ use crate::expecting::{call_takes, then_takes};
 use crate::items::Items;
 use crate::name::Name;
 use crate::partial::{
-    Branch, Move, PartialBranch, PartialCall, PartialHead, advance, goes_on, operand,
+    Branch, Move, PartialBranch, PartialCall, PartialHead, advance, ended, goes_on, operand,
 };
 use crate::token::Token;
 use crate::tree::{Block, Locking, Operand, Statement, Test};
@@ -94,8 +94,8 @@ impl Model for Within {
 }
 
 impl Within {
-    ghost use Rattle.std.specs.Prelude.{IfOk, true};
-    ghost use Rattle.sect_front.specs.steps.Step.{Steps, IsKept, LeadsTo, start_step, close_step, call_step};
+    ghost use Rattle.std.specs.Prelude.{IfOk, true, false};
+    ghost use Rattle.sect_front.specs.steps.Step.{Steps, Stays, IsKept, LeadsTo, start_step, close_step, call_step};
     ghost use Rattle.sect_front.specs.steps.Step.{argument_step, after_then, moved, stays, step_of};
     ghost use Rattle.sect_front.specs.steps.Taking.{is_taken};
     ghost use Rattle.sect_front.specs.steps.Advance.{operand_of};
@@ -137,34 +137,62 @@ impl Within {
         self.place = place;
     }
 
+    /// Takes a token that a statement begins with or goes on by as `goes_on` says, so that nothing is moved. Where it
+    /// leads to something else, nothing changes.
+    pub fn takes_in_place(&mut self, token: &Token) -> bool
+        ensures goes { result ≡ true → step_of self.old token.now ≡ Stays self.new }
+        ensures stays { result ≡ false → self.new ≡ self.old }
+    {
+        match &mut self.place {
+            Partial::Start => match token {
+                Token::Name(x) => {
+                    self.place = Partial::Inside(PartialHead::AfterName(*x));
+                    true
+                }
+                _ => false,
+            },
+            Partial::Inside(line) => goes_on(line, token),
+            _ => false,
+        }
+    }
+
+    /// Takes a `;` that ends a statement without a block. Where it ends none, and where another token stands, nothing
+    /// changes.
+    #[inline(never)]
+    pub fn ends_statement(&mut self, token: &Token) -> Result<bool, AllocError>
+        ensures ends { IfOk result (λ ends. ends ≡ true → step_of self.old token.now ≡ Stays self.new) }
+        ensures stays { IfOk result (λ ends. ends ≡ false → self.new ≡ self.old) }
+    {
+        let Token::Semicolon = token else {
+            return Ok(false);
+        };
+        let Partial::Inside(line) = &self.place else {
+            return Ok(false);
+        };
+        let Some(primitive) = ended(line) else {
+            return Ok(false);
+        };
+        self.before.push(Statement::Primitive(primitive))?;
+        self.lead_to(Partial::Start);
+        Ok(true)
+    }
+
     /// Takes one more token, or changes nothing. The whole body comes with its last brace.
     pub fn step(&mut self, alloc: Global, token: &Token) -> Result<Option<Block>, StepError>
         ensures steps { Steps result self.new (step_of self.old token.now) }
         ensures kept { IsKept result self.old self.new }
     {
         match &mut self.place {
-            // Most statements begin with a name, which is put in its place: a `Partial` is long.
-            Partial::Start => match token {
-                Token::Name(x) => {
-                    self.place = Partial::Inside(PartialHead::AfterName(*x));
+            Partial::Start => self.start(alloc, token),
+            // What has been read stays where it is until a token is taken.
+            Partial::Inside(line) => match advance(line, token) {
+                None => Err(StepError::Unexpected),
+                Some(Move::To(next)) => {
+                    *line = next;
                     Ok(None)
                 }
-                _ => self.start(alloc, token),
+                Some(to) => Ok(self.go(alloc, to)?),
             },
-            // What has been read stays where it is until a token is taken.
-            Partial::Inside(line) => {
-                if goes_on(line, token) {
-                    return Ok(None);
-                }
-                match advance(line, token) {
-                    None => Err(StepError::Unexpected),
-                    Some(Move::To(next)) => {
-                        *line = next;
-                        Ok(None)
-                    }
-                    Some(to) => Ok(self.go(alloc, to)?),
-                }
-            }
             Partial::InCall(call) => {
                 if !call_takes(call, token) {
                     return Err(StepError::Unexpected);

@@ -84,7 +84,8 @@ pub fn flow_of(alloc: Global, text: &Text) -> Result<Flow, AllocError>
     ensures graph { IfOk result (IsGraphOf text.now) }
     ensures nodes { IfOk result (λ flow. flow ≡ flow_nodes text.now) }
 {
-    let mut nodes = Vec::new(alloc);
-    emit_text(&mut nodes, text, text_count(text) as u16)?;
+    let count = text_count(text);
+    let mut nodes = Vec::with_capacity(alloc, count)?;
+    emit_text(&mut nodes, text, count as u16)?;
     Ok(Flow { nodes })
 }

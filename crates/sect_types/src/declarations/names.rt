@@ -1,7 +1,7 @@
 //! Names by their numbers.
 
-ghost use Rattle.std.specs.Prelude.{◌≡◌, ◌<◌, ◌++◌, ◌∷◌, [], OnOk, OnErr, false, length};
-ghost use Rattle.sect_types.specs.Sight.{place, added, has_name};
+ghost use Rattle.std.specs.Prelude.{◌≡◌, ◌<◌, ◌++◌, ◌∷◌, [], OnOk, OnErr, IfSome, false, length};
+ghost use Rattle.sect_types.specs.Sight.{place, added, has_name, same_name};
 
 use indexmap::IndexSet;
 use sect_front::Name;
@@ -10,6 +10,24 @@ use std::marker::Model;
 
 /// The most names that are numbered.
 pub const MOST_NAMES: usize = 65535;
+
+/// Among so many names one is found sooner by a look at each.
+const FEW_NAMES: usize = 8;
+
+/// Whether two names are the same.
+fn are_same(one: &Name, other: &Name) -> bool
+    ensures { result ≡ same_name one.now other.now }
+{
+    *one == *other
+}
+
+/// The number of a name among these.
+fn place_among(names: &[Name], name: &Name) -> Option<usize>
+    ensures place { result ≡ place name.now names.now }
+    ensures within { IfSome result (λ number. number < length names.now) }
+{
+    names.iter().position(|other| are_same(name, other))
+}
 
 /// Different names, numbered from 0 in the order in which they were first seen.
 pub struct Names {
@@ -47,6 +65,10 @@ impl Names {
     pub fn number_of(&self, name: &Name) -> Option<u16>
         ensures { result ≡ place name.now self.now }
     {
+        if self.set.len() <= FEW_NAMES {
+            let number = place_among(self.set.as_slice(), name)?;
+            return Some(number as u16);
+        }
         let number = self.set.get_index_of(name)?;
         Some(number as u16)
     }

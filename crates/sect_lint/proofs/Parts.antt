@@ -29,6 +29,7 @@ use Rattle.sect_lint.specs.Typing.{field_shape, shape_in, variable_in, typed_by,
 use Rattle.sect_lint.specs.Typing.{stored}
 use Rattle.sect_lint.specs.Typing.{value_at, target_at, member_at, unless_int, types_detail}
 use Rattle.sect_lint.specs.Forms.{form_of}
+use Rattle.sect_places.specs.Openings.{values_in}
 use Rattle.sect_lint.specs.Counting.{counts_by, counts_detail, parameters_of}
 use Rattle.sect_lint.specs.Arguments.{fits, parameter_by, unless_fits, differing, parameters_in, call_of, called_by}
 use Rattle.sect_lint.specs.Arguments.{called_detail, mistyped_by, mistyped_detail}
@@ -252,13 +253,12 @@ module _ (total : ℕ) (names : List NameSpan) (proper : AreProper total (map (�
       by form.Section = tt
       by form.Other = tt
 
-counted : (total : ℕ) (at : Span) (rest : List Token) (n : Option ℕ) → IsWithin total at
-    → IsDetailWithin total (counts_by at rest n)
-counted total at rest None h = tt
-counted total at rest (Some n) h = h
+counted : (total : ℕ) (at : Span) (n : ℕ) (m : Option ℕ) → IsWithin total at → IsDetailWithin total (counts_by at n m)
+counted total at n None h = tt
+counted total at n (Some m) h = h
 
 pub counts_within : (total from : ℕ) (ps : List Procedure) (ts : List Token) (ss : List Span)
     → AreInOrder from total ss → IsDetailWithin total (counts_detail ps ts ss)
 counts_within total from ps (keyword ∷ token.Name f ∷ rest) (word ∷ at ∷ spans) h =
-    counted total at rest (parameters_of ps f) (omega (arith, h.3.1), h.3.2)
+    counted total at (values_in rest) (parameters_of ps f) (omega (arith, h.3.1), h.3.2)
 counts_within total from ps _ _ h = tt

@@ -1,16 +1,33 @@
--- What a limit is doesn't depend on where names stand.
+-- What is said where names don't matter: a limit, by what is declared and by the first tokens, and the number of
+-- arguments.
 use Rattle.std.proofs.Common.{◌≡◌, ℕ, List, [], ◌∷◌, Option, Some, None, map, slice_get}
-use Rattle.std.proofs.Common.{refl, sym, ◌∙◌, ap, ◌+◌, cond, nat_lt, not}
+use Rattle.std.proofs.Common.{refl, sym, ◌∙◌, ap, ◌+◌, cond, nat_lt, not, take, drop, true, true≢false}
 use Rattle.std.specs.List.{prefix_len}
 use Rattle.std.proofs.lemmas.List.{length-map}
 use Rattle.std.specs.Prelude.{position, option_map}
 use Rattle.std.proofs.lemmas.Option.{slice_get-map}
+use Rattle.sect_lemmas.proofs.Options.{some_injective}
+use Rattle.sect_front.specs.declared.span.Span.{Span}
 use Rattle.sect_front.specs.declared.token.Token.{Token}
+use Rattle.sect_front.specs.declared.token.Token.TheVariants as token
+use Rattle.sect_front.specs.declared.tree.Procedure.{Procedure}
+use Rattle.sect_types.specs.declared.rules.rule.TypeFault.{TypeFault}
+use Rattle.sect_types.specs.declared.rules.rule.TypeFault.TheVariants as types
+use Rattle.sect_places.specs.Openings.{values_in}
+use Rattle.sect_places.specs.declared.range.TokenRange.{TokenRange}
+use Rattle.sect_places.specs.declared.name_use.Role.{Role}
+use Rattle.sect_places.specs.declared.name_use.Role.TheVariants as role
 use Rattle.sect_places.specs.declared.name_use.NameUse.{NameUse}
 use Rattle.sect_places.specs.declared.name_use.NameSpan.{NameSpan}
 use Rattle.sect_lint.specs.Naming.{found, declared_at, is_declared_in}
-use Rattle.sect_lint.specs.Limits.{item_limit}
-use Rattle.sect_lint.specs.steps.Plain.{is_declared_there, by_use, use_limit}
+use Rattle.sect_lint.specs.Limits.{item_limit, limit_by, form_limit}
+use Rattle.sect_lint.specs.Forms.{form_of, first_form, named_form, after_name, assigned_form}
+use Rattle.sect_lint.specs.Counting.{counts_detail}
+use Rattle.sect_lint.specs.Places.{marked}
+use Rattle.sect_lint.specs.Mistakes.{of_types as mistake_by}
+use Rattle.sect_lint.specs.declared.mistake.Mistake.{Mistake}
+use Rattle.sect_lint.specs.declared.mistake.Mistake.TheVariants as mistake
+use Rattle.sect_lint.specs.steps.Plain.{is_declared_there, by_use, use_limit, is_plain, opened_counts}
 
 abbrev used_of : NameSpan → NameUse
 used_of n = n.used
@@ -46,3 +63,65 @@ same_limit names uses item tokens e =
     ap (λ us. use_limit us (position (is_declared_there item) us) tokens) (sym e)
     ∙ ap (λ o. use_limit (map used_of names) o tokens) (same_place item names)
     ∙ by_number names (declared_at names item) tokens
+
+-- the form of an item is that of its first tokens
+after_same : (t : Token) (some all : List Token) → assigned_form some ≡ assigned_form all
+    → after_name t some ≡ after_name t all
+after_same token.Equal some all e = e
+after_same _ some all e = refl
+
+first_same : (t : Token) (some all : List Token) → named_form some ≡ named_form all
+    → first_form t some ≡ first_form t all
+first_same (token.Name x) some all e = e
+first_same _ some all e = refl
+
+same_form : (tokens : List Token) → form_of (take 4 tokens) ≡ form_of tokens
+same_form [] = refl
+same_form (a ∷ []) = refl
+same_form (a ∷ b ∷ []) = refl
+same_form (a ∷ b ∷ c ∷ []) = refl
+same_form (a ∷ b ∷ c ∷ d ∷ tokens) =
+    first_same a (b ∷ c ∷ d ∷ []) (b ∷ c ∷ d ∷ tokens) (after_same b (c ∷ d ∷ []) (c ∷ d ∷ tokens) refl)
+
+by_form : (r : Role) (some all : List Token) → form_of some ≡ form_of all → limit_by r some ≡ limit_by r all
+by_form (role.Declared what) some all e = refl
+by_form _ some all e = ap form_limit e
+
+-- and so is its limit
+pub limit_opened : (o : Option NameSpan) (tokens : List Token) → item_limit o (take 4 tokens) ≡ item_limit o tokens
+limit_opened None tokens = ap form_limit (same_form tokens)
+limit_opened (Some n) tokens = by_form n.used.role (take 4 tokens) tokens (same_form tokens)
+
+-- what is told of a call by its first tokens
+pub counts_opened : (ps : List Procedure) (tokens : List Token) (spans : List Span)
+    → opened_counts ps (take 4 tokens) (take 4 spans) (values_in (drop 2 tokens)) ≡ counts_detail ps tokens spans
+counts_opened ps [] spans = refl
+counts_opened ps (a ∷ []) spans = refl
+counts_opened ps (a ∷ b ∷ tokens) [] = by_token b
+  where
+    by_token : (t : Token) → opened_counts ps (a ∷ t ∷ take 2 tokens) [] (values_in tokens)
+        ≡ counts_detail ps (a ∷ t ∷ tokens) []
+    by_token (token.Name f) = refl
+    by_token _ = refl
+counts_opened ps (a ∷ b ∷ tokens) (s ∷ []) = by_token b
+  where
+    by_token : (t : Token) → opened_counts ps (a ∷ t ∷ take 2 tokens) (s ∷ []) (values_in tokens)
+        ≡ counts_detail ps (a ∷ t ∷ tokens) (s ∷ [])
+    by_token (token.Name f) = refl
+    by_token _ = refl
+counts_opened ps (a ∷ b ∷ tokens) (s ∷ u ∷ spans) = by_token b
+  where
+    by_token : (t : Token) → opened_counts ps (a ∷ t ∷ take 2 tokens) (s ∷ u ∷ take 2 spans) (values_in tokens)
+        ≡ counts_detail ps (a ∷ t ∷ tokens) (s ∷ u ∷ spans)
+    by_token (token.Name f) = refl
+    by_token _ = refl
+
+-- an item that breaks such a rule is marked whole
+pub marked_whole : (fault : TypeFault) (m : Mistake) → mistake_by fault ≡ Some m → is_plain fault ≡ true
+    → (r : TokenRange) → marked m r ≡ r
+marked_whole (types.TooMany i) m is plain r = ap (λ n. marked n r) (sym (some_injective mistake.TooMany m is))
+marked_whole (types.Arguments i) m is plain r = ap (λ n. marked n r) (sym (some_injective mistake.Arguments m is))
+marked_whole (types.SharedOutside i) m is plain r =
+    ap (λ n. marked n r) (sym (some_injective mistake.SharedOutside m is))
+marked_whole (types.Nested i) m is plain r = ap (λ n. marked n r) (sym (some_injective mistake.Nested m is))
+marked_whole _ m is plain r = absurd (true≢false (sym plain))

@@ -1,23 +1,14 @@
 -- How many arguments a call has, and how many parameters the procedure.
-use Rattle.std.specs.Prelude.{ℕ, Bool, true, false, List, ◌∷◌, Option, Some, None, length, filter, nat_eq, position}
+use Rattle.std.specs.Prelude.{ℕ, Bool, List, ◌∷◌, Option, Some, None, length, nat_eq, position}
 use Rattle.std.specs.Prelude.{slice_get}
 use Rattle.std.specs.Cmp.Lexicographic.{pointwise}
 use Rattle.sect_front.specs.declared.span.Span.{Span}
 use Rattle.sect_front.specs.declared.token.Token.{Token}
 use Rattle.sect_front.specs.declared.token.Token.TheVariants as token
 use Rattle.sect_front.specs.declared.tree.Procedure.{Procedure}
+use Rattle.sect_places.specs.Openings.{values_in}
 use Rattle.sect_lint.specs.declared.diagnostic.Detail.{Detail}
 use Rattle.sect_lint.specs.declared.diagnostic.Detail.TheVariants as detail
-
-abbrev pub is_value : Token → Bool
-is_value (token.Number v) = true
-is_value token.Null = true
-is_value (token.Name x) = true
-is_value _ = false
-
--- the values among tokens
-abbrev pub arguments_in : List Token → ℕ
-arguments_in tokens = length (filter is_value tokens)
 
 abbrev pub has_name : List ℕ → Procedure → Bool
 has_name f p = pointwise nat_eq p.name f
@@ -37,12 +28,12 @@ procedure_at ps (Some q) = slice_get ps q
 abbrev pub parameters_of : List Procedure → List ℕ → Option ℕ
 parameters_of ps f = parameters_by (procedure_at ps (called_at ps f))
 
-abbrev pub counts_by : Span → List Token → Option ℕ → Detail
-counts_by at rest None = detail.Nothing
-counts_by at rest (Some n) =
-    detail.Counts (record { procedure = at; arguments = arguments_in rest; parameters = n })
+abbrev pub counts_by : Span → ℕ → Option ℕ → Detail
+counts_by at n None = detail.Nothing
+counts_by at n (Some m) = detail.Counts (record { procedure = at; arguments = n; parameters = m })
 
 -- what is told of a call, by its tokens and their bytes: the values behind the name are its arguments
 abbrev pub counts_detail : List Procedure → List Token → List Span → Detail
-counts_detail ps (keyword ∷ token.Name f ∷ rest) (word ∷ at ∷ spans) = counts_by at rest (parameters_of ps f)
+counts_detail ps (keyword ∷ token.Name f ∷ rest) (word ∷ at ∷ spans) =
+    counts_by at (values_in rest) (parameters_of ps f)
 counts_detail ps _ _ = detail.Nothing

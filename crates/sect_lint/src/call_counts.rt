@@ -1,11 +1,14 @@
 //! How many arguments a call has, and how many parameters the procedure.
 
 ghost use Rattle.std.specs.Prelude.{◌≡◌, ◌<◌, IfSome, length};
-ghost use Rattle.sect_lint.specs.Counting.{is_value as value_by, arguments_in, called_at as called_by};
-ghost use Rattle.sect_lint.specs.Counting.{parameters_of as parameters_by, counts_detail as counts_by, has_name};
+ghost use Rattle.sect_places.specs.Openings.{is_value as value_by, values_in as values_by};
+ghost use Rattle.sect_lint.specs.Counting.{called_at as called_by, parameters_of as parameters_by, has_name};
+ghost use Rattle.sect_lint.specs.Counting.{counts_by, counts_detail as detail_by};
+ghost use Rattle.sect_lint.specs.steps.Plain.{opened_counts as opened_by};
 
 use crate::diagnostic::{Counts, Detail};
 use sect_front::{Name, Procedure, Span, Token};
+use sect_places::Opening;
 
 /// Whether a token is an integer, `null` or a name.
 fn is_value(token: &Token) -> bool
@@ -16,7 +19,7 @@ fn is_value(token: &Token) -> bool
 
 /// How many values there are.
 fn values_in(tokens: &[Token]) -> usize
-    ensures { result ≡ arguments_in tokens.now }
+    ensures { result ≡ values_by tokens.now }
 {
     tokens.iter().filter(|token| is_value(*token)).count()
 }
@@ -47,21 +50,41 @@ fn parameters_of(procedures: &[Procedure], name: &Name) -> Option<usize>
     }
 }
 
+/// What is told of a call with so many arguments, where its procedure, if there is one, has so many parameters. Its
+/// name has these bytes.
+fn counts_at(procedure: Span, arguments: usize, parameters: Option<usize>) -> Detail
+    ensures { result ≡ counts_by procedure arguments parameters }
+{
+    match parameters {
+        Some(parameters) => Detail::Counts(Counts {
+            procedure,
+            arguments,
+            parameters,
+        }),
+        None => Detail::Nothing,
+    }
+}
+
 /// What is told of a call of these tokens that has another number of arguments than the procedure has parameters.
 /// `spans` has the bytes of its tokens.
 pub fn counts_detail(procedures: &[Procedure], tokens: &[Token], spans: &[Span]) -> Detail
-    ensures { result ≡ counts_by procedures.now tokens.now spans.now }
+    ensures { result ≡ detail_by procedures.now tokens.now spans.now }
 {
     match (tokens, spans) {
         ([_, Token::Name(name), rest @ ..], [_, span, ..]) => {
-            match parameters_of(procedures, name) {
-                Some(parameters) => Detail::Counts(Counts {
-                    procedure: *span,
-                    arguments: values_in(rest),
-                    parameters,
-                }),
-                None => Detail::Nothing,
-            }
+            counts_at(*span, values_in(rest), parameters_of(procedures, name))
+        }
+        _ => Detail::Nothing,
+    }
+}
+
+/// The same, where the first tokens of the call are kept and the others counted.
+pub fn opened_counts(procedures: &[Procedure], opening: &Opening) -> Detail
+    ensures { result ≡ opened_by procedures.now opening.now.tokens.items opening.now.spans.items opening.now.values }
+{
+    match (opening.tokens.as_slice(), opening.spans.as_slice()) {
+        ([_, Token::Name(name), ..], [_, span, ..]) => {
+            counts_at(*span, opening.values, parameters_of(procedures, name))
         }
         _ => Detail::Nothing,
     }

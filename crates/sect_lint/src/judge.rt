@@ -22,7 +22,7 @@ use crate::call_counts::counts_detail;
 use crate::circle::circle_detail;
 use crate::culprit::Culprit;
 use crate::diagnostic::{Detail, Diagnostic};
-use crate::layout::{Words, item_span, told_by, words_of};
+use crate::layout::{Words, item_span, opening_of, opening_span, told_by, words_of};
 use crate::limit::Limit;
 use crate::mistake::Mistake;
 use crate::naming::{declared_at, earlier_detail, found, unknown_name};
@@ -209,9 +209,9 @@ fn plain_diagnostic(
     let Mistyped { fault, tree } = mistyped;
     let culprit = Culprit::of_types(fault);
     let item = culprit.item(tree)?;
-    let words = words_of(alloc, text, tree, item)?;
-    let detail = plain_detail(alloc, tree, &words, fault)?;
-    let span = item_span(&words, mistake);
+    let opening = opening_of(alloc, text, tree, item)?;
+    let detail = plain_detail(alloc, tree, &opening, fault)?;
+    let span = opening_span(&opening);
     Ok(Diagnostic {
         mistake,
         span,

@@ -11,13 +11,14 @@ ghost use Rattle.sect_places.specs.Ranges.{range};
 ghost use Rattle.sect_places.specs.Spans.{AreInOrder, span_in};
 ghost use Rattle.sect_places.specs.declared.name_use.NameSpan.{NameSpan};
 ghost use Rattle.sect_lint.specs.Places.{marked};
-ghost use Rattle.sect_lint.specs.steps.Laid.{AreOwnWords};
+ghost use Rattle.sect_lint.specs.steps.Laid.{AreOwnWords, IsOwnOpening, span_of};
 
 use crate::culprit::marked_range;
 use crate::mistake::Mistake;
 use sect_front::{GappedText, Span, Token, Tree};
 use sect_places::{
-    ItemWords, NameSpan, TokenRange, Wish, item_range, item_words, range_span, range_words,
+    ItemWords, NameSpan, Opening, TokenRange, Wish, item_range, item_words, range_opening,
+    range_span, range_words,
 };
 use std::alloc::{AllocError, Global};
 
@@ -43,6 +44,33 @@ pub fn words_of(
     let range = item_range(tree, item);
     let (tokens, spans) = range_words(alloc, text, tree, range)?;
     Ok(Words { tokens, spans })
+}
+
+/// The tokens of an item of a tree that the text spells, of which the first are kept.
+pub fn opening_of(
+    alloc: Global,
+    text: GappedText,
+    tree: &Tree,
+    item: usize,
+) -> Result<Opening, AllocError>
+    requires gaps { AreGaps text.bytes.now text.gaps.now }
+    requires spelled { IsSpelled text.bytes.now tree.now }
+    requires there { item < length (items tree.now) }
+    ensures { IfOk result (IsOwnOpening text.entry.bytes.now tree.now item) }
+{
+    let range = item_range(tree, item);
+    range_opening(alloc, text, tree, range)
+}
+
+/// The bytes of an item whole, of whose tokens the first are kept.
+pub fn opening_span(opening: &Opening) -> Span
+    requires { 0 < length opening.now.spans.items }
+    ensures { result ≡ span_of opening.now }
+{
+    Span {
+        start: opening.spans[0].start,
+        end: opening.last.end,
+    }
 }
 
 /// What a text tells of an item of its tree.

@@ -1,14 +1,13 @@
 //! What is said beside the carets of a mistake, where that takes the place of no name but of those in the item.
 
 ghost use Rattle.std.specs.Prelude.{◌≡◌, ◌<◌, ◌&&◌, IfOk, IfSome, length, position, nat_eq, true};
-ghost use Rattle.sect_lint.specs.steps.Plain.{IsPlain, is_plain as is_plain_by, is_declared_there, use_limit};
+ghost use Rattle.sect_lint.specs.steps.Plain.{IsPlainBy, is_plain as is_plain_by, is_declared_there, use_limit};
 
-use crate::call_counts::counts_detail;
+use crate::call_counts::opened_counts;
 use crate::diagnostic::Detail;
-use crate::layout::Words;
 use crate::limit::Limit;
 use sect_front::{Token, Tree};
-use sect_places::{NameUse, Role, name_uses};
+use sect_places::{NameUse, Opening, Role, name_uses};
 use sect_types::TypeFault;
 use std::alloc::{AllocError, Global};
 
@@ -53,27 +52,24 @@ pub fn is_plain(fault: &TypeFault) -> bool
     )
 }
 
-/// What is said of an item of these tokens that breaks this rule, if that takes the place of no other name.
+/// What is said of an item that breaks this rule, if that takes the place of no other name. The first of its tokens are
+/// kept.
 pub fn plain_detail(
     alloc: Global,
     tree: &Tree,
-    words: &Words,
+    opening: &Opening,
     fault: &TypeFault,
 ) -> Result<Detail, AllocError>
-    ensures { IfOk result (λ told. is_plain_by fault.now ≡ true
-        → IsPlain tree.now words.now.tokens.items words.now.spans.items fault.now told) }
+    ensures { IfOk result (λ told. is_plain_by fault.now ≡ true → IsPlainBy tree.now opening.now fault.now told) }
 {
-    let tokens = words.tokens.as_slice();
     match fault {
         TypeFault::TooMany { item } => {
             let uses = name_uses(alloc, tree)?;
+            let tokens = opening.tokens.as_slice();
             let limit = limit_in(uses.as_slice(), *item as usize, tokens);
             Ok(Detail::Limit(limit))
         }
-        TypeFault::Arguments { .. } => {
-            let spans = words.spans.as_slice();
-            Ok(counts_detail(tree.procedures(), tokens, spans))
-        }
+        TypeFault::Arguments { .. } => Ok(opened_counts(tree.procedures(), opening)),
         _ => Ok(Detail::Nothing),
     }
 }

@@ -25,5 +25,6 @@ mod Whole
 mod Standing
 mod NamesRead
 mod WantedNames
+mod FirstTokens
 mod OneFault
 pub mod shared

@@ -57,7 +57,7 @@ wanted_used which (n ∷ names) = step (is_taken which n.used) (wanted which nam
     step false ns us e = e
 
 -- no more are kept than there are
-shorter : {A : Type 0} (p : A → Bool) (xs : List A) → length (filter p xs) ≤ length xs
+pub shorter : {A : Type 0} (p : A → Bool) (xs : List A) → length (filter p xs) ≤ length xs
 shorter p [] = omega arith
 shorter p (x ∷ xs) = by (p x) (shorter p xs)
   where

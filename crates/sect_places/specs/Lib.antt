@@ -11,6 +11,7 @@ pub mod SectionItems
 pub mod NameUses
 pub mod NameSpans
 pub mod Mattering
+pub mod Openings
 pub mod Declarations
 pub mod steps
 pub mod NodeLines

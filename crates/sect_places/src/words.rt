@@ -55,7 +55,7 @@ impl<'a> Sought<'a> {
 }
 
 /// The token that is sought, once it is reached.
-fn from_token<'a>(
+pub fn from_token<'a>(
     text: GappedText<'a>,
     tree: &Tree,
     number: usize,

@@ -1,10 +1,13 @@
 -- The tokens of an item, read off a text.
-use Rattle.std.specs.Prelude.{◌≡◌, ◌<◌, ◌≤◌, ◌+◌, ℕ, List, length, map}
+use Rattle.std.specs.Prelude.{◌≡◌, ◌<◌, ◌≤◌, ◌+◌, ℕ, List, length, map, get_or}
 use Rattle.sect_front.specs.TreeView.{TreeView}
 use Rattle.sect_front.specs.Front.{IsSpelled}
 use Rattle.sect_front.specs.FaultPlaces.{token_span}
 use Rattle.sect_front.specs.Grammar.{tokens_of}
-use Rattle.sect_places.specs.Spans.{AreInOrder}
+use Rattle.sect_front.specs.declared.span.Span.{Span}
+use Rattle.sect_places.specs.Spans.{AreInOrder, no_span}
+use Rattle.sect_places.specs.Openings.{IsOpening}
+use Rattle.sect_places.specs.declared.opening.Opening.{Opening}
 use Rattle.sect_lint.specs.Details.{own_range, own_tokens, own_spans}
 use Rattle.sect_lint.specs.declared.layout.Words.{Words}
 
@@ -17,3 +20,18 @@ pub record AreOwnWords (source : List ℕ) (tree : TreeView) (item : ℕ) (words
   pub within : (own_range tree item).first + (own_range tree item).count ≤ length (tokens_of tree)
   pub many : length words.spans.items ≡ (own_range tree item).count
   pub some : 0 < length words.spans.items
+
+-- of the tokens of the item the first are kept
+pub record IsOwnOpening (source : List ℕ) (tree : TreeView) (item : ℕ) (o : Opening) : Type 0 where
+  pub opening : (by : IsSpelled source tree)
+      → IsOpening (own_tokens tree item) (own_spans tree (map token_span by.places) item)
+      o.tokens.items o.spans.items o.values o.last
+  pub order : (by : IsSpelled source tree)
+      → AreInOrder 0 (length source) (own_spans tree (map token_span by.places) item)
+  pub many : (by : IsSpelled source tree)
+      → length (own_spans tree (map token_span by.places) item) ≡ (own_range tree item).count
+  pub some : 0 < (own_range tree item).count
+
+-- the bytes of all of them
+abbrev pub span_of : Opening → Span
+span_of o = record { start = (get_or o.spans.items 0 no_span).start; end = o.last.end }

@@ -1,19 +1,25 @@
 -- What is said beside the carets, whatever the places of names are.
-use Rattle.std.specs.Prelude.{◌≡◌, ◌&&◌, ℕ, Bool, true, false, List, Option, Some, None, map, nat_eq, slice_get}
+use Rattle.std.specs.Prelude.{◌≡◌, ◌&&◌, ℕ, Bool, true, false, List, ◌∷◌, Option, Some, None, map, nat_eq, slice_get}
 use Rattle.sect_front.specs.TreeView.{TreeView}
 use Rattle.sect_front.specs.declared.span.Span.{Span}
 use Rattle.sect_front.specs.declared.token.Token.{Token}
+use Rattle.sect_front.specs.declared.token.Token.TheVariants as token
+use Rattle.sect_front.specs.declared.tree.Procedure.{Procedure}
 use Rattle.sect_types.specs.declared.rules.rule.TypeFault.{TypeFault}
 use Rattle.sect_types.specs.declared.rules.rule.TypeFault.TheVariants as types
 use Rattle.sect_places.specs.declared.name_use.NameUse.{NameUse}
 use Rattle.sect_places.specs.declared.name_use.NameSpan.{NameSpan}
 use Rattle.sect_places.specs.NameUses.{name_uses}
+use Rattle.sect_places.specs.Openings.{IsOpening}
+use Rattle.sect_places.specs.declared.opening.Opening.{Opening}
 use Rattle.sect_places.specs.Declarations.{is_declaration}
 use Rattle.sect_lint.specs.Places.{marked_name}
 use Rattle.sect_lint.specs.Limits.{limit_by, statement_limit}
 use Rattle.sect_lint.specs.Details.{IsToldOf, item_detail}
 use Rattle.sect_lint.specs.declared.limit.Limit.{Limit}
+use Rattle.sect_lint.specs.Counting.{counts_by, parameters_of}
 use Rattle.sect_lint.specs.declared.diagnostic.Detail.{Detail}
+use Rattle.sect_lint.specs.declared.diagnostic.Detail.TheVariants as detail
 
 -- a name is declared in that item
 abbrev pub is_declared_there : ℕ → NameUse → Bool
@@ -36,8 +42,18 @@ is_plain (types.SharedOutside item) = true
 is_plain (types.Nested item) = true
 is_plain _ = false
 
+-- what is told of a call with so many arguments, by its first tokens and their bytes
+abbrev pub opened_counts : List Procedure → List Token → List Span → ℕ → Detail
+opened_counts ps (keyword ∷ token.Name f ∷ rest) (word ∷ at ∷ spans) n = counts_by at n (parameters_of ps f)
+opened_counts ps _ _ n = detail.Nothing
+
 -- it is said of the tree, and its item at fault is marked whole, wherever its names stand
 abbrev pub IsPlain : TreeView → List Token → List Span → TypeFault → Detail → Type 0
 IsPlain tree tokens spans why told =
     (names : List NameSpan) → map (λ n. n.used) names ≡ name_uses tree
     → IsToldOf names why (item_detail tree names tokens spans why) told × (marked_name names why ≡ None)
+
+-- and so of the tokens of which these are kept
+abbrev pub IsPlainBy : TreeView → Opening → TypeFault → Detail → Type 0
+IsPlainBy tree o why told = (tokens : List Token) (spans : List Span)
+    → IsOpening tokens spans o.tokens.items o.spans.items o.values o.last → IsPlain tree tokens spans why told

@@ -5,7 +5,7 @@ ghost use Rattle.std.specs.Str.Parse.{IsNumeral, digits_value};
 
 use crate::formats::{format_of, lint_format_of};
 use crate::grammar::grammar;
-use crate::running::{FUEL, STATES, threads_of};
+use crate::running::{FUEL, STATES, threads_of, told_count};
 use clap::ArgMatches;
 use clap::error::ErrorKind;
 use sect_answers::Format;
@@ -214,20 +214,31 @@ fn form_of(alloc: Global, options: &ArgMatches<'_>) -> Result<Form, UsageFault> 
 
 /// What the words ask for, the program's name first.
 pub fn wanted_of(alloc: Global, words: &[String]) -> Result<Wanted, UsageFault> {
-    let matches = grammar(alloc)?.try_get_matches_from(words)?;
+    let count = told_count(words);
+    wanted_by(alloc, &words[..count], &words[count..])
+}
+
+/// What the words ask for of which `clap` is told, and those behind them.
+fn wanted_by(alloc: Global, told: &[String], untold: &[String]) -> Result<Wanted, UsageFault> {
+    let matches = grammar(alloc)?.try_get_matches_from(told)?;
     match matches.subcommand() {
         Some(("lsp", _)) => Ok(Wanted::Session),
-        Some((name, options)) => Ok(Wanted::Answer(requested(alloc, name, options)?)),
+        Some((name, options)) => Ok(Wanted::Answer(requested(alloc, name, options, untold)?)),
         None => unreachable!(),
     }
 }
 
-/// What the command of this name asks for by its options.
-fn requested(alloc: Global, name: &str, options: &ArgMatches<'_>) -> Result<Request, UsageFault> {
+/// What the command of this name asks for by its options, and by the words of which `clap` wasn't told.
+fn requested(
+    alloc: Global,
+    name: &str,
+    options: &ArgMatches<'_>,
+    untold: &[String],
+) -> Result<Request, UsageFault> {
     match name {
-        "serial" => serial_request(alloc, options),
+        "serial" => serial_request(alloc, options, untold),
         "outcomes" => outcomes_request(alloc, options),
-        "schedule" => schedule_request(alloc, options),
+        "schedule" => schedule_request(alloc, options, untold),
         "run" => run_request(alloc, options),
         "compile" => compile_request(alloc, options),
         _ => inferred_request(alloc, name, options),
@@ -273,10 +284,14 @@ fn k_of(alloc: Global, options: &ArgMatches<'_>) -> Result<u16, UsageFault> {
     Ok(number_of(alloc, options, "k")?.unwrap_or(DEFAULT_K))
 }
 
-/// What `serial` asks for by its options.
-fn serial_request(alloc: Global, options: &ArgMatches<'_>) -> Result<Request, UsageFault> {
+/// What `serial` asks for by its options, and by the threads of which `clap` wasn't told.
+fn serial_request(
+    alloc: Global,
+    options: &ArgMatches<'_>,
+    untold: &[String],
+) -> Result<Request, UsageFault> {
     let fuel = FUEL.of(alloc, options)?;
-    let order = threads_of(alloc, options)?;
+    let order = threads_of(alloc, options, untold)?;
     let format = format_of(alloc, options)?;
     Ok(Request::Serial {
         fuel,
@@ -293,11 +308,15 @@ fn outcomes_request(alloc: Global, options: &ArgMatches<'_>) -> Result<Request, 
     Ok(Request::Outcomes { fuel, most, format })
 }
 
-/// What `schedule` asks for by its options.
-fn schedule_request(alloc: Global, options: &ArgMatches<'_>) -> Result<Request, UsageFault> {
+/// What `schedule` asks for by its options, and by the threads of which `clap` wasn't told.
+fn schedule_request(
+    alloc: Global,
+    options: &ArgMatches<'_>,
+    untold: &[String],
+) -> Result<Request, UsageFault> {
     let k = k_of(alloc, options)?;
     let fuel = FUEL.of(alloc, options)?;
-    let schedule = threads_of(alloc, options)?;
+    let schedule = threads_of(alloc, options, untold)?;
     match (options.get_flag("chart"), format_of(alloc, options)?) {
         (false, format) => Ok(Request::Schedule {
             k,

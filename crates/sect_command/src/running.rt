@@ -1,6 +1,6 @@
 //! What the words of a command line say of a run: the fuel of its threads, and threads by number.
 
-ghost use Rattle.std.specs.Prelude.{◌≡◌, ◌≤◌, IfOk};
+ghost use Rattle.std.specs.Prelude.{◌≡◌, ◌≤◌, IfOk, length};
 ghost use Rattle.clap.specs.Matches.{first_value, found_of};
 ghost use Rattle.sect_command.specs.Saying.{SaysNumber};
 
@@ -51,17 +51,68 @@ impl Bounded {
     }
 }
 
-/// The threads that the words name.
-pub fn threads_of(alloc: Global, matches: &ArgMatches<'_>) -> Result<Vec<u16>, UsageFault> {
+/// Whether the words are those of a command that takes threads.
+fn take_threads(words: &[String]) -> bool {
+    match words.get(1) {
+        Some(command) => matches!(command.as_str(), "serial" | "schedule"),
+        None => false,
+    }
+}
+
+/// Where the words of digits alone begin that the words end with.
+fn digits_start(words: &[String]) -> usize
+    ensures { result ≤ length words.now }
+{
+    for place in (0..words.len()).rev() {
+        if !words[place].as_bytes().iter().all(u8::is_ascii_digit) {
+            return place + 1;
+        }
+    }
+    0
+}
+
+/// How many of the words `clap` is told. Of the numbers at the end of a command line that takes threads that is the
+/// first one alone, which may be an option's value: each behind it is a thread.
+pub fn told_count(words: &[String]) -> usize
+    ensures { result ≤ length words.now }
+{
+    if take_threads(words) {
+        words.len().min(digits_start(words).saturating_add(1))
+    } else {
+        words.len()
+    }
+}
+
+/// The thread that a word names.
+fn thread_of(alloc: Global, word: &str) -> Result<u16, UsageFault> {
+    match number(word, MOST) {
+        Some(thread) => Ok(thread as u16),
+        None => Err(UsageFault::Thread(String::from_str(alloc, word)?)),
+    }
+}
+
+/// The threads that `clap` has found.
+fn found_threads(alloc: Global, matches: &ArgMatches<'_>) -> Result<Vec<u16>, UsageFault> {
     let mut threads = Vec::new(alloc);
     let Some(words) = matches.get_strs("threads") else {
         return Ok(threads);
     };
     for word in words {
-        match number(word, MOST) {
-            Some(thread) => threads.push(thread as u16)?,
-            None => return Err(UsageFault::Thread(String::from_str(alloc, word)?)),
-        }
+        threads.push(thread_of(alloc, word)?)?;
+    }
+    Ok(threads)
+}
+
+/// The threads that `clap` has found, and those that the words name of which it wasn't told.
+pub fn threads_of(
+    alloc: Global,
+    matches: &ArgMatches<'_>,
+    untold: &[String],
+) -> Result<Vec<u16>, UsageFault> {
+    let mut threads = found_threads(alloc, matches)?;
+    threads.reserve(untold.len())?;
+    for word in untold {
+        threads.push(thread_of(alloc, word.as_str())?)?;
     }
     Ok(threads)
 }

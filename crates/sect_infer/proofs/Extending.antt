@@ -222,8 +222,10 @@ module _ (s : SchemeView) where
           (has_longer keys (lock.Path p effect.Write ∷ []) ns big one)
       | inr w ↦
           let q = w.0.0 in
-          let of = below_write s q (lock.Path p effect.Read) (subst (λ b. IsAbove s b (lock.Path p effect.Read)) w.0.1 h) in
-          let same : big ≡ lock.Path p effect.Write = w.0.1 ∙ (let e : q ≡ p = cc in ap (λ o. lock.Path o effect.Write) e) in
+          let read = lock.Path p effect.Read in
+          let of = below_write s q read (subst (λ b. IsAbove s b read) w.0.1 h) in
+          let one : q ≡ p = cc in
+          let same : big ≡ lock.Path p effect.Write = w.0.1 ∙ ap (λ o. lock.Path o effect.Write) one in
           (n, Has-right ns (n ∷ []) n (inl refl), at ∙ ap (λ l. Some l) (sym same))
     ]);
   }
@@ -268,8 +270,8 @@ module _ (s : SchemeView) where
                     ∙ ap (λ ms. ms ++ n ∷ []) kept in
                     subst (AreAbove s (t.keys ++ write ∷ []) k) (sym here)
                     (subst (λ x. AreAbove s (t.keys ++ write ∷ []) x (slice_index_or t.above r [] ++ n ∷ [])) (sym one)
-                    (above_read t.keys p (slice_index_or t.above r []) n (subst (λ ks. slice_get ks n ≡ Some write) put.keys at)
-                    (is.told r read at_read)))
+                    (above_read t.keys p (slice_index_or t.above r []) n
+                    (subst (λ ks. slice_get ks n ≡ Some write) put.keys at) (is.told r read at_read)))
                 | inr other ↦
                     let within = slice_get_within t.keys i k at_old in
                     let here : slice_index_or new.above i [] ≡ slice_index_or t.above i [] = others i other

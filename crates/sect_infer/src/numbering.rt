@@ -10,8 +10,8 @@ ghost use Rattle.sect_names.specs.declared.lock.Lock.{Lock};
 ghost use Rattle.sect_names.specs.declared.lock.Lock.TheVariants as lock;
 ghost use Rattle.sect_names.specs.Schemes.{SchemeView};
 ghost use Rattle.sect_infer.specs.Numbers.{has_number};
-ghost use Rattle.sect_infer.specs.Numberings.{AreAbove, AreAboveRead, IsToWrite, IsNumbering, IsNumberingOfSome, IsNumbered};
-ghost use Rattle.sect_infer.specs.Numberings.{is_under};
+ghost use Rattle.sect_infer.specs.Numberings.{AreAbove, AreAboveRead, IsToWrite, IsNumbering, IsNumberingOfSome};
+ghost use Rattle.sect_infer.specs.Numberings.{IsNumbered, is_under};
 ghost use Rattle.sect_infer.specs.steps.Putting.{IsPut, IsTold};
 
 use crate::numbers::{Numbers, has};
@@ -244,8 +244,8 @@ impl Numbering {
         }
     }
 
-    /// The number of the lock to write a path, which comes now unless it is there, and then stands above the lock to read
-    /// the path. The numbers of those above it are these.
+    /// The number of the lock to write a path, which comes now unless it is there, and then stands above the lock to
+    /// read the path. The numbers of those above it are these.
     fn put_write(
         &mut self,
         alloc: Global,
@@ -297,8 +297,8 @@ impl Numbering {
         Ok(OverClass { all, write })
     }
 
-    /// The number of a lock that isn't one to write a path, which comes now unless it is there. The numbers of those above
-    /// it are these.
+    /// The number of a lock that isn't one to write a path, which comes now unless it is there. The numbers of those
+    /// above it are these.
     fn put(&mut self, alloc: Global, lock: Lock, above: &[usize]) -> Result<usize, AllocError>
         ensures { (s : SchemeView) → IsNumbering s self.old → (IsToWrite lock → ⊥)
             → AreAbove s self.old.keys lock above.now → IfOk result (IsNumbered s self.old self.new lock) }

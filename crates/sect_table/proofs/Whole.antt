@@ -547,7 +547,8 @@ room_added links grown ends l k f a is within read =
     let same : f.len ≡ (ends_at ends l).len = ap (λ (z : Ends). z.len) (get_or_read ends l f within read no_ends) in
     omega arith
 
-pub get_or-labels : (links : List Link) (j d : ℕ) → j < length links → get_or (labels_of links) j d ≡ (link_at links j).list
+pub get_or-labels : (links : List Link) (j d : ℕ) → j < length links
+    → get_or (labels_of links) j d ≡ (link_at links j).list
 get_or-labels links j d lt = get_or-map (λ k. k.list) links j no_link d lt
 
 pub labels-moved : (links links' links'' : List Link) (x to : ℕ) (e e' f f' : Ends) → x < length links

@@ -17,8 +17,8 @@ use Rattle.sect_emit.specs.Plan.{object_wishes, object_mode, path_datum}
 use Rattle.sect_emit.proofs.shared.Keys.{same_key}
 
 -- the objects of a lock come before those of the others
-pub wishes_of_first : (s : StoreView) (locals : List Datum) (l : Lock) (ls : List Lock) → object_wishes s locals (l ∷ [])
-    ++ object_wishes s locals ls ≡ object_wishes s locals (l ∷ ls)
+pub wishes_of_first : (s : StoreView) (locals : List Datum) (l : Lock) (ls : List Lock)
+    → object_wishes s locals (l ∷ []) ++ object_wishes s locals ls ≡ object_wishes s locals (l ∷ ls)
 wishes_of_first s locals lock.All ls = refl
 wishes_of_first s locals (lock.Class c r) ls = refl
 wishes_of_first s locals (lock.Path p e) ls =

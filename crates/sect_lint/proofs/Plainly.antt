@@ -1,10 +1,12 @@
 -- What is said where names don't matter: a limit, by what is declared and by the first tokens, and the number of
 -- arguments.
 use Rattle.std.proofs.Common.{◌≡◌, ℕ, List, [], ◌∷◌, Option, Some, None, map, slice_get}
-use Rattle.std.proofs.Common.{refl, sym, ◌∙◌, ap, ◌+◌, cond, nat_lt, not, take, drop, true, true≢false}
+use Rattle.std.proofs.Common.{refl, sym, ◌∙◌, ap, ◌+◌, suc, cond, nat_lt, not, take, drop, Bool, true, false}
+use Rattle.std.proofs.Common.{true≢false, arith}
 use Rattle.std.specs.List.{prefix_len}
+use Rattle.std.proofs.lemmas.Bool.Decides.{nat_tests}
 use Rattle.std.proofs.lemmas.List.{length-map}
-use Rattle.std.specs.Prelude.{position, option_map}
+use Rattle.std.specs.Prelude.{position, option_map, filter, length, nat_eq, ◌&&◌}
 use Rattle.std.proofs.lemmas.Option.{slice_get-map}
 use Rattle.sect_lemmas.proofs.Options.{some_injective}
 use Rattle.sect_front.specs.declared.span.Span.{Span}
@@ -19,6 +21,7 @@ use Rattle.sect_places.specs.declared.name_use.Role.{Role}
 use Rattle.sect_places.specs.declared.name_use.Role.TheVariants as role
 use Rattle.sect_places.specs.declared.name_use.NameUse.{NameUse}
 use Rattle.sect_places.specs.declared.name_use.NameSpan.{NameSpan}
+use Rattle.sect_places.specs.Declarations.{is_declaration}
 use Rattle.sect_lint.specs.Naming.{found, declared_at, is_declared_in}
 use Rattle.sect_lint.specs.Limits.{item_limit, limit_by, form_limit}
 use Rattle.sect_lint.specs.Forms.{form_of, first_form, named_form, after_name, assigned_form}
@@ -63,6 +66,73 @@ same_limit names uses item tokens e =
     ap (λ us. use_limit us (position (is_declared_there item) us) tokens) (sym e)
     ∙ ap (λ o. use_limit (map used_of names) o tokens) (same_place item names)
     ∙ by_number names (declared_at names item) tokens
+
+-- the first name that passes a test
+abbrev first_of : (NameUse → Bool) → List NameUse → Option NameUse
+first_of q [] = None
+first_of q (u ∷ us) = cond (q u) (Some u) (first_of q us)
+
+-- a test of two numbers, of which each is one more
+next_test : (n m : ℕ) (b : Bool) → nat_lt n m ≡ b → nat_lt (1 + n) (m + 1) ≡ b
+next_test n m true e = grind (arith, nat_tests)
+next_test n m false e = grind (arith, nat_tests)
+
+some_test : (n : ℕ) → nat_lt 0 (suc n) ≡ true
+some_test n = grind (arith, nat_tests)
+
+limit_behind : (u : NameUse) (us : List NameUse) (k : ℕ) (tokens : List Token) (b : Bool)
+    → use_limit (u ∷ us) (cond b (Some (1 + k)) None) tokens ≡ use_limit us (cond b (Some k) None) tokens
+limit_behind u us k tokens true =
+    let next : 1 + k ≡ suc k = omega arith in
+    ap (λ n. by_use (slice_get (u ∷ us) n) tokens) next
+limit_behind u us k tokens false = refl
+
+-- the limit is by the first one
+limit_first : (q : NameUse → Bool) (uses : List NameUse) (tokens : List Token)
+    → use_limit uses (position q uses) tokens ≡ by_use (first_of q uses) tokens
+limit_first q [] tokens = refl
+limit_first q (u ∷ us) tokens = go (q u) (limit_first q us tokens)
+  where
+    front : ℕ
+    front = prefix_len (λ x. not (q x)) us
+
+    go : (b : Bool) → use_limit us (position q us) tokens ≡ by_use (first_of q us) tokens
+        → use_limit (u ∷ us) (cond (nat_lt (cond (not b) (1 + front) 0) (length (u ∷ us)))
+        (Some (cond (not b) (1 + front) 0)) None) tokens ≡ by_use (cond b (Some u) (first_of q us)) tokens
+    go true rest = ap (λ b. use_limit (u ∷ us) (cond b (Some 0) None) tokens) (some_test (length us))
+    go false rest =
+        let many : length (u ∷ us) ≡ length us + 1 = omega arith in
+        let within : nat_lt (1 + front) (length (u ∷ us)) ≡ nat_lt front (length us) =
+        ap (nat_lt (1 + front)) many ∙ next_test front (length us) (nat_lt front (length us)) refl in
+        ap (λ b. use_limit (u ∷ us) (cond b (Some (1 + front)) None) tokens) within
+        ∙ limit_behind u us front tokens (nat_lt front (length us)) ∙ rest
+
+-- that is declared in an item is the first of the item's own names that is
+first_own : (item : ℕ) (uses : List NameUse)
+    → first_of (is_declared_there item) (filter (λ u. nat_eq u.item item) uses)
+    ≡ first_of (is_declared_there item) uses
+first_own item [] = refl
+first_own item (u ∷ us) = go (nat_eq u.item item) refl (first_own item us)
+  where
+    own : List NameUse
+    own = filter (λ x. nat_eq x.item item) us
+
+    go : (b : Bool) → nat_eq u.item item ≡ b
+        → first_of (is_declared_there item) own ≡ first_of (is_declared_there item) us
+        → first_of (is_declared_there item) (cond b (u ∷ own) own)
+        ≡ cond (b && is_declaration u.role) (Some u) (first_of (is_declared_there item) us)
+    go true e rest = ap (λ t. cond (t && is_declaration u.role) (Some u) (first_of (is_declared_there item) own)) e
+        ∙ ap (λ o. cond (is_declaration u.role) (Some u) o) rest
+    go false e rest = rest
+
+-- so the item's own names tell its limit
+pub own_limit : (item : ℕ) (uses : List NameUse) (tokens : List Token)
+    → use_limit (filter (λ u. nat_eq u.item item) uses)
+    (position (is_declared_there item) (filter (λ u. nat_eq u.item item) uses)) tokens
+    ≡ use_limit uses (position (is_declared_there item) uses) tokens
+own_limit item uses tokens =
+    limit_first (is_declared_there item) (filter (λ u. nat_eq u.item item) uses) tokens
+    ∙ ap (λ o. by_use o tokens) (first_own item uses) ∙ sym (limit_first (is_declared_there item) uses tokens)
 
 -- the form of an item is that of its first tokens
 after_same : (t : Token) (some all : List Token) → assigned_form some ≡ assigned_form all

@@ -7,7 +7,7 @@ use crate::call_counts::opened_counts;
 use crate::diagnostic::Detail;
 use crate::limit::Limit;
 use sect_front::{Token, Tree};
-use sect_places::{NameUse, Opening, Role, name_uses};
+use sect_places::{NameUse, Opening, Role, item_uses};
 use sect_types::TypeFault;
 use std::alloc::{AllocError, Global};
 
@@ -64,7 +64,7 @@ pub fn plain_detail(
 {
     match fault {
         TypeFault::TooMany { item } => {
-            let uses = name_uses(alloc, tree)?;
+            let uses = item_uses(alloc, tree, *item as usize)?;
             let tokens = opening.tokens.as_slice();
             let limit = limit_in(uses.as_slice(), *item as usize, tokens);
             Ok(Detail::Limit(limit))
